@@ -2,14 +2,14 @@
 use Rattle.std.proofs.Common.{arith, ◌≡◌, ◌≤◌, ◌+◌, ◌-◌, ℕ, zero, suc, inl, inr, List, subst}
 use Rattle.f77_equivalence.specs.Equivalent.{IsEnd}
 use Rattle.f77_program.specs.Program.{LineFields}
-use Rattle.f77_run.specs.Interpreter.{IsOutcomeOf, Tells}
-use Rattle.f77_run.specs.Outcome.{IsOutcome}
-use Rattle.f77_run.specs.Step.{Config}
-use Rattle.f77_run.specs.Value.{Store}
-use Rattle.f77_run.specs.declared.argument.Arg.{Arg}
-use Rattle.f77_run.specs.declared.outcome.Outcome.{Outcome}
-use Rattle.f77_values.specs.declared.finish.Finish.{Finish}
-use Rattle.f77_values.specs.declared.finish.Finish.TheVariants.{StepLimit}
+use Rattle.f77_meaning.specs.Interpreter.{IsOutcomeOf, Tells}
+use Rattle.f77_meaning.specs.Outcome.{IsOutcome}
+use Rattle.f77_meaning.specs.Step.{Config}
+use Rattle.f77_meaning.specs.Value.{Store}
+use Rattle.f77_meaning.specs.declared.argument.Arg.{Arg}
+use Rattle.f77_meaning.specs.declared.outcome.Outcome.{Outcome}
+use Rattle.f77_actions.specs.declared.finish.Finish.{Finish}
+use Rattle.f77_actions.specs.declared.finish.Finish.TheVariants.{StepLimit}
 
 -- what is told as an end is not the limit
 not_the_limit : (p : List LineFields) (finish : Finish) (values : Store) (outcome : Outcome) → Tells p finish values outcome → IsEnd outcome

@@ -6,9 +6,9 @@ use Rattle.std.proofs.lemmas.List.Elements.{All-filter, All-more, All-weaker, fi
 use Rattle.std.proofs.lemmas.List.Kept.{AllPairs-filter}
 use Rattle.f77_equivalence.specs.Equivalent.{IsEnd}
 use Rattle.f77_program.specs.Program.{LineFields}
-use Rattle.f77_run.specs.Interpreter.{IsOutcomeOf}
-use Rattle.f77_run.specs.declared.argument.Arg.{Arg}
-use Rattle.f77_run.specs.declared.outcome.Outcome.{Outcome}
+use Rattle.f77_meaning.specs.Interpreter.{IsOutcomeOf}
+use Rattle.f77_meaning.specs.declared.argument.Arg.{Arg}
+use Rattle.f77_meaning.specs.declared.outcome.Outcome.{Outcome}
 use Rattle.mothra_codes.specs.Ticket.{Before}
 use Rattle.mothra_equivalents.specs.Equivalents.{AreEquivalents, IsNamed}
 use Rattle.mothra_equivalents.specs.declared.equivalents.Equivalent.{Equivalent}

@@ -11,14 +11,14 @@ use Rattle.f77_equivalence.specs.Equivalent as equivalence
 use Rattle.f77_equivalence.specs.Equivalent.{IsEquivalent, KeepsEnds}
 use Rattle.f77_equivalence.specs.Storable.{AreStorable}
 use Rattle.f77_program.specs.Program.{LineFields}
-use Rattle.f77_run.specs.Interpreter.{AreFitting, IsOutcomeOf, OneAnswer, first_misfit, has_shape, refusal}
-use Rattle.f77_run.specs.declared.argument.Arg.{Arg}
-use Rattle.f77_run.specs.declared.outcome.Outcome.{Outcome}
-use Rattle.f77_run.specs.declared.outcome.Outcome.TheVariants as outcome
-use Rattle.f77_run.specs.declared.outcome.RunFault.{RunFault}
-use Rattle.f77_run.specs.declared.outcome.RunFault.TheVariants as fault
-use Rattle.mothra_bench.specs.Bench.{AreOutcomes, FitsProgram, IsProgramEnd}
-use Rattle.mothra_bench.specs.Verdict.{IsAlone, IsKill, mutated}
+use Rattle.f77_meaning.specs.Interpreter.{AreFitting, IsOutcomeOf, OneAnswer, first_misfit, has_shape, refusal}
+use Rattle.f77_meaning.specs.declared.argument.Arg.{Arg}
+use Rattle.f77_meaning.specs.declared.outcome.Outcome.{Outcome}
+use Rattle.f77_meaning.specs.declared.outcome.Outcome.TheVariants as outcome
+use Rattle.f77_meaning.specs.declared.outcome.RunFault.{RunFault}
+use Rattle.f77_meaning.specs.declared.outcome.RunFault.TheVariants as fault
+use Rattle.mothra_verdicts.specs.Bench.{AreOutcomes, FitsProgram, IsProgramEnd}
+use Rattle.mothra_verdicts.specs.Verdict.{IsAlone, IsKill, mutated}
 use Rattle.mothra_ops.specs.Mutants.{MutantFields, program_of}
 use Rattle.equivalents_app.specs.Law.{NoTestKills, NoTestKillsSpared}
 use Rattle.equivalents_app.specs.Room.{LeavesRoom, LeavesRoomOn}

@@ -1,8 +1,8 @@
 -- What it means for tests that a mutant is equivalent.
 use Rattle.std.specs.Prelude.{◌≡◌, ℕ, Bool, false, All, List}
 use Rattle.f77_equivalence.specs.Storable.{AreStorable}
-use Rattle.mothra_bench.specs.Bench.{BenchFields, IsBench}
-use Rattle.mothra_bench.specs.Verdict.{IsVerdict}
+use Rattle.mothra_verdicts.specs.Bench.{BenchFields, IsBench}
+use Rattle.mothra_verdicts.specs.Verdict.{IsVerdict}
 use Rattle.mothra_codes.specs.declared.ticket.Ticket.{Ticket}
 use Rattle.mothra_equivalents.specs.Equivalents.{IsEquivalentMutant, IsSparedMutant}
 use Rattle.mothra_ops.specs.Mutants.{program_of}

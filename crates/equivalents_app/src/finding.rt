@@ -10,7 +10,7 @@ ghost use Rattle.equivalents_app.specs.Words.{IsInquiryBounded};
 use crate::room::{keep_within, room_for};
 use crate::telling::text_of;
 use crate::words::Inquiry;
-use f77_run::{Arg, Values};
+use f77_meaning::{Arg, Values};
 use mothra_app::fault::Fault;
 use mothra_app::program::legal_program_of;
 use mothra_equivalents::{Equivalent, equivalents_of};

@@ -2,7 +2,7 @@
 
 ghost use Rattle.equivalents_app.specs.Law.{NoTestKills, NoTestKillsSpared};
 
-use f77_run::law::one_outcome;
+use f77_meaning::law::one_outcome;
 
 /// No test of a bench kills a mutant that is equivalent, where INTEGER holds the numbers of
 /// the tests; nor one that is so with steps to spare, where the tests leave room for these.

@@ -8,7 +8,8 @@ ghost use Rattle.equivalents_app.specs.Room.{LeavesRoom, LeavesRoomOn};
 ghost use Rattle.equivalents_app.specs.code.Room as definition;
 
 use f77_check::Checked;
-use f77_run::{Arg, Outcome, RunFault, Values, counted_run};
+use f77_meaning::{Arg, Outcome, RunFault, Values};
+use f77_run::counted_run;
 use mothra_equivalents::{Equivalent, Why};
 use mothra_ops::OpsFault;
 use std::alloc::Global;

@@ -1,10 +1,16 @@
-//! What statements do, with their names and labels looked up.
+//! What statements do, with their names and labels looked up; values, faults, and arithmetic on them.
 #![tactic(auto)]
 
 mod action;
 mod expression;
+mod finish;
+pub mod number;
 mod resolved;
+pub mod told;
+mod value;
 
 pub use action::{Action, Jump};
 pub use expression::{Arithmetic, Condition, Connective, Element, Number, Relation};
+pub use finish::{Fault, Finish};
 pub use resolved::Resolved;
+pub use value::Value;

@@ -7,7 +7,7 @@ use Rattle.std.proofs.lemmas.List.Folds.{list_all-map}
 use Rattle.std.proofs.lemmas.Map.Made.{is_some-lookup}
 use Rattle.indexmap.specs.IndexMap.{keys}
 use Rattle.f77_tree.specs.Data.{data_group_of}
-use Rattle.f77_nodes.specs.Node.{NodeOf, group_nodes, names_of}
+use Rattle.f77_tree.specs.Node.{NodeOf, group_nodes, names_of}
 use Rattle.f77_program.specs.Program.{LineFields}
 use Rattle.f77_tree.specs.Tree.{GroupFields}
 use Rattle.f77_tree.specs.Statement.{Statement}

@@ -9,7 +9,7 @@ use Rattle.std.proofs.lemmas.List.Concat.{flat_map-cons}
 use Rattle.std.proofs.lemmas.List.Elements.{filter_map-append}
 use Rattle.std.proofs.lemmas.List.Folds.{list_all-append, list_all-map}
 use Rattle.indexmap.specs.IndexMap.{keys}
-use Rattle.f77_nodes.specs.Node.{NodeOf, parts, all_parts, tree_nodes, step_parts, nodes_of, node_name, names_of}
+use Rattle.f77_tree.specs.Node.{NodeOf, parts, all_parts, tree_nodes, step_parts, nodes_of, node_name, names_of}
 use Rattle.f77_program.specs.Program.{LineFields}
 use Rattle.f77_tree.specs.Tree.{Tree, Trees, DeclFields}
 use Rattle.f77_tree.specs.Statement.{Statement}

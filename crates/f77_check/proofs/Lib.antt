@@ -1,5 +1,5 @@
 mod Arguments
-mod Variables
+mod StatementLabels
 mod Readiness
 mod Jumps
 mod Sites

@@ -7,7 +7,7 @@ use Rattle.std.proofs.lemmas.List.{append-nil, map-append}
 use Rattle.std.proofs.lemmas.List.Concat.{flat_map-cons}
 use Rattle.std.proofs.lemmas.List.Elements.{filter_map-append}
 use Rattle.std.proofs.lemmas.List.Folds.{list_any-append}
-use Rattle.f77_nodes.specs.Node.{NodeOf, group_nodes, node_name, names_of}
+use Rattle.f77_tree.specs.Node.{NodeOf, group_nodes, node_name, names_of}
 use Rattle.f77_program.specs.Program.{LineFields}
 use Rattle.f77_tree.specs.Tree.{GroupFields}
 use Rattle.f77_tree.specs.Statement.{Statement}

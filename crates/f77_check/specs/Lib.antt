@@ -5,7 +5,6 @@ pub mod Action
 pub mod Ready
 pub mod Resolved
 pub mod Start
-pub mod Symbols
 pub mod Checked
 pub mod CheckedView
 pub mod Patching

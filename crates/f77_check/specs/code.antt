@@ -2,7 +2,6 @@ pub mod Kept
 pub mod Boxed
 pub mod Lookup
 pub mod Ready
-pub mod Symbols
 pub mod Initial
 pub mod Shapes
 pub mod Patching

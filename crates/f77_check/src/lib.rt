@@ -3,6 +3,7 @@
 
 mod checked;
 mod checking;
+mod labels;
 mod lookup;
 mod lookup_into;
 mod patching;
@@ -11,13 +12,11 @@ mod resolve_into;
 mod shapes;
 mod slots;
 mod start;
-mod symbols;
 
 pub use checked::{Checked, Shape};
 pub use checking::check;
 pub use f77_actions::{
     Action, Arithmetic, Condition, Connective, Element, Jump, Number, Relation, Resolved,
 };
-pub use f77_legal::{CheckFault, Clause};
+pub use f77_legal::CheckFault;
 pub use start::Start;
-pub use symbols::Variable;

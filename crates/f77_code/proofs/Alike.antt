@@ -3,8 +3,8 @@ use Rattle.std.proofs.Common.{◌≡◌, ℕ, Bool, true, false, List, ℤ, pos,
 use Rattle.std.specs.Prelude.{Result, Ok, Err, if◌then◌else◌}
 use Rattle.f77_actions.specs.declared.action.Jump.{Jump}
 use Rattle.f77_actions.specs.declared.resolved.Resolved.{Resolved}
-use Rattle.f77_values.specs.declared.finish.Fault.{Fault}
-use Rattle.f77_values.specs.declared.finish.Finish.TheVariants.{Failed}
+use Rattle.f77_actions.specs.declared.finish.Fault.{Fault}
+use Rattle.f77_actions.specs.declared.finish.Finish.TheVariants.{Failed}
 use Rattle.f77_code.specs.declared.control.Turn.{Turn}
 use Rattle.f77_code.specs.Instructions.{onward}
 use Rattle.f77_code.specs.Holds.{Plan, HoldsRegisters, HoldsCounters}
@@ -13,8 +13,8 @@ use Rattle.f77_code.specs.Moves.{Cells, TurnList, Move, Ends, jump_chosen, go_on
 use Rattle.f77_code.specs.Operation as code
 use Rattle.f77_code.specs.Operation.{Point, point, ended_point, branch}
 use Rattle.f77_code.specs.Simulation.{IsMove, are_active}
-use Rattle.f77_values.specs.Number.{fits, is_same}
-use Rattle.f77_values.specs.Told.{of_truth, truth_number, is_fitting}
+use Rattle.f77_actions.specs.Number.{fits, is_same}
+use Rattle.f77_actions.specs.Told.{of_truth, truth_number, is_fitting}
 use Rattle.f77_code.proofs.Counters.{counts_without}
 use Rattle.f77_code.proofs.Onward.{onward_active}
 

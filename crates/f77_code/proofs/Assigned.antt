@@ -9,8 +9,8 @@ use Rattle.f77_actions.specs.declared.expression.Condition.{Condition}
 use Rattle.f77_actions.specs.declared.expression.Element.{Element, Variable, Vector', Matrix'}
 use Rattle.f77_actions.specs.declared.expression.Number.{Number}
 use Rattle.f77_actions.specs.declared.resolved.Resolved.{Resolved}
-use Rattle.f77_values.specs.declared.finish.Fault.{Fault}
-use Rattle.f77_values.specs.declared.value.Value.TheVariants as held
+use Rattle.f77_actions.specs.declared.finish.Fault.{Fault}
+use Rattle.f77_actions.specs.declared.value.Value.TheVariants as held
 use Rattle.f77_code.specs.declared.control.Turn.{Turn}
 use Rattle.f77_code.specs.declared.instruction.Operation.{Operation, SetMatrix}
 use Rattle.f77_code.specs.declared.term.Term.{Term}
@@ -24,8 +24,8 @@ use Rattle.f77_code.specs.Registers.{vector_place, matrix_place}
 use Rattle.f77_code.specs.Simulation.{IsMove, are_active}
 use Rattle.f77_code.specs.Standing.{IsTerm, IsTest}
 use Rattle.f77_code.specs.Term.{term_value}
-use Rattle.f77_values.specs.Told.{truth_number}
-use Rattle.f77_values.specs.Value.{given, element}
+use Rattle.f77_actions.specs.Told.{truth_number}
+use Rattle.f77_actions.specs.Value.{given, element}
 use Rattle.f77_code.proofs.Alike.{fits_of, go_on_alike, used_alike, truth_alike}
 use Rattle.f77_code.proofs.Fitting.{term_fits}
 use Rattle.f77_code.proofs.SameValue.{same_term, same_test}

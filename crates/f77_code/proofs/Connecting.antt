@@ -3,11 +3,11 @@ use Rattle.std.proofs.Common.{◌≡◌, Bool, true, false, ℤ, pos, sym, subst
 use Rattle.std.specs.Prelude.{Result, Ok, not, cond}
 use Rattle.f77_actions.specs.declared.expression.Connective.{Connective}
 use Rattle.f77_actions.specs.declared.expression.Connective.TheVariants as connective
-use Rattle.f77_values.specs.declared.finish.Fault.{Fault}
-use Rattle.f77_values.specs.Number.{fits, is_same}
-use Rattle.f77_values.specs.Told.{TellsResult, IsValueOrFault, HasValue, truth_number}
-use Rattle.f77_values.proofs.Bounds.{tells_value, fits_truth}
-use Rattle.f77_values.proofs.Operations.{value_fits}
+use Rattle.f77_actions.specs.declared.finish.Fault.{Fault}
+use Rattle.f77_actions.specs.Number.{fits, is_same}
+use Rattle.f77_actions.specs.Told.{TellsResult, IsValueOrFault, HasValue, truth_number}
+use Rattle.f77_actions.proofs.Bounds.{tells_value, fits_truth}
+use Rattle.f77_actions.proofs.Operations.{value_fits}
 use Rattle.f77_code.specs.Term.{connected_number}
 
 pub truth_told : (b c : Bool) (z : ℤ) → z ≡ truth_number c → c ≡ b → TellsResult z (Ok (truth_number b))

@@ -7,11 +7,11 @@ use Rattle.f77_actions.specs.declared.expression.Arithmetic.TheVariants as arith
 use Rattle.f77_actions.specs.declared.expression.Connective.{Connective}
 use Rattle.f77_actions.specs.declared.expression.Connective.TheVariants as connective
 use Rattle.f77_actions.specs.declared.expression.Relation.{Relation}
-use Rattle.f77_values.specs.declared.finish.Fault.{Fault}
-use Rattle.f77_values.specs.Number.{fits, in_range, exact_power, negated, without_sign, is_below, is_same}
-use Rattle.f77_values.specs.Told.{is_fitting, negation}
-use Rattle.f77_values.specs.Value.{given, both, pushed}
-use Rattle.f77_values.proofs.Bounds.{fits_truth}
+use Rattle.f77_actions.specs.declared.finish.Fault.{Fault}
+use Rattle.f77_actions.specs.Number.{fits, in_range, exact_power, negated, without_sign, is_below, is_same}
+use Rattle.f77_actions.specs.Told.{is_fitting, negation}
+use Rattle.f77_actions.specs.Value.{given, both, pushed}
+use Rattle.f77_actions.proofs.Bounds.{fits_truth}
 use Rattle.f77_code.specs.declared.term.Term.{Term, Register, Element, ElementAtSum, ElementAtDifference}
 use Rattle.f77_code.specs.declared.term.Term.{Sum, Difference, Product, Compared, TooLarge, Vector', Matrix'}
 use Rattle.f77_code.specs.declared.term.Term.{Add', Subtract', Multiply', Calculated', Negated', Absolute', ZeroPush', Related', Connected', Not'}

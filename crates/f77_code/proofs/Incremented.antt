@@ -2,11 +2,11 @@
 use Rattle.std.proofs.Common.{arith, ◌≡◌, ◌<◌, ℕ, zero, suc, List, [], ◌∷◌, length, get_or, Some, ℤ, pos, refl, sym, ap, ◌∙◌, subst, w32, FitsSigned}
 use Rattle.std.specs.Prelude.{Result, Ok, Err, slice_get, slice_set, ◌+ℤ◌, ◌≤ℤ◌, ◌<ℤ◌}
 use Rattle.std.specs.Option.{option_map_or}
-use Rattle.f77_values.specs.declared.finish.Fault.{Fault}
-use Rattle.f77_values.specs.declared.finish.Finish.TheVariants.{Failed}
-use Rattle.f77_values.specs.Number.{in_range}
-use Rattle.f77_values.specs.Told.{TellsResult}
-use Rattle.f77_values.specs.Value.{given, both}
+use Rattle.f77_actions.specs.declared.finish.Fault.{Fault}
+use Rattle.f77_actions.specs.declared.finish.Finish.TheVariants.{Failed}
+use Rattle.f77_actions.specs.Number.{in_range}
+use Rattle.f77_actions.specs.Told.{TellsResult}
+use Rattle.f77_actions.specs.Value.{given, both}
 use Rattle.f77_code.specs.declared.control.Turn.{Turn}
 use Rattle.f77_code.specs.declared.instruction.Operation.{Next}
 use Rattle.f77_code.specs.Operation.{point, ended_point, passed, one_less, incremented_in_code, ran}

@@ -2,11 +2,11 @@
 use Rattle.std.proofs.Common.{arith, ◌≡◌, ◌<◌, ◌≤◌, ℕ, zero, suc, true, false, refl, sym, ap, subst, ℤ, pos, negsuc, ◌+◌, ◌*◌}
 use Rattle.std.specs.Prelude.{Result, Ok, Err, nat_lt}
 use Rattle.std.proofs.lemmas.Bool.{lt-ltb, le-ltb}
-use Rattle.f77_values.specs.declared.finish.Fault.{Fault}
-use Rattle.f77_values.specs.declared.finish.Fault.TheVariants.{BadSubscript}
+use Rattle.f77_actions.specs.declared.finish.Fault.{Fault}
+use Rattle.f77_actions.specs.declared.finish.Fault.TheVariants.{BadSubscript}
 use Rattle.f77_code.specs.code.Registers.{IsOffset}
 use Rattle.f77_code.specs.Registers.{vector_place, matrix_place}
-use Rattle.f77_values.specs.Told.{TellsResult, code}
+use Rattle.f77_actions.specs.Told.{TellsResult, code}
 
 far : (s z : ℤ) (k : ℕ) → s ≡ z → IsOffset s k → IsOffset z k
 far s z k e o = subst (λ z. IsOffset z k) e o

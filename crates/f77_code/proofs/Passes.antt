@@ -6,9 +6,9 @@ use Rattle.f77_tree.specs.declared.tree.Kind.TheVariants.{Integer}
 use Rattle.f77_actions.specs.declared.action.Action.{Loop}
 use Rattle.f77_actions.specs.declared.expression.Number.{Number}
 use Rattle.f77_actions.specs.declared.resolved.Resolved.{Resolved}
-use Rattle.f77_values.specs.declared.finish.Fault.{Fault}
-use Rattle.f77_values.specs.declared.finish.Finish.TheVariants.{Failed}
-use Rattle.f77_values.specs.declared.value.Value.TheVariants as held
+use Rattle.f77_actions.specs.declared.finish.Fault.{Fault}
+use Rattle.f77_actions.specs.declared.finish.Finish.TheVariants.{Failed}
+use Rattle.f77_actions.specs.declared.value.Value.TheVariants as held
 use Rattle.f77_code.specs.declared.control.Place.TheVariants.{Execute}
 use Rattle.f77_code.specs.declared.control.Turn.{Turn}
 use Rattle.f77_code.specs.declared.instruction.Operation.{Next}
@@ -21,8 +21,8 @@ use Rattle.f77_code.specs.Operation as code
 use Rattle.f77_code.specs.Operation.{point, ended_point, passed, one_less, ran}
 use Rattle.f77_code.specs.Registers.{register}
 use Rattle.f77_code.specs.Simulation.{IsMove, only_round}
-use Rattle.f77_values.specs.Number.{fits, in_range, trip_count}
-use Rattle.f77_values.specs.Value.{given, whole}
+use Rattle.f77_actions.specs.Number.{fits, in_range, trip_count}
+use Rattle.f77_actions.specs.Value.{given, whole}
 use Rattle.f77_code.proofs.Alike.{used_alike}
 use Rattle.f77_code.proofs.Counters.{counted, turn_none}
 use Rattle.f77_code.proofs.Onward.{onward_round}

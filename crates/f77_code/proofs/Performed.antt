@@ -9,7 +9,7 @@ use Rattle.f77_actions.specs.declared.expression.Condition.{Condition, Related}
 use Rattle.f77_actions.specs.declared.expression.Number.{Number}
 use Rattle.f77_actions.specs.declared.expression.Relation.{Relation}
 use Rattle.f77_actions.specs.declared.resolved.Resolved.{Resolved}
-use Rattle.f77_values.specs.declared.finish.Fault.{Fault}
+use Rattle.f77_actions.specs.declared.finish.Fault.{Fault}
 use Rattle.f77_code.specs.declared.control.Turn.{Turn}
 use Rattle.f77_code.specs.declared.instruction.Operation.{Operation, IfTrue, Sign, Select, When', Continue, Goto, Return, Stop, Trap}
 use Rattle.f77_code.specs.Choice.{by_sign, item_chosen}
@@ -22,9 +22,9 @@ use Rattle.f77_code.specs.Operation.{point, ran}
 use Rattle.f77_code.specs.Simulation.{IsMove, are_active}
 use Rattle.f77_code.specs.Standing.{IsTerm}
 use Rattle.f77_code.specs.Term.{related_number, term_value}
-use Rattle.f77_values.specs.Number.{is_same}
-use Rattle.f77_values.specs.Told.{of_truth, truth_number}
-use Rattle.f77_values.specs.Value.{both}
+use Rattle.f77_actions.specs.Number.{is_same}
+use Rattle.f77_actions.specs.Told.{of_truth, truth_number}
+use Rattle.f77_actions.specs.Value.{both}
 use Rattle.f77_code.proofs.Alike.{go_on_alike, used_alike, truth_alike, branched, jumped}
 use Rattle.f77_code.proofs.Assigned.{number_assigned, truth_assigned}
 use Rattle.f77_code.proofs.SameValue.{same_term, same_test}

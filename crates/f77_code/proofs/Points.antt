@@ -6,18 +6,18 @@ use Rattle.std.specs.Prelude.{Result, Ok, Err, nat_lt, slice_get, slice_set, unw
 use Rattle.std.proofs.Math.Dec.{eqb-suc-zero}
 use Rattle.std.proofs.lemmas.Bool.{le-ltb, lt-ltb}
 use Rattle.std.proofs.lemmas.Int.{ints}
-use Rattle.f77_values.specs.declared.finish.Fault.{Fault}
-use Rattle.f77_values.specs.declared.finish.Fault.TheVariants.{BadSubscript, ZeroStep}
-use Rattle.f77_values.specs.declared.finish.Finish.TheVariants.{Failed}
+use Rattle.f77_actions.specs.declared.finish.Fault.{Fault}
+use Rattle.f77_actions.specs.declared.finish.Fault.TheVariants.{BadSubscript, ZeroStep}
+use Rattle.f77_actions.specs.declared.finish.Finish.TheVariants.{Failed}
 use Rattle.f77_code.specs.declared.control.Turn.{Turn}
 use Rattle.f77_code.specs.Choice.{by_sign, item_chosen}
 use Rattle.f77_code.specs.Operation.{Point, point, used_in_code, ended_point, put_in_register, put_at, branch, passed, begun_in_code, one_less}
 use Rattle.f77_code.specs.code.Registers.{IsOffset}
 use Rattle.f77_code.specs.Registers.{vector_place, matrix_place}
-use Rattle.f77_values.specs.Number.{fits, is_same, trip_count}
-use Rattle.f77_values.specs.Told.{TellsResult, IsValueOrFault, code}
-use Rattle.f77_values.specs.Value.{given, element}
-use Rattle.f77_values.proofs.Bounds.{Within, within, at_least, told_value, tells_value, tells_fault, told_code}
+use Rattle.f77_actions.specs.Number.{fits, is_same, trip_count}
+use Rattle.f77_actions.specs.Told.{TellsResult, IsValueOrFault, code}
+use Rattle.f77_actions.specs.Value.{given, element}
+use Rattle.f77_actions.proofs.Bounds.{Within, within, at_least, told_value, tells_value, tells_fault, told_code}
 use Rattle.f77_code.proofs.Offsets.{vector_within, vector_beyond, matrix_within, row_beyond, column_beyond}
 
 -- what a number tells that is a value

@@ -3,14 +3,14 @@ use Rattle.std.proofs.Common.{arith, add-zero, ◌≡◌, ◌<◌, ◌≤◌, �
 use Rattle.std.specs.Prelude.{Ok, Err, ◌==◌, ◌||◌, nat_lt, Result, ◌-ℤ◌, ◌<ℤ◌, ◌≤ℤ◌}
 use Rattle.std.proofs.lemmas.Bool.{and_parts, eqb-true, lt-ltb, le-ltb}
 use Rattle.std.proofs.lemmas.Int.{ints}
-use Rattle.f77_values.specs.declared.finish.Fault.{Fault}
-use Rattle.f77_values.specs.declared.finish.Fault.TheVariants.{Undefined, Overflow, BadSubscript}
-use Rattle.f77_values.specs.Number.{fits}
-use Rattle.f77_values.specs.Told.{TellsResult, IsValueOrFault, code}
-use Rattle.f77_values.proofs.Bounds.{Within, within, tells_value, tells_fault}
+use Rattle.f77_actions.specs.declared.finish.Fault.{Fault}
+use Rattle.f77_actions.specs.declared.finish.Fault.TheVariants.{Undefined, Overflow, BadSubscript}
+use Rattle.f77_actions.specs.Number.{fits}
+use Rattle.f77_actions.specs.Told.{TellsResult, IsValueOrFault, code}
+use Rattle.f77_actions.proofs.Bounds.{Within, within, tells_value, tells_fault}
 use Rattle.f77_code.specs.Registers.{told_by_register, is_held, are_held, register, vector_place, matrix_place, element_at}
 use Rattle.f77_code.specs.code.Registers.{IsOffset, misplaced_in_matrix}
-use Rattle.f77_values.specs.Value.{given, element}
+use Rattle.f77_actions.specs.Value.{given, element}
 
 either : (a b : Bool) → (a || b) ≡ true → b ≡ false → a ≡ true
 either true b h e = refl

@@ -5,8 +5,8 @@ use Rattle.std.specs.Option.{option_and_then, option_map_or}
 use Rattle.std.proofs.lemmas.Bool.{and_parts}
 use Rattle.std.proofs.lemmas.Option.{slice_get_past}
 use Rattle.f77_actions.specs.declared.resolved.Resolved.{Resolved}
-use Rattle.f77_values.specs.declared.finish.Finish.{Finish}
-use Rattle.f77_values.specs.declared.finish.Finish.TheVariants.{Returned, Stopped, Failed, StepLimit}
+use Rattle.f77_actions.specs.declared.finish.Finish.{Finish}
+use Rattle.f77_actions.specs.declared.finish.Finish.TheVariants.{Returned, Stopped, Failed, StepLimit}
 use Rattle.f77_code.specs.declared.instruction.Instruction.{Instruction}
 use Rattle.f77_code.specs.Block.{one, code_after, code_within}
 use Rattle.f77_code.specs.Instructions.{AreCode}

@@ -9,7 +9,7 @@ use Rattle.f77_code.specs.Instructions.{Giving, giving, Storing, storing, Compar
 use Rattle.f77_code.specs.Operation.{Point, ran, put_in_register, put_at, branch}
 use Rattle.f77_code.specs.Registers.{vector_place}
 use Rattle.f77_code.specs.Term.{related_number, term_value}
-use Rattle.f77_values.specs.Value.{both}
+use Rattle.f77_actions.specs.Value.{both}
 
 held : {A : Type 0} (a b : A) → Some a ≡ Some b → a ≡ b
 held a b e = cc (e)

@@ -20,7 +20,7 @@ use Rattle.f77_code.specs.Constants.{GrowsPlan}
 use Rattle.f77_code.specs.Holds.{Plan}
 use Rattle.f77_code.specs.Standing.{IsTerm, IsTest}
 use Rattle.f77_code.specs.Typing.{HasTruths}
-use Rattle.f77_values.specs.Told.{truth_number}
+use Rattle.f77_actions.specs.Told.{truth_number}
 use Rattle.f77_code.proofs.Terms.{begins_before, kept_constant}
 
 pub test_later : (t u : Constants) (x : Condition) (l : Term) → GrowsPlan t u → IsTestTerm t x l → IsTestTerm u x l

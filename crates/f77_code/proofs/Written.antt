@@ -5,16 +5,16 @@ use Rattle.std.specs.Option.{option_and_then}
 use Rattle.std.proofs.lemmas.Bool.{and_parts, eqb-true, ltb-true, cases_eq}
 use Rattle.std.proofs.lemmas.List.{length-set}
 use Rattle.f77_tree.specs.declared.tree.Kind.TheVariants.{Integer, Logical}
-use Rattle.f77_values.specs.declared.value.Value.{Value}
-use Rattle.f77_values.specs.declared.value.Value.TheVariants as held
+use Rattle.f77_actions.specs.declared.value.Value.{Value}
+use Rattle.f77_actions.specs.declared.value.Value.TheVariants as held
 use Rattle.f77_code.specs.Evaluation.{held_in}
 use Rattle.f77_code.specs.Holds.{Plan, HoldsRegisters, IsSlot, read_as}
 use Rattle.f77_code.specs.Moves.{Cells}
 use Rattle.f77_code.specs.Registers.{register, told_by_register, is_held, are_held}
-use Rattle.f77_values.specs.Number.{fits}
-use Rattle.f77_values.specs.Told.{IsValueOrFault, truth_number}
-use Rattle.f77_values.proofs.Bounds.{fits_truth}
-use Rattle.f77_values.proofs.Operations.{value_fits}
+use Rattle.f77_actions.specs.Number.{fits}
+use Rattle.f77_actions.specs.Told.{IsValueOrFault, truth_number}
+use Rattle.f77_actions.proofs.Bounds.{fits_truth}
+use Rattle.f77_actions.proofs.Operations.{value_fits}
 
 register_same : (registers : List ℤ) (k : ℕ) (z : ℤ) → k < length registers → register (slice_set registers k z) k ≡ told_by_register z
 register_same [] k z below = absurd (omega arith)

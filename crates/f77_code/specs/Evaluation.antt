@@ -14,11 +14,11 @@ use Rattle.f77_actions.specs.declared.expression.Number.{Absolute', ZeroPush', B
 use Rattle.f77_actions.specs.declared.expression.Number as number
 use Rattle.f77_actions.specs.declared.expression.Condition.{Condition, Not', Related, Connected'}
 use Rattle.f77_actions.specs.declared.expression.Condition as condition
-use Rattle.f77_values.specs.declared.finish.Fault.{Fault}
-use Rattle.f77_values.specs.declared.finish.Fault.TheVariants.{Overflow}
-use Rattle.f77_values.specs.declared.value.Value.{Value}
-use Rattle.f77_values.specs.Number.{in_range, quotient, modulus, power, negated, without_sign, is_below, is_same}
-use Rattle.f77_values.specs.Value.{given, both, whole, logic, element, same_truth, pushed}
+use Rattle.f77_actions.specs.declared.finish.Fault.{Fault}
+use Rattle.f77_actions.specs.declared.finish.Fault.TheVariants.{Overflow}
+use Rattle.f77_actions.specs.declared.value.Value.{Value}
+use Rattle.f77_actions.specs.Number.{in_range, quotient, modulus, power, negated, without_sign, is_below, is_same}
+use Rattle.f77_actions.specs.Value.{given, both, whole, logic, element, same_truth, pushed}
 
 -- what a slot holds
 abbrev pub held_in : List (Option Value) → ℕ → Option Value

@@ -6,14 +6,14 @@ use Rattle.std.specs.Option.{option_map_or}
 use Rattle.f77_tree.specs.declared.tree.Kind.{Kind}
 use Rattle.f77_tree.specs.declared.tree.Kind.TheVariants.{Integer, Logical}
 use Rattle.f77_actions.specs.declared.resolved.Resolved.{Resolved}
-use Rattle.f77_values.specs.declared.finish.Fault.{Fault}
-use Rattle.f77_values.specs.declared.value.Value.{Value}
+use Rattle.f77_actions.specs.declared.finish.Fault.{Fault}
+use Rattle.f77_actions.specs.declared.value.Value.{Value}
 use Rattle.f77_code.specs.declared.control.Turn.{Turn}
 use Rattle.f77_code.specs.Evaluation.{held_in}
 use Rattle.f77_code.specs.Moves.{Cells, TurnList, turn_at, is_loop}
 use Rattle.f77_code.specs.Registers.{register, are_held}
-use Rattle.f77_values.specs.Told.{of_truth}
-use Rattle.f77_values.specs.Value.{whole, logic}
+use Rattle.f77_actions.specs.Told.{of_truth}
+use Rattle.f77_actions.specs.Value.{whole, logic}
 
 -- so many slots, their kinds, and the constants in the registers behind them
 pub record Plan : Type 0 where

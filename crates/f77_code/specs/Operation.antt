@@ -6,10 +6,10 @@ use Rattle.std.specs.Option.{option_map_or}
 use Rattle.f77_actions.specs.declared.expression.Arithmetic.TheVariants as arithmetic
 use Rattle.f77_actions.specs.declared.expression.Relation.{Relation}
 use Rattle.f77_actions.specs.declared.expression.Relation.TheVariants as relation
-use Rattle.f77_values.specs.declared.finish.Fault.{Fault}
-use Rattle.f77_values.specs.declared.finish.Fault.TheVariants.{ZeroStep, Trapped}
-use Rattle.f77_values.specs.declared.finish.Finish.{Finish}
-use Rattle.f77_values.specs.declared.finish.Finish.TheVariants.{Returned, Stopped, Failed, StepLimit}
+use Rattle.f77_actions.specs.declared.finish.Fault.{Fault}
+use Rattle.f77_actions.specs.declared.finish.Fault.TheVariants.{ZeroStep, Trapped}
+use Rattle.f77_actions.specs.declared.finish.Finish.{Finish}
+use Rattle.f77_actions.specs.declared.finish.Finish.TheVariants.{Returned, Stopped, Failed, StepLimit}
 use Rattle.f77_code.specs.declared.control.Turn.{Turn}
 use Rattle.f77_code.specs.declared.instruction.Operation.{Operation, Set, SetElement, SetMatrix, IfTrue, IfRelated}
 use Rattle.f77_code.specs.declared.instruction.Operation.{Do, Count, Next, Sign, Select, When', Continue, Goto, Return}
@@ -20,9 +20,9 @@ use Rattle.f77_code.specs.Choice.{by_sign, item_chosen}
 use Rattle.f77_code.specs.Evaluation.{calculated}
 use Rattle.f77_code.specs.Registers.{register, vector_place, matrix_place, element_at}
 use Rattle.f77_code.specs.Term.{related_number, term_value, term_within}
-use Rattle.f77_values.specs.Number.{in_range, is_same, trip_count}
-use Rattle.f77_values.specs.Told.{fault_number}
-use Rattle.f77_values.specs.Value.{given, both}
+use Rattle.f77_actions.specs.Number.{in_range, is_same, trip_count}
+use Rattle.f77_actions.specs.Told.{fault_number}
+use Rattle.f77_actions.specs.Value.{given, both}
 
 -- where control is, or how the run ended, the registers, and the counters of the DOs
 pub record Point : Type 0 where

@@ -3,10 +3,10 @@
 use Rattle.std.specs.Prelude.{◌||◌, ◌==◌, ◌+◌, ◌∷◌, if◌then◌else◌, ℕ, Bool, List, [], Option, Some, None, slice_get}
 use Rattle.std.specs.Prelude.{ℤ, pos, negsuc, Result, Ok, Err}
 use Rattle.std.specs.List.{list_all}
-use Rattle.f77_values.specs.declared.finish.Fault.{Fault}
-use Rattle.f77_values.specs.declared.finish.Fault.TheVariants.{Undefined}
-use Rattle.f77_values.specs.Number.{fits}
-use Rattle.f77_values.specs.Value.{given, both, element}
+use Rattle.f77_actions.specs.declared.finish.Fault.{Fault}
+use Rattle.f77_actions.specs.declared.finish.Fault.TheVariants.{Undefined}
+use Rattle.f77_actions.specs.Number.{fits}
+use Rattle.f77_actions.specs.Value.{given, both, element}
 
 -- what a number in a register tells
 abbrev pub told_by_register : ℤ → Result ℤ Fault

@@ -2,7 +2,7 @@
 use Rattle.std.specs.Prelude.{◌≡◌, ◌≢◌, ◌<◌, ℕ, zero, suc, List, length, Option, Some}
 use Rattle.std.specs.Option.{option_and_then}
 use Rattle.f77_actions.specs.declared.resolved.Resolved.{Resolved}
-use Rattle.f77_values.specs.declared.finish.Finish.{Finish}
+use Rattle.f77_actions.specs.declared.finish.Finish.{Finish}
 use Rattle.f77_code.specs.declared.instruction.Instruction.{Instruction}
 use Rattle.f77_code.specs.Block.{code_after}
 use Rattle.f77_code.specs.Instructions.{AreCode}

@@ -14,7 +14,7 @@ use Rattle.f77_code.specs.declared.term.Term.{Sum, Difference, Product, Compared
 use Rattle.f77_code.specs.declared.term.Term.{Matrix', Add', Subtract', Multiply', Calculated', Negated'}
 use Rattle.f77_code.specs.declared.term.Term.{Absolute', ZeroPush', Related', Connected', Not'}
 use Rattle.f77_code.specs.Holds.{Plan, IsSlot, AreSlots, IsConstant}
-use Rattle.f77_values.specs.Told.{truth_number}
+use Rattle.f77_actions.specs.Told.{truth_number}
 
 abbrev mutual
   -- a variable or an array element of this kind

@@ -4,17 +4,17 @@ use Rattle.f77_actions.specs.declared.expression.Arithmetic.TheVariants as arith
 use Rattle.f77_actions.specs.declared.expression.Connective.{Connective}
 use Rattle.f77_actions.specs.declared.expression.Connective.TheVariants as connective
 use Rattle.f77_actions.specs.declared.expression.Relation.{Relation}
-use Rattle.f77_values.specs.declared.finish.Fault.{Fault}
-use Rattle.f77_values.specs.declared.finish.Fault.TheVariants.{Overflow}
+use Rattle.f77_actions.specs.declared.finish.Fault.{Fault}
+use Rattle.f77_actions.specs.declared.finish.Fault.TheVariants.{Overflow}
 use Rattle.f77_code.specs.declared.term.Term.{Term, Register, Element, ElementAtSum, ElementAtDifference}
 use Rattle.f77_code.specs.declared.term.Term.{Sum, Difference, Product, Compared, TooLarge, Vector'}
 use Rattle.f77_code.specs.declared.term.Term.{Matrix', Add', Subtract', Multiply', Calculated', Negated'}
 use Rattle.f77_code.specs.declared.term.Term.{Absolute', ZeroPush', Related', Connected', Not'}
 use Rattle.f77_code.specs.Evaluation.{calculated, compared}
 use Rattle.f77_code.specs.Registers.{register, vector_place, matrix_place, element_at}
-use Rattle.f77_values.specs.Number.{in_range, negated, without_sign}
-use Rattle.f77_values.specs.Told.{truth_number, conjunction, disjunction, equivalence, exclusion, negation}
-use Rattle.f77_values.specs.Value.{given, both, pushed}
+use Rattle.f77_actions.specs.Number.{in_range, negated, without_sign}
+use Rattle.f77_actions.specs.Told.{truth_number, conjunction, disjunction, equivalence, exclusion, negation}
+use Rattle.f77_actions.specs.Value.{given, both, pushed}
 
 -- a relation of numbers, as a number
 abbrev pub related_number : Relation → ℤ → ℤ → Result ℤ Fault

@@ -1,20 +1,20 @@
 //! Assignments (ANSI X3.9-1978, 10.1 and 10.2).
 
 ghost use Rattle.std.specs.Prelude.{◌≡◌, ◌≤◌, ◌<◌, ◌+◌, ◌*◌, true, length, slice_set, List, ℤ, Result};
-ghost use Rattle.f77_values.specs.declared.finish.Fault.{Fault};
+ghost use Rattle.f77_actions.specs.declared.finish.Fault.{Fault};
 ghost use Rattle.f77_code.specs.declared.control.Turn.{Turn};
 ghost use Rattle.f77_code.specs.declared.instruction.Operation as operation;
 ghost use Rattle.f77_code.specs.Operation as meaning;
 ghost use Rattle.f77_code.specs.Operation.{point, ran};
 ghost use Rattle.f77_code.specs.Registers.{are_held, vector_place, matrix_place};
 ghost use Rattle.f77_code.specs.Term.{term_value, term_within};
-ghost use Rattle.f77_values.specs.Told.{TellsResult, IsValueOrFault};
+ghost use Rattle.f77_actions.specs.Told.{TellsResult, IsValueOrFault};
 
 use crate::ending::{failed, off_matrix, off_vector};
 use crate::evaluate::{difference_at, element_of, operand, product_at, sum_at};
 use crate::registers::{matrix_offset, offset, read};
 use crate::term::{Pair, Term};
-use f77_values::told::UNDEFINED;
+use f77_actions::told::UNDEFINED;
 
 #[inline(always)]
 pub(crate) fn write(registers: &mut [i64], to: usize, x: i64)

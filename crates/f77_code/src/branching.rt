@@ -1,22 +1,22 @@
 //! Where control goes by a value (ANSI X3.9-1978, 11.2 to 11.7).
 
 ghost use Rattle.std.specs.Prelude.{◌≡◌, ◌<◌, ◌+◌, ◌≤ℤ◌, pos, true, length, unwrap_or, List, ℤ, Result};
-ghost use Rattle.f77_values.specs.declared.finish.Fault.{Fault};
+ghost use Rattle.f77_actions.specs.declared.finish.Fault.{Fault};
 ghost use Rattle.f77_code.specs.Choice as choice;
 ghost use Rattle.f77_code.specs.declared.control.Turn.{Turn};
 ghost use Rattle.f77_code.specs.Operation as meaning;
 ghost use Rattle.f77_code.specs.Operation.{point, used_in_code};
 ghost use Rattle.f77_code.specs.Registers.{are_held};
 ghost use Rattle.f77_code.specs.Term.{related_number, term_value, term_within};
-ghost use Rattle.f77_values.specs.Told.{TellsResult, IsValueOrFault};
-ghost use Rattle.f77_values.specs.Value.{both};
+ghost use Rattle.f77_actions.specs.Told.{TellsResult, IsValueOrFault};
+ghost use Rattle.f77_actions.specs.Value.{both};
 
 use crate::ending::failed;
 use crate::evaluate::{compared_at, operand};
 use crate::operators::compared;
 use crate::term::{Pair, Term};
 use f77_actions::Relation;
-use f77_values::told::UNDEFINED;
+use f77_actions::told::UNDEFINED;
 
 /// A truth value tells where control goes.
 #[inline(always)]

@@ -5,7 +5,7 @@ ghost use Rattle.f77_code.specs.code.Compile.{IsReadTerm, IsNumberTerm, IsTestTe
 ghost use Rattle.f77_code.specs.code.Compile.{IsVectorOf, IsCalculationOf, IsRelationOf};
 ghost use Rattle.f77_code.specs.Constants.{GrowsPlan};
 ghost use Rattle.f77_code.specs.Evaluation.{element_within, number_within, condition_within};
-ghost use Rattle.f77_values.specs.Told as meaning;
+ghost use Rattle.f77_actions.specs.Told as meaning;
 
 use crate::constants::Constants;
 use crate::fault::CodeFault;

@@ -1,15 +1,15 @@
 //! How runs end, as places: beyond those of all instructions.
 
 ghost use Rattle.std.specs.Prelude.{◌≡◌, ◌<◌, ◌≤ℤ◌, pos, ℕ, ℤ, Result, Err};
-ghost use Rattle.f77_values.specs.declared.finish.Fault.{Fault};
-ghost use Rattle.f77_values.specs.declared.finish.Finish.{Finish};
-ghost use Rattle.f77_values.specs.declared.finish.Finish.TheVariants.{Failed, StepLimit};
+ghost use Rattle.f77_actions.specs.declared.finish.Fault.{Fault};
+ghost use Rattle.f77_actions.specs.declared.finish.Finish.{Finish};
+ghost use Rattle.f77_actions.specs.declared.finish.Finish.TheVariants.{Failed, StepLimit};
 ghost use Rattle.f77_code.specs.Operation as meaning;
 ghost use Rattle.f77_code.specs.Registers.{vector_place, matrix_place};
-ghost use Rattle.f77_values.specs.Told.{TellsResult, IsValueOrFault, fault_number};
+ghost use Rattle.f77_actions.specs.Told.{TellsResult, IsValueOrFault, fault_number};
 
-use f77_values::told::{BAD_SUBSCRIPT, UNDEFINED};
-use f77_values::{Fault, Finish};
+use f77_actions::told::{BAD_SUBSCRIPT, UNDEFINED};
+use f77_actions::{Fault, Finish};
 
 /// Places from here on tell how a run ended, this one and those behind it by which fault.
 pub const ENDS: usize = 4_294_967_296;

@@ -6,15 +6,15 @@ ghost use Rattle.f77_code.specs.Evaluation as meaning;
 ghost use Rattle.f77_code.specs.Registers.{are_held, register, vector_place, matrix_place, element_at};
 ghost use Rattle.f77_code.specs.Term as terms;
 ghost use Rattle.f77_code.specs.Term.{term_value, term_within};
-ghost use Rattle.f77_values.specs.Number.{fits, in_range, negated, without_sign};
-ghost use Rattle.f77_values.specs.Told.{TellsResult, negation};
-ghost use Rattle.f77_values.specs.Value.{given, both, pushed};
+ghost use Rattle.f77_actions.specs.Number.{fits, in_range, negated, without_sign};
+ghost use Rattle.f77_actions.specs.Told.{TellsResult, negation};
+ghost use Rattle.f77_actions.specs.Value.{given, both, pushed};
 
 use crate::operators::{calculated, compared, connected};
 use crate::registers::{element, matrix_element, read};
 use crate::term::{Pair, Term};
+use f77_actions::told::{self, OVERFLOW, UNDEFINED};
 use f77_actions::{Arithmetic, Connective, Relation};
-use f77_values::told::{self, OVERFLOW, UNDEFINED};
 
 #[inline(always)]
 pub(crate) fn element_of(registers: &[i64], first: u32, bound: u32, subscript: u32) -> i64

@@ -1,16 +1,16 @@
 //! DOs (ANSI X3.9-1978, 11.10).
 
 ghost use Rattle.std.specs.Prelude.{◌≡◌, ◌≢◌, ◌<◌, ◌+ℤ◌, pos, true, length, List, ℤ, Result};
-ghost use Rattle.f77_values.specs.declared.finish.Fault.{Fault};
+ghost use Rattle.f77_actions.specs.declared.finish.Fault.{Fault};
 ghost use Rattle.f77_code.specs.declared.control.Turn.{Turn};
 ghost use Rattle.f77_code.specs.declared.instruction.Operation as operation;
 ghost use Rattle.f77_code.specs.Operation as meaning;
 ghost use Rattle.f77_code.specs.Operation.{point, ran};
 ghost use Rattle.f77_code.specs.Registers.{are_held, register};
 ghost use Rattle.f77_code.specs.Term.{term_value, term_within};
-ghost use Rattle.f77_values.specs.Number as exact;
-ghost use Rattle.f77_values.specs.Told.{TellsResult, IsValueOrFault, HasValue};
-ghost use Rattle.f77_values.specs.Value.{given};
+ghost use Rattle.f77_actions.specs.Number as exact;
+ghost use Rattle.f77_actions.specs.Told.{TellsResult, IsValueOrFault, HasValue};
+ghost use Rattle.f77_actions.specs.Value.{given};
 
 use crate::assignment::write;
 use crate::control::Turn;
@@ -18,8 +18,8 @@ use crate::ending::failed;
 use crate::evaluate::operand;
 use crate::instruction::Parameters;
 use crate::registers::read;
-use f77_values::number::trip_count;
-use f77_values::told::{UNDEFINED, ZERO_STEP, sum};
+use f77_actions::number::trip_count;
+use f77_actions::told::{UNDEFINED, ZERO_STEP, sum};
 
 /// A DO has these passes to make.
 #[inline(always)]

@@ -5,7 +5,7 @@ ghost use Rattle.f77_code.specs.Operation as meaning;
 ghost use Rattle.f77_code.specs.Operation.{operation_within, point, used_in_code};
 ghost use Rattle.f77_code.specs.Registers.{are_held};
 ghost use Rattle.f77_code.specs.Term.{term_value, term_within};
-ghost use Rattle.f77_values.specs.Number.{is_same};
+ghost use Rattle.f77_actions.specs.Number.{is_same};
 
 use crate::assignment::{
     add, copy, load, multiply, set, set_element, set_matrix, store, store_difference, store_sum,
@@ -19,7 +19,7 @@ use crate::instruction::Operation;
 use crate::looping::{begin, count, increment};
 use crate::term::Term;
 use f77_actions::Relation;
-use f77_values::told::UNDEFINED;
+use f77_actions::told::UNDEFINED;
 
 /// An operation, from which control goes on to `next`. It is in place where instructions follow one another, which the
 /// compiler allows up to a size: so some long operations have code of their own.

@@ -1,14 +1,13 @@
 //! Operators on numbers that tell values or faults (ANSI X3.9-1978, 6.1, 6.3 and 6.4).
 
 ghost use Rattle.std.specs.Prelude.{◌≡◌, ℤ, Result, Ok};
-ghost use Rattle.f77_values.specs.declared.finish.Fault.{Fault};
+ghost use Rattle.f77_actions.specs.declared.finish.Fault.{Fault};
 ghost use Rattle.f77_code.specs.Evaluation as meaning;
 ghost use Rattle.f77_code.specs.Term as terms;
-ghost use Rattle.f77_values.specs.Told.{TellsResult, IsValueOrFault};
-ghost use Rattle.f77_values.specs.Value.{both};
+ghost use Rattle.f77_actions.specs.Told.{TellsResult, IsValueOrFault};
+ghost use Rattle.f77_actions.specs.Value.{both};
 
-use f77_actions::{Arithmetic, Connective, Relation};
-use f77_values::told;
+use f77_actions::{Arithmetic, Connective, Relation, told};
 
 #[inline(always)]
 pub(crate) fn calculated(operation: Arithmetic, x: i64, y: i64) -> i64

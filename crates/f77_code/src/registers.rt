@@ -1,13 +1,13 @@
 //! Registers, and arrays in them.
 
 ghost use Rattle.std.specs.Prelude.{◌≡◌, ◌≤◌, ◌<◌, ◌+◌, ◌*◌, true, length, ℤ, Result};
-ghost use Rattle.f77_values.specs.declared.finish.Fault.{Fault};
+ghost use Rattle.f77_actions.specs.declared.finish.Fault.{Fault};
 ghost use Rattle.f77_code.specs.code.Registers as meaning;
 ghost use Rattle.f77_code.specs.Registers.{are_held, register, vector_place, matrix_place, element_at};
 ghost use Rattle.f77_code.specs.code.Registers.{IsOffset};
-ghost use Rattle.f77_values.specs.Told.{TellsResult, IsValueOrFault};
+ghost use Rattle.f77_actions.specs.Told.{TellsResult, IsValueOrFault};
 
-use f77_values::told::{BAD_SUBSCRIPT, UNDEFINED};
+use f77_actions::told::{BAD_SUBSCRIPT, UNDEFINED};
 
 #[inline(always)]
 #[tactic(auto, using(crate::proofs::Reading::read_tells))]

@@ -6,7 +6,7 @@ use Rattle.f77_actions.specs.declared.action.Action as actions
 use Rattle.f77_actions.specs.declared.action.Action.{Action, Branch}
 use Rattle.f77_actions.specs.declared.expression.Condition.{Condition}
 use Rattle.f77_actions.specs.declared.resolved.Resolved.{Resolved}
-use Rattle.f77_values.specs.declared.finish.Fault.{Fault}
+use Rattle.f77_actions.specs.declared.finish.Fault.{Fault}
 use Rattle.f77_code.specs.declared.control.Place.TheVariants.{Execute}
 use Rattle.f77_code.specs.Evaluation.{truth_in}
 use Rattle.f77_code.specs.Moves.{Goes, state, jump_chosen, acted, go_on}

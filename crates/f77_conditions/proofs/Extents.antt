@@ -4,9 +4,9 @@ use Rattle.std.specs.Prelude.{Result, Ok, nat_lt, slice_set}
 use Rattle.std.specs.Option.{option_and_then}
 use Rattle.std.proofs.lemmas.Bool.{ltb-true}
 use Rattle.std.proofs.lemmas.Nat.{mul-add-lt}
-use Rattle.f77_values.specs.declared.finish.Fault.{Fault}
-use Rattle.f77_values.specs.declared.value.Value.{Value}
-use Rattle.f77_values.specs.Value.{given, element}
+use Rattle.f77_actions.specs.declared.finish.Fault.{Fault}
+use Rattle.f77_actions.specs.declared.value.Value.{Value}
+use Rattle.f77_actions.specs.Value.{given, element}
 use Rattle.f77_code.specs.Moves.{Cells}
 use Rattle.f77_facts.specs.declared.reaching.Reach.{Reach}
 use Rattle.f77_facts.specs.Reaching.{IsSlotReached}

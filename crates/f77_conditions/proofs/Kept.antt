@@ -2,9 +2,9 @@
 use Rattle.std.proofs.Common.{◌≡◌, ℕ, Option, ap, ◌∙◌, refl}
 use Rattle.std.specs.Prelude.{Result, Ok, Err}
 use Rattle.f77_actions.specs.declared.expression.Element.{Element}
-use Rattle.f77_values.specs.declared.finish.Fault.{Fault}
-use Rattle.f77_values.specs.declared.value.Value.{Value}
-use Rattle.f77_values.specs.Value.{given}
+use Rattle.f77_actions.specs.declared.finish.Fault.{Fault}
+use Rattle.f77_actions.specs.declared.value.Value.{Value}
+use Rattle.f77_actions.specs.Value.{given}
 use Rattle.f77_code.specs.Evaluation.{held_in, slot_in}
 use Rattle.f77_code.specs.Moves.{Cells}
 use Rattle.f77_facts.specs.declared.reaching.Reach.{Reach}

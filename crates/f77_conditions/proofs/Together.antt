@@ -11,8 +11,8 @@ use Rattle.f77_legal.specs.Legal.{IsLegal}
 use Rattle.f77_check.specs.Checked.{CheckedFields, IsChecked}
 use Rattle.f77_check.specs.Patching.{IsInPlace}
 use Rattle.f77_actions.specs.declared.resolved.Resolved.{Resolved}
-use Rattle.f77_values.specs.declared.finish.Finish.{Finish}
-use Rattle.f77_values.specs.declared.finish.Finish.TheVariants.{Returned, Stopped, Failed, StepLimit}
+use Rattle.f77_actions.specs.declared.finish.Finish.{Finish}
+use Rattle.f77_actions.specs.declared.finish.Finish.TheVariants.{Returned, Stopped, Failed, StepLimit}
 use Rattle.f77_code.specs.declared.control.Place.{Place}
 use Rattle.f77_code.specs.declared.control.Place.TheVariants.{Execute, Increment}
 use Rattle.f77_code.specs.Moves.{Cells, TurnList, Move, Goes, Ends, state, acted, moved, is_executed, is_loop}
@@ -20,7 +20,7 @@ use Rattle.f77_code.specs.Sequences.{then_moved, moved_by}
 use Rattle.f77_facts.specs.declared.entries.Entry.{Entry}
 use Rattle.f77_facts.specs.Entries.{IsAmong, IsInductive}
 use Rattle.f77_facts.proofs.Slots.{got_same, same_or_not}
-use Rattle.f77_run.specs.declared.argument.Arg.{Arg}
+use Rattle.f77_meaning.specs.declared.argument.Arg.{Arg}
 use Rattle.f77_equivalence.specs.Alike.{AgreeBut, GoOnAlike, PassAlike}
 use Rattle.f77_equivalence.specs.Changed.{EndsAlike, IsEnding}
 use Rattle.f77_equivalence.specs.Equivalent.{IsEquivalent}

@@ -2,7 +2,7 @@
 
 ghost use Rattle.std.specs.Prelude.{◌≡◌, ℕ, true, Ok};
 ghost use Rattle.std.specs.Prelude.{[], ◌∷◌, ◌+◌};
-ghost use Rattle.f77_values.specs.Value.{given, element};
+ghost use Rattle.f77_actions.specs.Value.{given, element};
 ghost use Rattle.f77_code.specs.Evaluation.{slot_in, number_in};
 ghost use Rattle.f77_code.specs.Moves.{Cells};
 ghost use Rattle.f77_facts.specs.Reaching.{IsSlotReached};

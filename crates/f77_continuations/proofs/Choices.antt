@@ -1,8 +1,8 @@
 -- Which exits are chosen.
 use Rattle.std.proofs.Common.{◌≡◌, Bool, true, false, ℕ, ℤ, refl, sym, ap, ◌∙◌}
 use Rattle.std.specs.Prelude.{Result, Ok, Err, not}
-use Rattle.f77_values.specs.declared.finish.Fault.{Fault}
-use Rattle.f77_values.specs.Value.{given}
+use Rattle.f77_actions.specs.declared.finish.Fault.{Fault}
+use Rattle.f77_actions.specs.Value.{given}
 use Rattle.f77_facts.specs.declared.known.Known.{Known}
 use Rattle.f77_facts.specs.declared.truths.Truths.{Truths}
 use Rattle.f77_facts.specs.Known.{Suits}

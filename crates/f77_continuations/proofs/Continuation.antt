@@ -2,8 +2,8 @@
 use Rattle.std.proofs.Common.{arith, ◌≡◌, ◌≢◌, inl, inr, ◌≤◌, ◌+◌, ◌∙◌, ℕ, zero, suc, List, Option, Some, None, refl, sym, ap, subst}
 use Rattle.std.specs.Option.{option_and_then}
 use Rattle.f77_actions.specs.declared.resolved.Resolved.{Resolved}
-use Rattle.f77_values.specs.declared.finish.Finish.{Finish}
-use Rattle.f77_values.specs.declared.finish.Finish.TheVariants.{Returned, Stopped, Failed, StepLimit}
+use Rattle.f77_actions.specs.declared.finish.Finish.{Finish}
+use Rattle.f77_actions.specs.declared.finish.Finish.TheVariants.{Returned, Stopped, Failed, StepLimit}
 use Rattle.f77_code.specs.Moves.{Cells, State, Move, Goes, Ends, moved}
 use Rattle.f77_code.specs.Sequences.{moved_by, then_moved}
 use Rattle.f77_facts.specs.declared.entries.Entry.{Entry}

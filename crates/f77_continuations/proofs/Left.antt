@@ -7,9 +7,9 @@ use Rattle.f77_actions.specs.declared.action.Action.{Action, ComputedGoto, Arith
 use Rattle.f77_actions.specs.declared.action.Jump.{Jump}
 use Rattle.f77_actions.specs.declared.expression.Number.{Number}
 use Rattle.f77_actions.specs.declared.resolved.Resolved.{Resolved}
-use Rattle.f77_values.specs.declared.finish.Fault.{Fault}
-use Rattle.f77_values.specs.declared.finish.Finish.TheVariants.{Failed}
-use Rattle.f77_values.specs.Value.{given}
+use Rattle.f77_actions.specs.declared.finish.Fault.{Fault}
+use Rattle.f77_actions.specs.declared.finish.Finish.TheVariants.{Failed}
+use Rattle.f77_actions.specs.Value.{given}
 use Rattle.f77_code.specs.Choice.{by_sign, item_chosen}
 use Rattle.f77_code.specs.Evaluation.{number_in, truth_in}
 use Rattle.f77_code.specs.Moves.{Cells, TurnList, Move, Ends, acted, jump_chosen, go_on, jump_to, used}

@@ -1,7 +1,7 @@
 -- What a changed program comes to that continues from its changed statement as the program does.
 use Rattle.std.proofs.Common.{arith, ◌≡◌, ◌+◌, ℕ, List, refl, subst}
 use Rattle.f77_program.specs.Program.{LineFields}
-use Rattle.f77_run.specs.Interpreter.{IsOutcomeOf}
+use Rattle.f77_meaning.specs.Interpreter.{IsOutcomeOf}
 use Rattle.f77_equivalence.specs.Equivalent.{IsEquivalent}
 use Rattle.f77_equivalence.specs.Start.{start_state}
 use Rattle.f77_equivalence.proofs.Ending.{keeps_ends_within}

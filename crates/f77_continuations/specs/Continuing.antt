@@ -2,7 +2,7 @@
 -- steps in the second, or in as many more as are to spare.
 use Rattle.std.specs.Prelude.{◌≡◌, ◌≤◌, ◌+◌, ℕ, List, Some, slice_get}
 use Rattle.f77_actions.specs.declared.resolved.Resolved.{Resolved}
-use Rattle.f77_values.specs.declared.finish.Finish.TheVariants.{Failed}
+use Rattle.f77_actions.specs.declared.finish.Finish.TheVariants.{Failed}
 use Rattle.f77_code.specs.declared.control.Place.{Place}
 use Rattle.f77_code.specs.Moves.{Cells, TurnList, Move, Goes, Ends, moved, state}
 use Rattle.f77_facts.specs.declared.entries.Entry.{Entry}

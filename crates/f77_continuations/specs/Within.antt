@@ -5,9 +5,9 @@ use Rattle.f77_actions.specs.declared.resolved.Resolved.{Resolved}
 use Rattle.f77_check.specs.Checked.{CheckedFields, shapes}
 use Rattle.f77_facts.specs.declared.entries.Entry.{Entry}
 use Rattle.f77_facts.specs.Entries.{IsInductive}
-use Rattle.f77_run.specs.declared.argument.Arg.{Arg}
-use Rattle.f77_run.specs.declared.outcome.Outcome.{Outcome}
-use Rattle.f77_run.specs.Interpreter.{AreFitting, IsOutcomeOf}
+use Rattle.f77_meaning.specs.declared.argument.Arg.{Arg}
+use Rattle.f77_meaning.specs.declared.outcome.Outcome.{Outcome}
+use Rattle.f77_meaning.specs.Interpreter.{AreFitting, IsOutcomeOf}
 use Rattle.f77_equivalence.specs.Alike.{AgreeBut, PassAlike}
 use Rattle.f77_equivalence.specs.Changed.{IsChange}
 use Rattle.f77_equivalence.specs.Equivalent.{IsEnd}

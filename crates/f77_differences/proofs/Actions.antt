@@ -11,10 +11,10 @@ use Rattle.f77_actions.specs.declared.expression.Condition.{Condition}
 use Rattle.f77_actions.specs.declared.expression.Element.{Element}
 use Rattle.f77_actions.specs.declared.expression.Number.{Number}
 use Rattle.f77_actions.specs.declared.resolved.Resolved.{Resolved}
-use Rattle.f77_values.specs.declared.finish.Fault.{Fault}
-use Rattle.f77_values.specs.declared.value.Value.TheVariants as held
-use Rattle.f77_values.specs.Number.{in_range, trip_count}
-use Rattle.f77_values.specs.Value.{whole}
+use Rattle.f77_actions.specs.declared.finish.Fault.{Fault}
+use Rattle.f77_actions.specs.declared.value.Value.TheVariants as held
+use Rattle.f77_actions.specs.Number.{in_range, trip_count}
+use Rattle.f77_actions.specs.Value.{whole}
 use Rattle.f77_code.specs.declared.control.Place.TheVariants.{Execute}
 use Rattle.f77_code.specs.declared.control.Turn.{Turn}
 use Rattle.f77_code.specs.Choice.{by_sign, item_chosen}

@@ -11,12 +11,12 @@ use Rattle.f77_legal.specs.Names.{Symbol, some_items, kind_of, bounds_of}
 use Rattle.f77_legal.specs.Presets.{product, element_count}
 use Rattle.f77_check.specs.Checked.{shape_of, shapes}
 use Rattle.f77_check.specs.Slots.{first_slot}
-use Rattle.f77_values.specs.declared.value.Value.{Value}
+use Rattle.f77_actions.specs.declared.value.Value.{Value}
 use Rattle.f77_code.specs.Evaluation.{held_in}
 use Rattle.f77_code.specs.Moves.{Cells}
-use Rattle.f77_run.specs.Machine.{values_of}
-use Rattle.f77_run.specs.Spans.{size_of}
-use Rattle.f77_run.specs.code.Spans.{span}
+use Rattle.f77_meaning.specs.States.{values_of}
+use Rattle.f77_meaning.specs.Spans.{size_of}
+use Rattle.f77_meaning.specs.code.Spans.{span}
 
 -- a table of so many values
 map_joined : (f : ℕ → Option Value) (xs : List ℕ) (n : ℕ) → map f (xs ++ (n ∷ [])) ≡ map f xs ++ (f n ∷ [])

@@ -7,9 +7,9 @@ use Rattle.f77_program.specs.Program.{line_of}
 use Rattle.f77_actions.specs.declared.resolved.Resolved.{Resolved}
 use Rattle.f77_check.specs.Checked.{CheckedFields, IsChecked}
 use Rattle.f77_check.specs.declared.checked.Shape.{Shape}
-use Rattle.f77_values.specs.declared.finish.Finish.{Finish}
-use Rattle.f77_values.specs.declared.value.Value.{Value}
-use Rattle.f77_values.specs.declared.finish.Finish.TheVariants.{Returned, Stopped, Failed, StepLimit}
+use Rattle.f77_actions.specs.declared.finish.Finish.{Finish}
+use Rattle.f77_actions.specs.declared.value.Value.{Value}
+use Rattle.f77_actions.specs.declared.finish.Finish.TheVariants.{Returned, Stopped, Failed, StepLimit}
 use Rattle.f77_code.specs.declared.control.Place.{Place}
 use Rattle.f77_code.specs.declared.control.Place.TheVariants.{Execute}
 use Rattle.f77_code.specs.Evaluation.{held_in}
@@ -20,9 +20,9 @@ use Rattle.f77_facts.specs.declared.facts.Fact.{Fact}
 use Rattle.f77_facts.specs.Reaching.{IsSlotReached}
 use Rattle.f77_facts.specs.Entries.{IsAmong, IsInductive}
 use Rattle.std.proofs.lemmas.Option.{slice_get_within}
-use Rattle.f77_run.specs.declared.argument.Arg.{Arg}
-use Rattle.f77_run.specs.Spans.{size_of}
-use Rattle.f77_run.specs.code.Spans.{span}
+use Rattle.f77_meaning.specs.declared.argument.Arg.{Arg}
+use Rattle.f77_meaning.specs.Spans.{size_of}
+use Rattle.f77_meaning.specs.code.Spans.{span}
 use Rattle.f77_equivalence.specs.Alike.{AgreeBut, PassAlike, site}
 use Rattle.f77_equivalence.specs.Changed.{IsEnding, HoldAlike, EndsAlike}
 use Rattle.f77_equivalence.specs.Start.{start_cells, start_turns, StartsIn}

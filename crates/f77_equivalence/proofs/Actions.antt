@@ -9,10 +9,10 @@ use Rattle.f77_actions.specs.declared.expression.Condition.{Condition}
 use Rattle.f77_actions.specs.declared.expression.Element.{Element}
 use Rattle.f77_actions.specs.declared.expression.Number.{Number}
 use Rattle.f77_actions.specs.declared.resolved.Resolved.{Resolved}
-use Rattle.f77_values.specs.declared.finish.Fault.{Fault}
-use Rattle.f77_values.specs.declared.finish.Finish.TheVariants.{Returned, Stopped, Failed, StepLimit}
-use Rattle.f77_values.specs.declared.value.Value.TheVariants as held
-use Rattle.f77_values.specs.Number.{trip_count}
+use Rattle.f77_actions.specs.declared.finish.Fault.{Fault}
+use Rattle.f77_actions.specs.declared.finish.Finish.TheVariants.{Returned, Stopped, Failed, StepLimit}
+use Rattle.f77_actions.specs.declared.value.Value.TheVariants as held
+use Rattle.f77_actions.specs.Number.{trip_count}
 use Rattle.f77_code.specs.declared.control.Place.TheVariants.{Execute}
 use Rattle.f77_code.specs.Choice.{item_chosen}
 use Rattle.f77_code.specs.Evaluation.{slot_in, number_in, truth_in}

@@ -2,8 +2,8 @@
 use Rattle.std.proofs.Common.{◌≡◌, Bool, true, false, not, List, refl, subst}
 use Rattle.std.specs.Prelude.{Result, Ok, Err}
 use Rattle.f77_actions.specs.declared.expression.Condition.{Condition}
-use Rattle.f77_values.specs.declared.finish.Fault.{Fault}
-use Rattle.f77_values.specs.Value.{given, both}
+use Rattle.f77_actions.specs.declared.finish.Fault.{Fault}
+use Rattle.f77_actions.specs.Value.{given, both}
 use Rattle.f77_code.specs.Evaluation.{truth_in}
 use Rattle.f77_code.specs.Moves.{Cells}
 use Rattle.f77_facts.specs.declared.facts.Fact.{Fact}

@@ -3,10 +3,10 @@
 use Rattle.std.specs.Prelude.{◌≡◌, ◌+◌, ℕ, List, Some}
 use Rattle.f77_check.specs.Checked.{CheckedFields}
 use Rattle.f77_actions.specs.declared.resolved.Resolved.{Resolved}
-use Rattle.f77_values.specs.declared.finish.Finish.{Finish}
+use Rattle.f77_actions.specs.declared.finish.Finish.{Finish}
 use Rattle.f77_code.specs.Moves.{Cells, Ends}
 use Rattle.f77_code.specs.Sequences.{moved_by}
-use Rattle.f77_run.specs.declared.argument.Arg.{Arg}
+use Rattle.f77_meaning.specs.declared.argument.Arg.{Arg}
 use Rattle.f77_equivalence.specs.Start.{start_state}
 use Rattle.f77_equivalence.specs.Changed.{IsEnding, HoldAlike}
 

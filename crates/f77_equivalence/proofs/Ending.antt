@@ -7,30 +7,30 @@ use Rattle.f77_legal.proofs.SameFrame.{length_same}
 use Rattle.f77_check.specs.Checked.{CheckedFields, shapes}
 use Rattle.f77_check.specs.Slots.{slot_count}
 use Rattle.f77_actions.specs.declared.resolved.Resolved.{Resolved}
-use Rattle.f77_values.specs.declared.finish.Fault.{Fault}
-use Rattle.f77_values.specs.declared.finish.Fault.TheVariants as fault
-use Rattle.f77_values.specs.declared.finish.Finish.{Finish}
-use Rattle.f77_values.specs.declared.finish.Finish.TheVariants as finish
+use Rattle.f77_actions.specs.declared.finish.Fault.{Fault}
+use Rattle.f77_actions.specs.declared.finish.Fault.TheVariants as fault
+use Rattle.f77_actions.specs.declared.finish.Finish.{Finish}
+use Rattle.f77_actions.specs.declared.finish.Finish.TheVariants as finish
 use Rattle.f77_code.specs.Moves.{Cells, State, Move, Goes, Ends}
 use Rattle.f77_code.specs.Sequences.{moved_by}
-use Rattle.f77_run.specs.declared.argument.Arg.{Arg}
-use Rattle.f77_run.specs.declared.outcome.Outcome.{Outcome}
-use Rattle.f77_run.specs.declared.outcome.Outcome.TheVariants as outcome
-use Rattle.f77_run.specs.Control.{Comes}
-use Rattle.f77_run.specs.Endless.{Reaches}
-use Rattle.f77_run.specs.Interpreter.{AreFitting, AreArguments, IsOutcomeOf, Tells, told_outcome, values_in}
-use Rattle.f77_run.specs.Machine.{config_of, values_of}
-use Rattle.f77_run.specs.Outcome.{IsOutcome}
-use Rattle.f77_run.specs.Running.{RunSite}
-use Rattle.f77_run.specs.code.Running.{IsRunningIn, stands_for, values_at}
-use Rattle.f77_run.specs.Site.{site_of}
-use Rattle.f77_run.specs.Start.{IsStart, argument_values}
-use Rattle.f77_run.specs.Step.{Config}
-use Rattle.f77_run.specs.Value.{Store}
-use Rattle.f77_run.proofs.Moving.{ComesIn, moves_by, comes_by}
-use Rattle.f77_run.proofs.OneAnswer.{one_start}
-use Rattle.f77_run.proofs.OneWay.{one_outcome}
-use Rattle.f77_run.proofs.Unreached.{starts_same, tells_same}
+use Rattle.f77_meaning.specs.declared.argument.Arg.{Arg}
+use Rattle.f77_meaning.specs.declared.outcome.Outcome.{Outcome}
+use Rattle.f77_meaning.specs.declared.outcome.Outcome.TheVariants as outcome
+use Rattle.f77_meaning.specs.Control.{Comes}
+use Rattle.f77_meaning.specs.Endless.{Reaches}
+use Rattle.f77_meaning.specs.Interpreter.{AreFitting, AreArguments, IsOutcomeOf, Tells, told_outcome, values_in}
+use Rattle.f77_meaning.specs.States.{config_of, values_of}
+use Rattle.f77_meaning.specs.Outcome.{IsOutcome}
+use Rattle.f77_meaning.specs.Running.{RunSite}
+use Rattle.f77_meaning.specs.code.InRun.{IsRunningIn, stands_for, values_at}
+use Rattle.f77_meaning.specs.Site.{site_of}
+use Rattle.f77_meaning.specs.Start.{IsStart, argument_values}
+use Rattle.f77_meaning.specs.Step.{Config}
+use Rattle.f77_meaning.specs.Value.{Store}
+use Rattle.f77_meaning.proofs.Moving.{ComesIn, moves_by, comes_by}
+use Rattle.f77_meaning.proofs.OneAnswer.{one_start}
+use Rattle.f77_meaning.proofs.OneWay.{one_outcome}
+use Rattle.f77_meaning.proofs.Unreached.{starts_same, tells_same}
 use Rattle.f77_equivalence.specs.Changed.{EndsAlike, EquivalentWhereEndsAlike, HoldAlike, IsChange, IsEnding}
 use Rattle.f77_equivalence.proofs.Changed.{EndsAlikeWithin}
 use Rattle.f77_equivalence.specs.Equivalent.{IsEnd}

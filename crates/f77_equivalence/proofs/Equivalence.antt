@@ -3,17 +3,17 @@ use Rattle.std.proofs.Common.{◌≡◌, ℕ, List, map, sym, subst}
 use Rattle.f77_program.specs.Program.{LineFields, line_of}
 use Rattle.f77_check.specs.Checked.{CheckedFields}
 use Rattle.f77_actions.specs.declared.resolved.Resolved.{Resolved}
-use Rattle.f77_values.specs.declared.finish.Finish.{Finish}
-use Rattle.f77_values.specs.declared.finish.Finish.TheVariants as finish
+use Rattle.f77_actions.specs.declared.finish.Finish.{Finish}
+use Rattle.f77_actions.specs.declared.finish.Finish.TheVariants as finish
 use Rattle.f77_facts.specs.declared.entries.Entry.{Entry}
 use Rattle.f77_facts.specs.Entries.{IsInductive}
-use Rattle.f77_run.specs.declared.argument.Arg.{Arg}
-use Rattle.f77_run.specs.Interpreter.{AreFitting, values_in}
-use Rattle.f77_run.specs.Outcome.{IsOutcome}
-use Rattle.f77_run.specs.Site.{site_of}
-use Rattle.f77_run.proofs.OneAnswer.{one_start}
-use Rattle.f77_run.specs.code.Running.{stands_for}
-use Rattle.f77_run.proofs.Unreached.{starts_same, tells_same}
+use Rattle.f77_meaning.specs.declared.argument.Arg.{Arg}
+use Rattle.f77_meaning.specs.Interpreter.{AreFitting, values_in}
+use Rattle.f77_meaning.specs.Outcome.{IsOutcome}
+use Rattle.f77_meaning.specs.Site.{site_of}
+use Rattle.f77_meaning.proofs.OneAnswer.{one_start}
+use Rattle.f77_meaning.specs.code.InRun.{stands_for}
+use Rattle.f77_meaning.proofs.Unreached.{starts_same, tells_same}
 use Rattle.f77_equivalence.specs.Changed.{IsChange, IsEnding, SameWhereChanged, EquivalentWhereSame}
 use Rattle.f77_equivalence.specs.Equivalent.{KeepsEnds}
 use Rattle.f77_equivalence.specs.Start.{start_state, StartsIn}

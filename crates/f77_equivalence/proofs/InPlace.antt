@@ -13,7 +13,7 @@ use Rattle.f77_actions.specs.declared.resolved.Resolved.{Resolved}
 use Rattle.f77_facts.specs.declared.entries.Entry.{Entry}
 use Rattle.f77_facts.specs.Entries.{IsInductive}
 use Rattle.f77_facts.proofs.Slots.{got_other}
-use Rattle.f77_run.specs.Reached.{AreSameBut}
+use Rattle.f77_meaning.specs.Reached.{AreSameBut}
 use Rattle.f77_equivalence.specs.Changed.{IsChange, SameWhereChanged, EquivalentInPlace}
 use Rattle.f77_equivalence.specs.Equivalent.{IsEquivalent}
 use Rattle.f77_equivalence.specs.Same.{SameInAll}

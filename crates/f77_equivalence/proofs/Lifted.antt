@@ -9,26 +9,26 @@ use Rattle.f77_legal.proofs.SameFrame.{length_same}
 use Rattle.f77_check.specs.Checked.{CheckedFields}
 use Rattle.f77_check.specs.Slots.{slot_count}
 use Rattle.f77_actions.specs.declared.resolved.Resolved.{Resolved}
-use Rattle.f77_values.specs.declared.finish.Finish.{Finish}
-use Rattle.f77_values.specs.declared.finish.Finish.TheVariants.{Returned, Stopped, Failed, StepLimit}
+use Rattle.f77_actions.specs.declared.finish.Finish.{Finish}
+use Rattle.f77_actions.specs.declared.finish.Finish.TheVariants.{Returned, Stopped, Failed, StepLimit}
 use Rattle.f77_code.specs.Moves.{State, state, Move, Goes, Ends, moved}
 use Rattle.f77_facts.specs.declared.entries.Entry.{Entry}
 use Rattle.f77_facts.specs.Entries.{IsAmong, IsInductive}
-use Rattle.f77_run.specs.declared.argument.Arg.{Arg}
-use Rattle.f77_run.specs.Machine.{config_of, placed_in_run}
-use Rattle.f77_run.specs.code.Machine.{next_of}
-use Rattle.f77_run.specs.Outcome.{IsOutcome}
-use Rattle.f77_run.specs.Reached.{statement_number}
-use Rattle.f77_run.specs.Running.{RunSite}
-use Rattle.f77_run.specs.Site.{site_of}
-use Rattle.f77_run.specs.Step as run
-use Rattle.f77_run.specs.Step.{Next, Step}
-use Rattle.f77_run.specs.Value.{Store}
-use Rattle.f77_run.proofs.Moving.{moves_in, step_in}
-use Rattle.f77_run.proofs.OneWay.{one_successor}
-use Rattle.f77_run.specs.code.Running.{IsRunningIn, stands_for}
-use Rattle.f77_run.proofs.Simulation.{simulates}
-use Rattle.f77_run.proofs.Unreached.{step_same}
+use Rattle.f77_meaning.specs.declared.argument.Arg.{Arg}
+use Rattle.f77_meaning.specs.States.{config_of, placed_in_run}
+use Rattle.f77_meaning.proofs.StateDefinitions.{next_of}
+use Rattle.f77_meaning.specs.Outcome.{IsOutcome}
+use Rattle.f77_meaning.specs.Reached.{statement_number}
+use Rattle.f77_meaning.specs.Running.{RunSite}
+use Rattle.f77_meaning.specs.Site.{site_of}
+use Rattle.f77_meaning.specs.Step as run
+use Rattle.f77_meaning.specs.Step.{Next, Step}
+use Rattle.f77_meaning.specs.Value.{Store}
+use Rattle.f77_meaning.proofs.Moving.{moves_in, step_in}
+use Rattle.f77_meaning.proofs.OneWay.{one_successor}
+use Rattle.f77_meaning.specs.code.InRun.{IsRunningIn, stands_for}
+use Rattle.f77_meaning.proofs.Simulation.{simulates}
+use Rattle.f77_meaning.proofs.Unreached.{step_same}
 use Rattle.f77_equivalence.specs.Changed.{IsChange, SameWhereChanged}
 use Rattle.f77_equivalence.specs.Same.{Follows}
 use Rattle.f77_equivalence.proofs.Throughout.{known_next}

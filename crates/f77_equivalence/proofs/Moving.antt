@@ -4,10 +4,10 @@ use Rattle.std.specs.Prelude.{Result, Ok, Err, IfOk, slice_get, slice_set, optio
 use Rattle.std.specs.Option.{option_and_then, option_map_or}
 use Rattle.f77_actions.specs.declared.action.Action.{Action, LogicalIf', Loop}
 use Rattle.f77_actions.specs.declared.resolved.Resolved.{Resolved}
-use Rattle.f77_values.specs.declared.finish.Fault.{Fault}
-use Rattle.f77_values.specs.declared.value.Value.TheVariants as held
-use Rattle.f77_values.specs.Number.{in_range}
-use Rattle.f77_values.specs.Value.{whole}
+use Rattle.f77_actions.specs.declared.finish.Fault.{Fault}
+use Rattle.f77_actions.specs.declared.value.Value.TheVariants as held
+use Rattle.f77_actions.specs.Number.{in_range}
+use Rattle.f77_actions.specs.Value.{whole}
 use Rattle.f77_code.specs.declared.control.Place.{Place}
 use Rattle.f77_code.specs.declared.control.Place.TheVariants.{Execute, Increment}
 use Rattle.f77_code.specs.declared.control.Turn.{Turn}

@@ -2,8 +2,8 @@
 use Rattle.std.proofs.Common.{◌≡◌, Bool, true, false, refl, ap, ℤ}
 use Rattle.std.specs.Prelude.{Result, Ok, Err}
 use Rattle.f77_actions.specs.declared.expression.Relation.{Relation}
-use Rattle.f77_values.specs.declared.finish.Fault.{Fault}
-use Rattle.f77_values.specs.Value.{both}
+use Rattle.f77_actions.specs.declared.finish.Fault.{Fault}
+use Rattle.f77_actions.specs.Value.{both}
 use Rattle.f77_code.specs.Evaluation.{compared}
 use Rattle.f77_facts.specs.declared.known.Known.{Known}
 use Rattle.f77_facts.specs.Known.{IsBetween, Suits}

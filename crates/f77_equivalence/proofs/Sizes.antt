@@ -2,7 +2,7 @@
 use Rattle.std.proofs.Common.{arith, ◌≡◌, ℕ, suc, false, refl, sym, ap, ◌∙◌, ℤ, pos, negsuc}
 use Rattle.std.specs.Prelude.{◌==◌}
 use Rattle.std.proofs.lemmas.Bool.Decides.{nat_tests}
-use Rattle.f77_values.specs.Number.{without_sign, is_same}
+use Rattle.f77_actions.specs.Number.{without_sign, is_same}
 
 suc_no_zero : (n : ℕ) → (suc n == 0) ≡ false
 suc_no_zero n = grind (arith, nat_tests)

@@ -15,9 +15,9 @@ use Rattle.f77_check.specs.Checked.{CheckedFields, IsChecked}
 use Rattle.f77_check.specs.declared.checked.Shape.{Shape}
 use Rattle.f77_check.specs.declared.start.Start.{Start}
 use Rattle.f77_code.specs.declared.control.Place.TheVariants.{Execute}
-use Rattle.f77_values.specs.declared.value.Value.{Value}
-use Rattle.f77_values.specs.declared.value.Value.TheVariants as held
-use Rattle.f77_values.specs.Number.{fits}
+use Rattle.f77_actions.specs.declared.value.Value.{Value}
+use Rattle.f77_actions.specs.declared.value.Value.TheVariants as held
+use Rattle.f77_actions.specs.Number.{fits}
 use Rattle.f77_code.specs.Evaluation.{held_in}
 use Rattle.f77_code.specs.Moves.{Cells}
 use Rattle.f77_facts.specs.declared.entries.Entry.{Entry}
@@ -31,14 +31,14 @@ use Rattle.f77_facts.specs.Facts.{SuitsFact, AreIn}
 use Rattle.f77_facts.specs.Known.{Suits}
 use Rattle.f77_facts.specs.Loops.{SuitsTurn, AreLeft}
 use Rattle.f77_facts.proofs.Slots.{got_other, got_same, got_within, same_or_not}
-use Rattle.f77_run.specs.declared.argument.Arg.{Arg}
-use Rattle.f77_run.specs.declared.argument.Arg.TheVariants.{Int, Truth, Ints, Truths as TruthList}
-use Rattle.f77_run.specs.Interpreter.{AreFitting, has_shape, values_in}
-use Rattle.f77_run.specs.code.Spans.{HaveRoom}
-use Rattle.f77_run.specs.Spans.{all_filled, filled, size_of}
-use Rattle.f77_run.specs.Start.{constant_value}
-use Rattle.f77_run.specs.code.Typed.{has_kind}
-use Rattle.f77_run.proofs.Beginning.{empty_size, filled_size, room}
+use Rattle.f77_meaning.specs.declared.argument.Arg.{Arg}
+use Rattle.f77_meaning.specs.declared.argument.Arg.TheVariants.{Int, Truth, Ints, Truths as TruthList}
+use Rattle.f77_meaning.specs.Interpreter.{AreFitting, has_shape, values_in}
+use Rattle.f77_meaning.specs.code.Spans.{HaveRoom}
+use Rattle.f77_meaning.specs.Spans.{all_filled, filled, size_of}
+use Rattle.f77_meaning.specs.Start.{constant_value}
+use Rattle.f77_meaning.specs.code.Typed.{has_kind}
+use Rattle.f77_meaning.proofs.Beginning.{empty_size, filled_size, room}
 use Rattle.f77_equivalence.specs.Start.{start_cells, StartsIn}
 use Rattle.f77_equivalence.specs.code.StartSlots.{is_argument, IsOfDummy, MayHold, AllowsArgument, AllowsSlot, AllowSlots, AreInactive, AllowsStart}
 use Rattle.f77_equivalence.specs.Storable.{is_storable, AreStorable}

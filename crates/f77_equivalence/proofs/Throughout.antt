@@ -9,21 +9,21 @@ use Rattle.f77_actions.specs.declared.resolved.Resolved.{Resolved}
 use Rattle.f77_code.specs.Moves.{State, Move, Goes, Ends, moved, turn_at}
 use Rattle.f77_facts.specs.declared.entries.Entry.{Entry}
 use Rattle.f77_facts.specs.Entries.{IsAmong, IsInductive}
-use Rattle.f77_run.specs.declared.argument.Arg.{Arg}
-use Rattle.f77_run.specs.Control.{Comes}
-use Rattle.f77_run.specs.Endless.{Reaches}
-use Rattle.f77_run.specs.Interpreter.{AreFitting, values_in}
-use Rattle.f77_run.specs.code.Machine.{next_of}
-use Rattle.f77_run.specs.Machine.{turn_of, turns_of}
-use Rattle.f77_run.specs.Running.{RunSite}
-use Rattle.f77_run.specs.code.Running.{IsRunningIn, stands_for, values_at}
-use Rattle.f77_run.specs.Site.{site_of}
-use Rattle.f77_run.specs.Start.{IsStart}
-use Rattle.f77_run.specs.Step as run
-use Rattle.f77_run.specs.Step.{Config, config, Step}
-use Rattle.f77_run.proofs.Beginning.{filled_size, starts}
-use Rattle.f77_run.proofs.Moving.{moves_in, step_in, runs_on_in}
-use Rattle.f77_run.proofs.OneWay.{one_successor}
+use Rattle.f77_meaning.specs.declared.argument.Arg.{Arg}
+use Rattle.f77_meaning.specs.Control.{Comes}
+use Rattle.f77_meaning.specs.Endless.{Reaches}
+use Rattle.f77_meaning.specs.Interpreter.{AreFitting, values_in}
+use Rattle.f77_meaning.proofs.StateDefinitions.{next_of}
+use Rattle.f77_meaning.specs.States.{turn_of, turns_of}
+use Rattle.f77_meaning.specs.Running.{RunSite}
+use Rattle.f77_meaning.specs.code.InRun.{IsRunningIn, stands_for, values_at}
+use Rattle.f77_meaning.specs.Site.{site_of}
+use Rattle.f77_meaning.specs.Start.{IsStart}
+use Rattle.f77_meaning.specs.Step as run
+use Rattle.f77_meaning.specs.Step.{Config, config, Step}
+use Rattle.f77_meaning.proofs.Beginning.{filled_size, starts}
+use Rattle.f77_meaning.proofs.Moving.{moves_in, step_in, runs_on_in}
+use Rattle.f77_meaning.proofs.OneWay.{one_successor}
 use Rattle.f77_equivalence.specs.Start.{start_state, StartsIn}
 
 -- none of so many DOs is active

@@ -10,18 +10,18 @@ use Rattle.f77_check.specs.Checked.{CheckedFields, IsChecked}
 use Rattle.f77_check.specs.Patching.{IsInPlace}
 use Rattle.f77_check.specs.Resolved.{AreResolved}
 use Rattle.f77_actions.specs.declared.resolved.Resolved.{Resolved}
-use Rattle.f77_values.specs.declared.finish.Finish.{Finish}
-use Rattle.f77_values.specs.declared.finish.Finish.TheVariants.{Returned, Stopped}
+use Rattle.f77_actions.specs.declared.finish.Finish.{Finish}
+use Rattle.f77_actions.specs.declared.finish.Finish.TheVariants.{Returned, Stopped}
 use Rattle.f77_code.specs.Moves.{Cells, Ends}
 use Rattle.f77_code.specs.Sequences.{moved_by}
 use Rattle.f77_facts.specs.declared.entries.Entry.{Entry}
 use Rattle.f77_facts.specs.Entries.{IsInductive}
-use Rattle.f77_run.specs.declared.argument.Arg.{Arg}
-use Rattle.f77_run.specs.Interpreter.{AreFitting}
-use Rattle.f77_run.specs.Machine.{placed_in_run}
-use Rattle.f77_run.specs.Reached.{statement_number, AreSameBut}
-use Rattle.f77_run.specs.Site.{held}
-use Rattle.f77_run.specs.Start.{argument_values}
+use Rattle.f77_meaning.specs.declared.argument.Arg.{Arg}
+use Rattle.f77_meaning.specs.Interpreter.{AreFitting}
+use Rattle.f77_meaning.specs.States.{placed_in_run}
+use Rattle.f77_meaning.specs.Reached.{statement_number, AreSameBut}
+use Rattle.f77_meaning.specs.Site.{held}
+use Rattle.f77_meaning.specs.Start.{argument_values}
 use Rattle.f77_equivalence.specs.Equivalent.{IsEquivalent}
 use Rattle.f77_equivalence.specs.Same.{SameMoves, SameInAll}
 use Rattle.f77_equivalence.specs.Start.{HoldsStart, start_state}

@@ -2,10 +2,10 @@
 use Rattle.std.specs.Prelude.{ℕ, List}
 use Rattle.f77_program.specs.Program.{LineFields}
 use Rattle.f77_check.specs.Checked.{shapes}
-use Rattle.f77_run.specs.declared.argument.Arg.{Arg}
-use Rattle.f77_run.specs.declared.outcome.Outcome.{Outcome}
-use Rattle.f77_run.specs.declared.outcome.Outcome.TheVariants.{Returned, Stopped}
-use Rattle.f77_run.specs.Interpreter.{AreFitting, IsOutcomeOf}
+use Rattle.f77_meaning.specs.declared.argument.Arg.{Arg}
+use Rattle.f77_meaning.specs.declared.outcome.Outcome.{Outcome}
+use Rattle.f77_meaning.specs.declared.outcome.Outcome.TheVariants.{Returned, Stopped}
+use Rattle.f77_meaning.specs.Interpreter.{AreFitting, IsOutcomeOf}
 use Rattle.f77_equivalence.specs.Storable.{AreStorable}
 
 -- the run ends of itself, and not by a fault

@@ -1,8 +1,8 @@
 -- Sizes of numbers.
 use Rattle.std.specs.Prelude.{◌≡◌, ℤ, Result, Ok, Err}
-use Rattle.f77_values.specs.declared.finish.Fault.{Fault}
-use Rattle.f77_values.specs.Number.{without_sign}
-use Rattle.f77_values.specs.Value.{given}
+use Rattle.f77_actions.specs.declared.finish.Fault.{Fault}
+use Rattle.f77_actions.specs.Number.{without_sign}
+use Rattle.f77_actions.specs.Value.{given}
 
 -- the number without its sign, however large
 abbrev pub measured : Result ℤ Fault → Result ℤ Fault

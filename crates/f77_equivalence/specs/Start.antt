@@ -6,10 +6,10 @@ use Rattle.f77_code.specs.declared.control.Place.TheVariants.{Execute}
 use Rattle.f77_code.specs.Moves.{Cells, TurnList, State, state}
 use Rattle.f77_facts.specs.declared.entries.Entry.{Entry}
 use Rattle.f77_facts.specs.Entries.{IsAmong}
-use Rattle.f77_run.specs.declared.argument.Arg.{Arg}
-use Rattle.f77_run.specs.Interpreter.{AreFitting}
-use Rattle.f77_run.specs.Spans.{all_filled}
-use Rattle.f77_run.specs.Start.{constant_value}
+use Rattle.f77_meaning.specs.declared.argument.Arg.{Arg}
+use Rattle.f77_meaning.specs.Interpreter.{AreFitting}
+use Rattle.f77_meaning.specs.Spans.{all_filled}
+use Rattle.f77_meaning.specs.Start.{constant_value}
 use Rattle.f77_equivalence.specs.Storable.{AreStorable}
 
 -- the slots hold what DATA gives them, and those of the dummy arguments the arguments

@@ -1,9 +1,9 @@
 //! Operations that leave an operand as it is.
 
 ghost use Rattle.std.specs.Prelude.{◌≡◌, ℤ, true, Result, Ok, IfSome};
-ghost use Rattle.f77_values.specs.declared.finish.Fault.{Fault};
-ghost use Rattle.f77_values.specs.Number.{in_range, negated, without_sign};
-ghost use Rattle.f77_values.specs.Value.{given, both, pushed};
+ghost use Rattle.f77_actions.specs.declared.finish.Fault.{Fault};
+ghost use Rattle.f77_actions.specs.Number.{in_range, negated, without_sign};
+ghost use Rattle.f77_actions.specs.Value.{given, both, pushed};
 ghost use Rattle.f77_code.specs.Evaluation.{calculated, number_in};
 ghost use Rattle.f77_code.specs.Moves.{Cells};
 ghost use Rattle.f77_facts.specs.Known.{Suits};

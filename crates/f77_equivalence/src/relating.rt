@@ -1,7 +1,7 @@
 //! Whether two relations of the same numbers are one, by what is known of the numbers.
 
 ghost use Rattle.std.specs.Prelude.{◌≡◌, ℤ, Bool, true, Result, Ok};
-ghost use Rattle.f77_values.specs.declared.finish.Fault.{Fault};
+ghost use Rattle.f77_actions.specs.declared.finish.Fault.{Fault};
 ghost use Rattle.f77_code.specs.Evaluation.{compared};
 ghost use Rattle.f77_facts.specs.Known.{IsBetween};
 ghost use Rattle.f77_facts.specs.Truths.{SuitsTruth};

@@ -1,9 +1,9 @@
 //! Whether one expression has the value of another, unless that faults.
 
 ghost use Rattle.std.specs.Prelude.{◌≡◌, ℕ, ℤ, true, Result, Ok};
-ghost use Rattle.f77_values.specs.declared.finish.Fault.{Fault};
-ghost use Rattle.f77_values.specs.Number.{in_range, negated};
-ghost use Rattle.f77_values.specs.Value.{given, both};
+ghost use Rattle.f77_actions.specs.declared.finish.Fault.{Fault};
+ghost use Rattle.f77_actions.specs.Number.{in_range, negated};
+ghost use Rattle.f77_actions.specs.Value.{given, both};
 ghost use Rattle.f77_code.specs.Evaluation.{calculated, compared, number_in};
 ghost use Rattle.f77_code.specs.Moves.{Cells};
 ghost use Rattle.f77_facts.specs.Known.{Suits};

@@ -1,9 +1,9 @@
 //! Numbers whose signs do not matter.
 
 ghost use Rattle.std.specs.Prelude.{◌≡◌, ℤ, pos, true, Result};
-ghost use Rattle.f77_values.specs.declared.finish.Fault.{Fault};
-ghost use Rattle.f77_values.specs.Number.{in_range, negated, without_sign};
-ghost use Rattle.f77_values.specs.Value.{given};
+ghost use Rattle.f77_actions.specs.declared.finish.Fault.{Fault};
+ghost use Rattle.f77_actions.specs.Number.{in_range, negated, without_sign};
+ghost use Rattle.f77_actions.specs.Value.{given};
 ghost use Rattle.f77_code.specs.Evaluation.{compared, number_in};
 ghost use Rattle.f77_code.specs.Moves.{Cells};
 ghost use Rattle.f77_facts.specs.Known.{Suits};

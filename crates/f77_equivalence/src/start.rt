@@ -2,13 +2,13 @@
 
 ghost use Rattle.std.specs.Prelude.{◌≡◌, ◌<◌, ◌≤◌, ◌+◌, ℕ, ℤ, true, false, length, option_map};
 ghost use Rattle.std.specs.Prelude.{slice_get, Some, Ok};
-ghost use Rattle.f77_values.specs.declared.value.Value.{Value};
-ghost use Rattle.f77_values.specs.Number.{fits};
+ghost use Rattle.f77_actions.specs.declared.value.Value.{Value};
+ghost use Rattle.f77_actions.specs.Number.{fits};
 ghost use Rattle.f77_facts.specs.Facts.{SuitsFact};
 ghost use Rattle.f77_facts.specs.Known.{Suits};
 ghost use Rattle.f77_check.specs.declared.checked.Shape.{Shape};
-ghost use Rattle.f77_run.specs.Spans.{size_of};
-ghost use Rattle.f77_run.specs.Start.{constant_value};
+ghost use Rattle.f77_meaning.specs.Spans.{size_of};
+ghost use Rattle.f77_meaning.specs.Start.{constant_value};
 ghost use Rattle.f77_equivalence.specs.Start.{HoldsStart};
 ghost use Rattle.f77_equivalence.specs.code.StartSlots.{IsOfDummy, is_argument, AllowsArgument, AllowsSlot, AllowSlots};
 ghost use Rattle.f77_equivalence.specs.code.StartSlots.{AreInactive, AllowsStart};

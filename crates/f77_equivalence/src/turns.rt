@@ -2,7 +2,7 @@
 
 ghost use Rattle.std.specs.Prelude.{◌≡◌, ℕ, suc, ℤ, pos, negsuc, true};
 ghost use Rattle.f77_actions.specs.declared.action.Action.{ArithmeticIf};
-ghost use Rattle.f77_values.specs.Number.{without_sign};
+ghost use Rattle.f77_actions.specs.Number.{without_sign};
 ghost use Rattle.f77_code.specs.Choice.{by_sign};
 ghost use Rattle.f77_facts.specs.Known.{IsBetween};
 ghost use Rattle.f77_equivalence.specs.Alike.{ActsAlike, JumpAlike};

@@ -4,7 +4,7 @@ use Rattle.std.specs.Prelude.{◌≤ℤ◌, ◌<ℤ◌}
 use Rattle.std.proofs.lemmas.Bool.{ltb-true}
 use Rattle.std.proofs.lemmas.Bool.Decides.{nat_tests}
 use Rattle.std.proofs.lemmas.Int.{ints}
-use Rattle.f77_values.specs.Number.{is_below, is_same}
+use Rattle.f77_actions.specs.Number.{is_below, is_same}
 use Rattle.f77_facts.specs.Known.{IsBetween}
 
 pub below_lt : (u v : ℤ) → is_below u v ≡ true → u <ℤ v

@@ -2,8 +2,8 @@
 use Rattle.std.proofs.Common.{arith, ◌≡◌, ◌≢◌, ◌⊎◌, inl, inr, zero, suc, Bool, true, false, refl, subst, ℤ, pos, negsuc}
 use Rattle.std.specs.Prelude.{Ok, if◌then◌else◌, ◌≤ℤ◌, ◌<ℤ◌}
 use Rattle.std.proofs.lemmas.Int.{ints}
-use Rattle.f77_values.specs.Number.{negated, without_sign, quotient, modulus, is_below}
-use Rattle.f77_values.specs.Value.{pushed}
+use Rattle.f77_actions.specs.Number.{negated, without_sign, quotient, modulus, is_below}
+use Rattle.f77_actions.specs.Value.{pushed}
 use Rattle.f77_facts.proofs.Comparisons.{below_lt, not_below_le}
 
 pub quotient_divides : (u v w : ℤ) → quotient u v ≡ Ok w → v ≢ pos 0

@@ -3,7 +3,7 @@ use Rattle.std.proofs.Common.{◌≡◌, zero, suc, ℤ, pos, negsuc, true, refl
 use Rattle.std.specs.Prelude.{◌*ℤ◌}
 use Rattle.std.proofs.Math.IntN.{*ℤ-one}
 use lib.IntN.{one}
-use Rattle.f77_values.specs.Number.{in_range, power}
+use Rattle.f77_actions.specs.Number.{in_range, power}
 use Rattle.f77_facts.specs.declared.known.Known.{Known}
 use Rattle.f77_facts.specs.Known.{Suits}
 

@@ -4,9 +4,9 @@ use Rattle.std.specs.Prelude.{Result, Ok, not, nat_lt, slice_set}
 use Rattle.f77_actions.specs.declared.expression.Condition.{Condition}
 use Rattle.f77_actions.specs.declared.expression.Element.{Element}
 use Rattle.f77_actions.specs.declared.expression.Number.{Number}
-use Rattle.f77_values.specs.declared.finish.Fault.{Fault}
-use Rattle.f77_values.specs.Number.{in_range}
-use Rattle.f77_values.specs.Value.{given, both, whole, logic}
+use Rattle.f77_actions.specs.declared.finish.Fault.{Fault}
+use Rattle.f77_actions.specs.Number.{in_range}
+use Rattle.f77_actions.specs.Value.{given, both, whole, logic}
 use Rattle.f77_code.specs.Evaluation.{held_in, slot_in, number_in, truth_in}
 use Rattle.f77_code.specs.Moves.{Cells}
 use Rattle.f77_facts.specs.declared.facts.Fact.{Fact}

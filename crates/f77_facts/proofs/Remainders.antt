@@ -3,7 +3,7 @@ use Rattle.std.proofs.Common.{arith, ◌≡◌, ◌≢◌, ◌≤◌, ◌<◌, �
 use Rattle.std.specs.Prelude.{◌<ℤ◌}
 use Rattle.std.proofs.Math.Nat.{mod-le, mod-lt}
 use Rattle.std.proofs.lemmas.Int.{ints}
-use Rattle.f77_values.specs.Number.{without_sign}
+use Rattle.f77_actions.specs.Number.{without_sign}
 use borrow.Author.Differences.{up, down}
 
 pub one_sided : (z : ℤ) → min (up z) (down z) ≡ 0

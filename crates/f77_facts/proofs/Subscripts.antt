@@ -4,9 +4,9 @@ use Rattle.std.specs.Prelude.{Result, Ok, Err, nat_lt, slice_get, ◌≤ℤ◌, 
 use Rattle.std.proofs.Math.Nat.{mul-le-mul, mul-le-mul_left}
 use Rattle.std.proofs.lemmas.Bool.{cases_lt, ltb-true, ltb-false}
 use Rattle.std.proofs.lemmas.Int.{ints}
-use Rattle.f77_values.specs.declared.finish.Fault.{Fault}
-use Rattle.f77_values.specs.declared.value.Value.{Value}
-use Rattle.f77_values.specs.Value.{given, element, whole, logic}
+use Rattle.f77_actions.specs.declared.finish.Fault.{Fault}
+use Rattle.f77_actions.specs.declared.value.Value.{Value}
+use Rattle.f77_actions.specs.Value.{given, element, whole, logic}
 use Rattle.f77_code.specs.Evaluation.{held_in}
 use Rattle.f77_code.specs.Moves.{Cells}
 use Rattle.f77_facts.specs.declared.facts.Fact.{Fact}

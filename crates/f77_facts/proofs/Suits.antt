@@ -1,8 +1,8 @@
 -- What is known of an operation follows from what is known of its operands.
 use Rattle.std.proofs.Common.{◌≡◌, Bool, true, false, ◌||◌, refl, ℤ}
 use Rattle.std.specs.Prelude.{Result, Ok, Err}
-use Rattle.f77_values.specs.declared.finish.Fault.{Fault}
-use Rattle.f77_values.specs.Value.{given, both}
+use Rattle.f77_actions.specs.declared.finish.Fault.{Fault}
+use Rattle.f77_actions.specs.Value.{given, both}
 use Rattle.f77_facts.specs.declared.known.Known.{Known}
 use Rattle.f77_facts.specs.declared.truths.Truths.{Truths}
 use Rattle.f77_facts.specs.Known.{IsBetween, Suits}

@@ -8,7 +8,7 @@ use Rattle.f77_actions.specs.declared.expression.Condition.{Related}
 use Rattle.f77_actions.specs.declared.expression.Number.{Number}
 use Rattle.f77_actions.specs.declared.expression.Relation.{Relation}
 use Rattle.f77_actions.specs.declared.expression.Relation.TheVariants.{LessOrEqual, GreaterOrEqual}
-use Rattle.f77_values.specs.Number.{is_below, trip_count}
+use Rattle.f77_actions.specs.Number.{is_below, trip_count}
 use Rattle.f77_code.specs.Evaluation.{compared, number_in, truth_in}
 use Rattle.f77_code.specs.Moves.{Cells}
 use Rattle.f77_facts.specs.Known.{IsBetween}

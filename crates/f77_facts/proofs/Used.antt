@@ -1,8 +1,8 @@
 -- Where a part of an expression has a value, its operands have.
 use Rattle.std.proofs.Common.{◌≡◌, refl}
 use Rattle.std.specs.Prelude.{Result, Ok, Err}
-use Rattle.f77_values.specs.declared.finish.Fault.{Fault}
-use Rattle.f77_values.specs.Value.{given, both}
+use Rattle.f77_actions.specs.declared.finish.Fault.{Fault}
+use Rattle.f77_actions.specs.Value.{given, both}
 
 pub used_for : {A B : Type 0} (r : Result A Fault) (f : A → Result B Fault) (w : B) → given r f ≡ Ok w → (v : A) × (r ≡ Ok v) × (f v ≡ Ok w)
 used_for (Ok v) f w e = (v, refl, e)

@@ -1,6 +1,6 @@
 -- What is known of an INTEGER value.
 use Rattle.std.specs.Prelude.{◌≡◌, true, ℤ, Result, Ok, Err, ◌≤ℤ◌}
-use Rattle.f77_values.specs.declared.finish.Fault.{Fault}
+use Rattle.f77_actions.specs.declared.finish.Fault.{Fault}
 use Rattle.f77_facts.specs.declared.known.Known.{Known}
 
 pub record IsBetween (low z high : ℤ) : Type 0 where

@@ -1,6 +1,6 @@
 -- Which slots a reference may name.
 use Rattle.std.specs.Prelude.{◌≡◌, ◌+◌, ◌≤◌, ◌<◌, ℕ, true, Result, Ok, Err}
-use Rattle.f77_values.specs.declared.finish.Fault.{Fault}
+use Rattle.f77_actions.specs.declared.finish.Fault.{Fault}
 use Rattle.f77_facts.specs.declared.reaching.Reach.{Reach}
 
 -- one of so many slots from the first on

@@ -1,6 +1,6 @@
 -- What is known of a LOGICAL value.
 use Rattle.std.specs.Prelude.{◌≡◌, Bool, true, false, Result, Ok, Err}
-use Rattle.f77_values.specs.declared.finish.Fault.{Fault}
+use Rattle.f77_actions.specs.declared.finish.Fault.{Fault}
 use Rattle.f77_facts.specs.declared.truths.Truths.{Truths}
 
 -- a truth value is one of those that may be, and a fault is foreseen

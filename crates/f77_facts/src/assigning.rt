@@ -1,7 +1,7 @@
 //! What is known after an assignment.
 
 ghost use Rattle.std.specs.Prelude.{◌≤◌, ℕ, ℤ, Bool, length, slice_set, Some, Ok};
-ghost use Rattle.f77_values.specs.declared.value.Value.TheVariants as held;
+ghost use Rattle.f77_actions.specs.declared.value.Value.TheVariants as held;
 ghost use Rattle.f77_code.specs.Moves.{Cells};
 ghost use Rattle.f77_facts.specs.Known.{Suits};
 ghost use Rattle.f77_facts.specs.Truths.{SuitsTruth};

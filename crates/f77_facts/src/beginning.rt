@@ -2,7 +2,7 @@
 
 ghost use Rattle.std.specs.Prelude.{◌≡◌, ◌≢◌, ◌+◌, ◌<◌, ◌≤◌, ◌^◌, ℤ, pos, true, IfOk};
 ghost use Rattle.f77_actions.specs.declared.resolved.Resolved.{Resolved};
-ghost use Rattle.f77_values.specs.Number.{trip_count};
+ghost use Rattle.f77_actions.specs.Number.{trip_count};
 ghost use Rattle.f77_facts.specs.Known.{IsBetween};
 ghost use Rattle.f77_facts.specs.Entries.{AddsEntries};
 ghost use Rattle.f77_facts.specs.code.Keeping.{KeepsActing, KeepsBegun, RefinesPasses};

@@ -1,7 +1,7 @@
 //! What is known after a part of a step, in memory of its own.
 
 ghost use Rattle.std.specs.Prelude.{◌≡◌, ◌<◌, ℕ, ℤ, Bool, length, slice_get, slice_set, Some, Ok, IfOk};
-ghost use Rattle.f77_values.specs.declared.value.Value.TheVariants as held;
+ghost use Rattle.f77_actions.specs.declared.value.Value.TheVariants as held;
 ghost use Rattle.f77_code.specs.Evaluation.{slot_in, number_in, truth_in};
 ghost use Rattle.f77_code.specs.Moves.{Cells, TurnList, without};
 ghost use Rattle.f77_facts.specs.Known.{Suits};

@@ -1,8 +1,8 @@
 //! What is known of what slots hold.
 
 ghost use Rattle.std.specs.Prelude.{◌≡◌, ◌<◌, ℤ, true, length, slice_get, slice_set, Option, Some, None, IfOk};
-ghost use Rattle.f77_values.specs.declared.value.Value.{Value};
-ghost use Rattle.f77_values.specs.Value.{whole, logic};
+ghost use Rattle.f77_actions.specs.declared.value.Value.{Value};
+ghost use Rattle.f77_actions.specs.Value.{whole, logic};
 ghost use Rattle.f77_code.specs.Evaluation.{held_in};
 ghost use Rattle.f77_code.specs.Moves.{Cells};
 ghost use Rattle.f77_facts.specs.Known.{IsBetween, Suits};

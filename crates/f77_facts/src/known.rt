@@ -2,9 +2,9 @@
 
 ghost use Rattle.std.specs.Prelude.{◌≡◌, ◌≢◌, ◌||◌, ◌+ℤ◌, ◌-ℤ◌, ◌*ℤ◌, ◌≤ℤ◌, ◌<ℤ◌, if◌then◌else◌};
 ghost use Rattle.std.specs.Prelude.{ℤ, pos, negsuc, true, false, Result, Ok, IfOk};
-ghost use Rattle.f77_values.specs.declared.finish.Fault.{Fault};
-ghost use Rattle.f77_values.specs.Number.{fits, in_range, quotient, modulus, power, negated, without_sign, is_below};
-ghost use Rattle.f77_values.specs.Value.{given, both, pushed};
+ghost use Rattle.f77_actions.specs.declared.finish.Fault.{Fault};
+ghost use Rattle.f77_actions.specs.Number.{fits, in_range, quotient, modulus, power, negated, without_sign, is_below};
+ghost use Rattle.f77_actions.specs.Value.{given, both, pushed};
 ghost use Rattle.f77_facts.specs.Known.{IsBetween, Suits};
 ghost use Rattle.f77_code.specs.Evaluation.{calculated};
 

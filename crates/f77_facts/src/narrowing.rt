@@ -1,8 +1,8 @@
 //! What is left of the operands of an operation whose value is between bounds.
 
 ghost use Rattle.std.specs.Prelude.{◌≡◌, ◌+ℤ◌, ◌-ℤ◌, ◌≤ℤ◌, if◌then◌else◌, ℤ, pos, Ok};
-ghost use Rattle.f77_values.specs.Number.{in_range, negated, without_sign, modulus, quotient, is_below};
-ghost use Rattle.f77_values.specs.Value.{pushed};
+ghost use Rattle.f77_actions.specs.Number.{in_range, negated, without_sign, modulus, quotient, is_below};
+ghost use Rattle.f77_actions.specs.Value.{pushed};
 ghost use Rattle.f77_facts.specs.Known.{IsBetween};
 ghost use Rattle.f77_code.specs.Evaluation.{calculated};
 

@@ -2,9 +2,9 @@
 
 ghost use Rattle.std.specs.Prelude.{◌≡◌, ◌+◌, ◌*◌, ◌-◌, ◌^◌, ◌<◌, ◌≤◌, ◌<ℤ◌, ◌≤ℤ◌, [], ◌∷◌};
 ghost use Rattle.std.specs.Prelude.{ℕ, suc, ℤ, pos, true, false, length, Option, Result, Ok, None};
-ghost use Rattle.f77_values.specs.declared.finish.Fault.{Fault};
-ghost use Rattle.f77_values.specs.declared.value.Value.{Value};
-ghost use Rattle.f77_values.specs.Value.{given, element, whole, logic};
+ghost use Rattle.f77_actions.specs.declared.finish.Fault.{Fault};
+ghost use Rattle.f77_actions.specs.declared.value.Value.{Value};
+ghost use Rattle.f77_actions.specs.Value.{given, element, whole, logic};
 ghost use Rattle.f77_code.specs.Evaluation.{held_in};
 ghost use Rattle.f77_code.specs.Moves.{Cells};
 ghost use Rattle.f77_facts.specs.Known.{IsBetween, Suits};

@@ -1,7 +1,7 @@
 //! What a value or the outcome of a condition tells of the slots in it.
 
 ghost use Rattle.std.specs.Prelude.{◌≡◌, ◌≤ℤ◌, ℕ, ℤ, pos, Bool, false, Ok};
-ghost use Rattle.f77_values.specs.Value.{whole, logic};
+ghost use Rattle.f77_actions.specs.Value.{whole, logic};
 ghost use Rattle.f77_code.specs.Evaluation.{held_in, number_in, slot_in, truth_in};
 ghost use Rattle.f77_code.specs.Moves.{Cells};
 ghost use Rattle.f77_facts.specs.Known.{IsBetween};

@@ -1,7 +1,7 @@
 //! Exact results of operations between bounds, before the range of INTEGER is asked.
 
 ghost use Rattle.std.specs.Prelude.{◌≡◌, ◌≢◌, ◌*ℤ◌, ◌<ℤ◌, ◌≤ℤ◌, ℤ, pos, negsuc, int_div, int_rem};
-ghost use Rattle.f77_values.specs.Number.{without_sign};
+ghost use Rattle.f77_actions.specs.Number.{without_sign};
 ghost use Rattle.f77_facts.specs.Known.{IsBetween};
 
 use crate::known::Known;

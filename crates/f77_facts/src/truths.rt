@@ -1,9 +1,9 @@
 //! What is known of a LOGICAL value: which truth values it may have, and whether it may have none.
 
 ghost use Rattle.std.specs.Prelude.{◌≡◌, ◌&&◌, ◌||◌, ℤ, Bool, true, not, Result, Ok};
-ghost use Rattle.f77_values.specs.declared.finish.Fault.{Fault};
-ghost use Rattle.f77_values.specs.Number.{is_below, is_same};
-ghost use Rattle.f77_values.specs.Value.{given, both};
+ghost use Rattle.f77_actions.specs.declared.finish.Fault.{Fault};
+ghost use Rattle.f77_actions.specs.Number.{is_below, is_same};
+ghost use Rattle.f77_actions.specs.Value.{given, both};
 ghost use Rattle.f77_facts.specs.Known.{IsBetween, Suits};
 ghost use Rattle.f77_facts.specs.Truths.{SuitsTruth};
 ghost use Rattle.f77_code.specs.Evaluation.{compared, joined};

@@ -9,7 +9,7 @@ use Rattle.f77_tree.specs.declared.tree.Kind.{Kind}
 use Rattle.f77_tree.specs.declared.statement.Stmt.{Stmt, Subroutine, Declare, Dimension, Preset, Loop}
 use Rattle.f77_tree.specs.declared.statement.Stmt.TheViews as boxed
 use Rattle.f77_tree.specs.declared.statement.Stmt.TheFolds.{fold_out-Stmt}
-use Rattle.f77_nodes.specs.Node.{names_of}
+use Rattle.f77_tree.specs.Node.{names_of}
 use Rattle.f77_tree.specs.Statement.{stmt_step, statement_of, Statement}
 use Rattle.f77_legal.specs.Heading.{dummies_of}
 use Rattle.f77_legal.specs.Labels.{terminal_label}

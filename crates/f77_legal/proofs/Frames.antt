@@ -3,7 +3,7 @@ use Rattle.std.proofs.Common.{◌≡◌, List, [], ◌∷◌, Bool, true, false,
 use Rattle.std.proofs.Common.{true≢false}
 use Rattle.f77_tree.specs.Statement.{form_of, Statement}
 use Rattle.f77_program.specs.Group.{group_of}
-use Rattle.f77_nodes.specs.Node.{names_of}
+use Rattle.f77_tree.specs.Node.{names_of}
 use Rattle.f77_legal.specs.Blocks.{is_block_if, is_end_if, is_else, is_alternative}
 use Rattle.f77_legal.specs.Frames.{framed}
 use Rattle.f77_legal.specs.code.Frames.{is_framed_out}

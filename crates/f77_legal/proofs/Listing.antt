@@ -15,7 +15,7 @@ use Rattle.f77_tree.specs.declared.statement.Stmt.TheViews as boxed
 use Rattle.f77_tree.specs.declared.statement.Stmt.TheOpen.{Stmt-F}
 use Rattle.f77_tree.specs.declared.statement.Stmt.TheFolds.{fold-roll-Stmt, fold_out-Stmt}
 use Rattle.f77_tree.specs.Data.{data_group_of}
-use Rattle.f77_nodes.specs.Node.{NodeOf, tree_nodes, group_nodes, label_nodes, nodes_of, step_parts}
+use Rattle.f77_tree.specs.Node.{NodeOf, tree_nodes, group_nodes, label_nodes, nodes_of, step_parts}
 use Rattle.f77_tree.specs.Statement.{stmt_step, statement_of, Statement, value_of}
 use Rattle.f77_tree.specs.View.{tree_of}
 use Rattle.f77_legal.specs.NameTable.{Entries}

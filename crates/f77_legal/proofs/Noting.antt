@@ -17,7 +17,7 @@ use Rattle.f77_tree.specs.declared.tree.Expr.TheViews as views
 use Rattle.f77_tree.specs.declared.tree.Expr.TheOpen.{Expr-F}
 use Rattle.f77_tree.specs.declared.tree.Expr.TheFolds.{fold-roll-Expr}
 use Rattle.f77_tree.specs.declared.data.Value.{Value}
-use Rattle.f77_nodes.specs.Node.{NodeOf, node_name, parts, all_parts, tree_nodes}
+use Rattle.f77_tree.specs.Node.{NodeOf, node_name, parts, all_parts, tree_nodes}
 use Rattle.f77_tree.specs.Tree.{Tree}
 use Rattle.f77_tree.specs.View.{trees, tree_of, expr_step, ref_step}
 use Rattle.f77_legal.specs.declared.names.Facts.{Facts}

@@ -14,7 +14,7 @@ use Rattle.indexmap.specs.IndexMap.{get, keys}
 use Rattle.f77_program.specs.Formed.{is_action}
 use Rattle.f77_program.specs.code.Formed.{statement_formed, formed}
 use Rattle.f77_program.specs.Group.{group_of}
-use Rattle.f77_nodes.specs.Node.{NodeOf, parts, all_parts, tree_nodes, step_parts, nodes_of, node_name, names_of}
+use Rattle.f77_tree.specs.Node.{NodeOf, parts, all_parts, tree_nodes, step_parts, nodes_of, node_name, names_of}
 use Rattle.f77_program.specs.Program.{LineFields}
 use Rattle.f77_program.specs.Patching.{replaced}
 use Rattle.f77_tree.specs.StatementGrammar.{IsFormed}

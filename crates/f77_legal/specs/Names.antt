@@ -6,7 +6,7 @@ use Rattle.std.specs.List.{flat_map, filter_map, slice_get}
 use Rattle.std.specs.Option.{option_and_then, option_map_or}
 use Rattle.std.specs.Str.{bytes_eq}
 use Rattle.f77_tree.specs.Intrinsic.{function_named}
-use Rattle.f77_nodes.specs.Node.{names_of}
+use Rattle.f77_tree.specs.Node.{names_of}
 use Rattle.f77_program.specs.Program.{LineFields}
 use Rattle.f77_tree.specs.Tree.{DeclFields}
 use Rattle.f77_tree.specs.Statement.{Statement}

@@ -5,7 +5,7 @@ use Rattle.std.proofs.lemmas.Bool.{lt-ltb}
 use Rattle.std.proofs.lemmas.Int.{ints}
 use Rattle.f77_actions.specs.declared.expression.Relation.{Relation}
 use Rattle.f77_actions.specs.declared.expression.Relation.TheVariants as relation
-use Rattle.f77_values.specs.Number.{is_below, is_same}
+use Rattle.f77_actions.specs.Number.{is_below, is_same}
 use Rattle.f77_code.specs.Evaluation.{compared}
 use Rattle.f77_facts.proofs.Comparisons.{below_lt, not_below_le, same_equal, not_same_apart}
 

@@ -3,14 +3,14 @@ use Rattle.std.proofs.Common.{arith, ◌≡◌, ℕ, zero, suc, List, [], ◌∷
 use Rattle.std.specs.Prelude.{◌+ℤ◌, ◌-ℤ◌, ◌*ℤ◌, ◌≤ℤ◌, if◌then◌else◌}
 use Rattle.std.proofs.lemmas.Int.{ints}
 use Rattle.std.proofs.lemmas.List.Elements.{All-push}
-use Rattle.f77_values.specs.Number.{is_below, is_same, negated, without_sign}
+use Rattle.f77_actions.specs.Number.{is_below, is_same, negated, without_sign}
 use Rattle.f77_facts.proofs.Comparisons.{below_lt, not_below_le, same_equal}
 use Rattle.f77_code.specs.Moves.{Cells}
 use Rattle.f77_facts.specs.declared.known.Known.{Known}
 use Rattle.f77_facts.specs.Known.{IsBetween, Suits}
-use Rattle.f77_values.specs.declared.value.Value.{Value}
-use Rattle.f77_values.specs.declared.value.Value.TheVariants as held
-use Rattle.f77_values.specs.Value.{whole}
+use Rattle.f77_actions.specs.declared.value.Value.{Value}
+use Rattle.f77_actions.specs.declared.value.Value.TheVariants as held
+use Rattle.f77_actions.specs.Value.{whole}
 use Rattle.f77_linear.specs.declared.sums.Sum.{Sum}
 use Rattle.f77_linear.specs.Sums.{as_number, sum_value}
 use Rattle.f77_linear.specs.Inequalities.{IsBelow, AreBelow}

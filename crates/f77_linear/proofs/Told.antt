@@ -2,11 +2,11 @@
 use Rattle.std.proofs.Common.{◌≡◌, ◌⊎◌, inl, inr, ℕ, Bool, true, false, not, Option, Some, None, ℤ, pos, refl, sym, subst}
 use Rattle.std.specs.Prelude.{Result, Ok, Err, ◌&&◌, ◌||◌}
 use Rattle.f77_actions.specs.declared.expression.Relation.{Relation}
-use Rattle.f77_values.specs.declared.finish.Fault.{Fault}
-use Rattle.f77_values.specs.declared.value.Value.{Value}
-use Rattle.f77_values.specs.declared.value.Value.TheVariants as held
-use Rattle.f77_values.specs.Number.{fits, in_range, is_below}
-use Rattle.f77_values.specs.Value.{given, both, logic, same_truth}
+use Rattle.f77_actions.specs.declared.finish.Fault.{Fault}
+use Rattle.f77_actions.specs.declared.value.Value.{Value}
+use Rattle.f77_actions.specs.declared.value.Value.TheVariants as held
+use Rattle.f77_actions.specs.Number.{fits, in_range, is_below}
+use Rattle.f77_actions.specs.Value.{given, both, logic, same_truth}
 use Rattle.f77_code.specs.Evaluation.{compared, held_in}
 use Rattle.f77_code.specs.Moves.{Cells}
 use Rattle.f77_facts.specs.declared.truths.Truths.{Truths}

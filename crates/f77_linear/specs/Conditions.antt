@@ -1,7 +1,7 @@
 -- The cases of a truth value.
 use Rattle.std.specs.Prelude.{◌≡◌, Bool, true, false, List, pos, Result, Ok, Err}
 use Rattle.f77_actions.specs.declared.expression.Condition.{Condition}
-use Rattle.f77_values.specs.declared.finish.Fault.{Fault}
+use Rattle.f77_actions.specs.declared.finish.Fault.{Fault}
 use Rattle.f77_code.specs.Evaluation.{truth_in}
 use Rattle.f77_code.specs.Moves.{Cells}
 use Rattle.f77_facts.specs.declared.facts.Fact.{Fact}

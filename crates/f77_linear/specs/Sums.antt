@@ -1,8 +1,8 @@
 -- Sums over what slots hold.
 use Rattle.std.specs.Prelude.{if◌then◌else◌, ◌∷◌, ◌+ℤ◌, ◌*ℤ◌, ℕ, List, [], Option}
 use Rattle.std.specs.Prelude.{Some, None, ℤ, pos}
-use Rattle.f77_values.specs.declared.value.Value.{Value}
-use Rattle.f77_values.specs.declared.value.Value.TheVariants as held
+use Rattle.f77_actions.specs.declared.value.Value.{Value}
+use Rattle.f77_actions.specs.declared.value.Value.TheVariants as held
 use Rattle.f77_code.specs.Evaluation.{held_in}
 use Rattle.f77_code.specs.Moves.{Cells}
 use Rattle.f77_linear.specs.declared.sums.Sum.{Sum}

@@ -1,7 +1,7 @@
 //! The cases of INTEGER expressions.
 
 ghost use Rattle.std.specs.Prelude.{◌≡◌, ◌*ℤ◌, ◌-ℤ◌, if◌then◌else◌, ℕ, ℤ, Ok, IfOk, IfSome};
-ghost use Rattle.f77_values.specs.Number.{is_below, without_sign};
+ghost use Rattle.f77_actions.specs.Number.{is_below, without_sign};
 ghost use Rattle.f77_code.specs.Evaluation.{calculated, number_in, slot_in};
 ghost use Rattle.f77_code.specs.Moves.{Cells};
 ghost use Rattle.f77_facts.specs.Facts.{AreIn};

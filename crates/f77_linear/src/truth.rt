@@ -1,8 +1,8 @@
 //! The cases of LOGICAL expressions.
 
 ghost use Rattle.std.specs.Prelude.{◌≡◌, ◌-ℤ◌, ℤ, pos, Bool, true, false, Result, Ok, IfOk};
-ghost use Rattle.f77_values.specs.declared.finish.Fault.{Fault};
-ghost use Rattle.f77_values.specs.Value.{both, same_truth};
+ghost use Rattle.f77_actions.specs.declared.finish.Fault.{Fault};
+ghost use Rattle.f77_actions.specs.Value.{both, same_truth};
 ghost use Rattle.f77_code.specs.Evaluation.{compared, joined};
 ghost use Rattle.f77_code.specs.Moves.{Cells};
 ghost use Rattle.f77_linear.specs.Cases.{IsOneOf};

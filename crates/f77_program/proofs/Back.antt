@@ -18,7 +18,7 @@ use Rattle.f77_tree.specs.Grammar.{Spells, SpellsReference, SpellsAll, is_name, 
 use Rattle.f77_tree.specs.StatementGrammar.{tree_in_text, trees_in_text}
 use Rattle.f77_program.specs.Canonical.{own_level, operand, text_of, list_text, rest_text}
 use Rattle.f77_program.specs.code.Formed.{is_reference, is_some_list, formed, all_formed}
-use Rattle.f77_nodes.proofs.Constants.{small_constants, all_small_constants}
+use Rattle.f77_tree.proofs.Constants.{small_constants, all_small_constants}
 
 pub digit_is : (d : ℕ) → d < 10 → is_digit (48 + d) ≡ true
 digit_is d h = grind (arith, nat_tests)

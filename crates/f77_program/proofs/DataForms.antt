@@ -8,7 +8,7 @@ use Rattle.f77_tree.specs.declared.data.Constant.{Constant}
 use Rattle.f77_tree.specs.declared.data.Constant.TheVariants.{Number, Truth}
 use Rattle.f77_tree.specs.declared.data.Value.{Value}
 use Rattle.f77_tree.specs.Grammar.{is_name, truth_constant_text}
-use Rattle.f77_nodes.specs.Limits.{largest_integer, small_constant}
+use Rattle.f77_tree.specs.Limits.{largest_integer, small_constant}
 use Rattle.f77_tree.specs.Joined.{Joined, separated}
 use Rattle.f77_tree.specs.code.Joined.{some_all}
 use Rattle.f77_tree.specs.Declaration.{SpellsName, SpellsNumber}
@@ -16,7 +16,7 @@ use Rattle.f77_tree.specs.Tree.{GroupFields}
 use Rattle.f77_tree.specs.Data.{SpellsConstant, SpellsValue, SpellsGroup, SpellsGroups, negative}
 use Rattle.f77_program.specs.code.Data.{any_value, is_group, data_formed}
 use Rattle.f77_program.specs.Data.{constant_text, repeat_text, value_text, name_text, group_text, groups_text}
-use Rattle.f77_nodes.proofs.Constants.{small_value, group_constants, data_constants}
+use Rattle.f77_tree.proofs.Constants.{small_value, group_constants, data_constants}
 use Rattle.f77_tree.proofs.Tests.{and_true}
 use Rattle.f77_program.proofs.Plain.{IsPlain, both, plain_name, plain_decimal}
 use Rattle.f77_program.proofs.JoinedForms.{joined_all, joined_text, joined_back, plain_separated}

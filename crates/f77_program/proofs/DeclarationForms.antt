@@ -9,7 +9,7 @@ use Rattle.f77_tree.specs.Tree.{DeclFields}
 use Rattle.f77_tree.specs.Declaration.{SpellsNumber, SpellsDecl, SpellsDecls}
 use Rattle.f77_program.specs.code.Declaration.{is_decl, declaration_formed}
 use Rattle.f77_program.specs.Declaration.{bounds_text, decl_text, declarations_text}
-use Rattle.f77_nodes.proofs.Constants.{small_bound, decl_constants, declaration_constants}
+use Rattle.f77_tree.proofs.Constants.{small_bound, decl_constants, declaration_constants}
 use Rattle.f77_tree.proofs.Tests.{and_true}
 use Rattle.f77_program.proofs.Back.{decimal_number, small}
 use Rattle.f77_program.proofs.Forming.{numeral}

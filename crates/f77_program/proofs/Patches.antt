@@ -15,7 +15,7 @@ use Rattle.f77_program.specs.Group.{group_of}
 use Rattle.f77_program.specs.Program.{LineFields, line_of, line_at, IsProgram}
 use Rattle.f77_program.specs.Patching.{replaced, Fits, patched}
 use Rattle.f77_tree.specs.StatementGrammar.{IsFormed}
-use Rattle.f77_nodes.specs.Names.{statement_names}
+use Rattle.f77_tree.specs.Names.{statement_names}
 use Rattle.f77_tree.specs.Statement.{Statement}
 
 -- to write over an item is to change its line

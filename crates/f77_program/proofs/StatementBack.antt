@@ -15,9 +15,9 @@ use Rattle.f77_tree.specs.StatementGrammar.{SpellsLabel, SpellsAction, SpellsSta
 use Rattle.f77_program.specs.Canonical.{text_of, list_text, names_text, step_text}
 use Rattle.f77_program.specs.code.Formed.{formed, all_formed, value_formed, statement_formed}
 use Rattle.f77_program.specs.Formed.{is_action}
-use Rattle.f77_nodes.specs.Limits.{is_label}
-use Rattle.f77_nodes.specs.Names.{of_value}
-use Rattle.f77_nodes.proofs.Constants.{small_constants, all_small_constants, by_part}
+use Rattle.f77_tree.specs.Limits.{is_label}
+use Rattle.f77_tree.specs.Names.{of_value}
+use Rattle.f77_tree.proofs.Constants.{small_constants, all_small_constants, by_part}
 use Rattle.f77_program.proofs.Back.{decimal_number, own_low, small, back, back_reference}
 use Rattle.f77_tree.specs.StatementGrammar.{kind_keyword}
 use Rattle.f77_program.specs.Declaration.{declarations_text}

@@ -11,13 +11,13 @@ use Rattle.f77_tree.specs.Statement.{Statement}
 use Rattle.f77_tree.specs.Joined.{has_items, separated}
 use Rattle.f77_tree.specs.StatementGrammar.{SpellsStatement, IsFormed, IsUnmutated}
 use Rattle.f77_tree.specs.Grammar.{is_letter, is_word, is_name}
-use Rattle.f77_nodes.proofs.Constants.{told_by_part}
+use Rattle.f77_tree.proofs.Constants.{told_by_part}
 use Rattle.f77_program.specs.Canonical.{text_of, list_text, names_text, step_text, statement_text}
 use Rattle.f77_program.specs.code.Formed.{formed, all_formed, value_formed, statement_formed}
 use Rattle.f77_program.specs.Formed.{is_action}
 use Rattle.f77_tree.proofs.Tests.{and_true, not_true}
 use Rattle.f77_program.proofs.StatementForming.{is_formed}
-use Rattle.f77_nodes.specs.Limits.{statement_constants}
+use Rattle.f77_tree.specs.Limits.{statement_constants}
 use Rattle.f77_program.proofs.StatementBack.{bare_text, back_statement}
 use Rattle.f77_program.proofs.Plain.{is_plain, IsPlain, both, plain_letter, plain_name, plain_decimal, plain_text, plain_list, not_blank, squeezed_plain, printable_plain, behind_plain, printable_both}
 use Rattle.f77_tree.specs.StatementGrammar.{kind_keyword}

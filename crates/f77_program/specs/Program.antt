@@ -3,7 +3,7 @@ use Rattle.std.specs.Prelude.{◌≡◌, ℕ, zero, suc, true, List, [], ◌∷�
 use Rattle.std.specs.List.{slice_get}
 use Rattle.f77_tree.specs.StatementGrammar.{IsFormed}
 use Rattle.f77_tree.specs.Statement.{statement_of, Statement}
-use Rattle.f77_nodes.specs.Names.{statement_names}
+use Rattle.f77_tree.specs.Names.{statement_names}
 use Rattle.f77_program.specs.Group.{group_of, may_stand}
 use Rattle.f77_program.specs.declared.group.Group.{Group}
 use Rattle.f77_program.specs.declared.group.Group.TheVariants.{End}

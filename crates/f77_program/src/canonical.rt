@@ -6,7 +6,7 @@ ghost use Rattle.std.specs.Fmt.{decimal};
 ghost use Rattle.f77_tree.specs.Joined.{separated};
 ghost use Rattle.f77_tree.specs.Statement.{Statement, statement_of};
 ghost use Rattle.f77_tree.specs.StatementGrammar.{SpellsStatement, IsFormed, IsUnmutated};
-ghost use Rattle.f77_nodes.specs.Limits.{statement_constants};
+ghost use Rattle.f77_tree.specs.Limits.{statement_constants};
 ghost use Rattle.f77_program.specs.Canonical as canonical;
 ghost use Rattle.f77_tree.specs.View.{tree_of, trees};
 

@@ -7,7 +7,7 @@ ghost use Rattle.f77_tree.specs.Grammar as grammar;
 ghost use Rattle.f77_tree.specs.Joined.{separated};
 ghost use Rattle.f77_tree.specs.code.Joined.{some_all};
 ghost use Rattle.f77_tree.specs.Name.{is_short};
-ghost use Rattle.f77_nodes.specs.Names as limits;
+ghost use Rattle.f77_tree.specs.Names as limits;
 ghost use Rattle.f77_program.specs.Data as initial;
 ghost use Rattle.f77_program.specs.code.Data as initial_code;
 ghost use Rattle.f77_program.specs.Data.{name_text};

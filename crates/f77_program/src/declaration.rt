@@ -5,7 +5,7 @@ ghost use Rattle.std.specs.List.{list_all};
 ghost use Rattle.std.specs.Fmt.{decimal};
 ghost use Rattle.f77_tree.specs.Declaration.{decl_of};
 ghost use Rattle.f77_tree.specs.Joined.{separated};
-ghost use Rattle.f77_nodes.specs.Names as limits;
+ghost use Rattle.f77_tree.specs.Names as limits;
 ghost use Rattle.f77_program.specs.Declaration as declared;
 ghost use Rattle.f77_program.specs.code.Declaration as declared_code;
 

@@ -6,7 +6,7 @@ ghost use Rattle.f77_tree.specs.StatementGrammar.{IsFormed};
 ghost use Rattle.f77_program.specs.Formed as forms;
 ghost use Rattle.f77_program.specs.code.Formed as forms_code;
 ghost use Rattle.f77_tree.specs.Name.{is_short};
-ghost use Rattle.f77_nodes.specs.Names.{short_names, all_short_names, of_value, statement_names};
+ghost use Rattle.f77_tree.specs.Names.{short_names, all_short_names, of_value, statement_names};
 ghost use Rattle.f77_tree.specs.View.{tree_of, trees};
 ghost use Rattle.f77_tree.specs.Statement.{statement_of};
 

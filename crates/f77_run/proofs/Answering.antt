@@ -8,28 +8,29 @@ use Rattle.f77_program.specs.Program.{LineFields, line_of}
 use Rattle.f77_legal.specs.Names.{kind_of, bounds_of}
 use Rattle.f77_check.specs.Checked.{CheckedFields, IsChecked}
 use Rattle.f77_check.specs.Slots.{slot_count}
-use Rattle.f77_values.specs.declared.finish.Finish.{Finish}
-use Rattle.f77_values.specs.declared.finish.Finish.TheVariants.{StepLimit}
+use Rattle.f77_actions.specs.declared.finish.Finish.{Finish}
+use Rattle.f77_actions.specs.declared.finish.Finish.TheVariants.{StepLimit}
 use Rattle.f77_code.specs.declared.code.Code.{Code}
 use Rattle.f77_code.specs.declared.control.Place.{Place}
 use Rattle.f77_code.specs.declared.control.Place.TheVariants.{Execute}
 use Rattle.f77_code.specs.Moves.{Cells, State, state}
 use Rattle.f77_code.specs.Program.{IsCode}
-use Rattle.f77_run.specs.declared.argument.Arg.{Arg}
-use Rattle.f77_run.specs.declared.outcome.Outcome.{Outcome}
-use Rattle.f77_run.specs.Interpreter.{AreFitting, IsOutcomeOf, Tells, values_in}
+use Rattle.f77_meaning.specs.declared.argument.Arg.{Arg}
+use Rattle.f77_meaning.specs.declared.outcome.Outcome.{Outcome}
+use Rattle.f77_meaning.specs.Interpreter.{AreFitting, IsOutcomeOf, Tells, values_in}
 use Rattle.f77_run.specs.declared.registers.Registers.{Registers}
 use Rattle.f77_run.specs.code.Registers.{AreLoaded, IsImage, counters_of, shown_cells}
-use Rattle.f77_run.specs.code.Running.{ComesToCells, IsBegun, StateOfRun, kinds_at, stands_for, values_at}
+use Rattle.f77_run.specs.code.Running.{IsBegun}
+use Rattle.f77_meaning.specs.code.InRun.{ComesToCells, StateOfRun, kinds_at, stands_for, values_at}
 use Rattle.f77_run.specs.code.Site.{HoldDummies, shown_by}
-use Rattle.f77_run.specs.Site.{held, site_of}
-use Rattle.f77_run.specs.Spans.{all_filled}
-use Rattle.f77_run.specs.Start.{IsStart}
-use Rattle.f77_run.specs.Step.{Config}
-use Rattle.f77_run.specs.code.Typed.{IsTyped}
-use Rattle.f77_run.proofs.Beginning.{empty, empty_size, ends_typed, filled_cells, state_runs, state_starts}
+use Rattle.f77_meaning.specs.Site.{held, site_of}
+use Rattle.f77_meaning.specs.Spans.{all_filled}
+use Rattle.f77_meaning.specs.Start.{IsStart}
+use Rattle.f77_meaning.specs.Step.{Config}
+use Rattle.f77_meaning.specs.code.Typed.{IsTyped}
+use Rattle.f77_meaning.proofs.Beginning.{empty, empty_size, ends_typed, filled_cells, state_runs, state_starts}
 use Rattle.f77_run.proofs.Retold.{same_shown, tells_alike, typed_alike}
-use Rattle.f77_run.proofs.SlotKinds.{kinds_count}
+use Rattle.f77_meaning.proofs.SlotKinds.{kinds_count}
 use Rattle.f77_run.proofs.Telling.{told_within}
 
 module _ (checked : CheckedFields) (is : IsChecked checked) where

@@ -8,14 +8,14 @@ use Rattle.f77_code.specs.declared.control.Place.TheVariants.{Execute, Increment
 use Rattle.f77_code.specs.declared.control.Turn.{Turn}
 use Rattle.f77_run.specs.declared.visits.Visit.{Visit}
 use Rattle.f77_run.specs.code.Effect.{AgreeElsewhere}
-use Rattle.f77_run.specs.Endless.{Reaches}
-use Rattle.f77_run.specs.Machine.{placed_in_run}
+use Rattle.f77_meaning.specs.Endless.{Reaches}
+use Rattle.f77_meaning.specs.States.{placed_in_run}
 use Rattle.f77_code.specs.Moves.{Move, acted, incremented, is_executed, moved, turn_at}
 use Rattle.f77_code.specs.code.Moves.{action_within}
 use Rattle.f77_run.specs.code.Machine.{state_of}
 use Rattle.f77_run.specs.code.Parting.{Parting, IsParting, DoesAlikeIn, changed_site, site_in, start_in}
-use Rattle.f77_run.specs.Reached.{statement_number}
-use Rattle.f77_run.specs.Running.{RunSite}
+use Rattle.f77_meaning.specs.Reached.{statement_number}
+use Rattle.f77_meaning.specs.Running.{RunSite}
 use Rattle.f77_run.specs.code.Running.{IsRunning}
 use Rattle.f77_run.specs.Visits.{IsVisit, config_in}
 use Rattle.f77_run.proofs.Parted.{alike, changed_running, own_running}

@@ -14,20 +14,20 @@ use Rattle.std.proofs.lemmas.Option.{same_Some, slice_get-get_or}
 use Rattle.std.proofs.lemmas.Simd.{map-map}
 use Rattle.f77_tree.specs.Deciding.{option_decides}
 use Rattle.f77_tree.specs.declared.tree.Kind.{Kind}
-use Rattle.f77_values.specs.contracts.value.ValuePartialEq.TheImpl as values
-use Rattle.f77_values.specs.declared.value.Value.{Value}
-use Rattle.f77_values.specs.declared.value.Value.TheVariants as held
-use Rattle.f77_values.specs.Told.{coded, is_fitting}
+use Rattle.f77_actions.specs.contracts.value.ValuePartialEq.TheImpl as values
+use Rattle.f77_actions.specs.declared.value.Value.{Value}
+use Rattle.f77_actions.specs.declared.value.Value.TheVariants as held
+use Rattle.f77_actions.specs.Told.{coded, is_fitting}
 use Rattle.f77_code.specs.Evaluation.{held_in}
 use Rattle.f77_code.specs.Holds.{read_as}
 use Rattle.f77_code.specs.Moves.{Cells}
 use Rattle.f77_code.specs.Registers.{is_held, told_at, told_by_register}
-use Rattle.f77_run.specs.declared.argument.Arg.{Arg}
-use Rattle.f77_run.specs.Interpreter.{values_in}
+use Rattle.f77_meaning.specs.declared.argument.Arg.{Arg}
+use Rattle.f77_meaning.specs.Interpreter.{values_in}
 use Rattle.f77_run.specs.code.Registers.{AreLoaded, loaded, shown_as, shown_cells, values_fit}
-use Rattle.f77_run.specs.code.Spans.{span}
-use Rattle.f77_run.specs.Spans.{all_filled, filled}
-use Rattle.f77_run.proofs.Cells.{get_or-table}
+use Rattle.f77_meaning.specs.code.Spans.{span}
+use Rattle.f77_meaning.specs.Spans.{all_filled, filled}
+use Rattle.f77_meaning.proofs.Cells.{get_or-table}
 use Rattle.f77_run.proofs.Held.{decided_not, decided_of}
 use Rattle.f77_run.proofs.Loaded.{loaded_count, shown_at}
 

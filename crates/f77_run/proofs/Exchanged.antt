@@ -15,18 +15,18 @@ use Rattle.f77_check.specs.Checked.{CheckedFields, IsChecked}
 use Rattle.f77_check.specs.Patching.{IsInPlace}
 use Rattle.f77_check.specs.Resolved.{AreResolved}
 use Rattle.f77_actions.specs.declared.resolved.Resolved.{Resolved}
-use Rattle.f77_run.specs.declared.argument.Arg.{Arg}
+use Rattle.f77_meaning.specs.declared.argument.Arg.{Arg}
 use Rattle.f77_run.specs.declared.changed.Change.{Change}
 use Rattle.f77_run.specs.declared.visits.Visited.{Visited}
 use Rattle.f77_run.specs.declared.visits.Visits.{Visits}
 use Rattle.f77_run.specs.Changed.{ChangedFields, IsChanged, changed_fields, changed_program}
 use Rattle.f77_run.specs.code.Effect.{AgreeElsewhere}
-use Rattle.f77_run.specs.Interpreter.{AreFitting, values_in}
+use Rattle.f77_meaning.specs.Interpreter.{AreFitting, values_in}
 use Rattle.f77_run.specs.code.Parting.{IsParting, parting_of, site_in, start_in}
-use Rattle.f77_run.specs.Reached.{AreSameBut}
-use Rattle.f77_run.specs.Site.{site_of}
+use Rattle.f77_meaning.specs.Reached.{AreSameBut}
+use Rattle.f77_meaning.specs.Site.{site_of}
 use Rattle.f77_run.specs.Visits.{AreVisits, IsFollowed}
-use Rattle.f77_run.proofs.OneAnswer.{one_start}
+use Rattle.f77_meaning.proofs.OneAnswer.{one_start}
 
 -- what was written over is put back
 set_back : {X : Type 0} (xs : List X) (i : ℕ) (x y : X) → slice_get xs i ≡ Some y → slice_set (slice_set xs i x) i y ≡ xs

@@ -9,14 +9,14 @@ use Rattle.std.proofs.lemmas.Option.{slice_get-get_or}
 use Rattle.f77_tree.specs.declared.tree.Kind.{Kind}
 use Rattle.f77_legal.specs.Blocks.{first_numbers}
 use Rattle.f77_check.specs.declared.checked.Shape.{Shape}
-use Rattle.f77_run.specs.declared.argument.Arg.{Arg}
-use Rattle.f77_values.specs.declared.value.Value.{Value}
+use Rattle.f77_meaning.specs.declared.argument.Arg.{Arg}
+use Rattle.f77_actions.specs.declared.value.Value.{Value}
 use Rattle.f77_code.specs.Evaluation.{held_in}
 use Rattle.f77_code.specs.Moves.{Cells}
-use Rattle.f77_run.specs.Interpreter.{values_in}
-use Rattle.f77_run.specs.code.Spans.{HaveRoom, span}
-use Rattle.f77_run.specs.Spans.{all_filled, filled, size_of}
-use Rattle.f77_run.specs.code.Typed.{HasValues, has_kind}
+use Rattle.f77_meaning.specs.Interpreter.{values_in}
+use Rattle.f77_meaning.specs.code.Spans.{HaveRoom, span}
+use Rattle.f77_meaning.specs.Spans.{all_filled, filled, size_of}
+use Rattle.f77_meaning.specs.code.Typed.{HasValues, has_kind}
 
 length-filled : (cells : Cells) (first : ℕ) (values : List Value) → length (filled cells first values) ≡ length cells
 length-filled cells first [] = refl

@@ -9,9 +9,9 @@ use Rattle.f77_tree.specs.declared.tree.Kind.{Kind}
 use Rattle.f77_actions.specs.declared.resolved.Resolved.{Resolved}
 use Rattle.f77_legal.specs.Names.{kind_of, bounds_of}
 use Rattle.f77_check.specs.Slots.{slot_count, slot_kinds}
-use Rattle.f77_values.specs.Number.{fits}
-use Rattle.f77_values.specs.declared.finish.Finish.{Finish}
-use Rattle.f77_values.specs.declared.finish.Finish.TheVariants.{Returned, Stopped, Failed, StepLimit}
+use Rattle.f77_actions.specs.Number.{fits}
+use Rattle.f77_actions.specs.declared.finish.Finish.{Finish}
+use Rattle.f77_actions.specs.declared.finish.Finish.TheVariants.{Returned, Stopped, Failed, StepLimit}
 use Rattle.f77_code.specs.declared.code.Code.{Code}
 use Rattle.f77_code.specs.declared.control.Place.{Place}
 use Rattle.f77_code.specs.declared.control.Place.TheVariants.{Execute, Increment}
@@ -33,24 +33,25 @@ use Rattle.f77_code.proofs.Assembled.{code_stands}
 use Rattle.f77_code.proofs.Listed.{item_at, order}
 use Rattle.f77_code.proofs.Reached.{code_there}
 use Rattle.f77_code.proofs.Sequences.{blocks_alike, goes_round}
-use Rattle.f77_run.specs.Machine.{turn_of}
-use Rattle.f77_run.specs.Outcome.{IsOutcome}
+use Rattle.f77_meaning.specs.States.{turn_of}
+use Rattle.f77_meaning.specs.Outcome.{IsOutcome}
 use Rattle.f77_run.specs.code.Registers.{AreLoaded, plan_of, loaded, shown_cells, counters_of, values_fit}
-use Rattle.f77_run.specs.Running.{RunSite}
+use Rattle.f77_meaning.specs.Running.{RunSite}
 use Rattle.f77_run.specs.declared.registers.Registers.{Registers}
-use Rattle.f77_run.specs.code.Running.{IsBegun, IsRunningIn, AgreeOnDummies, ComesToCells, CameBack, stands_for, values_at}
-use Rattle.f77_run.specs.code.Typed.{IsTyped}
+use Rattle.f77_run.specs.code.Running.{IsBegun, CameBack}
+use Rattle.f77_meaning.specs.code.InRun.{IsRunningIn, AgreeOnDummies, ComesToCells, stands_for, values_at}
+use Rattle.f77_meaning.specs.code.Typed.{IsTyped}
 use Rattle.f77_run.proofs.Advancing.{after_more}
-use Rattle.f77_run.proofs.Endless.{limit_met}
+use Rattle.f77_meaning.proofs.Endless.{limit_met}
 use Rattle.f77_run.proofs.Kinded.{have_actions}
 use Rattle.f77_run.proofs.Loaded.{loaded_count, loaded_holds, counters_count, counters_hold, shown_count}
-use Rattle.f77_run.proofs.Moving.{ComesIn, moves_by, moves_in, all_nested, ends_later, place_below}
-use Rattle.f77_run.proofs.PassesLeft.{active_is_loop, passes_left}
+use Rattle.f77_meaning.proofs.Moving.{ComesIn, moves_by, moves_in, all_nested, ends_later, place_below}
+use Rattle.f77_meaning.proofs.PassesLeft.{active_is_loop, passes_left}
 use Rattle.f77_run.proofs.Readiness.{few_statements, all_ready}
 use Rattle.f77_run.proofs.Shown.{agree_on_dummies}
-use Rattle.f77_run.proofs.SlotKinds.{kinds_count}
+use Rattle.f77_meaning.proofs.SlotKinds.{kinds_count}
 use Rattle.f77_run.proofs.Steps.{incremented_within}
-use Rattle.f77_run.proofs.Typing.{outcome_typed}
+use Rattle.f77_meaning.proofs.Typing.{outcome_typed}
 
 -- ends have places beyond those of all instructions
 end_far : (finish : Finish) → 4294967296 ≤ ended_point finish

@@ -7,14 +7,14 @@ use Rattle.std.proofs.lemmas.List.{length-map}
 use Rattle.std.proofs.lemmas.Simd.{map-map}
 use Rattle.f77_tree.specs.declared.tree.Kind.{Kind}
 use Rattle.f77_check.specs.declared.checked.Shape.{Shape}
-use Rattle.f77_run.specs.declared.argument.Arg.{Arg}
-use Rattle.f77_run.specs.declared.argument.Arg.TheVariants.{Int, Truth, Ints, Truths}
-use Rattle.f77_values.specs.declared.value.Value.{Value}
+use Rattle.f77_meaning.specs.declared.argument.Arg.{Arg}
+use Rattle.f77_meaning.specs.declared.argument.Arg.TheVariants.{Int, Truth, Ints, Truths}
+use Rattle.f77_actions.specs.declared.value.Value.{Value}
 use Rattle.f77_run.specs.code.Holding.{IsHeld, AreHeld}
-use Rattle.f77_run.specs.Interpreter.{values_in, has_shape, AreFitting}
+use Rattle.f77_meaning.specs.Interpreter.{values_in, has_shape, AreFitting}
 use Rattle.f77_code.specs.Moves.{Cells}
-use Rattle.f77_run.specs.code.Spans.{HaveRoom, span}
-use Rattle.f77_run.specs.Spans.{size_of}
+use Rattle.f77_meaning.specs.code.Spans.{HaveRoom, span}
+use Rattle.f77_meaning.specs.Spans.{size_of}
 use Rattle.f77_run.proofs.Filled.{span_slice}
 
 -- what is decided of one fact is decided of another that holds where it does

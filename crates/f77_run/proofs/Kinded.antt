@@ -39,9 +39,9 @@ use Rattle.f77_code.specs.code.Compiled.{HaveActions}
 use Rattle.f77_code.specs.Holds.{Plan, IsSlot, AreSlots}
 use Rattle.f77_code.specs.Typing.{HasSlots, HasNumbers, HasTruths, HasAction}
 use Rattle.f77_run.specs.code.Registers.{plan_of}
-use Rattle.f77_run.proofs.Simulation.{statement_of, legal_fits, no_bounds}
-use Rattle.f77_run.proofs.SlotKinds.{kinds_count, kind_read}
-use Rattle.f77_run.proofs.Spans.{span_within}
+use Rattle.f77_meaning.proofs.Simulation.{statement_of, legal_fits, no_bounds}
+use Rattle.f77_meaning.proofs.SlotKinds.{kinds_count, kind_read}
+use Rattle.f77_meaning.proofs.Spans.{span_within}
 
 -- kinds that are compared as equal are one
 kind_is : (kind other : Kind) → same_kind kind other ≡ true → kind ≡ other

@@ -9,10 +9,10 @@ use Rattle.std.proofs.lemmas.Option.{same_Some, slice_get_within}
 use Rattle.f77_tree.specs.declared.tree.Kind.{Kind}
 use Rattle.f77_tree.specs.declared.tree.Kind.TheVariants.{Integer, Logical}
 use Rattle.f77_actions.specs.declared.resolved.Resolved.{Resolved}
-use Rattle.f77_values.specs.declared.value.Value.{Value}
-use Rattle.f77_values.specs.declared.value.Value.TheVariants as held
-use Rattle.f77_values.specs.Number.{fits}
-use Rattle.f77_values.specs.Told.{coded, is_fitting}
+use Rattle.f77_actions.specs.declared.value.Value.{Value}
+use Rattle.f77_actions.specs.declared.value.Value.TheVariants as held
+use Rattle.f77_actions.specs.Number.{fits}
+use Rattle.f77_actions.specs.Told.{coded, is_fitting}
 use Rattle.f77_code.specs.declared.constants.Constants.{Constants}
 use Rattle.f77_code.specs.declared.control.Turn.{Turn}
 use Rattle.f77_code.specs.Evaluation.{held_in}
@@ -23,7 +23,7 @@ use Rattle.f77_code.proofs.Counters.{weight, more}
 use Rattle.f77_code.proofs.Listed.{all_at, get_behind, one_if}
 use Rattle.f77_code.proofs.Written.{told_fits}
 use Rattle.f77_run.specs.code.Registers.{AreLoaded, values_fit, plan_of, loaded, shown_as, shown_cells, counter_of, counters_of}
-use Rattle.f77_run.specs.code.Typed.{has_kind}
+use Rattle.f77_meaning.specs.code.Typed.{has_kind}
 
 -- a register for each slot
 pub loaded_count : (kinds : List Kind) (cells : Cells) → length cells ≡ length kinds → length (loaded kinds cells) ≡ length kinds

@@ -7,9 +7,9 @@ use Rattle.std.proofs.lemmas.List.{append-nil, drop_all}
 use Rattle.std.proofs.lemmas.List.Quantifiers.{position-Some}
 use Rattle.std.proofs.lemmas.Slice.Zip.{length-zip, AllZip-long}
 use Rattle.f77_check.specs.declared.checked.Shape.{Shape}
-use Rattle.f77_run.specs.declared.argument.Arg.{Arg}
-use Rattle.f77_run.specs.Interpreter.{AreFitting, first_misfit, has_shape, refusal}
-use Rattle.f77_run.proofs.Typing.{first_place}
+use Rattle.f77_meaning.specs.declared.argument.Arg.{Arg}
+use Rattle.f77_meaning.specs.Interpreter.{AreFitting, first_misfit, has_shape, refusal}
+use Rattle.f77_meaning.proofs.Typing.{first_place}
 
 -- the first misfit is one of the arguments
 pub misfit_within : (list : List Shape) (arguments : List Arg) (i : ℕ) → first_misfit list arguments ≡ Some i → i < length arguments

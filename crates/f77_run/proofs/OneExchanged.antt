@@ -22,7 +22,7 @@ use Rattle.f77_code.specs.Moves.{is_loop}
 use Rattle.f77_run.specs.Changed.{ChangedFields, IsChanged, IsCodeOf, changed_program}
 use Rattle.f77_run.proofs.Exchanged.{agree_elsewhere}
 use Rattle.f77_run.proofs.Readiness.{all_ready}
-use Rattle.f77_run.proofs.Simulation.{statement_of}
+use Rattle.f77_meaning.proofs.Simulation.{statement_of}
 
 -- a statement is resolved to a DO exactly where it is one
 loop_where_do : (p : List LineFields) (names : List Symbol) (i : ℕ) (stmt : Statement) (action : Action)

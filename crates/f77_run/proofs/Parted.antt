@@ -11,38 +11,40 @@ use Rattle.f77_legal.proofs.SameFrame.{length_same}
 use Rattle.f77_check.specs.Slots.{slot_count, slot_kinds}
 use Rattle.f77_actions.specs.declared.resolved.Resolved.{Resolved}
 use Rattle.f77_check.proofs.Carried.{shapes_same}
-use Rattle.f77_values.specs.declared.finish.Finish.{Finish}
-use Rattle.f77_values.specs.declared.finish.Finish.TheVariants.{StepLimit}
+use Rattle.f77_actions.specs.declared.finish.Finish.{Finish}
+use Rattle.f77_actions.specs.declared.finish.Finish.TheVariants.{StepLimit}
 use Rattle.f77_run.specs.declared.machine.Machine.{Machine}
-use Rattle.f77_run.specs.declared.outcome.Outcome.{Outcome}
-use Rattle.f77_values.specs.declared.value.Value.{Value}
+use Rattle.f77_meaning.specs.declared.outcome.Outcome.{Outcome}
+use Rattle.f77_actions.specs.declared.value.Value.{Value}
 use Rattle.f77_run.specs.declared.visits.Visit.{Visit}
-use Rattle.f77_run.specs.Control.{Comes}
-use Rattle.f77_run.specs.Endless.{Reaches}
-use Rattle.f77_run.specs.Interpreter.{AreFitting, IsOutcomeOf, Tells, values_in}
-use Rattle.f77_run.specs.Machine.{config_of, values_of}
-use Rattle.f77_run.specs.code.Machine.{next_of}
+use Rattle.f77_meaning.specs.Control.{Comes}
+use Rattle.f77_meaning.specs.Endless.{Reaches}
+use Rattle.f77_meaning.specs.Interpreter.{AreFitting, IsOutcomeOf, Tells, values_in}
+use Rattle.f77_meaning.specs.States.{config_of, values_of}
+use Rattle.f77_meaning.proofs.StateDefinitions.{next_of}
 use Rattle.f77_code.specs.Moves.{Cells, Move, State, moved}
 use Rattle.f77_run.specs.code.Machine.{state_of}
-use Rattle.f77_run.specs.Outcome.{IsOutcome}
+use Rattle.f77_meaning.specs.Outcome.{IsOutcome}
 use Rattle.f77_run.specs.code.Parting.{Parting, IsParting, DoesAlikeIn, DoAlikeBefore, changed_site, site_in, start_in}
-use Rattle.f77_run.specs.code.Running.{IsRunning, AgreeOnDummies, ComesToEnd, config_at, values_at}
+use Rattle.f77_run.specs.code.Running.{IsRunning, config_at}
+use Rattle.f77_meaning.specs.code.InRun.{AgreeOnDummies, ComesToEnd, values_at}
 use Rattle.f77_run.specs.code.Site.{HoldDummies}
-use Rattle.f77_run.specs.Site.{held}
-use Rattle.f77_run.specs.Start.{IsStart}
-use Rattle.f77_run.specs.Step.{Config, Step}
-use Rattle.f77_run.specs.code.Typed.{has_kind, IsTyped}
-use Rattle.f77_run.specs.Value.{Store}
+use Rattle.f77_meaning.specs.Site.{held}
+use Rattle.f77_meaning.specs.Start.{IsStart}
+use Rattle.f77_meaning.specs.Step.{Config, Step}
+use Rattle.f77_meaning.specs.code.Typed.{has_kind, IsTyped}
+use Rattle.f77_meaning.specs.Value.{Store}
 use Rattle.f77_run.specs.Visits.{AreVisits, IsVisit, config_in, state_in}
-use Rattle.f77_run.proofs.Alongside.{before, come_to_the_same, comes_there, follows, throughout, visit_of}
-use Rattle.f77_run.proofs.Endless.{limit_met, whole}
+use Rattle.f77_run.proofs.Alongside.{before, throughout, visit_of}
+use Rattle.f77_meaning.proofs.Together.{come_to_the_same, comes_there, follows}
+use Rattle.f77_meaning.proofs.Endless.{limit_met, whole}
 use Rattle.f77_run.proofs.Held.{decided_of}
-use Rattle.f77_run.proofs.OneAnswer.{one_start}
-use Rattle.f77_run.proofs.OneWay.{one_successor}
+use Rattle.f77_meaning.proofs.OneAnswer.{one_start}
+use Rattle.f77_meaning.proofs.OneWay.{one_successor}
 use Rattle.f77_run.proofs.Runs.{is_step}
 use Rattle.f77_run.proofs.Retold.{same_shown, typed_alike}
-use Rattle.f77_run.proofs.Typing.{outcome_typed, start_typed}
-use Rattle.f77_run.proofs.Unreached.{starts_same, tells_same}
+use Rattle.f77_meaning.proofs.Typing.{outcome_typed, start_typed}
+use Rattle.f77_meaning.proofs.Unreached.{starts_same, tells_same}
 
 module _ (parting : Parting) (changed : List Resolved) (is : IsParting parting changed) where
   abbrev p : List LineFields

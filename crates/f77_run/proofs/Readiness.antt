@@ -28,11 +28,11 @@ use Rattle.f77_code.specs.Moves.{are_below}
 use Rattle.f77_code.specs.code.Moves.{action_within, resolved_within}
 use Rattle.f77_code.specs.Places.{has_places, have_places}
 use Rattle.f77_code.proofs.Listed.{all_at}
-use Rattle.f77_run.proofs.Nested.{branch_ends}
-use Rattle.f77_run.proofs.Reaching.{all_from_each, reach}
+use Rattle.f77_meaning.proofs.Nested.{branch_ends}
+use Rattle.f77_meaning.proofs.Reaching.{all_from_each, reach}
 use Rattle.f77_run.proofs.Runs.{few_lines}
-use Rattle.f77_run.proofs.Simulation.{statement_of}
-use Rattle.f77_run.proofs.Soundness.{place_within}
+use Rattle.f77_meaning.proofs.Simulation.{statement_of}
+use Rattle.f77_meaning.proofs.Soundness.{place_within}
 
 module _ (p : List LineFields) (legal : IsLegal p) where
   -- the number of a statement, and the one behind the last of them, has 32 bits

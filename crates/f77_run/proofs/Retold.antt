@@ -8,18 +8,18 @@ use Rattle.f77_program.specs.Program.{LineFields}
 use Rattle.f77_legal.specs.Heading.{dummies}
 use Rattle.f77_legal.specs.Names.{Symbol, kind_of}
 use Rattle.f77_legal.specs.Presets.{element_count}
-use Rattle.f77_run.specs.declared.argument.Arg.{Arg}
-use Rattle.f77_values.specs.declared.finish.Finish.{Finish}
-use Rattle.f77_values.specs.declared.finish.Finish.TheVariants as finish
-use Rattle.f77_run.specs.declared.outcome.Outcome.{Outcome}
-use Rattle.f77_run.specs.declared.outcome.Outcome.TheVariants as outcome
-use Rattle.f77_run.specs.Interpreter.{values_in, AreArguments, IsOutcomeOf, Tells}
-use Rattle.f77_run.specs.code.Running.{AgreeOnDummies, ComesToEnd}
-use Rattle.f77_run.specs.Start.{IsStart}
-use Rattle.f77_run.specs.Step.{Config}
-use Rattle.f77_run.specs.code.Typed.{HasValues, IsTyped}
-use Rattle.f77_run.specs.Value.{Store}
-use Rattle.f77_run.proofs.Dummies.{or_later}
+use Rattle.f77_meaning.specs.declared.argument.Arg.{Arg}
+use Rattle.f77_actions.specs.declared.finish.Finish.{Finish}
+use Rattle.f77_actions.specs.declared.finish.Finish.TheVariants as finish
+use Rattle.f77_meaning.specs.declared.outcome.Outcome.{Outcome}
+use Rattle.f77_meaning.specs.declared.outcome.Outcome.TheVariants as outcome
+use Rattle.f77_meaning.specs.Interpreter.{values_in, AreArguments, IsOutcomeOf, Tells}
+use Rattle.f77_meaning.specs.code.InRun.{AgreeOnDummies, ComesToEnd}
+use Rattle.f77_meaning.specs.Start.{IsStart}
+use Rattle.f77_meaning.specs.Step.{Config}
+use Rattle.f77_meaning.specs.code.Typed.{HasValues, IsTyped}
+use Rattle.f77_meaning.specs.Value.{Store}
+use Rattle.f77_meaning.proofs.Dummies.{or_later}
 use Rattle.f77_run.proofs.Held.{decided_of}
 use Rattle.f77_run.proofs.Telling.{same_told}
 

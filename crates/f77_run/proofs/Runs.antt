@@ -8,25 +8,27 @@ use Rattle.f77_actions.specs.declared.resolved.Resolved.{Resolved}
 use Rattle.f77_legal.specs.Legal.{IsLegal, is_too_large, too_large_faults}
 use Rattle.f77_legal.specs.Names.{bounds_of}
 use Rattle.f77_legal.proofs.LegalGives.{kept_by}
-use Rattle.f77_values.specs.declared.finish.Finish.{Finish}
-use Rattle.f77_values.specs.declared.finish.Finish.TheVariants.{StepLimit}
-use Rattle.f77_values.specs.declared.finish.Fault.{Fault}
+use Rattle.f77_actions.specs.declared.finish.Finish.{Finish}
+use Rattle.f77_actions.specs.declared.finish.Finish.TheVariants.{StepLimit}
+use Rattle.f77_actions.specs.declared.finish.Fault.{Fault}
 use Rattle.f77_run.specs.declared.machine.Control.{Control}
 use Rattle.f77_run.specs.declared.machine.Machine.{Machine}
-use Rattle.f77_run.specs.Control.{Comes}
-use Rattle.f77_run.specs.Endless.{Reaches}
-use Rattle.f77_run.specs.code.Machine.{KeepsLengths, next_of, state_of, move_of}
+use Rattle.f77_meaning.specs.Control.{Comes}
+use Rattle.f77_meaning.specs.Endless.{Reaches}
+use Rattle.f77_run.specs.code.Machine.{KeepsLengths, state_of, move_of}
+use Rattle.f77_meaning.proofs.StateDefinitions.{next_of}
 use Rattle.f77_code.specs.Moves.{Cells, State, Move, moved}
 use Rattle.f77_code.specs.code.Moves.{all_within}
 use Rattle.f77_code.specs.Moves as moves
-use Rattle.f77_run.specs.Outcome.{IsOutcome}
-use Rattle.f77_run.specs.Running.{RunSite}
-use Rattle.f77_run.specs.code.Running.{IsRunning, ComesToEnd, values_at, config_at, stands_for}
-use Rattle.f77_run.specs.Step.{Config, Step}
-use Rattle.f77_run.proofs.Endless.{joined, one_step, one_more as further, whole, limit_met, endless_before, comes_back, meets_limits}
-use Rattle.f77_run.proofs.NeverLost.{leads_on}
-use Rattle.f77_run.proofs.Reaching.{reach}
-use Rattle.f77_run.proofs.Simulation.{simulates, moves_on}
+use Rattle.f77_meaning.specs.Outcome.{IsOutcome}
+use Rattle.f77_meaning.specs.Running.{RunSite}
+use Rattle.f77_run.specs.code.Running.{IsRunning, config_at}
+use Rattle.f77_meaning.specs.code.InRun.{ComesToEnd, values_at, stands_for}
+use Rattle.f77_meaning.specs.Step.{Config, Step}
+use Rattle.f77_meaning.proofs.Endless.{joined, one_step, one_more as further, whole, limit_met, endless_before, comes_back, meets_limits}
+use Rattle.f77_meaning.proofs.NeverLost.{leads_on}
+use Rattle.f77_meaning.proofs.Reaching.{reach}
+use Rattle.f77_meaning.proofs.Simulation.{simulates, moves_on}
 
 -- After so many steps: the machine runs, and they lead to where it stands.
 pub record IsLeft (at : RunSite) (statements : List Resolved) (start now : Machine) (done : ℕ) : Type 0 where

@@ -14,14 +14,14 @@ use Rattle.f77_code.specs.Evaluation.{held_in}
 use Rattle.f77_code.specs.Holds.{HoldsRegisters}
 use Rattle.f77_code.specs.Moves.{Cells}
 use Rattle.f77_code.proofs.Listed.{all_at}
-use Rattle.f77_run.specs.Machine.{values_of}
+use Rattle.f77_meaning.specs.States.{values_of}
 use Rattle.f77_run.specs.code.Registers.{plan_of, shown_cells}
-use Rattle.f77_run.specs.code.Running.{AgreeOnDummies}
-use Rattle.f77_run.specs.code.Typed.{has_kind, IsTyped}
-use Rattle.f77_run.proofs.Cells.{read_table}
+use Rattle.f77_meaning.specs.code.InRun.{AgreeOnDummies}
+use Rattle.f77_meaning.specs.code.Typed.{has_kind, IsTyped}
+use Rattle.f77_meaning.proofs.Cells.{read_table}
 use Rattle.f77_run.proofs.Loaded.{shown_is}
-use Rattle.f77_run.proofs.SlotKinds.{kind_read}
-use Rattle.f77_run.proofs.Stored.{held_from, same_table}
+use Rattle.f77_meaning.proofs.SlotKinds.{kind_read}
+use Rattle.f77_meaning.proofs.Stored.{held_from, same_table}
 
 module _ (p : List LineFields) (names : List Symbol) (table : Constants) (registers : List ℤ) (cells : Cells) where
   abbrev kinds : List Kind

@@ -13,12 +13,12 @@ use Rattle.f77_run.specs.declared.machine.Machine.{Machine}
 use Rattle.f77_code.specs.declared.control.Place.TheVariants.{Execute, Increment}
 use Rattle.f77_code.specs.declared.control.Turn.{Turn}
 use Rattle.f77_code.specs.Evaluation.{number_within}
-use Rattle.f77_values.specs.declared.value.Value.{Value}
-use Rattle.f77_values.specs.declared.value.Value.TheVariants as held
+use Rattle.f77_actions.specs.declared.value.Value.{Value}
+use Rattle.f77_actions.specs.declared.value.Value.TheVariants as held
 use Rattle.f77_code.specs.Moves.{Cells, State, TurnList, moved, acted, begun, incremented, is_executed, is_loop, passing_at, turn_at, are_below}
 use Rattle.f77_code.specs.code.Moves.{action_within, resolved_within, all_within}
 use Rattle.f77_run.specs.code.Machine.{state_of}
-use Rattle.f77_values.specs.Number.{trip_count}
+use Rattle.f77_actions.specs.Number.{trip_count}
 
 among : {A B : Type 0} (f : A → Option B) (xs : List A) (i : ℕ) → IsSome (option_and_then f (slice_get xs i)) → i < length xs
 among f [] i some = absurd (false≢true some)

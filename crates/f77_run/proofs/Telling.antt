@@ -14,31 +14,31 @@ use Rattle.f77_check.specs.Slots.{slot_count}
 use Rattle.f77_legal.specs.Heading.{dummies}
 use Rattle.f77_legal.specs.Names.{Symbol, kind_of, bounds_of}
 use Rattle.f77_legal.specs.Presets.{element_count}
-use Rattle.f77_run.specs.declared.argument.Arg.{Arg}
-use Rattle.f77_run.specs.declared.argument.Arg.TheVariants.{Int, Truth, Ints, Truths}
-use Rattle.f77_values.specs.declared.finish.Finish.{Finish}
-use Rattle.f77_values.specs.declared.finish.Finish.TheVariants as finish
-use Rattle.f77_run.specs.declared.outcome.Outcome.{Outcome}
-use Rattle.f77_run.specs.declared.outcome.Outcome.TheVariants as outcome
-use Rattle.f77_values.specs.declared.value.Value.{Value}
-use Rattle.f77_values.specs.declared.value.Value.TheVariants as held_value
+use Rattle.f77_meaning.specs.declared.argument.Arg.{Arg}
+use Rattle.f77_meaning.specs.declared.argument.Arg.TheVariants.{Int, Truth, Ints, Truths}
+use Rattle.f77_actions.specs.declared.finish.Finish.{Finish}
+use Rattle.f77_actions.specs.declared.finish.Finish.TheVariants as finish
+use Rattle.f77_meaning.specs.declared.outcome.Outcome.{Outcome}
+use Rattle.f77_meaning.specs.declared.outcome.Outcome.TheVariants as outcome
+use Rattle.f77_actions.specs.declared.value.Value.{Value}
+use Rattle.f77_actions.specs.declared.value.Value.TheVariants as held_value
 use Rattle.f77_run.specs.code.Holding.{AreHeld}
-use Rattle.f77_run.specs.Interpreter.{values_in, has_shape, told_outcome, AreFitting, AreArguments, IsOutcomeOf, Tells}
+use Rattle.f77_meaning.specs.Interpreter.{values_in, has_shape, told_outcome, AreFitting, AreArguments, IsOutcomeOf, Tells}
 use Rattle.f77_code.specs.Moves.{Cells}
-use Rattle.f77_run.specs.code.Running.{ComesToEnd}
-use Rattle.f77_run.specs.Site.{held}
-use Rattle.f77_run.specs.code.Spans.{HaveRoom, span}
-use Rattle.f77_run.specs.Spans.{size_of}
-use Rattle.f77_run.specs.Start.{IsStart}
-use Rattle.f77_run.specs.Step.{Config}
-use Rattle.f77_run.specs.code.Typed.{has_kind, HasValues, IsTyped}
-use Rattle.f77_run.specs.Value.{Store}
-use Rattle.f77_run.proofs.Beginning.{dummies_read, room_of}
-use Rattle.f77_run.proofs.Dummies.{or_later}
-use Rattle.f77_run.proofs.Filling.{arguments_within}
+use Rattle.f77_meaning.specs.code.InRun.{ComesToEnd}
+use Rattle.f77_meaning.specs.Site.{held}
+use Rattle.f77_meaning.specs.code.Spans.{HaveRoom, span}
+use Rattle.f77_meaning.specs.Spans.{size_of}
+use Rattle.f77_meaning.specs.Start.{IsStart}
+use Rattle.f77_meaning.specs.Step.{Config}
+use Rattle.f77_meaning.specs.code.Typed.{has_kind, HasValues, IsTyped}
+use Rattle.f77_meaning.specs.Value.{Store}
+use Rattle.f77_meaning.proofs.Beginning.{dummies_read, room_of}
+use Rattle.f77_meaning.proofs.Dummies.{or_later}
+use Rattle.f77_meaning.proofs.Filling.{arguments_within}
 use Rattle.f77_run.proofs.Held.{decided_of, decided_not, held_values, values_held}
-use Rattle.f77_run.proofs.OneAnswer.{told_once}
-use Rattle.f77_run.proofs.Reading.{as_many, size_is, spans_read}
+use Rattle.f77_meaning.proofs.OneAnswer.{told_once}
+use Rattle.f77_meaning.proofs.Reading.{as_many, size_is, spans_read}
 
 -- the numbers, and the truth values, in slots that hold such alone
 numbers_in : (cells : Cells) → list_all (has_kind Integer) cells ≡ true → (zs : List ℤ) × (cells ≡ map (λ v. Some v) (map (λ z. held_value.Number z) zs))

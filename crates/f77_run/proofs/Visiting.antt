@@ -12,28 +12,29 @@ use Rattle.f77_program.specs.Program.{LineFields}
 use Rattle.f77_legal.specs.Names.{bounds_of}
 use Rattle.f77_check.specs.Slots.{slot_count}
 use Rattle.f77_actions.specs.declared.resolved.Resolved.{Resolved}
-use Rattle.f77_run.specs.declared.argument.Arg.{Arg}
-use Rattle.f77_values.specs.declared.finish.Finish.{Finish}
+use Rattle.f77_meaning.specs.declared.argument.Arg.{Arg}
+use Rattle.f77_actions.specs.declared.finish.Finish.{Finish}
 use Rattle.f77_run.specs.declared.machine.Machine.{Machine}
 use Rattle.f77_run.specs.declared.visits.Visit.{Visit}
 use Rattle.f77_run.specs.declared.visits.Visited.{Visited}
-use Rattle.f77_run.specs.Endless.{Reaches}
-use Rattle.f77_run.specs.Interpreter.{values_in}
-use Rattle.f77_run.specs.Machine.{config_of, placed_in_run}
+use Rattle.f77_meaning.specs.Endless.{Reaches}
+use Rattle.f77_meaning.specs.Interpreter.{values_in}
+use Rattle.f77_meaning.specs.States.{config_of, placed_in_run}
 use Rattle.f77_code.specs.Moves.{Cells, State, moved}
 use Rattle.f77_run.specs.code.Machine.{state_of}
 use Rattle.f77_code.specs.Moves as moves
-use Rattle.f77_run.specs.Reached.{statement_number, IsReached, ComesTo, AreReached}
-use Rattle.f77_run.specs.Running.{RunSite}
-use Rattle.f77_run.specs.code.Running.{config_at, values_at}
-use Rattle.f77_run.specs.Start.{IsStart}
-use Rattle.f77_run.specs.Step.{Config, Ends, Step}
-use Rattle.f77_run.specs.Value.{Store}
-use Rattle.f77_run.specs.code.Visits.{AreUnvisited, Notes, has_some, is_visited}
+use Rattle.f77_meaning.specs.Reached.{statement_number, IsReached, ComesTo, AreReached}
+use Rattle.f77_meaning.specs.Running.{RunSite}
+use Rattle.f77_run.specs.code.Running.{config_at}
+use Rattle.f77_meaning.specs.code.InRun.{values_at}
+use Rattle.f77_meaning.specs.Start.{IsStart}
+use Rattle.f77_meaning.specs.Step.{Config, Ends, Step}
+use Rattle.f77_meaning.specs.Value.{Store}
+use Rattle.f77_run.specs.code.Visits.{AreUnvisited, Notes}
 use Rattle.f77_run.specs.Visits.{AreDecided, AreVisited, AreVisits, IsAway, IsDecided, IsVisited, IsVisit, config_in}
-use Rattle.f77_run.proofs.Endless.{determined}
-use Rattle.f77_run.proofs.Following.{no_later}
-use Rattle.f77_run.proofs.OneAnswer.{one_start}
+use Rattle.f77_meaning.proofs.Endless.{determined}
+use Rattle.f77_meaning.proofs.Following.{no_later}
+use Rattle.f77_meaning.proofs.OneAnswer.{one_start}
 use Rattle.f77_run.proofs.Runs.{IsLeft, is_step}
 
 own : (n : ℕ) → (n == n) ≡ true
@@ -201,37 +202,6 @@ module _ (at : RunSite) (start : Config) where
 
       pub ended_visited : (list : List Visited) → AreVisited at start (done + 1) list → AreVisited at start steps list
       ended_visited list are = record { count = are.count; each = λ i visited told. last_visits i 0 visited.visits.items visited.more (are.each i visited told) }
-
-  -- whether control was there
-  visited_told : (i n : ℕ) (visited : Visited) → AreVisits at i start 0 n visited.visits.items visited.more → Decides (is_visited visited) (IsReached p i n start)
-  visited_told i n visited are = by visited.visits.items visited.more are
-    where
-      first : (visit : Visit) (visits : List Visit) (more : Bool) → AreVisits at i start 0 n (visit ∷ visits) more → IsReached p i n start
-      first visit visits more are = record { made = visit.made; within = are.1; at = config_in at visit; reaches = are.3.reaches; is = are.3.is }
-
-      by : (visits : List Visit) (more : Bool) → AreVisits at i start 0 n visits more → Decides (more || has_some visits) (IsReached p i n start)
-      by [] false away = (λ set. absurd (true≢false (sym set)), λ is. absurd (away is.made is.at (omega arith) is.within is.reaches is.is))
-      by [] true is = (λ set. record { made = is.made; within = is.below; at = is.at; reaches = is.reaches; is = is.is }, λ _. refl)
-      by (visit ∷ visits) true are = (λ set. first visit visits true are, λ _. refl)
-      by (visit ∷ visits) false are = (λ set. first visit visits false are, λ _. refl)
-
-  pub visited_reached : (arguments : List Arg) (steps : ℕ) → IsStart p (map values_in arguments) start → (list : List Visited) (reached : List Bool)
-      → reached ≡ map is_visited list → AreVisited at start steps list → AreReached p arguments steps reached
-  visited_reached arguments steps starts list reached same are = record {
-    count = ap length same ∙ length-map list is_visited ∙ are.count;
-    each = each;
-  }
-    where
-      each : (i : ℕ) (flag : Bool) → slice_get reached i ≡ Some flag → Decides flag (ComesTo p i arguments steps)
-      each i flag told =
-          let below : i < length list = subst (λ n. i < n) (ap length same ∙ length-map list is_visited) (slice_get_within reached i flag told) in
-          let item = some_item list i below in
-          let flagged : is_visited item.0 ≡ flag =
-          same_Some _ _ (sym (ap (option_map is_visited) item.1) ∙ sym (slice_get-map is_visited list i) ∙ sym (ap (λ xs. slice_get xs i) same) ∙ told) in
-          let decides = subst (λ b. Decides b (IsReached p i steps start)) flagged (visited_told i steps item.0 (are.each i item.0 item.1)) in (
-            λ set. record { start = start; starts = starts; reached = decides.0 set },
-            λ comes. decides.1 (subst (λ c. IsReached p i steps c) (one_start p (map values_in arguments) comes.start start comes.starts starts) comes.reached),
-          )
 
 -- the same of machines
 module _ (at : RunSite) (statements : List Resolved) (start m : Machine) (done : ℕ) (left : IsLeft at statements start m done) (list : List Visited) (old new : Visited)

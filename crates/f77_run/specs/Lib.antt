@@ -1,17 +1,3 @@
-pub mod Value
-pub mod Step
-pub mod Outcome
-pub mod Start
-pub mod Control
-pub mod Machine
-pub mod Interpreter
-pub mod Spans
-pub mod Running
-pub mod Site
-pub mod Endless
-pub mod Reached
-pub mod Active
 pub mod Visits
-pub mod Together
 pub mod Changed
 pub mod code

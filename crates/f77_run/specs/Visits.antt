@@ -7,25 +7,25 @@ use Rattle.f77_program.specs.Program.{LineFields, line_of}
 use Rattle.f77_legal.specs.Names.{bounds_of}
 use Rattle.f77_check.specs.Checked.{CheckedFields}
 use Rattle.f77_check.specs.Slots.{slot_count}
-use Rattle.f77_run.specs.declared.argument.Arg.{Arg}
+use Rattle.f77_meaning.specs.declared.argument.Arg.{Arg}
 use Rattle.f77_run.specs.declared.visits.Visit.{Visit}
 use Rattle.f77_run.specs.declared.visits.Visited.{Visited}
 use Rattle.f77_run.specs.declared.visits.Visits.{Visits}
-use Rattle.f77_run.specs.Endless.{Reaches}
-use Rattle.f77_run.specs.Interpreter.{AreFitting, values_in}
-use Rattle.f77_run.specs.Machine.{config_of, placed_in_run}
+use Rattle.f77_meaning.specs.Endless.{Reaches}
+use Rattle.f77_meaning.specs.Interpreter.{AreFitting, values_in}
+use Rattle.f77_meaning.specs.States.{config_of, placed_in_run}
 use Rattle.f77_actions.specs.declared.action.Action.{Action, AssignNumber, AssignTruth}
 use Rattle.f77_actions.specs.declared.action.Action.{ComputedGoto, ArithmeticIf, LogicalIf', Branch}
 use Rattle.f77_actions.specs.declared.resolved.Resolved.{Resolved}
 use Rattle.f77_code.specs.Evaluation.{number_in, truth_in}
 use Rattle.f77_code.specs.Moves.{Cells, State, state}
-use Rattle.f77_values.specs.declared.value.Value.{Value}
-use Rattle.f77_values.specs.declared.value.Value.TheVariants as held
-use Rattle.f77_run.specs.Reached.{statement_number}
-use Rattle.f77_run.specs.Running.{RunSite}
-use Rattle.f77_run.specs.Site.{site_of}
-use Rattle.f77_run.specs.Start.{IsStart}
-use Rattle.f77_run.specs.Step.{Config}
+use Rattle.f77_actions.specs.declared.value.Value.{Value}
+use Rattle.f77_actions.specs.declared.value.Value.TheVariants as held
+use Rattle.f77_meaning.specs.Reached.{statement_number}
+use Rattle.f77_meaning.specs.Running.{RunSite}
+use Rattle.f77_meaning.specs.Site.{site_of}
+use Rattle.f77_meaning.specs.Start.{IsStart}
+use Rattle.f77_meaning.specs.Step.{Config}
 
 -- the value that decides what a statement does where slots hold this: of an assignment what
 -- is assigned, of an IF and a computed GO TO that of their expression (11.2, 11.4 to 11.6)

@@ -1,8 +1,6 @@
 pub mod Machine
 pub mod Effect
 pub mod Ending
-pub mod Typed
-pub mod Spans
 pub mod Holding
 pub mod Running
 pub mod Site

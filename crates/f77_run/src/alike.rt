@@ -11,8 +11,8 @@ ghost use Rattle.f77_code.specs.code.Moves.{action_within};
 
 use crate::effect::{Effect, effect_of, effect_with};
 use crate::evaluate::holds;
+use f77_actions::Value;
 use f77_check::{Action, Condition, Jump, Resolved};
-use f77_values::Value;
 
 /// Whether control goes on from both in one way.
 #[tactic(auto, using(crate::proofs::Effects::same_numbers))]

@@ -10,18 +10,17 @@ ghost use Rattle.f77_legal.specs.Legal.{IsLegal};
 ghost use Rattle.f77_legal.specs.declared.fault.CheckFault.TheVariants as refused;
 ghost use Rattle.f77_check.specs.Patching.{IsInPlace};
 ghost use Rattle.f77_run.specs.Changed.{IsChanged, changed_fields, changed_program};
-ghost use Rattle.f77_run.specs.Interpreter.{IsOutcomeOf};
+ghost use Rattle.f77_meaning.specs.Interpreter.{IsOutcomeOf};
 ghost use Rattle.f77_run.specs.Visits.{IsFollowed};
-ghost use Rattle.f77_run.specs.declared.outcome.Outcome.{Outcome};
-ghost use Rattle.f77_run.specs.declared.outcome.RunFault.TheVariants as fault;
+ghost use Rattle.f77_meaning.specs.declared.outcome.Outcome.{Outcome};
+ghost use Rattle.f77_meaning.specs.declared.outcome.RunFault.TheVariants as fault;
 
-use crate::argument::Arg;
-use crate::outcome::{Outcome, RunFault};
 use crate::parting::comes_alike;
 use crate::recompiled::Recompiled;
 use crate::visits::Visits;
 use crate::workspace::Workspace;
 use f77_check::{Action, CheckFault, Checked, Resolved};
+use f77_meaning::{Arg, Outcome, RunFault};
 use f77_tree::{Shared, Stmt};
 use std::alloc::Global;
 use std::marker::Model;
@@ -138,7 +137,7 @@ impl<'a> Model for ChangedRunner<'a> {
     ghost use Rattle.f77_actions.specs.contracts.expression.Element as element;
     ghost use Rattle.f77_actions.specs.contracts.expression.Number as number;
     ghost use Rattle.f77_run.specs.Changed.{ChangedFields, IsChanged, IsCodeOf, changed_fields};
-    ghost use Rattle.f77_run.specs.Start.{constant_value};
+    ghost use Rattle.f77_meaning.specs.Start.{constant_value};
 
     ghost Value = { ChangedFields };
 

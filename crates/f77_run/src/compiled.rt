@@ -4,22 +4,21 @@ ghost use Rattle.std.specs.Prelude.{◌≡◌, map, IfOk, IfErr};
 ghost use Rattle.std.specs.Bool.{Decides};
 ghost use Rattle.f77_program.specs.Program.{line_of};
 ghost use Rattle.f77_code.specs.Program.{IsCode};
-ghost use Rattle.f77_run.specs.Interpreter.{AreFitting, IsOutcomeOf};
+ghost use Rattle.f77_meaning.specs.Interpreter.{AreFitting, IsOutcomeOf};
 ghost use Rattle.f77_run.specs.code.Registers.{IsImage};
-ghost use Rattle.f77_run.specs.declared.outcome.Outcome.{Outcome};
-ghost use Rattle.f77_run.specs.declared.outcome.RunFault.TheVariants as fault;
+ghost use Rattle.f77_meaning.specs.declared.outcome.Outcome.{Outcome};
+ghost use Rattle.f77_meaning.specs.declared.outcome.RunFault.TheVariants as fault;
 
-use crate::argument::Arg;
 use crate::ending::is_told_by;
 use crate::entering::put_arguments;
 use crate::interpreter::{initial, no_turns};
 use crate::machine::Machine;
-use crate::outcome::{Outcome, RunFault};
 use crate::registers::Registers;
 use crate::running::go_on;
 use crate::workspace::{Workspace, code_of};
 use f77_check::Checked;
 use f77_code::{Code, Place};
+use f77_meaning::{Arg, Outcome, RunFault};
 use std::alloc::Global;
 use std::marker::Model;
 

@@ -10,8 +10,8 @@ ghost use Rattle.f77_code.specs.code.Moves.{action_within};
 
 use crate::evaluate::{holds, operand, target, truth};
 use crate::execute::{Parameters, numbered};
+use f77_actions::{Fault, Value};
 use f77_check::{Action, Jump};
-use f77_values::{Fault, Value};
 
 /// What a statement does where the slots hold some values.
 #[derive(Clone, Copy, Drop)]

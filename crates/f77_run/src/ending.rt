@@ -4,21 +4,20 @@ ghost use Rattle.std.specs.Prelude.{◌≡◌, ◌≤◌, List, length, map, opt
 ghost use Rattle.std.specs.Bool.{Decides};
 ghost use Rattle.f77_program.specs.Program.{LineFields, line_of};
 ghost use Rattle.f77_code.specs.Registers.{are_held};
-ghost use Rattle.f77_run.specs.Interpreter as meaning;
-ghost use Rattle.f77_run.specs.Interpreter.{AreArguments, Tells};
-ghost use Rattle.f77_run.specs.Site.{held};
-ghost use Rattle.f77_run.specs.Value.{Store};
+ghost use Rattle.f77_meaning.specs.Interpreter as meaning;
+ghost use Rattle.f77_meaning.specs.Interpreter.{AreArguments, Tells};
+ghost use Rattle.f77_meaning.specs.Site.{held};
+ghost use Rattle.f77_meaning.specs.Value.{Store};
 ghost use Rattle.f77_run.specs.code.Site.{HoldDummies, shown_by};
 ghost use Rattle.f77_run.specs.code.Ending as code;
 
-use crate::argument::Arg;
 use crate::entering::have_arguments;
 use crate::fitting::are_fitting;
 use crate::holding::are_held;
 use crate::machine::Machine;
-use crate::outcome::Outcome;
+use f77_actions::{Fault, Finish};
 use f77_check::Checked;
-use f77_values::{Fault, Finish};
+use f77_meaning::{Arg, Outcome};
 
 /// Whether the dummy arguments hold these values.
 fn are_dummies(checked: &Checked, machine: &Machine, arguments: &[Arg]) -> bool

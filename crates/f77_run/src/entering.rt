@@ -8,15 +8,15 @@ ghost use Rattle.f77_code.specs.Moves.{Cells};
 ghost use Rattle.f77_code.specs.Registers.{are_held};
 ghost use Rattle.f77_run.specs.code.Holding.{AreHeld, IsHeld};
 ghost use Rattle.f77_run.specs.code.Registers.{AreLoaded, shown_cells};
-ghost use Rattle.f77_run.specs.code.Spans.{HaveRoom, span};
-ghost use Rattle.f77_run.specs.Interpreter.{values_in};
-ghost use Rattle.f77_run.specs.Spans.{all_filled, filled};
-ghost use Rattle.f77_values.specs.declared.value.Value.TheVariants as held;
+ghost use Rattle.f77_meaning.specs.code.Spans.{HaveRoom, span};
+ghost use Rattle.f77_meaning.specs.Interpreter.{values_in};
+ghost use Rattle.f77_meaning.specs.Spans.{all_filled, filled};
+ghost use Rattle.f77_actions.specs.declared.value.Value.TheVariants as held;
 
-use crate::argument::Arg;
 use crate::registers::{number, value};
+use f77_actions::Value;
+use f77_meaning::Arg;
 use f77_tree::Kind;
-use f77_values::Value;
 
 /// Puts a value into the register of a slot.
 #[inline(always)]

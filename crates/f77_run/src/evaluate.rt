@@ -4,15 +4,15 @@ ghost use Rattle.std.specs.Prelude.{◌≡◌, ◌<◌, ◌*◌, [], ◌∷◌, 
 ghost use Rattle.f77_code.specs.Evaluation as resolved;
 ghost use Rattle.f77_code.specs.Evaluation.{slot_in, number_in, truth_in, element_within};
 ghost use Rattle.f77_code.specs.Evaluation.{number_within, condition_within};
-ghost use Rattle.f77_values.specs.Value as meaning;
+ghost use Rattle.f77_actions.specs.Value as meaning;
 
 use crate::machine::{held_number, held_truth, number_at};
-use f77_check::{Arithmetic, Condition, Connective, Element, Number, Relation};
-use f77_values::number::{
+use f77_actions::number::{
     absolute, difference, greater, is_below, is_same, lesser, modulus, negated, power, product,
     pushed, quotient, sum,
 };
-use f77_values::{Fault, Value};
+use f77_actions::{Fault, Value};
+use f77_check::{Arithmetic, Condition, Connective, Element, Number, Relation};
 
 /// The place of an element in an array of one dimension, from 0.
 fn offset(bound: u32, subscript: i32) -> Result<usize, Fault>

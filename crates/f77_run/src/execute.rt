@@ -14,15 +14,15 @@ ghost use Rattle.f77_code.specs.Moves.{Goes, state, used, jump_chosen, jump_to};
 ghost use Rattle.f77_code.specs.Moves.{are_below};
 ghost use Rattle.f77_code.specs.code.Moves.{jump_within, action_within, all_within};
 ghost use Rattle.f77_code.specs.Moves.{passing, passing_at, begun, acted, incremented, is_executed, moved};
-ghost use Rattle.f77_values.specs.Value.{given};
+ghost use Rattle.f77_actions.specs.Value.{given};
 
 use crate::evaluate::{holds, operand, target, truth};
 use crate::machine::{Control, Machine, held_number, innermost, leave, set_turn, store};
+use f77_actions::number::{sum, trip_count};
+use f77_actions::{Fault, Value};
 use f77_check::{Action, Condition, Element, Jump, Number, Resolved};
 use f77_code::{Place, Turn};
 use f77_tree::Shared;
-use f77_values::number::{sum, trip_count};
-use f77_values::{Fault, Value};
 
 /// Where control goes on from a statement that did not jump.
 fn place_behind(resolved: &Resolved, turns: &[Option<Turn>]) -> Place

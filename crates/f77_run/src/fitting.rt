@@ -2,13 +2,12 @@
 
 ghost use Rattle.std.specs.Prelude.{◌≡◌, ◌≢◌, ◌+◌, ◌==◌, Some, Err, IfOk, IfSome, IfErr};
 ghost use Rattle.std.specs.Bool.{Decides};
-ghost use Rattle.f77_run.specs.Interpreter as run;
-ghost use Rattle.f77_run.specs.Interpreter.{AreFitting, first_misfit, is_count, refusal};
-ghost use Rattle.f77_run.specs.declared.outcome.RunFault.TheVariants as fault;
+ghost use Rattle.f77_meaning.specs.Interpreter as run;
+ghost use Rattle.f77_meaning.specs.Interpreter.{AreFitting, first_misfit, is_count, refusal};
+ghost use Rattle.f77_meaning.specs.declared.outcome.RunFault.TheVariants as fault;
 
-use crate::argument::Arg;
-use crate::outcome::RunFault;
 use f77_check::Shape;
+use f77_meaning::{Arg, RunFault};
 use f77_tree::Kind;
 
 fn has_count(elements: Option<u32>, count: usize) -> bool

@@ -4,12 +4,12 @@ ghost use Rattle.std.specs.Prelude.{◌≡◌, ◌+◌, ◌≤◌, length, map, 
 ghost use Rattle.std.specs.Bool.{Decides};
 ghost use Rattle.std.specs.List.{zip};
 ghost use Rattle.f77_run.specs.code.Holding.{IsHeld, AreHeld};
-ghost use Rattle.f77_run.specs.Interpreter.{values_in};
-ghost use Rattle.f77_run.specs.code.Spans.{HaveRoom};
-ghost use Rattle.f77_values.specs.declared.value.Value.TheVariants as held;
+ghost use Rattle.f77_meaning.specs.Interpreter.{values_in};
+ghost use Rattle.f77_meaning.specs.code.Spans.{HaveRoom};
+ghost use Rattle.f77_actions.specs.declared.value.Value.TheVariants as held;
 
-use crate::argument::Arg;
-use f77_values::Value;
+use f77_actions::Value;
+use f77_meaning::Arg;
 
 fn is_number(cell: Option<Value>, number: i32) -> bool
     ensures { Decides result (Some (held.Number number) ≡ cell) }

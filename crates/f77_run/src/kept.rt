@@ -2,9 +2,9 @@
 
 ghost use Rattle.std.specs.Prelude.{◌≡◌, [], true, false, length, is_some, not, IfOk, IfErr};
 ghost use Rattle.std.specs.Cmp.Lexicographic.{pointwise};
-ghost use Rattle.f77_run.specs.declared.outcome.RunFault.TheVariants as fault;
+ghost use Rattle.f77_meaning.specs.declared.outcome.RunFault.TheVariants as fault;
 
-use crate::outcome::RunFault;
+use f77_meaning::RunFault;
 use std::alloc::Global;
 
 /// A list that is kept, and the place where one that was compared with it last was another.

@@ -2,14 +2,14 @@
 
 ghost use Rattle.std.specs.Prelude.{◌≡◌, ◌<◌, ◌+◌, Some, Ok, true, length, slice_set, is_some, IfSome};
 ghost use Rattle.f77_code.specs.Evaluation.{held_in};
-ghost use Rattle.f77_run.specs.Machine.{placed_in_run};
-ghost use Rattle.f77_run.specs.Reached.{statement_number};
+ghost use Rattle.f77_meaning.specs.States.{placed_in_run};
+ghost use Rattle.f77_meaning.specs.Reached.{statement_number};
 ghost use Rattle.f77_code.specs.Moves as moves;
 ghost use Rattle.f77_code.specs.Moves.{are_below};
-ghost use Rattle.f77_values.specs.Value.{whole, logic};
+ghost use Rattle.f77_actions.specs.Value.{whole, logic};
 
+use f77_actions::{Fault, Value};
 use f77_code::{Place, Turn};
-use f77_values::{Fault, Value};
 
 /// The statement where control is.
 pub(crate) fn number(place: Place) -> usize

@@ -9,21 +9,19 @@ ghost use Rattle.f77_program.specs.Program.{line_of};
 ghost use Rattle.f77_code.specs.Program.{IsCode};
 ghost use Rattle.f77_run.specs.Changed.{IsChanged, IsCodeOf, changed_fields};
 ghost use Rattle.f77_run.specs.code.Effect.{AgreeElsewhere};
-ghost use Rattle.f77_run.specs.Endless.{Reaches};
-ghost use Rattle.f77_run.specs.Interpreter.{IsOutcomeOf};
+ghost use Rattle.f77_meaning.specs.Endless.{Reaches};
+ghost use Rattle.f77_meaning.specs.Interpreter.{IsOutcomeOf};
 ghost use Rattle.f77_run.specs.code.Parting.{Parting, IsParting, DoesAlikeIn, DoAlikeBefore};
 ghost use Rattle.f77_run.specs.code.Parting.{changed_site, parting_of, site_in, start_in};
 ghost use Rattle.f77_run.specs.code.Running.{IsRunning, config_at};
-ghost use Rattle.f77_run.specs.Start.{constant_value};
+ghost use Rattle.f77_meaning.specs.Start.{constant_value};
 ghost use Rattle.f77_run.specs.Visits.{AreVisits, IsDecided, IsVisit, config_in};
-ghost use Rattle.f77_run.specs.declared.outcome.Outcome.{Outcome};
-ghost use Rattle.f77_run.specs.declared.outcome.RunFault.TheVariants as fault;
+ghost use Rattle.f77_meaning.specs.declared.outcome.Outcome.{Outcome};
+ghost use Rattle.f77_meaning.specs.declared.outcome.RunFault.TheVariants as fault;
 
 use crate::alike::{act_alike, increment_alike};
-use crate::argument::Arg;
 use crate::changed::Change;
 use crate::ending::{is_told, is_told_by};
-use crate::outcome::{Outcome, RunFault};
 use crate::recompiled::Recompiled;
 use crate::runner::restart;
 use crate::running::go_from;
@@ -32,6 +30,7 @@ use crate::walking::walk;
 use crate::workspace::Workspace;
 use f77_check::{Checked, Resolved};
 use f77_code::{Code, Place};
+use f77_meaning::{Arg, Outcome, RunFault};
 use f77_tree::Shared;
 
 /// How many steps a run makes before it needs code: to load registers takes as long.

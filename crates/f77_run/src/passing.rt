@@ -3,19 +3,17 @@
 ghost use Rattle.std.specs.Prelude.{◌≡◌, ◌+◌, ◌≤◌, true, length, map, Some, IfOk, IfErr};
 ghost use Rattle.std.specs.List.{list_all, zip};
 ghost use Rattle.f77_tree.specs.declared.tree.Kind.TheVariants as kind;
-ghost use Rattle.f77_run.specs.Interpreter.{AreFitting, has_shape, values_in};
-ghost use Rattle.f77_run.specs.code.Spans.{AllHold, AreWithin, HaveRoom, span};
-ghost use Rattle.f77_run.specs.Spans.{all_filled, filled, size_of};
-ghost use Rattle.f77_run.specs.code.Typed.{HasValues, has_kind};
-ghost use Rattle.f77_run.specs.declared.outcome.RunFault.TheVariants as fault;
-ghost use Rattle.f77_values.specs.declared.value.Value.TheVariants as held;
+ghost use Rattle.f77_meaning.specs.Interpreter.{AreFitting, has_shape, values_in};
+ghost use Rattle.f77_meaning.specs.code.Spans.{AllHold, AreWithin, HaveRoom, span};
+ghost use Rattle.f77_meaning.specs.Spans.{all_filled, filled, size_of};
+ghost use Rattle.f77_meaning.specs.code.Typed.{HasValues, has_kind};
+ghost use Rattle.f77_meaning.specs.declared.outcome.RunFault.TheVariants as fault;
+ghost use Rattle.f77_actions.specs.declared.value.Value.TheVariants as held;
 
-use crate::argument::Arg;
-use crate::outcome::RunFault;
-use crate::values::Values;
+use f77_actions::Value;
 use f77_check::Shape;
+use f77_meaning::{Arg, RunFault, Values};
 use f77_tree::Kind;
-use f77_values::Value;
 use std::alloc::Global;
 
 fn fill_numbers(cells: &mut Vec<Option<Value>>, first: usize, numbers: &[i32])

@@ -3,13 +3,13 @@
 ghost use Rattle.std.specs.Prelude.{◌≡◌, List, None, MatchOption, IfOk, IfErr, IfSome, OnOk};
 ghost use Rattle.f77_actions.specs.declared.resolved.Resolved.{Resolved};
 ghost use Rattle.f77_run.specs.Changed.{IsChanged, IsCodeOf, changed_fields};
-ghost use Rattle.f77_run.specs.declared.outcome.RunFault.TheVariants as fault;
+ghost use Rattle.f77_meaning.specs.declared.outcome.RunFault.TheVariants as fault;
 
 use crate::changed::Change;
-use crate::outcome::RunFault;
 use crate::workspace::code_of;
 use f77_check::Checked;
 use f77_code::Code;
+use f77_meaning::RunFault;
 use std::alloc::Global;
 
 /// The code of a program, and that of the changed one, where a run of it was asked for.

@@ -6,17 +6,16 @@ ghost use Rattle.f77_code.specs.Holds.{read_as};
 ghost use Rattle.f77_code.specs.Registers.{are_held, is_held, told_by_register};
 ghost use Rattle.f77_run.specs.code.Registers as meaning;
 ghost use Rattle.f77_run.specs.code.Registers.{counter_of, counters_of, loaded, shown_cells, values_fit};
-ghost use Rattle.f77_run.specs.declared.outcome.RunFault.TheVariants as fault;
-ghost use Rattle.f77_values.specs.Number.{fits};
-ghost use Rattle.f77_values.specs.Told.{coded, is_fitting};
+ghost use Rattle.f77_meaning.specs.declared.outcome.RunFault.TheVariants as fault;
+ghost use Rattle.f77_actions.specs.Number.{fits};
+ghost use Rattle.f77_actions.specs.Told.{coded, is_fitting};
 
 use crate::machine::Machine;
-use crate::outcome::RunFault;
-use f77_actions::{Action, Resolved};
+use f77_actions::told::UNDEFINED;
+use f77_actions::{Action, Resolved, Value};
 use f77_code::Turn;
+use f77_meaning::RunFault;
 use f77_tree::{Kind, Shared};
-use f77_values::Value;
-use f77_values::told::UNDEFINED;
 use std::alloc::Global;
 
 /// A register for each slot and, behind them, each constant of the code, and a counter for each DO, in order.

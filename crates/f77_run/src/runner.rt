@@ -3,29 +3,26 @@
 ghost use Rattle.std.specs.Prelude.{◌≡◌, ◌⊎◌, map, option_map, Some, Err, IfOk, IfErr, IfSome};
 ghost use Rattle.std.specs.Bool.{Decides};
 ghost use Rattle.f77_program.specs.Program.{line_of};
-ghost use Rattle.f77_run.specs.Interpreter.{AreFitting, IsOutcomeOf, refusal, values_in};
-ghost use Rattle.f77_run.specs.Reached.{AreReached};
-ghost use Rattle.f77_run.specs.Running.{RunSite};
+ghost use Rattle.f77_meaning.specs.Interpreter.{AreFitting, IsOutcomeOf, refusal, values_in};
+ghost use Rattle.f77_meaning.specs.Running.{RunSite};
 ghost use Rattle.f77_run.specs.code.Running.{IsRunning, config_at};
-ghost use Rattle.f77_run.specs.Site.{site_of};
-ghost use Rattle.f77_run.specs.Start.{IsStart, constant_value};
+ghost use Rattle.f77_meaning.specs.Site.{site_of};
+ghost use Rattle.f77_meaning.specs.Start.{IsStart, constant_value};
 ghost use Rattle.f77_run.specs.Visits.{IsFollowed};
-ghost use Rattle.f77_run.specs.declared.outcome.Outcome.{Outcome};
-ghost use Rattle.f77_run.specs.declared.outcome.RunFault.TheVariants as fault;
+ghost use Rattle.f77_meaning.specs.declared.outcome.Outcome.{Outcome};
+ghost use Rattle.f77_meaning.specs.declared.outcome.RunFault.TheVariants as fault;
 
-use crate::argument::Arg;
 use crate::compiled::Compiled;
 use crate::course::Course;
 use crate::fitting::fit;
+use crate::following::follow;
 use crate::interpreter::{answer, enter};
 use crate::machine::Machine;
-use crate::outcome::{Outcome, RunFault};
-use crate::reached::follow;
-use crate::values::Values;
 use crate::visits::Visits;
 use crate::workspace::Workspace;
+use f77_actions::Value;
 use f77_check::Checked;
-use f77_values::Value;
+use f77_meaning::{Arg, Outcome, RunFault, Values};
 use std::alloc::Global;
 use std::marker::Model;
 
@@ -46,7 +43,7 @@ impl<'a> Model for Runner<'a> {
     ghost use Rattle.f77_actions.specs.contracts.expression.Condition as condition;
     ghost use Rattle.f77_actions.specs.contracts.expression.Element as element;
     ghost use Rattle.f77_actions.specs.contracts.expression.Number as number;
-    ghost use Rattle.f77_run.specs.Start.{constant_value};
+    ghost use Rattle.f77_meaning.specs.Start.{constant_value};
 
     ghost Value = { CheckedFields };
 
@@ -105,8 +102,6 @@ fn course_of(
     requires fitting { AreFitting checked.now.arguments arguments.now }
     ensures outcome { IfOk result
         (λ course. IsOutcomeOf (map line_of checked.now.program) arguments.now steps course.outcome) }
-    ensures reached { IfOk result
-        (λ course. AreReached (map line_of checked.now.program) arguments.now steps course.reached) }
     ensures visits { IfOk result (λ course. IsFollowed checked.now arguments.now steps course.visits) }
     ensures initial { space.new.initial.items ≡ space.old.initial.items }
     ensures memory { IfErr result (λ e. e ≡ fault.Memory) }
@@ -123,13 +118,8 @@ fn course_of(
         room,
     )?;
     visits.made = end.made;
-    let reached = Values::new(visits.reached(alloc)?);
     let outcome = answer(alloc, checked, end.finish, &space.machine)?;
-    Ok(Course {
-        outcome,
-        reached,
-        visits,
-    })
+    Ok(Course { outcome, visits })
 }
 
 impl<'a> Runner<'a> {
@@ -185,8 +175,6 @@ impl<'a> Runner<'a> {
             (λ course. IsOutcomeOf (map line_of self.old.program) arguments.now steps course.outcome) }
         ensures only { IfOk result (λ course. (other : Outcome)
             → IsOutcomeOf (map line_of self.old.program) arguments.now steps other → other ≡ course.outcome) }
-        ensures reached { IfOk result
-            (λ course. AreReached (map line_of self.old.program) arguments.now steps course.reached) }
         ensures visits { IfOk result (λ course. IsFollowed self.old arguments.now steps course.visits) }
         ensures refused { IfSome (refusal self.old.arguments arguments.now) (λ e. result ≡ Err e) }
         ensures fault { IfErr result (λ e. (e ≡ fault.Memory) ⊎ (refusal self.old.arguments arguments.now ≡ Some e)) }

@@ -9,21 +9,22 @@ ghost use Rattle.f77_code.specs.Operation.{point};
 ghost use Rattle.f77_code.specs.Program.{IsCode};
 ghost use Rattle.f77_code.specs.Registers.{are_held};
 ghost use Rattle.f77_run.specs.code.Registers.{counters_of, shown_cells};
-ghost use Rattle.f77_run.specs.Running.{RunSite};
-ghost use Rattle.f77_run.specs.code.Running.{IsBegun, IsRunning, StateOfRun, ComesToCells, CameBack};
-ghost use Rattle.f77_run.specs.code.Running.{config_at, kinds_at, stands_for, values_at};
+ghost use Rattle.f77_meaning.specs.Running.{RunSite};
+ghost use Rattle.f77_run.specs.code.Running.{IsBegun, IsRunning, CameBack};
+ghost use Rattle.f77_meaning.specs.code.InRun.{StateOfRun, ComesToCells};
+ghost use Rattle.f77_run.specs.code.Running.{config_at};
+ghost use Rattle.f77_meaning.specs.code.InRun.{kinds_at, stands_for, values_at};
 ghost use Rattle.f77_run.specs.code.Snapshot.{kept_point};
-ghost use Rattle.f77_run.specs.code.Typed.{IsTyped};
-ghost use Rattle.f77_run.specs.declared.outcome.RunFault.TheVariants as fault;
+ghost use Rattle.f77_meaning.specs.code.Typed.{IsTyped};
+ghost use Rattle.f77_meaning.specs.declared.outcome.RunFault.TheVariants as fault;
 
 use crate::machine::Machine;
-use crate::outcome::RunFault;
 use crate::registers::Registers;
 use crate::snapshot::Snapshot;
-use f77_actions::Resolved;
+use f77_actions::{Finish, Resolved};
 use f77_code::{Code, Instruction, Place, Stand, Turn, block, block_to, finish_at};
+use f77_meaning::RunFault;
 use f77_tree::{Kind, Shared};
-use f77_values::Finish;
 
 /// How a run ends, and how many steps were made to know it.
 #[derive(Clone, Copy)]

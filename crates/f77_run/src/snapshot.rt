@@ -4,11 +4,11 @@ ghost use Rattle.std.specs.Prelude.{◌≡◌, ◌⊎◌, ◌<◌, true, Some, N
 ghost use Rattle.std.specs.Bool.{Decides};
 ghost use Rattle.f77_code.specs.Operation.{point};
 ghost use Rattle.f77_run.specs.code.Snapshot.{kept_point};
-ghost use Rattle.f77_run.specs.declared.outcome.RunFault.TheVariants as fault;
+ghost use Rattle.f77_meaning.specs.declared.outcome.RunFault.TheVariants as fault;
 
 use crate::kept::Kept;
-use crate::outcome::RunFault;
 use f77_code::Turn;
+use f77_meaning::RunFault;
 use std::alloc::Global;
 
 /// How many steps are made at least before a state is kept: a run that ends before them pays nothing.

@@ -3,23 +3,23 @@
 ghost use Rattle.std.specs.Prelude.{◌≡◌, ◌<◌, ◌||◌, ℕ, length, map, true};
 ghost use Rattle.std.specs.List.{All};
 ghost use Rattle.std.specs.Prelude.{slice_set, slice_get, Some, IfOk, IfErr, OnOk};
-ghost use Rattle.f77_run.specs.Machine.{placed_in_run};
+ghost use Rattle.f77_meaning.specs.States.{placed_in_run};
 ghost use Rattle.f77_run.specs.code.Machine.{state_of};
-ghost use Rattle.f77_run.specs.Reached.{statement_number};
-ghost use Rattle.f77_run.specs.code.Visits.{AreUnvisited, Notes, is_visited};
+ghost use Rattle.f77_meaning.specs.Reached.{statement_number};
+ghost use Rattle.f77_run.specs.code.Visits.{AreUnvisited, Notes};
 ghost use Rattle.f77_code.specs.code.Moves.{action_within, all_within};
 ghost use Rattle.f77_run.specs.Visits.{AreDecided, IsDecided, state_in};
-ghost use Rattle.f77_run.specs.declared.outcome.RunFault.TheVariants as fault;
+ghost use Rattle.f77_meaning.specs.declared.outcome.RunFault.TheVariants as fault;
 ghost use Rattle.f77_run.specs.declared.visits.Visited.{Visited as VisitedModel};
 
 use crate::effect::deciding;
 use crate::machine::{Machine, number};
-use crate::outcome::RunFault;
 use crate::registers::copy_items;
+use f77_actions::Value;
 use f77_check::{Action, Resolved};
 use f77_code::{Place, Turn};
+use f77_meaning::RunFault;
 use f77_tree::Shared;
-use f77_values::Value;
 use std::alloc::Global;
 
 /// How many states are kept of each statement at most: in a loop a change shows mostly at the first times.
@@ -105,13 +105,6 @@ impl Visited {
         *room -= size;
         Ok(())
     }
-
-    /// Whether control was at the statement.
-    fn is_visited(&self) -> bool
-        ensures { result ≡ is_visited self.now }
-    {
-        self.more || !self.visits.is_empty()
-    }
 }
 
 /// Where control was in a run: of each statement, in order, the first times that it was there, with the states then.
@@ -161,17 +154,5 @@ impl Visits {
     {
         let number = number(machine.place);
         self.list[number].note(alloc, machine, &statements[number].action, made, room)
-    }
-
-    /// Of each statement, in order, whether control was there.
-    pub(crate) fn reached(&self, alloc: Global) -> Result<Vec<bool>, RunFault>
-        ensures reached { IfOk result (λ reached. reached.items ≡ map is_visited self.now.list.items) }
-        ensures memory { IfErr result (λ e. e ≡ fault.Memory) }
-    {
-        let mut reached = Vec::with_capacity(alloc, self.list.len())?;
-        for visited in &self.list {
-            reached.push(visited.is_visited())?;
-        }
-        Ok(reached)
     }
 }

@@ -3,16 +3,16 @@
 ghost use Rattle.std.specs.Prelude.{◌≡◌, ◌≤◌, ℕ, length, IfSome, IfNone};
 ghost use Rattle.f77_legal.specs.Names.{bounds_of};
 ghost use Rattle.f77_check.specs.Slots.{slot_count};
-ghost use Rattle.f77_run.specs.Endless.{Reaches};
-ghost use Rattle.f77_run.specs.Running.{RunSite};
-ghost use Rattle.f77_run.specs.code.Running.{IsRunning, ComesToEnd, values_at, config_at};
+ghost use Rattle.f77_meaning.specs.Endless.{Reaches};
+ghost use Rattle.f77_meaning.specs.Running.{RunSite};
+ghost use Rattle.f77_run.specs.code.Running.{IsRunning, config_at};
+ghost use Rattle.f77_meaning.specs.code.InRun.{ComesToEnd, values_at};
 
 use crate::execute::step;
 use crate::machine::{Control, Machine};
 use crate::running::End;
-use f77_actions::Resolved;
+use f77_actions::{Finish, Resolved};
 use f77_tree::Shared;
-use f77_values::Finish;
 
 /// At most so many steps: how the run ends, where it ends within them.
 pub(crate) fn walk(

@@ -2,17 +2,17 @@
 
 ghost use Rattle.std.specs.Prelude.{◌≡◌, map, option_map, IfOk, IfErr};
 ghost use Rattle.f77_code.specs.Program.{IsCode};
-ghost use Rattle.f77_run.specs.Start.{constant_value};
-ghost use Rattle.f77_run.specs.declared.outcome.RunFault.TheVariants as fault;
+ghost use Rattle.f77_meaning.specs.Start.{constant_value};
+ghost use Rattle.f77_meaning.specs.declared.outcome.RunFault.TheVariants as fault;
 
 use crate::interpreter::initial;
 use crate::machine::Machine;
-use crate::outcome::RunFault;
 use crate::registers::Registers;
 use crate::snapshot::Snapshot;
+use f77_actions::Value;
 use f77_check::Checked;
 use f77_code::{Code, Place, compiled};
-use f77_values::Value;
+use f77_meaning::RunFault;
 use std::alloc::Global;
 
 /// What DATA gives each slot, a machine, the registers and counters of its

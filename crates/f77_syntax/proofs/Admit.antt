@@ -6,8 +6,8 @@ use Rattle.f77_tree.specs.Statement.{Statement}
 use Rattle.f77_tree.specs.StatementGrammar.{SpellsStatement}
 use Rattle.f77_syntax.specs.code.StatementView.{clip_statement}
 use Rattle.f77_syntax.specs.TextLimits.{character_count, most_characters, IsTooDeep}
-use Rattle.f77_nodes.specs.Names.{statement_names}
-use Rattle.f77_nodes.specs.Limits.{most_nodes, statement_constants, statement_nodes}
+use Rattle.f77_tree.specs.Names.{statement_names}
+use Rattle.f77_tree.specs.Limits.{most_nodes, statement_constants, statement_nodes}
 use Rattle.f77_syntax.specs.Parsing.{IsAdmitted, IsCardRefused}
 use Rattle.f77_syntax.specs.code.Parsing.{IsOutside}
 use Rattle.f77_syntax.proofs.StatementClip.{statement_constants_clip, statement_nodes_clip, statement_kept}

@@ -7,8 +7,8 @@ use Rattle.std.proofs.lemmas.List.{take_all}
 use Rattle.f77_tree.specs.Tree.{Tree, Trees}
 use Rattle.f77_syntax.specs.code.View.{clipped, clip, clip_all}
 use Rattle.f77_tree.specs.Name.{is_short, cut}
-use Rattle.f77_nodes.specs.Names.{short_names, all_short_names}
-use Rattle.f77_nodes.proofs.Constants.{small_constants, all_small_constants}
+use Rattle.f77_tree.specs.Names.{short_names, all_short_names}
+use Rattle.f77_tree.proofs.Constants.{small_constants, all_small_constants}
 use Rattle.f77_syntax.proofs.NodeCounts.{nodes, all_nodes}
 use Rattle.f77_tree.proofs.Tests.{and_true}
 

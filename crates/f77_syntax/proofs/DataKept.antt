@@ -9,10 +9,10 @@ use Rattle.f77_tree.specs.declared.data.Constant.TheVariants.{Number, Truth}
 use Rattle.f77_tree.specs.declared.data.Value.{Value}
 use Rattle.f77_syntax.specs.code.View.{clipped}
 use Rattle.f77_tree.specs.Name.{cut}
-use Rattle.f77_nodes.specs.Limits.{largest_integer, magnitude, small_constant}
+use Rattle.f77_tree.specs.Limits.{largest_integer, magnitude, small_constant}
 use Rattle.f77_tree.specs.Tree.{GroupFields}
-use Rattle.f77_nodes.specs.Names.{has_short_group_names, data_names}
-use Rattle.f77_nodes.proofs.Constants.{small_value, group_constants, data_constants}
+use Rattle.f77_tree.specs.Names.{has_short_group_names, data_names}
+use Rattle.f77_tree.proofs.Constants.{small_value, group_constants, data_constants}
 use Rattle.f77_syntax.proofs.NodeCounts.{data_nodes}
 use Rattle.f77_syntax.specs.code.Data.{clipped_constant, clip_constant, clip_value, clip_group}
 use Rattle.f77_tree.proofs.Tests.{and_true}

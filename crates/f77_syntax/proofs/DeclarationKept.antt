@@ -6,8 +6,8 @@ use Rattle.std.proofs.lemmas.List.{length-map}
 use Rattle.f77_syntax.specs.code.View.{clipped}
 use Rattle.f77_tree.specs.Tree.{DeclFields}
 use Rattle.f77_tree.specs.Declaration.{all_bounded}
-use Rattle.f77_nodes.specs.Names.{decl_name, declaration_names}
-use Rattle.f77_nodes.proofs.Constants.{small_bound, decl_constants, declaration_constants}
+use Rattle.f77_tree.specs.Names.{decl_name, declaration_names}
+use Rattle.f77_tree.proofs.Constants.{small_bound, decl_constants, declaration_constants}
 use Rattle.f77_syntax.proofs.NodeCounts.{declaration_nodes}
 use Rattle.f77_syntax.specs.code.Declaration.{clip_decl}
 use Rattle.f77_tree.proofs.Tests.{and_true}

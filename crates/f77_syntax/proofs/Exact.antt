@@ -6,8 +6,8 @@ use Rattle.f77_program.specs.declared.group.Group.{Group}
 use Rattle.f77_program.specs.declared.group.Group.TheVariants.{Subroutine, Declaration, Data, Executable, End}
 use Rattle.f77_tree.specs.Statement.{Statement}
 use Rattle.f77_program.specs.Group.{group_of, may_stand}
-use Rattle.f77_nodes.specs.Names.{statement_names}
-use Rattle.f77_nodes.specs.Limits.{statement_constants, statement_nodes}
+use Rattle.f77_tree.specs.Names.{statement_names}
+use Rattle.f77_tree.specs.Limits.{statement_constants, statement_nodes}
 use Rattle.f77_program.specs.declared.fault.SyntaxFault.TheVariants.{Memory, AfterEnd}
 use Rattle.f77_syntax.specs.Parsing.{IsAdmitted, IsCardRefused, line_with, AreLines, IsFirstSyntaxFault, misplaced_statement}
 use Rattle.f77_program.specs.Program.{LineFields}

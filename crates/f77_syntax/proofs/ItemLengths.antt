@@ -8,7 +8,7 @@ use Rattle.f77_tree.specs.Tree.{DeclFields, GroupFields}
 use Rattle.f77_tree.specs.Grammar.{is_name}
 use Rattle.f77_tree.specs.Joined.{Joined}
 use Rattle.f77_tree.specs.Declaration.{SpellsName, SpellsNumber, SpellsDecl, SpellsDecls}
-use Rattle.f77_nodes.specs.Names.{decl_name, declaration_names, has_short_group_names, data_names}
+use Rattle.f77_tree.specs.Names.{decl_name, declaration_names, has_short_group_names, data_names}
 use Rattle.f77_tree.specs.Data.{SpellsConstant, SpellsValue, SpellsGroup, SpellsGroups}
 use Rattle.f77_tree.specs.Name.{is_short}
 use Rattle.f77_tree.specs.StatementGrammar.{SpellsLabel}

@@ -4,8 +4,8 @@ use Rattle.std.specs.Prelude.{map, flat_map}
 use Rattle.std.proofs.lemmas.List.{length-append, length-map}
 use Rattle.f77_tree.specs.Tree.{Tree, Trees, DeclFields, GroupFields}
 use Rattle.f77_tree.specs.Statement.{Statement}
-use Rattle.f77_nodes.specs.Limits.{statement_nodes}
-use Rattle.f77_nodes.specs.Node.{NodeOf, parts, all_parts, tree_nodes, step_parts, group_nodes, target_nodes, label_nodes, parameter_nodes, nodes_of}
+use Rattle.f77_tree.specs.Limits.{statement_nodes}
+use Rattle.f77_tree.specs.Node.{NodeOf, parts, all_parts, tree_nodes, step_parts, group_nodes, target_nodes, label_nodes, parameter_nodes, nodes_of}
 
 -- constants, references, calls and operators, each one
 abbrev mutual

@@ -10,7 +10,7 @@ use Rattle.f77_source.specs.Write.{written, is_printable, is_bad_label, continua
 use Rattle.f77_source.specs.declared.fault.FormFault.{FormFault}
 use Rattle.f77_source.specs.declared.fault.FormFault.TheVariants.{BadLabel, TooManyContinuations}
 use Rattle.f77_tree.specs.StatementGrammar.{IsFormed}
-use Rattle.f77_nodes.specs.Names.{statement_names}
+use Rattle.f77_tree.specs.Names.{statement_names}
 use Rattle.f77_program.specs.Canonical.{statement_text}
 use Rattle.f77_program.specs.code.Formed.{statement_formed}
 use Rattle.f77_program.specs.Printing.{card_of, printed, AreAlike, unnumbered}

@@ -7,11 +7,11 @@ use Rattle.f77_tree.specs.Tree.{Tree}
 use Rattle.f77_tree.specs.Statement.{Statement}
 use Rattle.f77_syntax.specs.code.View.{clip}
 use Rattle.f77_syntax.specs.code.StatementView.{clip_statement}
-use Rattle.f77_nodes.specs.Limits.{is_label, statement_constants, statement_nodes}
-use Rattle.f77_nodes.specs.Names.{of_value, statement_names, short_names, all_short_names}
+use Rattle.f77_tree.specs.Limits.{is_label, statement_constants, statement_nodes}
+use Rattle.f77_tree.specs.Names.{of_value, statement_names, short_names, all_short_names}
 use Rattle.f77_syntax.proofs.NodeCounts.{step_nodes, count_by_part, counted_by_part}
 use Rattle.f77_tree.specs.Name.{is_short, cut}
-use Rattle.f77_nodes.proofs.Constants.{small_constants, all_small_constants, by_part, told_by_part}
+use Rattle.f77_tree.proofs.Constants.{small_constants, all_small_constants, by_part, told_by_part}
 use Rattle.f77_tree.proofs.Tests.{and_true}
 use Rattle.f77_syntax.proofs.Clip.{constants_clip, all_constants_clip, nodes_clip, all_nodes_clip, short_cut, short_cuts, kept, all_kept}
 use Rattle.f77_syntax.proofs.DeclarationKept.{declaration_constants_clip, declaration_nodes_clip, declaration_kept}

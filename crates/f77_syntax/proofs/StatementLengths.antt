@@ -12,7 +12,7 @@ use Rattle.f77_tree.specs.Tree.{Tree}
 use Rattle.f77_tree.specs.Statement.{Statement}
 use Rattle.f77_tree.specs.Grammar.{Spells, is_word, is_name, is_number}
 use Rattle.f77_tree.specs.Name.{is_short}
-use Rattle.f77_nodes.specs.Names.{short_names, all_short_names, statement_names}
+use Rattle.f77_tree.specs.Names.{short_names, all_short_names, statement_names}
 use Rattle.f77_tree.specs.StatementGrammar.{SpellsAction, SpellsStatement, optional_comma, kind_keyword}
 use Rattle.f77_syntax.specs.code.StatementView.{clip_statement}
 use Rattle.f77_tree.proofs.Tests.{and_true}

@@ -11,11 +11,11 @@ use Rattle.f77_program.specs.declared.group.Group.TheVariants.{Subroutine, Decla
 use Rattle.f77_tree.specs.Statement.{Statement}
 use Rattle.f77_program.specs.Group.{group_of, may_stand}
 use Rattle.f77_syntax.specs.TextLimits.{occurrences, most_open, character_count, most_characters, IsTooDeep}
-use Rattle.f77_nodes.specs.Limits.{most_nodes, statement_constants, statement_nodes}
+use Rattle.f77_tree.specs.Limits.{most_nodes, statement_constants, statement_nodes}
 use Rattle.f77_syntax.specs.Parsing.{IsAdmitted, IsCardRefused, line_with, AreLines, IsFirstSyntaxFault, HasLinesOrFault, misplaced_statement, unfinished}
 use Rattle.f77_syntax.specs.code.Statement.{statement_at}
 use Rattle.f77_tree.specs.StatementGrammar.{SpellsStatement}
-use Rattle.f77_nodes.specs.Names.{statement_names}
+use Rattle.f77_tree.specs.Names.{statement_names}
 use Rattle.f77_syntax.proofs.Counts.{flat_none, flat_step}
 use Rattle.f77_syntax.proofs.StatementComplete.{statement_read}
 use Rattle.f77_syntax.proofs.StatementSound.{statement_is}

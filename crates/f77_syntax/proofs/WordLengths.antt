@@ -18,7 +18,7 @@ use Rattle.f77_tree.specs.Intrinsic.{function_name}
 use Rattle.f77_tree.specs.Tree.{Tree, Trees}
 use Rattle.f77_tree.specs.Grammar.{Spells, SpellsReference, SpellsAll, is_letter, is_digit, is_word, is_name, is_number, truth_constant_text}
 use Rattle.f77_tree.specs.Name.{is_short}
-use Rattle.f77_nodes.specs.Names.{short_names, all_short_names}
+use Rattle.f77_tree.specs.Names.{short_names, all_short_names}
 use Rattle.f77_syntax.specs.code.Reading.{past_digits}
 use Rattle.f77_tree.proofs.Tests.{and_true}
 use Rattle.f77_tree.proofs.Words.{name_words}

@@ -3,8 +3,8 @@ use Rattle.std.specs.Prelude.{◌≡◌, ◌≢◌, ℕ, ◌≤◌, ◌<◌, ◌
 use Rattle.f77_source.specs.Card.{CardFields}
 use Rattle.f77_tree.specs.StatementGrammar.{SpellsStatement}
 use Rattle.f77_tree.specs.Statement.{Statement}
-use Rattle.f77_nodes.specs.Limits.{most_nodes, statement_constants, statement_nodes}
-use Rattle.f77_nodes.specs.Names.{statement_names}
+use Rattle.f77_tree.specs.Limits.{most_nodes, statement_constants, statement_nodes}
+use Rattle.f77_tree.specs.Names.{statement_names}
 use Rattle.f77_program.specs.Group.{group_of, may_stand}
 use Rattle.f77_program.specs.Program.{LineFields}
 use Rattle.f77_program.specs.declared.fault.SyntaxFault.{SyntaxFault}

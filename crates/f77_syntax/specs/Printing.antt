@@ -5,7 +5,7 @@ use Rattle.f77_source.specs.Law.{squeezed}
 use Rattle.f77_source.specs.Read.{AreCards, lines}
 use Rattle.f77_tree.specs.StatementGrammar.{IsUnmutated}
 use Rattle.f77_tree.specs.Statement.{Statement}
-use Rattle.f77_nodes.specs.Limits.{most_nodes, statement_constants, statement_nodes}
+use Rattle.f77_tree.specs.Limits.{most_nodes, statement_constants, statement_nodes}
 use Rattle.f77_program.specs.Canonical.{statement_text}
 use Rattle.f77_program.specs.Printing.{AreAlike}
 use Rattle.f77_program.specs.Program.{LineFields}

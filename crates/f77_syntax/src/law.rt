@@ -10,8 +10,8 @@ ghost use Rattle.f77_syntax.specs.Parsing.{AreLines, HasLinesOrFault, IsFirstSyn
 ghost use Rattle.f77_program.specs.Group.{group_of, AreInOrder};
 ghost use Rattle.f77_tree.specs.Tree.{Tree};
 ghost use Rattle.f77_tree.specs.Statement.{Statement};
-ghost use Rattle.f77_nodes.specs.Node.{nodes_of};
-ghost use Rattle.f77_nodes.specs.Limits.{statement_nodes};
+ghost use Rattle.f77_tree.specs.Node.{nodes_of};
+ghost use Rattle.f77_tree.specs.Limits.{statement_nodes};
 ghost use Rattle.f77_program.specs.declared.fault.SyntaxFault.{SyntaxFault};
 
 /// A text spells one expression at most.

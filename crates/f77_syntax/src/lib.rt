@@ -25,11 +25,10 @@ mod statement;
 mod subroutine;
 mod text_limits;
 
-pub use f77_nodes::Node;
 pub use f77_program::{Group, Line, Program, SyntaxFault, print_stmt};
 pub use f77_tree::{
-    Constant, DataGroup, Decl, Expr, Intrinsic, Kind, Name, Operator, Ref, Shared, Sign, Stmt,
-    Value,
+    Constant, DataGroup, Decl, Expr, Intrinsic, Kind, Name, Node, Operator, Ref, Shared, Sign,
+    Stmt, Value,
 };
 pub use parsing::parse;
 pub use printing::print;

@@ -4,7 +4,7 @@ ghost use Rattle.std.specs.Prelude.{◌≡◌};
 ghost use Rattle.std.specs.List.{before_last};
 ghost use Rattle.f77_tree.specs.Statement.{Statement, statement_of};
 ghost use Rattle.f77_tree.specs.StatementGrammar.{SpellsStatement};
-ghost use Rattle.f77_nodes.specs.Names.{statement_names};
+ghost use Rattle.f77_tree.specs.Names.{statement_names};
 ghost use Rattle.f77_syntax.specs.code.StatementView.{clip_statement};
 ghost use Rattle.f77_syntax.specs.code.NameLengths as lengths;
 ghost use Rattle.f77_syntax.specs.code.NameLengths.{is_between, names_part};

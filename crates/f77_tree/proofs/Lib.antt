@@ -6,3 +6,9 @@ pub mod Names
 pub mod Comparisons
 pub mod Forms
 pub mod Letters
+pub mod Walks
+pub mod Constants
+pub mod Numbering
+pub mod Passes
+pub mod ExchangedExpressions
+pub mod ExchangedStatements

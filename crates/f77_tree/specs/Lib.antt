@@ -13,4 +13,9 @@ pub mod Statement
 pub mod StatementGrammar
 pub mod Deciding
 pub mod SameTrees
+pub mod Node
+pub mod Limits
+pub mod Names
+pub mod Sites
+pub mod Replacement
 pub mod code

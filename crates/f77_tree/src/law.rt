@@ -1,7 +1,9 @@
-//! What holds of equality itself.
+//! What holds of every tree and statement.
 
-ghost use Rattle.std.specs.Prelude.{◌≡◌, ◌↔◌, ℕ, true, List};
+ghost use Rattle.std.specs.Prelude.{◌≡◌, ◌↔◌, ℕ, true, List, map};
 ghost use Rattle.f77_tree.specs.Comparing.{same_tree, same_place, same_decl, same_group};
+ghost use Rattle.f77_tree.specs.Node.{nodes_of};
+ghost use Rattle.f77_tree.specs.Sites.{node_at, sites};
 ghost use Rattle.f77_tree.specs.Statement.{same_statement, Statement};
 ghost use Rattle.f77_tree.specs.Tree.{Tree, DeclFields, GroupFields};
 
@@ -18,4 +20,9 @@ pub fn equal_statements_are_one()
     ensures statements { (s t : Statement) → (same_statement s t ≡ true) ↔ (s ≡ t) }
     ensures declared { (d e : DeclFields) → (same_decl d e ≡ true) ↔ (d ≡ e) }
     ensures groups { (g h : GroupFields) → (same_group g h ≡ true) ↔ (g ≡ h) }
+{}
+
+/// There is one numbering: the sites of a statement stand in the order of its nodes.
+pub fn sites_are_numbered_as_nodes()
+    ensures { (s : Statement) → map node_at (sites s) ≡ nodes_of s }
 {}

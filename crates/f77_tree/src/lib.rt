@@ -1,4 +1,5 @@
-//! The statements of the FORTRAN 77 subset as trees, and the grammar: which texts spell them.
+//! The statements of the FORTRAN 77 subset as trees; their nodes in order, the limits that are
+//! counted over them, and one node exchanged; and the grammar: which texts spell them.
 #![tactic(auto)]
 
 pub mod characters;
@@ -6,21 +7,34 @@ mod comparing;
 mod copying;
 mod data;
 mod declaration;
+mod exchanging;
+mod exchanging_data;
+mod exchanging_expression;
+mod exchanging_node;
 mod form;
 mod intrinsic;
 pub mod law;
+mod limits;
 mod name;
+mod node;
+mod node_list;
 mod operator;
+mod replacement;
 mod shared;
 mod statement;
 mod tree;
 
 pub use data::{Constant, DataGroup, Value};
 pub use declaration::{Decl, all_bounded};
+pub use exchanging::exchange;
 pub use form::Form;
 pub use intrinsic::Intrinsic;
+pub use limits::are_small;
 pub use name::{LONGEST_NAME, Name, known_names};
+pub use node::Node;
+pub use node_list::nodes;
 pub use operator::{Operator, Sign};
+pub use replacement::Replacement;
 pub use shared::Shared;
 pub use statement::Stmt;
 pub use tree::{Expr, Kind, Ref};

@@ -18,7 +18,7 @@ use Rattle.mothra_app.specs.Serving.{AsksFor, MayBeWritten, IsReadFor, IsAnswere
 use Rattle.mothra_app.specs.code.Serving.{IsReadyBy, IsReadyFor}
 use Rattle.mothra_app.specs.declared.answer.Ready.{Ready}
 use Rattle.mothra_app.specs.declared.answer.Ready.TheVariants as ready
-use Rattle.mothra_bench.specs.Bench.{BenchFields}
+use Rattle.mothra_verdicts.specs.Bench.{BenchFields}
 use Rattle.mothra_cli.specs.declared.request.Request.{Request}
 use Rattle.mothra_app.specs.declared.status.Status.{Status}
 use Rattle.mothra_app.specs.declared.status.Status.TheVariants as status

@@ -3,11 +3,11 @@ use Rattle.std.proofs.Common.{◌≡◌, ◌⊎◌, inl, inr, ℕ, List, refl, s
 use Rattle.f77_program.specs.Program.{LineFields}
 use Rattle.f77_check.specs.Checked.{shapes}
 use Rattle.std.specs.Prelude.{Contains}
-use Rattle.f77_run.specs.Interpreter.{IsOutcomeOf, refusal}
-use Rattle.f77_run.specs.declared.argument.Arg.{Arg}
-use Rattle.f77_run.specs.declared.outcome.Outcome.{Outcome}
-use Rattle.f77_run.specs.declared.outcome.RunFault.{RunFault}
-use Rattle.f77_run.specs.declared.outcome.RunFault.TheVariants as run
+use Rattle.f77_meaning.specs.Interpreter.{IsOutcomeOf, refusal}
+use Rattle.f77_meaning.specs.declared.argument.Arg.{Arg}
+use Rattle.f77_meaning.specs.declared.outcome.Outcome.{Outcome}
+use Rattle.f77_meaning.specs.declared.outcome.RunFault.{RunFault}
+use Rattle.f77_meaning.specs.declared.outcome.RunFault.TheVariants as run
 use Rattle.mothra_app.specs.Executing.{IsRunLine, IsExecuted}
 use Rattle.mothra_app.specs.Fault.{of_legal_programs, of_runs}
 use Rattle.mothra_job.specs.Job.{JobFields, test_at}

@@ -4,12 +4,12 @@ use Rattle.std.specs.Prelude.{Contains}
 use Rattle.f77_source.specs.declared.fault.FormFault.TheVariants as form
 use Rattle.f77_program.specs.declared.fault.SyntaxFault.TheVariants as syntax
 use Rattle.f77_legal.specs.declared.fault.CheckFault.TheVariants as check
-use Rattle.f77_run.specs.declared.outcome.RunFault.TheVariants as run
+use Rattle.f77_meaning.specs.declared.outcome.RunFault.TheVariants as run
 use Rattle.mothra_app.specs.Fault.{MayFailBy, MayFailRun, of_programs, of_legal_programs, of_runs, of_mutants}
 use Rattle.mothra_app.specs.declared.fault.Fault.{Fault}
 use Rattle.mothra_app.specs.declared.fault.Fault.TheVariants.{Job, Form, Syntax, Check, Run, Ops, Bench}
 use Rattle.mothra_job.specs.declared.job.JobFault.TheVariants as job
-use Rattle.mothra_bench.specs.declared.fault.BenchFault.{BenchFault}
+use Rattle.mothra_verdicts.specs.declared.fault.BenchFault.{BenchFault}
 use Rattle.mothra_cli.specs.declared.request.Request.{Request}
 use Rattle.mothra_cli.specs.declared.request.Request.TheVariants as command
 use Rattle.mothra_codes.specs.declared.op.Op.{Op}

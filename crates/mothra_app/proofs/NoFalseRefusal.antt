@@ -8,11 +8,11 @@ use Rattle.clap.specs.declared.error.kind.ErrorKind.TheVariants as kind
 use Rattle.f77_source.specs.declared.fault.FormFault.TheVariants as form
 use Rattle.f77_program.specs.declared.fault.SyntaxFault.TheVariants as syntax
 use Rattle.f77_legal.specs.declared.fault.CheckFault.TheVariants as check
-use Rattle.f77_run.specs.declared.outcome.RunFault.TheVariants as run
+use Rattle.f77_meaning.specs.declared.outcome.RunFault.TheVariants as run
 use Rattle.mothra_ops.specs.declared.fault.OpsFault.TheVariants as ops
 use Rattle.mothra_bench.specs.Analysis.{IsNoReport}
-use Rattle.mothra_bench.specs.declared.fault.BenchFault.{BenchFault}
-use Rattle.mothra_bench.specs.declared.fault.BenchFault.TheVariants as bench
+use Rattle.mothra_verdicts.specs.declared.fault.BenchFault.{BenchFault}
+use Rattle.mothra_verdicts.specs.declared.fault.BenchFault.TheVariants as bench
 use Rattle.mothra_cli.specs.Request.{HasBadOperators, request_in, request_of}
 use Rattle.mothra_cli.specs.declared.request.Request.{Request}
 use Rattle.mothra_cli.specs.declared.request.Request.TheVariants as command

@@ -4,11 +4,11 @@ use Rattle.std.proofs.Math.Seq.{get_or-append_seam}
 use Rattle.std.proofs.lemmas.List.{get_or_append_left, length_push}
 use Rattle.std.proofs.lemmas.List.Elements.{All-nil, All-cons, All-head, All-tail}
 use Rattle.f77_program.specs.Program.{LineFields}
-use Rattle.f77_run.specs.declared.argument.Arg.{Arg}
-use Rattle.f77_run.specs.declared.outcome.Outcome.{Outcome}
-use Rattle.mothra_bench.specs.Bench.{AreFine, AreOutcomes, EndsOn, FitsProgram, IsProgramEnd, IsEntryTwice, IsFirstNot, IsKnownEntry, IsNoBench, IsUnknownEntry}
-use Rattle.mothra_bench.specs.declared.fault.BenchFault.{BenchFault}
-use Rattle.mothra_bench.specs.declared.fault.BenchFault.TheVariants as bench
+use Rattle.f77_meaning.specs.declared.argument.Arg.{Arg}
+use Rattle.f77_meaning.specs.declared.outcome.Outcome.{Outcome}
+use Rattle.mothra_verdicts.specs.Bench.{AreFine, AreOutcomes, EndsOn, FitsProgram, IsProgramEnd, IsEntryTwice, IsFirstNot, IsKnownEntry, IsNoBench, IsUnknownEntry}
+use Rattle.mothra_verdicts.specs.declared.fault.BenchFault.{BenchFault}
+use Rattle.mothra_verdicts.specs.declared.fault.BenchFault.TheVariants as bench
 use Rattle.mothra_codes.specs.declared.ticket.Ticket.{Ticket}
 use Rattle.mothra_ops.specs.Mutants.{program_of}
 use Rattle.mothra_ops.specs.Plan.{PlanFields, asked}

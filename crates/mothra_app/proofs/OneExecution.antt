@@ -1,8 +1,8 @@
 -- A test of a job comes to one thing at most.
 use Rattle.std.proofs.Common.{◌≡◌, ◌∙◌, ℕ, List, sym, ap, refl, subst, Option, Some, None, Result, Ok, Err}
 use Rattle.f77_program.specs.Program.{LineFields}
-use Rattle.f77_run.specs.declared.argument.Arg.{Arg}
-use Rattle.f77_run.specs.declared.outcome.RunFault.{RunFault}
+use Rattle.f77_meaning.specs.declared.argument.Arg.{Arg}
+use Rattle.f77_meaning.specs.declared.outcome.RunFault.{RunFault}
 use Rattle.mothra_app.specs.Executing.{IsRunLine, IsExecuted}
 use Rattle.mothra_job.specs.Job.{JobFields}
 use Rattle.mothra_app.specs.OutcomeLine.{outcome_line}

@@ -11,12 +11,12 @@ use Rattle.f77_syntax.specs.Parsing.{AreLines}
 use Rattle.f77_program.specs.declared.fault.SyntaxFault.{SyntaxFault}
 use Rattle.f77_legal.specs.Legal.{faults, first_fault}
 use Rattle.f77_legal.specs.declared.fault.CheckFault.{CheckFault}
-use Rattle.f77_run.specs.Interpreter.{OneAnswer}
+use Rattle.f77_meaning.specs.Interpreter.{OneAnswer}
 use Rattle.mothra_app.specs.Program.{IsProgramOf, IsLegalProgramOf}
 use Rattle.mothra_app.specs.declared.fault.Fault.{Fault}
 use Rattle.mothra_app.specs.declared.fault.Fault.TheVariants.{Form, Syntax, Check}
 use Rattle.mothra_bench.specs.Analysis.{IsReport}
-use Rattle.mothra_bench.specs.Bench.{BenchFields}
+use Rattle.mothra_verdicts.specs.Bench.{BenchFields}
 use Rattle.mothra_codes.specs.declared.op.Op.{Op}
 use Rattle.mothra_ops.specs.Edits.{IsMember, IsTooLong, Lists, most_edits, most_whole, thinned}
 use Rattle.mothra_ops.specs.declared.edit.Edit.{Edit}

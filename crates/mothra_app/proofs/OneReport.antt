@@ -9,14 +9,13 @@ use Rattle.mothra_app.specs.Reporting.{IsBenchOf, IsPlanOf, IsReported}
 use Rattle.mothra_app.specs.declared.fault.Fault.{Fault}
 use Rattle.mothra_app.specs.declared.fault.Fault.TheVariants.{Bench, Ops}
 use Rattle.mothra_bench.specs.Analysis.{IsReport}
-use Rattle.mothra_bench.specs.Bench.{AreFine, BenchFields, EndsOn, FitsProgram, IsNoBench}
-use Rattle.mothra_bench.specs.Collecting.{IsDeclared}
+use Rattle.mothra_verdicts.specs.Bench.{AreFine, BenchFields, EndsOn, FitsProgram, IsDeclared, IsNoBench}
 use Rattle.mothra_bench.specs.Matrix.{counts, score_of, tickets, tickets_of}
 use Rattle.mothra_bench.specs.Report as report
 use Rattle.mothra_bench.specs.Report.{bits_of, is_survivor, is_wrong, line, named_number, report_text, score_line, status_of, unit_line}
-use Rattle.mothra_bench.specs.Verdict.{IsAlone, IsVerdict, mutated}
-use Rattle.mothra_bench.specs.declared.fault.BenchFault.{BenchFault}
-use Rattle.mothra_bench.specs.declared.fault.BenchFault.TheVariants.{Memory}
+use Rattle.mothra_verdicts.specs.Verdict.{IsAlone, IsVerdict, mutated}
+use Rattle.mothra_verdicts.specs.declared.fault.BenchFault.{BenchFault}
+use Rattle.mothra_verdicts.specs.declared.fault.BenchFault.TheVariants.{Memory}
 use Rattle.mothra_bench.specs.declared.matrix.Entry.{Entry}
 use Rattle.mothra_codes.specs.Op.{all_ops}
 use Rattle.mothra_codes.specs.declared.op.Op.{Op}

@@ -18,8 +18,8 @@ use Rattle.mothra_job.specs.declared.job.JobFault.TheVariants.{Memory}
 use Rattle.mothra_app.specs.declared.status.Status.{Status}
 use Rattle.mothra_app.specs.declared.status.Status.TheVariants as status
 use Rattle.mothra_bench.specs.Analysis.{IsNoReport}
-use Rattle.mothra_bench.specs.Bench.{BenchFields}
-use Rattle.mothra_bench.specs.declared.fault.BenchFault.{BenchFault}
+use Rattle.mothra_verdicts.specs.Bench.{BenchFields}
+use Rattle.mothra_verdicts.specs.declared.fault.BenchFault.{BenchFault}
 use Rattle.mothra_cli.specs.Request.{IsBounded}
 use Rattle.mothra_cli.specs.declared.request.Request.{Request}
 use Rattle.mothra_cli.specs.declared.request.Request.TheVariants as command

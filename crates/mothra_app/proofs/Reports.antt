@@ -8,9 +8,9 @@ use Rattle.mothra_app.specs.Program.{IsLegalProgramOf}
 use Rattle.mothra_app.specs.Reporting.{IsPlanOf, IsReported}
 use Rattle.mothra_app.specs.declared.fault.Fault.{Fault}
 use Rattle.mothra_app.specs.declared.fault.Fault.TheVariants.{Bench, Ops}
-use Rattle.mothra_bench.specs.Bench.{IsNoBench}
-use Rattle.mothra_bench.specs.declared.fault.BenchFault.{BenchFault}
-use Rattle.mothra_bench.specs.declared.fault.BenchFault.TheVariants as bench
+use Rattle.mothra_verdicts.specs.Bench.{IsNoBench}
+use Rattle.mothra_verdicts.specs.declared.fault.BenchFault.{BenchFault}
+use Rattle.mothra_verdicts.specs.declared.fault.BenchFault.TheVariants as bench
 use Rattle.mothra_codes.specs.declared.op.Op.{Op}
 use Rattle.mothra_ops.specs.Plan.{IsNoPlan, PlanFields}
 use Rattle.mothra_ops.specs.declared.fault.OpsFault.{OpsFault}

@@ -2,10 +2,10 @@
 use Rattle.std.specs.Prelude.{◌≡◌, ℕ, List, Some, None, Result, Ok, Err}
 use Rattle.f77_program.specs.Program.{LineFields}
 use Rattle.f77_check.specs.Checked.{shapes}
-use Rattle.f77_run.specs.Interpreter.{IsOutcomeOf, refusal}
-use Rattle.f77_run.specs.declared.argument.Arg.{Arg}
-use Rattle.f77_run.specs.declared.outcome.Outcome.{Outcome}
-use Rattle.f77_run.specs.declared.outcome.RunFault.{RunFault}
+use Rattle.f77_meaning.specs.Interpreter.{IsOutcomeOf, refusal}
+use Rattle.f77_meaning.specs.declared.argument.Arg.{Arg}
+use Rattle.f77_meaning.specs.declared.outcome.Outcome.{Outcome}
+use Rattle.f77_meaning.specs.declared.outcome.RunFault.{RunFault}
 use Rattle.mothra_job.specs.Job.{JobFields, test_at}
 use Rattle.mothra_app.specs.OutcomeLine.{outcome_line}
 use Rattle.mothra_app.specs.Program.{IsLegalProgramOf}

@@ -7,7 +7,7 @@ use Rattle.mothra_job.specs.declared.job.JobFault.TheVariants as job
 use Rattle.f77_source.specs.declared.fault.FormFault.TheVariants as form
 use Rattle.f77_program.specs.declared.fault.SyntaxFault.TheVariants as syntax
 use Rattle.f77_legal.specs.declared.fault.CheckFault.TheVariants as check
-use Rattle.f77_run.specs.declared.outcome.RunFault.TheVariants as run
+use Rattle.f77_meaning.specs.declared.outcome.RunFault.TheVariants as run
 use Rattle.mothra_cli.specs.declared.request.Request.{Request}
 use Rattle.mothra_cli.specs.declared.request.Request.TheVariants as command
 use Rattle.mothra_ops.specs.declared.fault.OpsFault.TheVariants as ops

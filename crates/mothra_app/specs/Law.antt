@@ -4,12 +4,12 @@ use Rattle.clap.specs.Words.{Text}
 use Rattle.f77_source.specs.declared.fault.FormFault.TheVariants as form
 use Rattle.f77_program.specs.declared.fault.SyntaxFault.TheVariants as syntax
 use Rattle.f77_legal.specs.declared.fault.CheckFault.TheVariants as check
-use Rattle.f77_run.specs.declared.outcome.RunFault.TheVariants as run
+use Rattle.f77_meaning.specs.declared.outcome.RunFault.TheVariants as run
 use Rattle.mothra_codes.specs.declared.op.Op.{Op}
 use Rattle.mothra_ops.specs.declared.fault.OpsFault.TheVariants as ops
 use Rattle.mothra_bench.specs.Analysis.{IsReport}
-use Rattle.mothra_bench.specs.Bench.{BenchFields}
-use Rattle.mothra_bench.specs.declared.fault.BenchFault.TheVariants as bench
+use Rattle.mothra_verdicts.specs.Bench.{BenchFields}
+use Rattle.mothra_verdicts.specs.declared.fault.BenchFault.TheVariants as bench
 use Rattle.mothra_cli.specs.Request.{IsTaken}
 use Rattle.mothra_cli.specs.declared.request.Request.{Request}
 use Rattle.mothra_app.specs.Fault.{MayFailBy}

@@ -6,9 +6,9 @@ use Rattle.mothra_app.specs.Program.{IsLegalProgramOf}
 use Rattle.mothra_app.specs.declared.fault.Fault.{Fault}
 use Rattle.mothra_app.specs.declared.fault.Fault.TheVariants.{Bench, Ops}
 use Rattle.mothra_bench.specs.Analysis.{IsReport}
-use Rattle.mothra_bench.specs.Bench.{BenchFields, IsBench, IsNoBench}
-use Rattle.mothra_bench.specs.declared.fault.BenchFault.{BenchFault}
-use Rattle.mothra_bench.specs.declared.fault.BenchFault.TheVariants.{Memory}
+use Rattle.mothra_verdicts.specs.Bench.{BenchFields, IsBench, IsNoBench}
+use Rattle.mothra_verdicts.specs.declared.fault.BenchFault.{BenchFault}
+use Rattle.mothra_verdicts.specs.declared.fault.BenchFault.TheVariants.{Memory}
 use Rattle.mothra_codes.specs.declared.op.Op.{Op}
 use Rattle.mothra_ops.specs.Mutants.{program_of}
 use Rattle.mothra_ops.specs.Plan.{IsFirstTooLong, IsPlan, PlanFields, asked}

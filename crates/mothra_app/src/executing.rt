@@ -11,7 +11,8 @@ use crate::fault::Fault;
 use crate::outcome_line::outcome_line;
 use crate::program::legal_program_of;
 use f77_check::Checked;
-use f77_run::{Arg, run};
+use f77_meaning::Arg;
+use f77_run::run;
 use mothra_job::{Job, JobFault};
 use std::alloc::Global;
 

@@ -4,7 +4,7 @@ ghost use Rattle.std.specs.Prelude.{◌≡◌};
 ghost use Rattle.mothra_app.specs.declared.fault.Fault.TheVariants as fault;
 
 use f77_check::CheckFault;
-use f77_run::RunFault;
+use f77_meaning::RunFault;
 use f77_source::FormFault;
 use f77_syntax::SyntaxFault;
 use mothra_bench::BenchFault;

@@ -5,7 +5,7 @@ ghost use Rattle.mothra_app.specs.Line as definition;
 
 use crate::fault::Fault;
 use f77_check::CheckFault;
-use f77_run::RunFault;
+use f77_meaning::RunFault;
 use f77_source::FormFault;
 use f77_syntax::SyntaxFault;
 use mothra_bench::BenchFault;

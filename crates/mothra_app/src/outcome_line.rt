@@ -2,10 +2,10 @@
 
 ghost use Rattle.std.specs.Prelude.{◌≡◌, ◌++◌, IfErr, IfOk, OnOk, string_bytes};
 ghost use Rattle.std.specs.Fmt.{signed_decimal};
-ghost use Rattle.f77_run.specs.declared.outcome.RunFault.TheVariants as fault;
+ghost use Rattle.f77_meaning.specs.declared.outcome.RunFault.TheVariants as fault;
 ghost use Rattle.mothra_app.specs.OutcomeLine as definition;
 
-use f77_run::{Arg, Outcome, RunFault};
+use f77_meaning::{Arg, Outcome, RunFault};
 use std::alloc::{AllocError, Global};
 
 fn truth_text(truth: bool) -> &'static str

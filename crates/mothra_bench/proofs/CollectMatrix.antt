@@ -6,18 +6,18 @@ use Rattle.mothra_codes.specs.Op.{index}
 use Rattle.mothra_codes.specs.declared.ticket.Ticket.{Ticket}
 use Rattle.mothra_exchange.specs.declared.word.Word.{Word}
 use Rattle.mothra_ops.specs.Plan.{PlanFields}
-use Rattle.mothra_bench.specs.Bench.{BenchFields}
+use Rattle.mothra_verdicts.specs.Bench.{BenchFields}
 use Rattle.mothra_codes.specs.Ticket.{Before}
 use Rattle.mothra_bench.specs.Collecting.{AreCollected, IsFirstMissing, IsKnown, IsNoMatrix, IsCollected, is_row_of, row_of, rows_of}
 use Rattle.mothra_bench.specs.code.Entries.{AreNoEntries, IsEntry, IsFirstAbsent, IsHere}
 use Rattle.mothra_bench.specs.Matrix.{tickets_of}
 use Rattle.mothra_bench.specs.code.RowMap.{HasRows, ticket_row}
-use Rattle.mothra_bench.specs.Verdict.{HasMutant}
-use Rattle.mothra_bench.specs.declared.fault.BenchFault.{BenchFault}
-use Rattle.mothra_bench.specs.declared.fault.BenchFault.TheVariants as fault
+use Rattle.mothra_verdicts.specs.Verdict.{HasMutant}
+use Rattle.mothra_verdicts.specs.declared.fault.BenchFault.{BenchFault}
+use Rattle.mothra_verdicts.specs.declared.fault.BenchFault.TheVariants as fault
 use Rattle.mothra_bench.specs.declared.matrix.Entry.{Entry}
 use Rattle.mothra_bench.specs.declared.row_map.RowMap.{RowMap}
-use Rattle.mothra_bench.specs.declared.verdict.Row.{Row}
+use Rattle.mothra_verdicts.specs.declared.verdict.Row.{Row}
 use Rattle.mothra_bench.proofs.CollectLists.{filter_passes}
 use Rattle.mothra_bench.proofs.CollectRows.{no_double, own_ticket}
 use Rattle.mothra_bench.proofs.CollectTickets.{has_ticket, tickets_had, tickets_ordered}

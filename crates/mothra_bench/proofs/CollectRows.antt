@@ -11,7 +11,7 @@ use Rattle.mothra_ops.specs.Plan.{PlanFields}
 use Rattle.mothra_bench.specs.Collecting.{IsFirstDouble, NoDouble, is_row_of, rows_of}
 use Rattle.mothra_bench.specs.code.RowMap.{HasRows, ticket_row}
 use Rattle.mothra_bench.specs.declared.row_map.RowMap.{RowMap}
-use Rattle.mothra_bench.specs.declared.verdict.Row.{Row}
+use Rattle.mothra_verdicts.specs.declared.verdict.Row.{Row}
 
 one_filter : (t : Ticket) (row : Row) (b : Bool) → is_row_of t row ≡ b → rows_of t (row ∷ []) ≡ cond b (row ∷ []) []
 one_filter t row true e = rw e refl

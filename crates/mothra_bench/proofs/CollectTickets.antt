@@ -12,7 +12,7 @@ use Rattle.mothra_ops.specs.Plan.{ListFields, PlanFields, IsPlan, list_of_operat
 use Rattle.mothra_codes.specs.Ticket.{Before, ticket}
 use Rattle.mothra_codes.specs.declared.ticket.Ticket.{Ticket}
 use Rattle.mothra_bench.specs.Matrix.{tickets, tickets_of}
-use Rattle.mothra_bench.specs.Verdict.{HasMutant}
+use Rattle.mothra_verdicts.specs.Verdict.{HasMutant}
 use Rattle.mothra_bench.proofs.CollectLists.{flat_map_all, flat_map_has, pairs_append}
 
 pub tickets_more : (op : Op) (n : ℕ) → tickets op (n + 1) ≡ tickets op n ++ ticket op (n + 1) ∷ []

@@ -3,7 +3,7 @@ use Rattle.std.proofs.Common.{◌≡◌, ℕ, suc, ◌+◌, ◌≤◌, List, [],
 use Rattle.std.proofs.lemmas.Bool.Decides.{nat_tests}
 use Rattle.std.proofs.lemmas.List.{map-append}
 use Rattle.std.proofs.lemmas.Slice.Zip.{AllZip-long}
-use Rattle.f77_run.specs.declared.argument.Arg.{Arg}
+use Rattle.f77_meaning.specs.declared.argument.Arg.{Arg}
 use Rattle.mothra_codes.specs.Op.{index}
 use Rattle.mothra_codes.specs.Ticket.{is_ticket, once_up_to, one_if, ticket_times}
 use Rattle.mothra_codes.specs.declared.ticket.Ticket.{Ticket}
@@ -12,14 +12,14 @@ use Rattle.mothra_exchange.proofs.Counting.{once_up_to-most, times-append}
 use Rattle.mothra_ops.specs.Mutants.{program_of}
 use Rattle.mothra_ops.specs.Plan.{PlanFields, edits_of}
 use Rattle.mothra_bench.specs.Analysis.{IsNoReport}
-use Rattle.mothra_bench.specs.Bench.{BenchFields}
+use Rattle.mothra_verdicts.specs.Bench.{BenchFields}
 use Rattle.mothra_bench.specs.Collecting.{IsFirstDouble, IsFirstMissing, IsFirstStranger, IsNoMatrix, is_row_of, rows_of}
 use Rattle.mothra_bench.specs.Driving.{AreComplete}
 use Rattle.mothra_bench.specs.Gathered.{AreVerdicts, IsOwn, tickets_in}
-use Rattle.mothra_bench.specs.Verdict.{HasMutant, IsKill, mutated}
-use Rattle.mothra_bench.specs.declared.fault.BenchFault.{BenchFault}
-use Rattle.mothra_bench.specs.declared.fault.BenchFault.TheVariants as fault
-use Rattle.mothra_bench.specs.declared.verdict.Row.{Row}
+use Rattle.mothra_verdicts.specs.Verdict.{HasMutant, IsKill, mutated}
+use Rattle.mothra_verdicts.specs.declared.fault.BenchFault.{BenchFault}
+use Rattle.mothra_verdicts.specs.declared.fault.BenchFault.TheVariants as fault
+use Rattle.mothra_verdicts.specs.declared.verdict.Row.{Row}
 
 -- a ticket stands among those of the rows as often as it has rows
 rows_times : (t : Ticket) (rows : List Row) → length (rows_of t rows) ≡ ticket_times (index t.op) t.number (tickets_in rows)

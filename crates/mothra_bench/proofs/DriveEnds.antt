@@ -12,17 +12,17 @@ use Rattle.mothra_exchange.specs.declared.word.Word.{Word}
 use Rattle.mothra_exchange.specs.Tally.{EndsAsViews}
 use Rattle.mothra_exchange.proofs.Counting.{times-append}
 use Rattle.mothra_ops.specs.Plan.{PlanFields}
-use Rattle.mothra_bench.specs.Bench.{BenchFields}
+use Rattle.mothra_verdicts.specs.Bench.{BenchFields}
 use Rattle.mothra_bench.specs.Driving.{AreHandedOnce, AreStarted, FeederEnd, HasFed, HasWorked, IsNoDrive, IsShare, Run, WorkerEnd}
 use Rattle.mothra_bench.specs.code.Driving.{AreJoined, IsNoStart}
 use Rattle.mothra_bench.specs.Driving.{all_rows, answer_of, feeder_outcome, taken_by}
 use Rattle.mothra_bench.specs.Feeding.{Feeds, IsStalled}
 use Rattle.mothra_bench.specs.Gathered.{AreVerdicts, IsOwn, joined_rows, row_list, tickets_in}
 use Rattle.mothra_bench.specs.code.Gathered.{gathered_rows, rows_or_fault}
-use Rattle.mothra_bench.specs.declared.fault.BenchFault.{BenchFault}
-use Rattle.mothra_bench.specs.declared.fault.BenchFault.TheVariants as fault
+use Rattle.mothra_verdicts.specs.declared.fault.BenchFault.{BenchFault}
+use Rattle.mothra_verdicts.specs.declared.fault.BenchFault.TheVariants as fault
 use Rattle.mothra_bench.specs.declared.gathered.Gathered.{Gathered}
-use Rattle.mothra_bench.specs.declared.verdict.Row.{Row}
+use Rattle.mothra_verdicts.specs.declared.verdict.Row.{Row}
 use Rattle.mothra_bench.proofs.JoinedPasses.{new_same}
 use Rattle.mothra_bench.proofs.WorkerRows.{none_left}
 

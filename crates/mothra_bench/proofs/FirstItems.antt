@@ -1,13 +1,12 @@
 -- Between two steps of an exchange with the counts of a plan, the tickets handed out stand for the first items of its lists.
 use Rattle.std.proofs.Common.{◌≡◌, ℕ, zero, suc, ◌+◌, ◌<◌, ◌≤◌, List, [], ◌∷◌, ◌++◌, map, length, take, Option, Some}
-use Rattle.std.proofs.Common.{Bool, refl, sym, ap, subst, ◌∙◌, arith, inl, inr}
+use Rattle.std.proofs.Common.{refl, sym, ap, subst, ◌∙◌, arith, inl, inr}
 use Rattle.std.specs.Prelude.{slice_get, slice_index}
 use Rattle.std.proofs.lemmas.List.{get_or-map, length_push, map_more, map_push}
-use Rattle.std.proofs.lemmas.Option.{option_and_then_some, slice_get-get_or, slice_get_cases}
+use Rattle.std.proofs.lemmas.Option.{slice_get-get_or, slice_get_cases}
 use Rattle.mothra_codes.specs.Op.{all_ops, index}
 use Rattle.mothra_codes.specs.declared.op.Op.{Op}
 use Rattle.mothra_codes.specs.declared.op.Op.TheVariants.{Aar}
-use Rattle.mothra_codes.specs.declared.ticket.Ticket.{Ticket}
 use Rattle.mothra_codes.proofs.Operators.{index_below, op_at-index}
 use Rattle.mothra_exchange.specs.Law.{IsWordOf, IsShownInLog}
 use Rattle.mothra_exchange.specs.Log.{IsLegalLog, closes, hands, offers, one_to, taken_in}
@@ -19,12 +18,9 @@ use Rattle.mothra_exchange.proofs.Histories.{in_order, legal_for, none_after}
 use Rattle.mothra_exchange.proofs.Showing.{shows_one_log}
 use Rattle.mothra_exchange.proofs.Standings.{closing_stands, has_word, offered_stand, rule_at, taken_stand}
 use Rattle.mothra_ops.specs.Edits.{numbered}
-use Rattle.mothra_ops.specs.Mutants.{mutant_made, program_of}
 use Rattle.mothra_ops.specs.Plan.{PlanFields, edits_of}
-use Rattle.mothra_bench.specs.Bench.{BenchFields}
 use Rattle.mothra_bench.specs.Feeding.{AreCounts}
 use Rattle.mothra_bench.specs.PlanExchange.{AreFirstItems, HandsOutFront, HasHistory, IsHandedOut, KeepsLists, plan_counts}
-use Rattle.mothra_bench.specs.Verdict.{IsItemVerdict, IsVerdict, item_of}
 
 -- ---- the items of a list by number
 
@@ -132,10 +128,3 @@ module _ (C : ℕ) (plan : PlanFields) (counts words : List ℕ) (views : List V
     operators = λ op. let found = has_word C counts words views sound op in (found.0, found.1, front op found.0 found.1);
     history = history;
   }
-
--- ---- the verdict of an item
-
-pub item_verdict : (bench : BenchFields) (ticket : Ticket) (kills : List Bool) → IsVerdict bench ticket kills → IsItemVerdict bench ticket kills
-item_verdict bench ticket kills is =
-    option_and_then_some (mutant_made (program_of bench.plan)) (item_of bench.plan ticket.op ticket.number) is.mutant is.is
-    (λ edit item makes. record { edit = edit; item = item; mutant = is.mutant; makes = makes; alone = is.alone })

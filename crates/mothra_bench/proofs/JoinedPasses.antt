@@ -20,7 +20,7 @@ use Rattle.mothra_bench.specs.Driving.{AreComplete, IsNewPass, IsWhole, complete
 use Rattle.mothra_bench.specs.code.Driving.{AreShared, IsDone, JoinsPass, KeepsFed, OnlySplit}
 use Rattle.mothra_bench.specs.Feeding.{AreCounts, AreFed, IsReadyPass, HasClosed, HasOffered, IsFed, IsUntouched}
 use Rattle.mothra_bench.specs.Working.{AreOver}
-use Rattle.mothra_bench.specs.declared.fault.BenchFault.{BenchFault}
+use Rattle.mothra_verdicts.specs.declared.fault.BenchFault.{BenchFault}
 
 joined_counts : (v w n : View) → JoinsPass v w n → n.counts ≡ v.counts
 joined_counts v w n j = ap (λ (u : View). u.counts) j.united

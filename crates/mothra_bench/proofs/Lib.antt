@@ -1,7 +1,3 @@
-mod BenchTests
-mod BenchEntries
-mod BenchSets
-mod BenchFaults
 mod CollectLists
 mod CollectTickets
 mod CollectRows
@@ -10,8 +6,6 @@ mod CollectMatrix
 mod ReportOperators
 mod ReportRows
 mod ReportTexts
-mod Kills
-mod KillsInTurn
 mod PassSteps
 mod Looking
 mod FeederSteps
@@ -28,4 +22,3 @@ mod CompleteRows
 pub mod FirstItems
 mod Crossings
 mod CountSteps
-mod Wants

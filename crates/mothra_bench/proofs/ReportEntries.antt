@@ -2,19 +2,19 @@
 use Rattle.std.proofs.Common.{◌≡◌, ◌↔◌, ℕ, List, [], ◌∷◌, map, drop, get_or, All, Bool, true, false, refl, sym, ap, ◌∙◌, subst, arith}
 use Rattle.std.specs.Prelude.{IsTrue}
 use Rattle.std.proofs.lemmas.List.Elements.{All-filter, All-tail}
-use Rattle.f77_run.specs.Interpreter.{OneAnswer}
+use Rattle.f77_meaning.specs.Interpreter.{OneAnswer}
 use Rattle.mothra_codes.specs.Ticket.{ticket}
 use Rattle.mothra_codes.specs.declared.ticket.Ticket.{Ticket}
 use Rattle.mothra_exchange.specs.declared.word.Word.{Word}
 use Rattle.mothra_bench.specs.Analysis.{AreEntries, IsReport}
-use Rattle.mothra_bench.specs.Bench.{BenchFields}
-use Rattle.mothra_bench.specs.Collecting.{AreCollected, IsDeclared, is_row_of, row_of, rows_of}
+use Rattle.mothra_verdicts.specs.Bench.{BenchFields, IsDeclared}
+use Rattle.mothra_bench.specs.Collecting.{AreCollected, is_row_of, row_of, rows_of}
 use Rattle.mothra_bench.specs.Gathered.{AreVerdicts, IsOwn}
 use Rattle.mothra_bench.specs.Report.{report_text}
-use Rattle.mothra_bench.specs.Verdict.{IsVerdict}
+use Rattle.mothra_verdicts.specs.Verdict.{IsVerdict}
 use Rattle.mothra_bench.specs.declared.matrix.Entry.{Entry}
-use Rattle.mothra_bench.specs.declared.verdict.Row.{Row}
-use Rattle.mothra_bench.proofs.Kills.{one_verdict}
+use Rattle.mothra_verdicts.specs.declared.verdict.Row.{Row}
+use Rattle.mothra_verdicts.proofs.Kills.{one_verdict}
 
 -- an entry is made of a verdict
 entry_verdict : (bench : BenchFields) (rows : List Row) (entry : Entry) → AreVerdicts bench rows → rows_of entry.ticket rows ≡ row_of entry ∷ []

@@ -24,17 +24,17 @@ use Rattle.mothra_exchange.proofs.Counting.{times-append}
 use Rattle.mothra_exchange.proofs.Others.{take_only as take_changes}
 use Rattle.mothra_exchange.proofs.Overs.{finished_over}
 use Rattle.mothra_ops.specs.Plan.{PlanFields}
-use Rattle.mothra_bench.specs.Bench.{BenchFields}
+use Rattle.mothra_verdicts.specs.Bench.{BenchFields}
 use Rattle.mothra_bench.specs.Feeding.{AreCounts}
 use Rattle.mothra_bench.specs.code.Gathered.{AddsRow}
 use Rattle.mothra_bench.specs.Gathered.{AreVerdicts, IsOwn, tickets_in}
-use Rattle.mothra_bench.specs.Verdict.{HasMutant, IsNoVerdict}
+use Rattle.mothra_verdicts.specs.Verdict.{HasMutant, IsNoVerdict}
 use Rattle.mothra_bench.specs.code.Working.{AddsRows, Went}
 use Rattle.mothra_bench.specs.Working.{AreFresh, IsNoWork, NamesTaken, OnlyTook, TookRows}
-use Rattle.mothra_bench.specs.declared.fault.BenchFault.{BenchFault}
-use Rattle.mothra_bench.specs.declared.fault.BenchFault.TheVariants as fault
+use Rattle.mothra_verdicts.specs.declared.fault.BenchFault.{BenchFault}
+use Rattle.mothra_verdicts.specs.declared.fault.BenchFault.TheVariants as fault
 use Rattle.mothra_bench.specs.declared.gathered.Gathered.{Gathered}
-use Rattle.mothra_bench.specs.declared.verdict.Row.{Row}
+use Rattle.mothra_verdicts.specs.declared.verdict.Row.{Row}
 use Rattle.mothra_bench.proofs.PassSteps.{take_only}
 use Rattle.mothra_bench.proofs.TakenTickets.{named_taken, takes_none, takes_on, takes_one, takes_stalled}
 

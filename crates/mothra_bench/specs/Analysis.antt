@@ -1,12 +1,11 @@
 -- The report of a bench. The number of workers is no argument of it.
 use Rattle.std.specs.Prelude.{◌≡◌, ◌↔◌, ⊤, ℕ, IsTrue, List, map, All}
-use Rattle.mothra_bench.specs.Bench.{BenchFields}
-use Rattle.mothra_bench.specs.Collecting.{IsDeclared}
+use Rattle.mothra_verdicts.specs.Bench.{BenchFields, IsDeclared}
 use Rattle.mothra_bench.specs.Matrix.{tickets_of}
 use Rattle.mothra_bench.specs.Report.{report_text}
-use Rattle.mothra_bench.specs.Verdict.{IsVerdict}
-use Rattle.mothra_bench.specs.declared.fault.BenchFault.{BenchFault}
-use Rattle.mothra_bench.specs.declared.fault.BenchFault.TheVariants as fault
+use Rattle.mothra_verdicts.specs.Verdict.{IsVerdict}
+use Rattle.mothra_verdicts.specs.declared.fault.BenchFault.{BenchFault}
+use Rattle.mothra_verdicts.specs.declared.fault.BenchFault.TheVariants as fault
 use Rattle.mothra_bench.specs.declared.matrix.Entry.{Entry}
 
 -- each mutant of the plan once, in order, with the verdict

@@ -1,20 +1,19 @@
 -- What a matrix has of the rows that were given.
 use Rattle.std.specs.Prelude.{◌≡◌, ◌↔◌, ◌≤◌, ◌==◌, ◌&&◌, ⊤, Bool, IsTrue, List}
-use Rattle.std.specs.Prelude.{[], ◌∷◌, ◌++◌, map, length, filter, All, Contains}
+use Rattle.std.specs.Prelude.{[], ◌∷◌, ◌++◌, map, length, filter, All}
 use Rattle.mothra_codes.specs.Op.{index}
-use Rattle.mothra_ops.specs.Mutants.{original_number}
 use Rattle.mothra_ops.specs.Plan.{PlanFields}
 use Rattle.mothra_exchange.specs.Tally.{operator_word}
-use Rattle.mothra_codes.specs.Ticket.{Before, ticket}
+use Rattle.mothra_codes.specs.Ticket.{Before}
 use Rattle.mothra_codes.specs.declared.ticket.Ticket.{Ticket}
 use Rattle.mothra_exchange.specs.declared.word.Word.{Word}
-use Rattle.mothra_bench.specs.Bench.{BenchFields}
+use Rattle.mothra_verdicts.specs.Bench.{BenchFields, IsDeclared}
 use Rattle.mothra_bench.specs.Matrix.{tickets_of}
-use Rattle.mothra_bench.specs.Verdict.{HasMutant}
-use Rattle.mothra_bench.specs.declared.fault.BenchFault.{BenchFault}
-use Rattle.mothra_bench.specs.declared.fault.BenchFault.TheVariants as fault
+use Rattle.mothra_verdicts.specs.Verdict.{HasMutant}
+use Rattle.mothra_verdicts.specs.declared.fault.BenchFault.{BenchFault}
+use Rattle.mothra_verdicts.specs.declared.fault.BenchFault.TheVariants as fault
 use Rattle.mothra_bench.specs.declared.matrix.Entry.{Entry}
-use Rattle.mothra_bench.specs.declared.verdict.Row.{Row}
+use Rattle.mothra_verdicts.specs.declared.verdict.Row.{Row}
 
 -- the rows of a ticket
 abbrev pub is_row_of : Ticket → Row → Bool
@@ -64,11 +63,6 @@ pub record IsFirstMissing (plan : PlanFields) (words : List Word) (rows : List R
   pub missing : ¬ (IsCollected words rows ticket)
   pub others : (other : Ticket)
       → HasMutant plan other → Before other ticket → IsCollected words rows other
-
--- whether the mutant is declared equivalent, by its number in the whole list
-abbrev pub IsDeclared : BenchFields → Ticket → Type 0
-IsDeclared bench one =
-    Contains bench.declared (ticket one.op (original_number bench.plan.every one.number))
 
 -- the row that an entry is made of
 abbrev pub row_of : Entry → Row

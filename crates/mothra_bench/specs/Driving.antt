@@ -12,14 +12,14 @@ use Rattle.mothra_codes.specs.declared.ticket.Ticket.{Ticket}
 use Rattle.mothra_exchange.specs.declared.view.View.{View}
 use Rattle.mothra_exchange.specs.declared.word.Word.{Word}
 use Rattle.mothra_ops.specs.Plan.{PlanFields, edits_of}
-use Rattle.mothra_bench.specs.Bench.{BenchFields}
+use Rattle.mothra_verdicts.specs.Bench.{BenchFields}
 use Rattle.mothra_bench.specs.Feeding.{AreCounts, Feeds}
 use Rattle.mothra_bench.specs.Gathered.{joined_rows, row_list, tickets_in}
-use Rattle.mothra_bench.specs.Verdict.{HasMutant}
+use Rattle.mothra_verdicts.specs.Verdict.{HasMutant}
 use Rattle.mothra_bench.specs.Working.{CountsPlan, Works}
-use Rattle.mothra_bench.specs.declared.fault.BenchFault.{BenchFault}
-use Rattle.mothra_bench.specs.declared.fault.BenchFault.TheVariants as fault
-use Rattle.mothra_bench.specs.declared.verdict.Row.{Row}
+use Rattle.mothra_verdicts.specs.declared.fault.BenchFault.{BenchFault}
+use Rattle.mothra_verdicts.specs.declared.fault.BenchFault.TheVariants as fault
+use Rattle.mothra_verdicts.specs.declared.verdict.Row.{Row}
 
 -- no ticket stands twice, and each is at most the number handed out of its operator
 abbrev pub AreHandedOnce : List Word → List Ticket → Type 0

@@ -8,8 +8,8 @@ use Rattle.mothra_codes.specs.Ticket.{ticket_times, once_up_to}
 use Rattle.mothra_exchange.specs.View.{times_closed}
 use Rattle.mothra_ops.specs.Plan.{PlanFields, edits_of}
 use Rattle.mothra_bench.specs.Closing.{count_of, seen_of}
-use Rattle.mothra_bench.specs.declared.fault.BenchFault.{BenchFault}
-use Rattle.mothra_bench.specs.declared.fault.BenchFault.TheVariants as fault
+use Rattle.mothra_verdicts.specs.declared.fault.BenchFault.{BenchFault}
+use Rattle.mothra_verdicts.specs.declared.fault.BenchFault.TheVariants as fault
 
 -- a feeder's pass takes nothing, and keeps its counts and its part
 pub record OnlyGave (old new : View) : Type 0 where

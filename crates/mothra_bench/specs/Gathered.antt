@@ -2,10 +2,10 @@
 use Rattle.std.specs.Prelude.{List, ◌++◌, map, All, Result, Ok, Err, Vec}
 use Rattle.std.specs.declared.alloc.Global.{Global}
 use Rattle.mothra_codes.specs.declared.ticket.Ticket.{Ticket}
-use Rattle.mothra_bench.specs.Bench.{BenchFields}
-use Rattle.mothra_bench.specs.Verdict.{IsVerdict}
-use Rattle.mothra_bench.specs.declared.fault.BenchFault.{BenchFault}
-use Rattle.mothra_bench.specs.declared.verdict.Row.{Row}
+use Rattle.mothra_verdicts.specs.Bench.{BenchFields}
+use Rattle.mothra_verdicts.specs.Verdict.{IsVerdict}
+use Rattle.mothra_verdicts.specs.declared.fault.BenchFault.{BenchFault}
+use Rattle.mothra_verdicts.specs.declared.verdict.Row.{Row}
 
 -- the row's kills are those of its mutant, run alone
 abbrev pub IsOwn : BenchFields → Row → Type 0

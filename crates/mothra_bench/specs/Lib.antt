@@ -1,8 +1,4 @@
-pub mod Bench
 pub mod Closing
-pub mod Killing
-pub mod Equivalents
-pub mod Verdict
 pub mod Matrix
 pub mod Collecting
 pub mod Report

@@ -14,7 +14,7 @@ use Rattle.mothra_exchange.specs.declared.view.View.{View}
 use Rattle.mothra_exchange.specs.declared.word.Word.{Word}
 use Rattle.mothra_ops.specs.Plan.{PlanFields, edits_of}
 use Rattle.mothra_ops.specs.declared.edit.Edit.{Edit}
-use Rattle.mothra_bench.specs.Verdict.{item_of}
+use Rattle.mothra_verdicts.specs.Verdict.{item_of}
 
 -- how many items the list of each operator has, in the order of the operators
 abbrev pub plan_counts : PlanFields → List ℕ

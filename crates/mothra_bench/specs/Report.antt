@@ -8,7 +8,7 @@ use Rattle.mothra_codes.specs.Op.{all_ops, code_of}
 use Rattle.mothra_codes.specs.declared.op.Op.{Op}
 use Rattle.mothra_ops.specs.Mutants.{mutant_name, mutant_text, program_of}
 use Rattle.mothra_ops.specs.Plan.{PlanFields, asked}
-use Rattle.mothra_bench.specs.Bench.{BenchFields}
+use Rattle.mothra_verdicts.specs.Bench.{BenchFields}
 use Rattle.mothra_bench.specs.Matrix.{Counts, counts, entries_of, is_killed, score_of}
 use Rattle.mothra_bench.specs.declared.matrix.Entry.{Entry}
 

@@ -9,13 +9,13 @@ use Rattle.mothra_exchange.specs.declared.view.View.{View}
 use Rattle.mothra_exchange.specs.Sharing.{IsOver}
 use Rattle.mothra_codes.specs.Ticket.{ticket_times}
 use Rattle.mothra_ops.specs.Plan.{PlanFields}
-use Rattle.mothra_bench.specs.Bench.{BenchFields}
+use Rattle.mothra_verdicts.specs.Bench.{BenchFields}
 use Rattle.mothra_bench.specs.Feeding.{AreCounts}
 use Rattle.mothra_bench.specs.Gathered.{AreVerdicts, tickets_in}
-use Rattle.mothra_bench.specs.Verdict.{HasMutant}
-use Rattle.mothra_bench.specs.declared.fault.BenchFault.{BenchFault}
-use Rattle.mothra_bench.specs.declared.fault.BenchFault.TheVariants as fault
-use Rattle.mothra_bench.specs.declared.verdict.Row.{Row}
+use Rattle.mothra_verdicts.specs.Verdict.{HasMutant}
+use Rattle.mothra_verdicts.specs.declared.fault.BenchFault.{BenchFault}
+use Rattle.mothra_verdicts.specs.declared.fault.BenchFault.TheVariants as fault
+use Rattle.mothra_verdicts.specs.declared.verdict.Row.{Row}
 
 -- none of the tickets stands twice, or among the old ones
 abbrev pub AreFresh : List Ticket → List Ticket → Type 0

@@ -1,6 +1,4 @@
 pub mod Closing
-pub mod Running
-pub mod Equivalents
 pub mod RowMap
 pub mod Entries
 pub mod Gathered

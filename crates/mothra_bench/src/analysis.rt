@@ -3,13 +3,12 @@
 ghost use Rattle.std.specs.Prelude.{◌≤◌, IfOk, IfErr, string_bytes};
 ghost use Rattle.mothra_bench.specs.Analysis.{IsNoReport, IsReport};
 
-use crate::bench::Bench;
 use crate::collecting::collect;
 use crate::driving::drive;
-use crate::fault::BenchFault;
 use crate::plan_exchange::exchange_of;
 use crate::report::render;
 use mothra_exchange::{Pass, TableExchange};
+use mothra_verdicts::{Bench, BenchFault};
 use std::alloc::Global;
 use std::sync::Wait;
 use std::thread::Threads;

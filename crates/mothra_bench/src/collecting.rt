@@ -3,14 +3,12 @@
 ghost use Rattle.std.specs.Prelude.{◌↔◌, All, IfOk, IfErr, IsTrue, MatchOption};
 ghost use Rattle.mothra_bench.specs.Collecting.{AreCollected, IsFirstStranger, IsKnown, IsNoMatrix};
 
-use crate::bench::Bench;
 use crate::entries::entries_of;
-use crate::fault::BenchFault;
 use crate::matrix::Matrix;
 use crate::row_map::RowMap;
 use crate::tickets::all_tickets;
-use crate::verdict::Row;
 use mothra_exchange::{Tally, Ticket};
+use mothra_verdicts::{Bench, BenchFault, Row};
 use std::alloc::Global;
 
 /// Whether the row is of the plan, with a truth value for each test.

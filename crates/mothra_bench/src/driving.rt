@@ -14,14 +14,12 @@ ghost use Rattle.mothra_bench.specs.Feeding.{AreFed, Feeds, IsReadyPass, IsStall
 ghost use Rattle.mothra_bench.specs.Gathered.{AreVerdicts, row_list, tickets_in};
 ghost use Rattle.mothra_bench.specs.Working.{AreOver};
 
-use crate::bench::Bench;
 use crate::closing::close_each;
-use crate::fault::BenchFault;
 use crate::gathered::Gathered;
 use crate::threads::{Feeder, Worker, join_feeder, join_worker, start_feeder, start_worker};
-use crate::verdict::Row;
 use mothra_codes::Op;
 use mothra_exchange::{Gate, Tally};
+use mothra_verdicts::{Bench, BenchFault, Row};
 use std::alloc::Global;
 use std::sync::Wait;
 use std::thread;

@@ -7,11 +7,10 @@ ghost use Rattle.mothra_codes.specs.Ticket.{Before};
 ghost use Rattle.mothra_bench.specs.code.Entries.{AreNoEntries, IsEntry, IsHere};
 ghost use Rattle.mothra_bench.specs.code.RowMap.{ticket_row};
 
-use crate::bench::Bench;
-use crate::fault::BenchFault;
 use crate::matrix::Entry;
 use crate::row_map::RowMap;
 use mothra_exchange::{Tally, Ticket};
+use mothra_verdicts::{Bench, BenchFault};
 use std::alloc::Global;
 
 /// The entry of a ticket, whose row is taken. None where it has no row or was not handed out.

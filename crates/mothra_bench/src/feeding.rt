@@ -11,12 +11,12 @@ ghost use Rattle.mothra_bench.specs.code.Feeding.{AllShow, ShowsStage, stage_of}
 ghost use Rattle.mothra_bench.specs.Feeding.{AreFed, IsReadyPass, IsStalled, OnlyGave};
 
 use crate::closing::close_one;
-use crate::fault::BenchFault;
 use crate::tickets::counts;
 use crossbeam_utils::Backoff;
 use mothra_codes::Op;
 use mothra_exchange::{Gate, Offer, Ticket};
 use mothra_ops::Plan;
+use mothra_verdicts::BenchFault;
 use std::sync::Wait;
 
 /// How far a feeder has come with an operator.

@@ -2,15 +2,14 @@
 
 ghost use Rattle.std.specs.Prelude.{◌≡◌, ◌∷◌, ◌++◌, [], None, Some, Ok, Err, IfOk, IfErr};
 ghost use Rattle.std.specs.Prelude.{IfSome, IfNone, IsOkAnd, MatchOption, MatchResult};
-ghost use Rattle.mothra_bench.specs.Bench.{BenchFields};
+ghost use Rattle.mothra_verdicts.specs.Bench.{BenchFields};
 ghost use Rattle.mothra_bench.specs.code.Gathered.{AddsRow, gathered_rows};
 ghost use Rattle.mothra_bench.specs.Gathered.{joined_rows, row_list};
-ghost use Rattle.mothra_bench.specs.Verdict.{IsNoVerdict, IsVerdict};
-ghost use Rattle.mothra_bench.specs.declared.fault.BenchFault.TheVariants.{Memory};
+ghost use Rattle.mothra_verdicts.specs.Verdict.{IsNoVerdict, IsVerdict};
+ghost use Rattle.mothra_verdicts.specs.declared.fault.BenchFault.TheVariants.{Memory};
 
-use crate::fault::BenchFault;
-use crate::verdict::{Row, Verdicts};
 use mothra_exchange::Ticket;
+use mothra_verdicts::{BenchFault, Row, Verdicts};
 use std::alloc::Global;
 
 /// The rows so far, or the first fault.

@@ -1,17 +1,15 @@
-//! What holds of verdicts and reports on every bench.
+//! What holds of exchanges and reports on every bench.
 
-ghost use Rattle.std.specs.Prelude.{◌≡◌, ℕ, List, Bool};
-ghost use Rattle.mothra_codes.specs.declared.ticket.Ticket.{Ticket};
+ghost use Rattle.std.specs.Prelude.{◌≡◌, ℕ, List};
 ghost use Rattle.mothra_exchange.specs.Rule.{IsSoundExchange};
 ghost use Rattle.mothra_exchange.specs.declared.view.View.{View};
 ghost use Rattle.mothra_ops.specs.Plan.{PlanFields};
 ghost use Rattle.mothra_bench.specs.Analysis.{IsReport};
-ghost use Rattle.mothra_bench.specs.Bench.{BenchFields};
+ghost use Rattle.mothra_verdicts.specs.Bench.{BenchFields};
 ghost use Rattle.mothra_bench.specs.Feeding.{AreCounts};
 ghost use Rattle.mothra_bench.specs.PlanExchange.{KeepsLists};
-ghost use Rattle.mothra_bench.specs.Verdict.{IsItemVerdict, IsVerdict};
 
-use f77_run::law::one_outcome;
+use f77_meaning::law::one_outcome;
 
 /// Between any two steps of an exchange with the counts of a plan, the tickets handed out of each operator stand for
 /// the first items of its list, in order, each once, and none was accepted after the operator closed.
@@ -19,21 +17,6 @@ pub fn handed_out_are_first()
     ensures { (C : ℕ) (plan : PlanFields) (counts words : List ℕ) (views : List View)
         → IsSoundExchange C counts words views → AreCounts plan counts → KeepsLists C plan words views }
 {}
-
-/// A verdict of ticket k is that of the mutant that item k of the operator's list makes.
-pub fn verdict_of_the_item()
-    ensures { (bench : BenchFields) (ticket : Ticket) (kills : List Bool)
-        → IsVerdict bench ticket kills → IsItemVerdict bench ticket kills }
-{}
-
-/// A mutant has one verdict at most.
-pub fn one_verdict()
-    ensures { (bench : BenchFields) (ticket : Ticket) (kills others : List Bool)
-        → IsVerdict bench ticket kills → IsVerdict bench ticket others
-        → kills ≡ others }
-{
-    one_outcome();
-}
 
 /// A bench has one report at most: it is the same for each number of workers.
 pub fn one_report()

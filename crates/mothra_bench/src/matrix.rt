@@ -5,7 +5,7 @@ ghost use Rattle.mothra_bench.specs.Matrix.{is_killed, is_equivalent, score_of, 
 ghost use Rattle.mothra_bench.specs.declared.matrix.Entry.{Entry};
 
 use crate::counts::Counts;
-use f77_run::Values;
+use f77_meaning::Values;
 use mothra_exchange::Ticket;
 use std::marker::Model;
 

@@ -4,12 +4,12 @@ ghost use Rattle.std.specs.Prelude.{◌≡◌, IfOk, IfErr};
 ghost use Rattle.mothra_exchange.specs.Table.{IsPassOf, view_of};
 ghost use Rattle.mothra_bench.specs.Driving.{IsWhole};
 ghost use Rattle.mothra_bench.specs.PlanExchange.{KeepsLists};
-ghost use Rattle.mothra_bench.specs.declared.fault.BenchFault.TheVariants.{Memory};
+ghost use Rattle.mothra_verdicts.specs.declared.fault.BenchFault.TheVariants.{Memory};
 
-use crate::fault::BenchFault;
 use crate::tickets::counts;
 use mothra_exchange::{ExchangeFault, Pass, Stepwise, TableExchange};
 use mothra_ops::Plan;
+use mothra_verdicts::BenchFault;
 use std::alloc::Global;
 
 /// How many tickets of an operator may wait in the exchange of a plan.

@@ -5,16 +5,15 @@ ghost use Rattle.f77_program.specs.Program.{line_of};
 ghost use Rattle.mothra_bench.specs.Report as definition;
 ghost use Rattle.mothra_bench.specs.Report.{bits_of, counts_line, entry_lines, mutant_line, operator_lines};
 ghost use Rattle.mothra_bench.specs.Report.{report_text, score_line, status_of, survivor_line, wrong_line};
-ghost use Rattle.mothra_bench.specs.declared.fault.BenchFault.TheVariants.{Memory};
+ghost use Rattle.mothra_verdicts.specs.declared.fault.BenchFault.TheVariants.{Memory};
 
-use crate::bench::Bench;
 use crate::counts::Counts;
-use crate::fault::BenchFault;
 use crate::matrix::{Entry, Matrix};
 use f77_legal::heading::unit;
 use f77_program::Line;
 use f77_tree::Shared;
 use mothra_ops::{Mutants, Op, Plan, push_name, write_name};
+use mothra_verdicts::{Bench, BenchFault};
 use std::alloc::{AllocError, Global};
 
 /// The report of a matrix: its heading, the numbers of each operator and of all, the score, each

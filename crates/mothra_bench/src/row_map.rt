@@ -6,9 +6,8 @@ ghost use Rattle.mothra_codes.specs.declared.ticket.Ticket.{Ticket};
 ghost use Rattle.mothra_bench.specs.Collecting.{is_row_of};
 ghost use Rattle.mothra_bench.specs.code.RowMap.{ticket_row, HasRows, IsNoRowMap};
 
-use crate::fault::BenchFault;
-use crate::verdict::Row;
 use mothra_exchange::Ticket;
+use mothra_verdicts::{BenchFault, Row};
 use std::alloc::{AllocError, Global};
 use std::collections::HashMap;
 

@@ -8,14 +8,12 @@ ghost use Rattle.mothra_bench.specs.Feeding.{AreFed, Feeds, IsReadyPass, IsStall
 ghost use Rattle.mothra_bench.specs.Gathered.{AreVerdicts, tickets_in};
 ghost use Rattle.mothra_bench.specs.Working.{AreOver, IsNoWork, Works};
 
-use crate::bench::Bench;
-use crate::fault::BenchFault;
 use crate::feeding::feed;
-use crate::verdict::Row;
 use crate::working::work;
 use mothra_codes::Op;
 use mothra_exchange::Gate;
 use mothra_ops::Plan;
+use mothra_verdicts::{Bench, BenchFault, Row};
 use std::alloc::Global;
 use std::snapshot::Snapshot;
 use std::sync::Wait;

@@ -2,19 +2,17 @@
 
 ghost use Rattle.std.specs.Prelude.{◌≡◌, ◌⊎◌, true, IfOk, IfErr, IfSome, IsSome};
 ghost use Rattle.mothra_codes.specs.declared.op.Op.{Op as OpModel};
-ghost use Rattle.mothra_bench.specs.Bench.{BenchFields};
+ghost use Rattle.mothra_verdicts.specs.Bench.{BenchFields};
 ghost use Rattle.mothra_bench.specs.Gathered.{AreVerdicts};
 ghost use Rattle.mothra_bench.specs.Working.{AreOver, IsNoWork, NamesTaken, OnlyTook, TookRows};
 ghost use Rattle.mothra_bench.specs.code.Working.{Went};
 ghost use Rattle.mothra_exchange.specs.Sharing.{IsOver};
 
-use crate::bench::Bench;
-use crate::fault::BenchFault;
 use crate::gathered::Gathered;
-use crate::verdict::{Row, Verdicts};
 use crossbeam_utils::Backoff;
 use mothra_codes::Op;
 use mothra_exchange::{Gate, Take};
+use mothra_verdicts::{Bench, BenchFault, Row, Verdicts};
 use std::alloc::Global;
 use std::sync::Wait;
 

@@ -4,8 +4,7 @@
 use f77_check::Checked;
 use f77_code::Place;
 use f77_facts::entries::Entry;
-use f77_nodes::nodes;
-use f77_tree::{Form, Stmt};
+use f77_tree::{Form, Stmt, nodes};
 use std::alloc::{AllocError, Global};
 
 /// How much work is done for all mutants of a plan, in facts of slots that are looked at.

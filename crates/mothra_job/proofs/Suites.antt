@@ -4,7 +4,7 @@ use Rattle.std.proofs.lemmas.List.{length-map}
 use Rattle.serde_json.specs.Data.{Data}
 use Rattle.serde_json.specs.View.{view, items_of}
 use Rattle.serde_json.specs.declared.value.Value.{Value}
-use Rattle.f77_run.specs.declared.argument.Arg.{Arg}
+use Rattle.f77_meaning.specs.declared.argument.Arg.{Arg}
 use Rattle.mothra_job.specs.FirstFault.{fault_or}
 use Rattle.mothra_job.specs.Job.{data_listed}
 use Rattle.mothra_job.specs.Suite.{test, suite_faults, test_faults, tests_of}

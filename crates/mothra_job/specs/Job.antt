@@ -6,7 +6,7 @@ use Rattle.std.specs.Str.{bytes_eq, is_utf8}
 use Rattle.serde_json.specs.Data.{Data, Items, no_items, item, Members, no_members, member}
 use Rattle.serde_json.specs.Read.{read}
 use Rattle.serde_json.specs.Find.{as_array, as_object, as_str, get}
-use Rattle.f77_run.specs.declared.argument.Arg.{Arg}
+use Rattle.f77_meaning.specs.declared.argument.Arg.{Arg}
 use Rattle.mothra_job.specs.Equivalent.{tickets_named, entry_faults}
 use Rattle.mothra_job.specs.FirstFault.{absent, fault_or}
 use Rattle.mothra_job.specs.Suite.{suite_faults, tests_of}

@@ -10,7 +10,7 @@ ghost use Rattle.mothra_job.specs.FirstFault.{fault_or};
 ghost use Rattle.mothra_job.specs.declared.job.JobFault.TheVariants.{Memory};
 
 use crate::job::JobFault;
-use f77_run::Values;
+use f77_meaning::Values;
 use mothra_codes::{Op, Ticket};
 use serde_json::Value;
 use std::alloc::Global;

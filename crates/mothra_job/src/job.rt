@@ -15,7 +15,7 @@ ghost use Rattle.mothra_job.specs.declared.job.JobFault.TheVariants as fault;
 use crate::equivalent::equivalent;
 use crate::key::Key;
 use crate::suite::suite;
-use f77_run::{Arg, Values};
+use f77_meaning::{Arg, Values};
 use mothra_codes::Ticket;
 use serde_json::{Map, Value};
 use std::alloc::{AllocError, AllocFailed, Global};

@@ -9,7 +9,7 @@ ghost use Rattle.mothra_job.specs.Suite.{each, suite_faults, test_faults, tests_
 ghost use Rattle.mothra_job.specs.declared.job.JobFault.TheVariants.{Memory};
 
 use crate::job::JobFault;
-use f77_run::{Arg, Values};
+use f77_meaning::{Arg, Values};
 use serde_json::Value;
 use std::alloc::{AllocError, Global};
 

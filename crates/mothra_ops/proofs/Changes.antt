@@ -2,10 +2,10 @@
 use Rattle.std.proofs.Common.{◌≡◌, List, map, Option, Some, None, refl, ap, sym, ◌∙◌}
 use Rattle.std.specs.Prelude.{option_map}
 use Rattle.std.proofs.lemmas.Option.{none-some, same_Some}
-use Rattle.f77_nodes.specs.Node.{NodeOf}
+use Rattle.f77_tree.specs.Node.{NodeOf}
 use Rattle.f77_program.specs.Program.{line_of, line_at}
 use Rattle.f77_program.specs.declared.program.Line.{Line}
-use Rattle.f77_sites.specs.Sites.{changed}
+use Rattle.f77_tree.specs.Sites.{changed}
 use Rattle.f77_tree.specs.Statement.{statement_of}
 use Rattle.mothra_ops.specs.Change.{ChangeFields}
 use Rattle.mothra_ops.specs.Edits.{made, numbered}

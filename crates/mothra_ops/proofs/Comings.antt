@@ -1,10 +1,10 @@
 -- How far a list has come, step by step.
 use Rattle.std.proofs.Common.{arith, ◌≡◌, ◌<◌, ◌≤◌, ◌+◌, ℕ, zero, suc, length, List, [], ◌∷◌, ◌++◌, refl, Some, ap, sym, ◌∙◌, subst, inl, inr, get_or}
 use Rattle.std.specs.Prelude.{◌⊎◌}
-use Rattle.f77_nodes.specs.Node.{NodeOf, nodes_of}
+use Rattle.f77_tree.specs.Node.{NodeOf, nodes_of}
 use Rattle.f77_program.specs.Program.{LineFields}
 use Rattle.f77_tree.specs.Statement.{Statement}
-use Rattle.f77_sites.specs.Sites.{changed}
+use Rattle.f77_tree.specs.Sites.{changed}
 use Rattle.mothra_ops.specs.Edits.{IsCountedList, IsMember, IsMutant, IsNoList, IsTooLong, Lists, most_edits, most_whole, numbered, thinned}
 use Rattle.mothra_ops.specs.code.Listing.{HasCome, So}
 use Rattle.mothra_ops.specs.Listing.{HoldsEdits, longest}

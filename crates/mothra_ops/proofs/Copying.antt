@@ -8,7 +8,7 @@ use Rattle.std.proofs.lemmas.List.{get_or-map, get_or-set_same, length-map, leng
 use Rattle.std.proofs.lemmas.Option.{get_or_from_slice_get, same_Some, slice_get-get_or, slice_get-map, slice_get_past, slice_get_read, slice_get_within}
 use Rattle.f77_program.specs.Program.{LineFields, line_of}
 use Rattle.f77_program.specs.declared.program.Line.{Line}
-use Rattle.f77_sites.specs.Sites.{changed}
+use Rattle.f77_tree.specs.Sites.{changed}
 use Rattle.f77_tree.specs.Statement.{statement_of, Statement}
 use Rattle.f77_tree.specs.declared.statement.Stmt.{Stmt}
 use Rattle.mothra_ops.specs.Change.{ChangeFields, statements_of, with_change}

@@ -14,8 +14,8 @@ use Rattle.f77_tree.specs.Grammar.{is_call, is_name}
 use Rattle.f77_tree.specs.Statement.{Statement, form_of, same_statement}
 use Rattle.f77_tree.specs.Tree.{Tree, Trees}
 use Rattle.f77_tree.proofs.Tests.{and_true}
-use Rattle.f77_nodes.specs.Limits.{largest_integer}
-use Rattle.f77_nodes.specs.Node.{NodeOf}
+use Rattle.f77_tree.specs.Limits.{largest_integer}
+use Rattle.f77_tree.specs.Node.{NodeOf}
 use Rattle.f77_program.specs.code.Formed.{all_formed, formed, is_some_list}
 use Rattle.f77_program.proofs.Back.{reference_formed}
 use Rattle.f77_program.proofs.Forming.{a_reference}

@@ -11,7 +11,7 @@ use Rattle.f77_tree.specs.code.Joined.{some_all}
 use Rattle.f77_tree.specs.Declaration.{all_bounded}
 use Rattle.f77_tree.specs.Statement.{Statement}
 use Rattle.f77_tree.proofs.Tests.{and_true}
-use Rattle.f77_nodes.specs.Node.{NodeOf, parts, all_parts, step_parts, group_nodes, node_name, names_of, nodes_behind, nodes_of}
+use Rattle.f77_tree.specs.Node.{NodeOf, parts, all_parts, step_parts, group_nodes, node_name, names_of, nodes_behind, nodes_of}
 use Rattle.f77_program.specs.code.Data.{any_value, is_group}
 use Rattle.f77_program.specs.code.Declaration.{declaration_formed, is_decl}
 use Rattle.f77_program.specs.code.Formed.{formed, all_formed, is_some_list, statement_formed, value_formed}

@@ -10,7 +10,7 @@ use Rattle.f77_tree.specs.Grammar.{is_name}
 use Rattle.f77_tree.specs.Statement.{Statement}
 use Rattle.f77_tree.specs.Tree.{Tree, Trees}
 use Rattle.f77_tree.proofs.Tests.{and_true}
-use Rattle.f77_nodes.specs.Node.{NodeOf, node_name, names_of, nodes_of}
+use Rattle.f77_tree.specs.Node.{NodeOf, node_name, names_of, nodes_of}
 use Rattle.f77_program.specs.code.Formed.{all_formed, formed, statement_formed}
 use Rattle.f77_program.specs.Program.{IsProgram, LineFields}
 use Rattle.f77_program.proofs.Forming.{a_reference}

@@ -11,9 +11,9 @@ use Rattle.f77_tree.specs.Joined.{has_items}
 use Rattle.f77_tree.specs.code.Joined.{some_all}
 use Rattle.f77_tree.specs.Statement.{Statement, form_of}
 use Rattle.f77_tree.proofs.Tests.{and_true}
-use Rattle.f77_nodes.specs.Node.{NodeOf}
-use Rattle.f77_sites.specs.Sites.{Site, fixed, group_sites, item_sites, label_sites, list_sites, name_or, name_sites, part_or, part_then, parts_behind}
-use Rattle.f77_sites.specs.Sites.{sites_behind, statement_or, statement_then, step_sites, target_or, target_sites, tree_sites, value_sites, site_within}
+use Rattle.f77_tree.specs.Node.{NodeOf}
+use Rattle.f77_tree.specs.Sites.{Site, fixed, group_sites, item_sites, label_sites, list_sites, name_or, name_sites, part_or, part_then, parts_behind}
+use Rattle.f77_tree.specs.Sites.{sites_behind, statement_or, statement_then, step_sites, target_or, target_sites, tree_sites, value_sites, site_within}
 use Rattle.f77_program.specs.code.Data.{any_value, is_group}
 use Rattle.f77_program.specs.code.Formed.{formed, all_formed, is_some_list, statement_formed, value_formed}
 use Rattle.f77_program.specs.Formed.{is_action}

@@ -4,11 +4,11 @@ use Rattle.std.specs.Prelude.{option_map, slice_get}
 use Rattle.std.specs.Option.{option_and_then, option_map_or}
 use Rattle.std.proofs.lemmas.Option.{none-some, slice_get-map}
 use Rattle.f77_check.specs.Checked.{CheckedFields}
-use Rattle.f77_nodes.specs.Node.{NodeOf, nodes_of}
+use Rattle.f77_tree.specs.Node.{NodeOf, nodes_of}
 use Rattle.f77_program.specs.Program.{LineFields, line_of, line_at}
 use Rattle.f77_tree.specs.Statement.{statement_of, Statement}
 use Rattle.f77_program.specs.declared.program.Line.{Line}
-use Rattle.f77_sites.specs.Sites.{Site, changed, sites}
+use Rattle.f77_tree.specs.Sites.{Site, changed, sites}
 use Rattle.mothra_ops.specs.Change.{ChangeFields, statements_of}
 use Rattle.mothra_ops.specs.Edits.{made, numbered}
 use Rattle.mothra_ops.specs.Given.{given_at}

@@ -1,7 +1,7 @@
 -- What operators put in the place of a reference, in the place of what has none, and as other sorts of nodes.
 use Rattle.std.proofs.Common.{◌≡◌, ◌≢◌, ◌∷◌, [], List, Bool, true, false, true≢false, map, refl, ap, ◌∙◌}
 use Rattle.std.specs.Prelude.{not, if◌then◌else◌}
-use Rattle.f77_nodes.specs.Node.{NodeOf}
+use Rattle.f77_tree.specs.Node.{NodeOf}
 use Rattle.f77_tree.specs.Statement.{same_statement, form_of, Statement}
 use Rattle.f77_tree.specs.Tree.{Tree, Trees, DeclFields}
 use Rattle.f77_tree.specs.declared.form.Form.{Form}

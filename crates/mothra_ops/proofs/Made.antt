@@ -4,14 +4,14 @@ use Rattle.std.specs.Prelude.{◌⊎◌, option_map, slice_get}
 use Rattle.std.specs.Option.{option_and_then}
 use Rattle.std.proofs.lemmas.Option.{none-some, slice_get-map, slice_get_cases, slice_get_past, slice_get_read}
 use Rattle.std.proofs.lemmas.List.{drop-drop, drop-set-lt, length-map, map-set}
-use Rattle.f77_nodes.specs.Node.{NodeOf, node_of, nodes_of}
+use Rattle.f77_tree.specs.Node.{NodeOf, node_of, nodes_of}
 use Rattle.f77_program.specs.Program.{LineFields, line_of, line_at}
 use Rattle.f77_tree.specs.Statement.{statement_of, Statement}
-use Rattle.f77_nodes.specs.declared.node.Node.{Node}
+use Rattle.f77_tree.specs.declared.node.Node.{Node}
 use Rattle.f77_program.specs.declared.program.Line.{Line}
-use Rattle.f77_sites.specs.Replacement.{replacement_of}
-use Rattle.f77_sites.specs.Sites.{Site, changed, sites}
-use Rattle.f77_sites.specs.declared.replacement.Replacement.{Replacement}
+use Rattle.f77_tree.specs.Replacement.{replacement_of}
+use Rattle.f77_tree.specs.Sites.{Site, changed, sites}
+use Rattle.f77_tree.specs.declared.replacement.Replacement.{Replacement}
 use Rattle.mothra_ops.specs.Edits.{made, numbered}
 use Rattle.mothra_ops.specs.code.Original.{HasStatement}
 use Rattle.mothra_ops.specs.Pools.{PoolFields}

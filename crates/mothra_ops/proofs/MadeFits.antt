@@ -6,8 +6,8 @@ use Rattle.std.proofs.lemmas.List.Elements.{All-nil, All-cons}
 use Rattle.std.proofs.lemmas.Option.{get_or_from_slice_get, none-some, same_Some, slice_get_within}
 use Rattle.f77_tree.specs.declared.form.Form.{Form}
 use Rattle.f77_tree.specs.Statement.{Statement, form_of, same_statement}
-use Rattle.f77_nodes.specs.Node.{NodeOf, nodes_of}
-use Rattle.f77_sites.specs.Sites.{Site, sites, sites_behind, statement_or}
+use Rattle.f77_tree.specs.Node.{NodeOf, nodes_of}
+use Rattle.f77_tree.specs.Sites.{Site, sites, sites_behind, statement_or}
 use Rattle.f77_program.specs.Formed.{is_action}
 use Rattle.f77_program.specs.code.Formed.{statement_formed}
 use Rattle.f77_program.specs.Group.{form_group, group_of}

@@ -3,11 +3,11 @@ use Rattle.std.proofs.Common.{arith, ◌≡◌, ◌<◌, ◌≤◌, ◌+◌, ℕ
 use Rattle.std.specs.Prelude.{option_map, slice_get}
 use Rattle.std.specs.Option.{option_and_then}
 use Rattle.std.proofs.lemmas.Option.{same_Some, none-some, slice_get-map, slice_get_within, slice_get_cases, option_and_then_some}
-use Rattle.f77_nodes.specs.Node.{NodeOf, nodes_of}
+use Rattle.f77_tree.specs.Node.{NodeOf, nodes_of}
 use Rattle.f77_program.specs.Program.{LineFields}
 use Rattle.f77_tree.specs.Statement.{Statement}
-use Rattle.f77_sites.specs.Sites.{Site, node_at, put_node, changed, sites}
-use Rattle.f77_sites.proofs.Numbering.{numbering}
+use Rattle.f77_tree.specs.Sites.{Site, node_at, put_node, changed, sites}
+use Rattle.f77_tree.proofs.Numbering.{numbering}
 use Rattle.mothra_ops.specs.Edits.{IsMember, IsMutant, made, numbered}
 use Rattle.mothra_ops.specs.code.Original.{HasStatement, StandsAt}
 use Rattle.mothra_ops.specs.Pools.{PoolFields, pools_of}

@@ -6,7 +6,7 @@ use Rattle.std.proofs.lemmas.List.{get_or-set_same, length-set}
 use Rattle.std.proofs.lemmas.Option.{MatchOption-at_some, none-some, slice_get-get_or, slice_get_within}
 use Rattle.f77_check.specs.Checked.{shapes}
 use Rattle.f77_program.specs.Patching.{patched}
-use Rattle.f77_sites.specs.Sites.{changed}
+use Rattle.f77_tree.specs.Sites.{changed}
 use Rattle.f77_tree.specs.Statement.{Statement}
 use Rattle.mothra_ops.specs.Change.{ChangeFields, change_fields, statement_made, statements_of, with_change}
 use Rattle.mothra_ops.specs.Edits.{IsMutant, numbered}

@@ -3,10 +3,10 @@ use Rattle.std.proofs.Common.{arith, ◌≡◌, ◌≤◌, ◌-◌, ℕ, zero, s
 use Rattle.std.specs.Prelude.{Vec, option_map, slice_get}
 use Rattle.std.specs.declared.alloc.Global.{Global}
 use Rattle.std.proofs.lemmas.Option.{none-some, same_Some, slice_get-map}
-use Rattle.f77_nodes.specs.Node.{NodeOf, node_of, nodes_of}
+use Rattle.f77_tree.specs.Node.{NodeOf, node_of, nodes_of}
 use Rattle.f77_program.specs.Program.{LineFields, line_of}
 use Rattle.f77_tree.specs.Statement.{Statement}
-use Rattle.f77_nodes.specs.declared.node.Node.{Node}
+use Rattle.f77_tree.specs.declared.node.Node.{Node}
 use Rattle.f77_program.specs.declared.program.Line.{Line}
 use Rattle.mothra_ops.specs.Edits.{numbered}
 use Rattle.mothra_ops.specs.code.Original.{AreNodesOf, HasStatement, nodes_at}

@@ -1,7 +1,7 @@
 -- Worked rows.
 use Rattle.std.proofs.Common.{◌≡◌, ℕ, List, [], ◌∷◌, map, refl}
 use Rattle.std.specs.Prelude.{codes, pos, negsuc}
-use Rattle.f77_nodes.specs.Node.{NodeOf}
+use Rattle.f77_tree.specs.Node.{NodeOf}
 use Rattle.f77_tree.specs.Tree.{Tree, Trees}
 use Rattle.f77_tree.specs.Statement.{Statement}
 use Rattle.f77_tree.specs.declared.data.Constant.{Constant}

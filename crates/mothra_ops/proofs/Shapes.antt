@@ -7,7 +7,7 @@ use Rattle.std.specs.Str.{bytes_eq}
 use Rattle.std.proofs.lemmas.List.Elements.{filter-append, filter_map-append}
 use Rattle.std.proofs.lemmas.Option.{none-some, same_Some, option_and_then_some}
 use Rattle.f77_program.specs.Group.{group_of}
-use Rattle.f77_nodes.specs.Node.{NodeOf, names_of}
+use Rattle.f77_tree.specs.Node.{NodeOf, names_of}
 use Rattle.f77_program.specs.Program.{LineFields}
 use Rattle.f77_program.specs.Patching.{Fits, replaced, patched}
 use Rattle.f77_tree.specs.Statement.{Statement}
@@ -18,7 +18,7 @@ use Rattle.f77_legal.specs.Heading.{dummies_of, dummies}
 use Rattle.f77_legal.specs.Names.{Symbol, Mention, Plain, name_in, mentions_of, mentions, kind_in, bounds_in, some_items, first_item_or}
 use Rattle.f77_legal.specs.Presets.{product}
 use Rattle.f77_check.specs.Checked.{shapes}
-use Rattle.f77_sites.specs.Sites.{Site, sites}
+use Rattle.f77_tree.specs.Sites.{Site, sites}
 use Rattle.mothra_codes.specs.declared.op.Op.{Op}
 use Rattle.mothra_codes.specs.declared.op.Op.TheVariants.{Der, Dsa, Glr}
 use Rattle.mothra_ops.specs.Edits.{made, numbered}

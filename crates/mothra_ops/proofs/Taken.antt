@@ -2,9 +2,9 @@
 use Rattle.std.proofs.Common.{arith, ◌≡◌, ◌<◌, ◌≤◌, ◌-◌, ℕ, List, length, map, drop, set, ap, sym, ◌∙◌, Some, get_or}
 use Rattle.std.specs.Prelude.{option_map}
 use Rattle.std.proofs.lemmas.List.{drop-set-lt, length-set, map-set}
-use Rattle.f77_nodes.specs.Node.{NodeOf}
-use Rattle.f77_sites.specs.Replacement.{replacement_of}
-use Rattle.f77_sites.specs.declared.replacement.Replacement.{Replacement}
+use Rattle.f77_tree.specs.Node.{NodeOf}
+use Rattle.f77_tree.specs.Replacement.{replacement_of}
+use Rattle.f77_tree.specs.declared.replacement.Replacement.{Replacement}
 use Rattle.mothra_ops.specs.Change.{ChangeFields}
 use Rattle.mothra_ops.specs.Edits.{numbered}
 use Rattle.mothra_ops.specs.Given.{IsGiven, given_at}

@@ -1,10 +1,10 @@
 -- What a mutant changes: one node of a program.
 use Rattle.std.specs.Prelude.{◌-◌, ℕ, List, Option, map, slice_set}
 use Rattle.std.specs.Option.{option_map, option_map_or}
-use Rattle.f77_nodes.specs.Node.{NodeOf}
+use Rattle.f77_tree.specs.Node.{NodeOf}
 use Rattle.f77_program.specs.Program.{LineFields}
-use Rattle.f77_sites.specs.Replacement.{replacement_of}
-use Rattle.f77_sites.specs.Sites.{changed}
+use Rattle.f77_tree.specs.Replacement.{replacement_of}
+use Rattle.f77_tree.specs.Sites.{changed}
 use Rattle.f77_tree.specs.Statement.{statement_of, Statement}
 use Rattle.mothra_ops.specs.Edits.{numbered}
 use Rattle.mothra_ops.specs.declared.change.Change.{Change}

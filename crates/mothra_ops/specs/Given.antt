@@ -1,9 +1,9 @@
 -- What an operator gives one node of a program.
 use Rattle.std.specs.Prelude.{◌≡◌, ℕ, List, [], drop, length, map, slice_get}
 use Rattle.std.specs.Option.{option_map_or}
-use Rattle.f77_nodes.specs.Node.{NodeOf, nodes_of}
+use Rattle.f77_tree.specs.Node.{NodeOf, nodes_of}
 use Rattle.f77_program.specs.Program.{LineFields}
-use Rattle.f77_sites.specs.Replacement.{replacement_of}
+use Rattle.f77_tree.specs.Replacement.{replacement_of}
 use Rattle.mothra_ops.specs.Edits.{numbered}
 use Rattle.mothra_ops.specs.Original.{lines_of}
 use Rattle.mothra_ops.specs.Pools.{PoolFields, pool_fields}

@@ -7,7 +7,7 @@ use Rattle.std.specs.Str.{bytes_eq}
 use Rattle.f77_tree.specs.declared.form.Form.{Form}
 use Rattle.f77_tree.specs.Statement.{form_of, Statement}
 use Rattle.f77_tree.specs.Comparing.{same_tree, same_trees}
-use Rattle.f77_nodes.specs.Node.{NodeOf, nodes_of}
+use Rattle.f77_tree.specs.Node.{NodeOf, nodes_of}
 use Rattle.f77_program.specs.Program.{LineFields}
 use Rattle.f77_tree.specs.Tree.{Tree, Trees}
 use Rattle.f77_tree.specs.View.{trees, tree_of, reference_fields}

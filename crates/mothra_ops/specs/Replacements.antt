@@ -7,8 +7,8 @@ use Rattle.std.specs.List.{list_any}
 use Rattle.std.specs.Str.{bytes_eq}
 use Rattle.f77_tree.specs.Comparing.{same_tree, same_operator, same_kind}
 use Rattle.f77_tree.specs.Statement.{same_statement, form_of, Statement}
-use Rattle.f77_nodes.specs.Limits.{largest_integer}
-use Rattle.f77_nodes.specs.Node.{NodeOf}
+use Rattle.f77_tree.specs.Limits.{largest_integer}
+use Rattle.f77_tree.specs.Node.{NodeOf}
 use Rattle.f77_tree.specs.Tree.{Tree, Trees}
 use Rattle.f77_tree.specs.declared.data.Constant.{Constant}
 use Rattle.f77_tree.specs.Form as forms

@@ -2,8 +2,7 @@
 
 ghost use Rattle.std.specs.Prelude.{◌<◌, ◌+◌, ◌^◌};
 
-use f77_sites::{Replacement, exchange};
-use f77_tree::Stmt;
+use f77_tree::{Replacement, Stmt, exchange};
 use std::alloc::AllocError;
 
 /// One node of a program, and what stands in its place in a mutant.
@@ -20,8 +19,8 @@ pub struct Change {
 
 impl Change {
     ghost use Rattle.std.specs.Prelude.{◌≡◌, IfOk};
-    ghost use Rattle.f77_sites.specs.Replacement.{replacement_of};
-    ghost use Rattle.f77_sites.specs.Sites.{changed};
+    ghost use Rattle.f77_tree.specs.Replacement.{replacement_of};
+    ghost use Rattle.f77_tree.specs.Sites.{changed};
     ghost use Rattle.f77_tree.specs.Statement.{statement_of};
 
     /// The number of the statement that is changed, from 1. It takes no memory.

@@ -10,8 +10,7 @@ ghost use Rattle.mothra_ops.specs.declared.fault.OpsFault.TheVariants.{Memory};
 use crate::change::Change;
 use crate::fault::OpsFault;
 use f77_check::Checked;
-use f77_sites::exchange;
-use f77_tree::Stmt;
+use f77_tree::{Stmt, exchange};
 use std::alloc::Global;
 
 /// Copies of the statements of a program, in order. A mutant stands among

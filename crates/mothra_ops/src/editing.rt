@@ -4,8 +4,8 @@ ghost use Rattle.std.specs.Prelude.{◌≡◌, ◌↔◌, ◌<◌, ◌≤◌, �
 ghost use Rattle.f77_program.specs.Program.{line_of};
 ghost use Rattle.f77_program.specs.Patching.{patched};
 ghost use Rattle.f77_tree.specs.Statement.{statement_of};
-ghost use Rattle.f77_sites.specs.Replacement.{replacement_of};
-ghost use Rattle.f77_sites.specs.Sites.{changed};
+ghost use Rattle.f77_tree.specs.Replacement.{replacement_of};
+ghost use Rattle.f77_tree.specs.Sites.{changed};
 ghost use Rattle.mothra_ops.specs.Change.{copied_statements, statements_of};
 ghost use Rattle.mothra_ops.specs.Edits.{IsCountedList, IsList, IsMember, IsMutant, IsNoList};
 ghost use Rattle.mothra_ops.specs.code.Edits.{IsMadeBy};
@@ -22,8 +22,7 @@ use crate::original::Original;
 use crate::replacing::gives;
 use crate::site::Site;
 use f77_check::Checked;
-use f77_sites::{Replacement, exchange};
-use f77_tree::Stmt;
+use f77_tree::{Replacement, Stmt, exchange};
 use mothra_codes::Op;
 use std::alloc::Global;
 

@@ -6,7 +6,7 @@ use crate::change::Change;
 use crate::edit::Edit;
 use crate::fault::OpsFault;
 use crate::original::Original;
-use f77_sites::Replacement;
+use f77_tree::Replacement;
 use mothra_codes::Op;
 use std::alloc::Global;
 use std::mem;

@@ -1,7 +1,7 @@
 //! What operators put in the place of an expression.
 
 ghost use Rattle.std.specs.Prelude.{◌≡◌, [], map, if◌then◌else◌, IfOk, IfErr};
-ghost use Rattle.f77_nodes.specs.Node.{NodeOf};
+ghost use Rattle.f77_tree.specs.Node.{NodeOf};
 ghost use Rattle.f77_tree.specs.View.{tree_of};
 ghost use Rattle.f77_tree.specs.Comparing.{same_kind};
 ghost use Rattle.f77_tree.specs.declared.tree.Kind.TheVariants.{Integer};

@@ -1,9 +1,9 @@
 //! What operators put in the place of a reference: in an expression, where an assignment assigns, or as a DO variable.
 
 ghost use Rattle.std.specs.Prelude.{◌≡◌, true, false, map, IfOk, IfErr};
-ghost use Rattle.f77_nodes.specs.Node.{NodeOf};
+ghost use Rattle.f77_tree.specs.Node.{NodeOf};
 ghost use Rattle.f77_tree.specs.View.{trees, tree_of, reference_fields};
-ghost use Rattle.f77_sites.specs.Replacement.{replacement_of};
+ghost use Rattle.f77_tree.specs.Replacement.{replacement_of};
 ghost use Rattle.mothra_ops.specs.Pools.{as_tree, pool_fields, reference_of};
 ghost use Rattle.mothra_ops.specs.Replacements as model;
 ghost use Rattle.mothra_ops.specs.Replacements.{in_place};
@@ -13,8 +13,7 @@ use crate::fault::OpsFault;
 use crate::places::{is_element, other_references, other_scalars, scalar, with_subscripts};
 use crate::pools::Pools;
 use crate::replacements::{expressions, in_targets, in_variables};
-use f77_sites::Replacement;
-use f77_tree::{Expr, Name, Ref};
+use f77_tree::{Expr, Name, Ref, Replacement};
 use mothra_codes::Op;
 use std::alloc::Global;
 

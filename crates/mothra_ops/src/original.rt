@@ -10,8 +10,7 @@ use crate::node_lists::NodeLists;
 use crate::pools::Pools;
 use crate::replacing::gives;
 use f77_check::{CheckFault, Checked};
-use f77_sites::Replacement;
-use f77_tree::Stmt;
+use f77_tree::{Replacement, Stmt};
 use std::alloc::Global;
 
 /// A checked program, with what the operators draw from it.
@@ -25,7 +24,7 @@ pub(crate) struct Original<'a> {
 
 impl<'a> Original<'a> {
     ghost use Rattle.std.specs.Prelude.{◌↔◌, ◌<◌, ◌+◌, ◌^◌, length, map, option_map, IfOk, IfErr, IsTrue};
-    ghost use Rattle.f77_sites.specs.Replacement.{replacement_of};
+    ghost use Rattle.f77_tree.specs.Replacement.{replacement_of};
     ghost use Rattle.f77_tree.specs.Statement.{statement_of};
     ghost use Rattle.mothra_ops.specs.declared.fault.OpsFault.TheVariants.{Memory};
     ghost use Rattle.mothra_ops.specs.code.Edits.{IsMadeBy};

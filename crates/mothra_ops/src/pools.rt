@@ -4,7 +4,7 @@ ghost use Rattle.std.specs.Prelude.{◌≡◌, not, is_some, map, filter, IfOk, 
 ghost use Rattle.std.specs.List.{filter_map};
 ghost use Rattle.indexmap.specs.IndexMap.{keys};
 ghost use Rattle.f77_tree.specs.Comparing.{same_tree};
-ghost use Rattle.f77_nodes.specs.Node.{node_of};
+ghost use Rattle.f77_tree.specs.Node.{node_of};
 ghost use Rattle.f77_program.specs.Program.{line_of};
 ghost use Rattle.f77_tree.specs.Statement.{statement_of};
 ghost use Rattle.f77_tree.specs.View.{tree_of};
@@ -21,9 +21,8 @@ use crate::fault::{OpsFault, memory_fault};
 use crate::places::is_element;
 use f77_check::Checked;
 use f77_legal::Names;
-use f77_nodes::{Node, nodes};
 use f77_program::Line;
-use f77_tree::{Expr, Form, Name, Ref, Shared, Stmt};
+use f77_tree::{Expr, Form, Name, Node, Ref, Shared, Stmt, nodes};
 use std::alloc::Global;
 
 /// What the operators draw from: the names of a program with their kinds and bounds, its scalars and arrays, its array

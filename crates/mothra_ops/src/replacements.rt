@@ -1,16 +1,15 @@
 //! Lists of what operators put in the place of nodes, as nodes.
 
 ghost use Rattle.std.specs.Prelude.{◌≡◌, map, IfOk, IfErr};
-ghost use Rattle.f77_nodes.specs.Node.{NodeOf};
+ghost use Rattle.f77_tree.specs.Node.{NodeOf};
 ghost use Rattle.f77_tree.specs.View.{tree_of};
-ghost use Rattle.f77_sites.specs.Replacement.{replacement_of};
+ghost use Rattle.f77_tree.specs.Replacement.{replacement_of};
 ghost use Rattle.mothra_ops.specs.Pools.{as_tree, reference_of};
 ghost use Rattle.mothra_ops.specs.Replacements.{as_target, as_variable};
 ghost use Rattle.mothra_ops.specs.declared.fault.OpsFault.TheVariants.{Memory};
 
 use crate::fault::OpsFault;
-use f77_sites::Replacement;
-use f77_tree::{Constant, Expr, Ref, Value};
+use f77_tree::{Constant, Expr, Ref, Replacement, Value};
 use std::alloc::Global;
 
 /// References as expressions.

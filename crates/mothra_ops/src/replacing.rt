@@ -2,8 +2,8 @@
 
 ghost use Rattle.std.specs.Prelude.{◌≡◌, ◌∷◌, [], not, map, if◌then◌else◌, IfOk, IfErr};
 ghost use Rattle.f77_tree.specs.Statement.{same_statement, statement_of};
-ghost use Rattle.f77_nodes.specs.Node.{NodeOf, node_of};
-ghost use Rattle.f77_sites.specs.Replacement.{replacement_of};
+ghost use Rattle.f77_tree.specs.Node.{NodeOf, node_of};
+ghost use Rattle.f77_tree.specs.Replacement.{replacement_of};
 ghost use Rattle.mothra_ops.specs.Pools.{PoolFields, pool_fields};
 ghost use Rattle.mothra_ops.specs.Replacements as model;
 ghost use Rattle.mothra_ops.specs.declared.fault.OpsFault.TheVariants.{Memory};
@@ -14,9 +14,7 @@ use crate::in_places::{in_target, in_variable};
 use crate::pools::{Pools, is_executable};
 use crate::replacements::{in_labels, in_parts, in_values};
 use crate::statements::{acts, acts_or_continues, next_constants, other_labels};
-use f77_nodes::Node;
-use f77_sites::Replacement;
-use f77_tree::{Form, Stmt, Value};
+use f77_tree::{Form, Node, Replacement, Stmt, Value};
 use mothra_codes::Op;
 use std::alloc::Global;
 

@@ -1,7 +1,6 @@
 //! Sites.
 
-use f77_nodes::Node;
-use f77_tree::Stmt;
+use f77_tree::{Node, Stmt};
 
 /// A node of a statement of a program, in the place of which an operator puts others.
 #[derive(Clone, Copy, Drop)]

@@ -3,7 +3,7 @@ use Rattle.std.specs.Prelude.{◌≡◌, Contains, ℕ, ℤ, List, Some, Ok, sli
 use Rattle.f77_actions.specs.declared.action.Action.{Action}
 use Rattle.f77_actions.specs.declared.expression.Element.{Element}
 use Rattle.f77_actions.specs.declared.resolved.Resolved.{Resolved}
-use Rattle.f77_values.specs.declared.value.Value.{Value}
+use Rattle.f77_actions.specs.declared.value.Value.{Value}
 use Rattle.f77_code.specs.declared.control.Place.{Place}
 use Rattle.f77_code.specs.Evaluation.{slot_in}
 use Rattle.f77_code.specs.Moves.{Cells, TurnList, State, Move, Goes, Ends, state, go_on, acted, passing_at, moved}

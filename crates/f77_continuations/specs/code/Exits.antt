@@ -2,8 +2,8 @@
 use Rattle.std.specs.Prelude.{◌≡◌, ℕ, suc, if◌then◌else◌, nat_lt, List, length, ℤ, pos, Result, Ok}
 use Rattle.f77_actions.specs.declared.action.Action.{Action, ComputedGoto, ArithmeticIf, LogicalIf'}
 use Rattle.f77_actions.specs.declared.resolved.Resolved.{Resolved}
-use Rattle.f77_values.specs.declared.finish.Fault.{Fault}
-use Rattle.f77_values.specs.Value.{given}
+use Rattle.f77_actions.specs.declared.finish.Fault.{Fault}
+use Rattle.f77_actions.specs.Value.{given}
 use Rattle.f77_code.specs.Choice.{by_sign}
 use Rattle.f77_code.specs.Evaluation.{number_in, truth_in}
 use Rattle.f77_code.specs.Moves.{Cells, TurnList, Move, acted, jump_chosen, without}

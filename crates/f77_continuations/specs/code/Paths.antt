@@ -2,7 +2,7 @@
 -- Private functions and proofs alone cite what stands here.
 use Rattle.std.specs.Prelude.{◌≡◌, ℕ, List, Some}
 use Rattle.f77_actions.specs.declared.resolved.Resolved.{Resolved}
-use Rattle.f77_values.specs.declared.finish.Finish.TheVariants as finish
+use Rattle.f77_actions.specs.declared.finish.Finish.TheVariants as finish
 use Rattle.f77_code.specs.declared.control.Place.TheVariants.{Execute}
 use Rattle.f77_code.specs.Moves.{Cells, TurnList, Move, Goes, Ends, state, moved}
 use Rattle.f77_equivalence.specs.Alike.{AgreeBut}

@@ -5,7 +5,7 @@ use Rattle.f77_actions.specs.declared.expression.Condition.{Condition}
 use Rattle.f77_actions.specs.declared.expression.Element.{Element}
 use Rattle.f77_actions.specs.declared.expression.Number.{Number}
 use Rattle.f77_actions.specs.declared.resolved.Resolved.{Resolved}
-use Rattle.f77_values.specs.declared.finish.Finish.TheVariants.{Failed}
+use Rattle.f77_actions.specs.declared.finish.Finish.TheVariants.{Failed}
 use Rattle.f77_code.specs.Evaluation.{slot_in, number_in, truth_in}
 use Rattle.f77_code.specs.Moves.{Cells, TurnList, Move, Ends, go_on, acted}
 use Rattle.f77_facts.specs.declared.facts.Fact.{Fact}

@@ -2,7 +2,7 @@
 use Rattle.std.specs.Prelude.{◌≡◌, ℕ, Bool, List, [], Vec, slice_get}
 use Rattle.std.specs.Option.{option_map_or}
 use Rattle.std.specs.declared.alloc.Global.{Global}
-use Rattle.f77_values.specs.declared.finish.Finish.TheVariants.{Failed}
+use Rattle.f77_actions.specs.declared.finish.Finish.TheVariants.{Failed}
 use Rattle.f77_code.specs.declared.control.Place.{Place}
 use Rattle.f77_code.specs.declared.control.Place.TheVariants.{Execute, Increment}
 use Rattle.f77_code.specs.Moves.{Cells, Move, Goes, Ends, state}

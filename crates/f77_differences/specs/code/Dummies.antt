@@ -1,7 +1,7 @@
 -- Dummy arguments that hold the same in both programs.
 use Rattle.std.specs.Prelude.{◌≡◌, ◌<◌, ◌+◌, ℕ, Bool, false, List, Some, slice_get}
 use Rattle.f77_check.specs.declared.checked.Shape.{Shape}
-use Rattle.f77_run.specs.Spans.{size_of}
+use Rattle.f77_meaning.specs.Spans.{size_of}
 use Rattle.f77_differences.specs.code.Marks.{is_marked}
 
 -- no slot of the dummy argument n is marked

@@ -1,7 +1,7 @@
 -- Slots that may differ in two programs: a mark for each of them.
 use Rattle.std.specs.Prelude.{◌≡◌, ℕ, Bool, false, true, List, length, Some, slice_get, slice_set}
 use Rattle.std.specs.Option.{option_map_or}
-use Rattle.f77_values.specs.declared.value.Value.{Value}
+use Rattle.f77_actions.specs.declared.value.Value.{Value}
 use Rattle.f77_code.specs.Evaluation.{held_in}
 use Rattle.f77_code.specs.Moves.{Cells}
 use Rattle.f77_facts.specs.declared.reaching.Reach.{Reach}

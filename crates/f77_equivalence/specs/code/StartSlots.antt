@@ -5,7 +5,7 @@ use Rattle.f77_tree.specs.declared.data.Constant.{Constant}
 use Rattle.f77_tree.specs.declared.tree.Kind.{Kind}
 use Rattle.f77_check.specs.Checked.{CheckedFields}
 use Rattle.f77_check.specs.declared.checked.Shape.{Shape}
-use Rattle.f77_values.specs.declared.value.Value.{Value}
+use Rattle.f77_actions.specs.declared.value.Value.{Value}
 use Rattle.f77_code.specs.declared.control.Place.TheVariants.{Execute}
 use Rattle.f77_facts.specs.declared.entries.Entry.{Entry}
 use Rattle.f77_facts.specs.declared.facts.Fact.{Fact}
@@ -13,11 +13,11 @@ use Rattle.f77_facts.specs.declared.loops.LoopFact.{LoopFact}
 use Rattle.f77_facts.specs.declared.loops.LoopFact.TheVariants.{Inactive}
 use Rattle.f77_facts.specs.Facts.{SuitsFact, AreIn}
 use Rattle.f77_facts.specs.Loops.{AreLeft}
-use Rattle.f77_run.specs.declared.argument.Arg.{Arg}
-use Rattle.f77_run.specs.Interpreter.{AreFitting}
-use Rattle.f77_run.specs.Spans.{size_of}
-use Rattle.f77_run.specs.Start.{constant_value}
-use Rattle.f77_run.specs.code.Typed.{has_kind}
+use Rattle.f77_meaning.specs.declared.argument.Arg.{Arg}
+use Rattle.f77_meaning.specs.Interpreter.{AreFitting}
+use Rattle.f77_meaning.specs.Spans.{size_of}
+use Rattle.f77_meaning.specs.Start.{constant_value}
+use Rattle.f77_meaning.specs.code.Typed.{has_kind}
 use Rattle.f77_equivalence.specs.Start.{start_cells, start_turns}
 use Rattle.f77_equivalence.specs.Storable.{is_storable, AreStorable}
 

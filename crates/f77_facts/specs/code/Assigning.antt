@@ -1,6 +1,6 @@
 -- What is known after an assignment.
 use Rattle.std.specs.Prelude.{◌≤◌, ◌<◌, ℕ, List, Some, slice_set}
-use Rattle.f77_values.specs.declared.value.Value.{Value}
+use Rattle.f77_actions.specs.declared.value.Value.{Value}
 use Rattle.f77_code.specs.Moves.{Cells}
 use Rattle.f77_facts.specs.declared.facts.Fact.{Fact}
 use Rattle.f77_facts.specs.declared.reaching.Reach.{Reach}

@@ -7,8 +7,8 @@ use Rattle.f77_actions.specs.declared.expression.Condition.{Condition}
 use Rattle.f77_actions.specs.declared.expression.Element.{Element}
 use Rattle.f77_actions.specs.declared.expression.Number.{Number}
 use Rattle.f77_actions.specs.declared.resolved.Resolved.{Resolved}
-use Rattle.f77_values.specs.declared.value.Value.TheVariants as held
-use Rattle.f77_values.specs.Number.{trip_count}
+use Rattle.f77_actions.specs.declared.value.Value.TheVariants as held
+use Rattle.f77_actions.specs.Number.{trip_count}
 use Rattle.f77_code.specs.declared.control.Place.TheVariants.{Execute}
 use Rattle.f77_code.specs.Evaluation.{number_in, truth_in}
 use Rattle.f77_code.specs.Moves.{Cells, TurnList, Goes, state, go_on, jump_to, passing_at, acted}

@@ -1,8 +1,8 @@
 -- Which slots a reference may name.
 -- Private functions and proofs alone cite what stands here.
 use Rattle.std.specs.Prelude.{ℕ, Option, None, Result, Ok, Err}
-use Rattle.f77_values.specs.declared.finish.Fault.{Fault}
-use Rattle.f77_values.specs.declared.value.Value.{Value}
+use Rattle.f77_actions.specs.declared.finish.Fault.{Fault}
+use Rattle.f77_actions.specs.declared.value.Value.{Value}
 use Rattle.f77_code.specs.Evaluation.{held_in}
 use Rattle.f77_code.specs.Moves.{Cells}
 

@@ -6,7 +6,7 @@ use Rattle.std.specs.Option.{option_map_or}
 use Rattle.std.specs.Str.{bytes_eq}
 use Rattle.indexmap.specs.IndexMap.{get}
 use Rattle.f77_tree.specs.Intrinsic.{function_named}
-use Rattle.f77_nodes.specs.Node.{NodeOf, node_name}
+use Rattle.f77_tree.specs.Node.{NodeOf, node_name}
 use Rattle.f77_tree.specs.declared.tree.Kind.{Kind}
 use Rattle.f77_tree.specs.declared.tree.Kind.TheVariants.{Integer}
 use Rattle.f77_legal.specs.declared.names.Names.{Names}

@@ -3,7 +3,7 @@ use Rattle.std.specs.Prelude.{◌≡◌, ◌≢◌, ℕ, List, Some, slice_get, 
 use Rattle.f77_actions.specs.declared.resolved.Resolved.{Resolved}
 use Rattle.f77_run.specs.declared.effect.Effect.{Effect}
 use Rattle.f77_run.specs.declared.effect.Effect.TheVariants.{Stores, GoesOn, Jumps, Skips, Begins, Returns, Stops}
-use Rattle.f77_values.specs.declared.finish.Finish.TheVariants as finish
+use Rattle.f77_actions.specs.declared.finish.Finish.TheVariants as finish
 use Rattle.f77_code.specs.declared.control.Place.TheVariants.{Execute}
 use Rattle.f77_code.specs.Moves.{Cells, TurnList, Move, Goes, Ends, state, go_on, jump_to, begun}
 

@@ -1,8 +1,8 @@
 -- The values of dummy arguments that an outcome tells. Private functions and proofs alone cite what stands here.
 use Rattle.std.specs.Prelude.{List, Option, None, Some}
-use Rattle.f77_run.specs.declared.argument.Arg.{Arg}
-use Rattle.f77_run.specs.declared.outcome.Outcome.{Outcome}
-use Rattle.f77_run.specs.declared.outcome.Outcome.TheVariants.{Returned, Stopped}
+use Rattle.f77_meaning.specs.declared.argument.Arg.{Arg}
+use Rattle.f77_meaning.specs.declared.outcome.Outcome.{Outcome}
+use Rattle.f77_meaning.specs.declared.outcome.Outcome.TheVariants.{Returned, Stopped}
 
 -- of a run that returned or stopped
 abbrev pub values_told : Outcome → Option (List Arg)

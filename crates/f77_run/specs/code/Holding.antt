@@ -1,9 +1,9 @@
 -- Arguments that stand in the slots of their dummy arguments.
 use Rattle.std.specs.Prelude.{⊤, ◌≡◌, ℕ, List, [], ◌∷◌, length, map, Some}
-use Rattle.f77_run.specs.declared.argument.Arg.{Arg}
-use Rattle.f77_run.specs.Interpreter.{values_in}
+use Rattle.f77_meaning.specs.declared.argument.Arg.{Arg}
+use Rattle.f77_meaning.specs.Interpreter.{values_in}
 use Rattle.f77_code.specs.Moves.{Cells}
-use Rattle.f77_run.specs.code.Spans.{span}
+use Rattle.f77_meaning.specs.code.Spans.{span}
 
 -- the slots from this one on hold the elements of an argument
 abbrev pub IsHeld : Cells → ℕ → Arg → Type 0

@@ -6,17 +6,17 @@ use Rattle.f77_legal.specs.Legal.{IsLegal}
 use Rattle.f77_check.specs.Checked.{CheckedFields, IsChecked}
 use Rattle.f77_check.specs.Resolved.{AreResolved}
 use Rattle.f77_actions.specs.declared.resolved.Resolved.{Resolved}
-use Rattle.f77_run.specs.declared.argument.Arg.{Arg}
+use Rattle.f77_meaning.specs.declared.argument.Arg.{Arg}
 use Rattle.f77_run.specs.declared.changed.Change.{Change}
 use Rattle.f77_run.specs.declared.visits.Visit.{Visit}
 use Rattle.f77_run.specs.Changed.{changed_fields, changed_program}
-use Rattle.f77_run.specs.Interpreter.{AreFitting, values_in}
-use Rattle.f77_run.specs.Reached.{AreSameBut}
-use Rattle.f77_run.specs.Running.{RunSite}
-use Rattle.f77_run.specs.Site.{site_of}
-use Rattle.f77_run.specs.Start.{start_values}
-use Rattle.f77_run.specs.Step.{Config, config, Execute}
-use Rattle.f77_run.specs.Together.{DoesAlikeFrom}
+use Rattle.f77_meaning.specs.Interpreter.{AreFitting, values_in}
+use Rattle.f77_meaning.specs.Reached.{AreSameBut}
+use Rattle.f77_meaning.specs.Running.{RunSite}
+use Rattle.f77_meaning.specs.Site.{site_of}
+use Rattle.f77_meaning.specs.Start.{start_values}
+use Rattle.f77_meaning.specs.Step.{Config, config, Execute}
+use Rattle.f77_meaning.specs.Together.{DoesAlikeFrom}
 use Rattle.f77_run.specs.Visits.{config_in}
 
 -- a checked program, the values of its dummy arguments, the changed program, and the statement that is another there

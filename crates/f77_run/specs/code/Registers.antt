@@ -6,17 +6,17 @@ use Rattle.f77_tree.specs.declared.tree.Kind.{Kind}
 use Rattle.f77_tree.specs.declared.tree.Kind.TheVariants.{Integer, Logical}
 use Rattle.f77_actions.specs.declared.resolved.Resolved.{Resolved}
 use Rattle.f77_check.specs.Checked.{CheckedFields}
-use Rattle.f77_values.specs.declared.finish.Fault.{Fault}
-use Rattle.f77_values.specs.declared.value.Value.{Value}
-use Rattle.f77_values.specs.declared.value.Value.TheVariants as held
-use Rattle.f77_values.specs.Number.{fits, is_same}
-use Rattle.f77_values.specs.Told.{coded, is_fitting}
+use Rattle.f77_actions.specs.declared.finish.Fault.{Fault}
+use Rattle.f77_actions.specs.declared.value.Value.{Value}
+use Rattle.f77_actions.specs.declared.value.Value.TheVariants as held
+use Rattle.f77_actions.specs.Number.{fits, is_same}
+use Rattle.f77_actions.specs.Told.{coded, is_fitting}
 use Rattle.f77_code.specs.declared.constants.Constants.{Constants}
 use Rattle.f77_code.specs.declared.control.Turn.{Turn}
 use Rattle.f77_code.specs.Holds.{Plan, read_as}
 use Rattle.f77_code.specs.Moves.{Cells, TurnList, is_loop}
 use Rattle.f77_code.specs.Registers.{are_held, told_by_register}
-use Rattle.f77_run.specs.Start.{constant_value}
+use Rattle.f77_meaning.specs.Start.{constant_value}
 use Rattle.f77_run.specs.declared.registers.Registers.{Registers}
 
 -- slots of these kinds, and behind them the constants of a table

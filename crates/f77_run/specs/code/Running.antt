@@ -1,68 +1,28 @@
--- A state, and a machine, in a run of a program: where it stands is what the run comes to.
+-- A machine in a run of a program, and code at the start of one.
 -- Private functions and proofs alone cite what stands here.
-use Rattle.std.specs.Prelude.{◌≡◌, ◌≢◌, ◌≤◌, ◌<◌, ◌+◌, ℕ, suc, true, None, List, length}
-use Rattle.std.specs.List.{list_any}
-use Rattle.std.specs.Str.{bytes_eq}
-use Rattle.f77_program.specs.Program.{LineFields, IsProgram}
-use Rattle.f77_tree.specs.declared.tree.Kind.{Kind}
-use Rattle.f77_legal.specs.Heading.{dummies}
-use Rattle.f77_legal.specs.Legal.{IsLegal}
-use Rattle.f77_legal.specs.Names.{Symbol, bounds_of, kind_of}
-use Rattle.f77_check.specs.Resolved.{AreResolved}
-use Rattle.f77_check.specs.Slots.{slot_count, slot_kinds}
+use Rattle.std.specs.Prelude.{◌≡◌, ◌<◌, ◌+◌, ℕ, suc, List, length}
 use Rattle.f77_actions.specs.declared.resolved.Resolved.{Resolved}
-use Rattle.f77_values.specs.declared.finish.Finish.{Finish}
-use Rattle.f77_values.specs.declared.finish.Finish.TheVariants.{StepLimit}
 use Rattle.f77_run.specs.declared.machine.Machine.{Machine}
-use Rattle.f77_run.specs.Control.{Comes}
-use Rattle.f77_run.specs.Machine.{config_of, values_of}
 use Rattle.f77_run.specs.code.Machine.{state_of}
+use Rattle.f77_meaning.specs.code.InRun.{IsRunningIn, StateOfRun, kinds_at, stands_for, values_at}
 use Rattle.f77_code.specs.declared.code.Code.{Code}
 use Rattle.f77_code.specs.declared.control.Place.{Place}
 use Rattle.f77_code.specs.declared.instruction.Instruction.{Instruction}
 use Rattle.f77_code.specs.Block.{code_after}
-use Rattle.f77_code.specs.Moves.{Cells, State}
 use Rattle.f77_code.specs.Operation.{Point}
 use Rattle.f77_code.specs.Program.{IsCode}
 use Rattle.f77_run.specs.code.Registers.{AreLoaded, counters_of}
-use Rattle.f77_run.specs.code.Typed.{IsTyped}
+use Rattle.f77_meaning.specs.code.Typed.{IsTyped}
 use Rattle.f77_run.specs.declared.registers.Registers.{Registers}
-use Rattle.f77_run.specs.Outcome.{IsOutcome}
-use Rattle.f77_run.specs.Step.{Config}
-use Rattle.f77_run.specs.Value.{Store}
-use Rattle.f77_run.specs.Running.{RunSite}
+use Rattle.f77_meaning.specs.Step.{Config}
+use Rattle.f77_meaning.specs.Running.{RunSite}
 
--- what the slots, a state and a machine stand for there
-abbrev pub values_at : RunSite → Cells → Store
-values_at at cells = values_of (bounds_of at.program) at.names cells
-
-abbrev pub stands_for : RunSite → State → Config
-stands_for at s = config_of (bounds_of at.program) at.names s
-
+-- what a machine stands for there, and a machine that is in a run
 abbrev pub config_at : RunSite → Machine → Config
 config_at at m = stands_for at (state_of m)
 
--- the kinds of the slots there
-abbrev pub kinds_at : RunSite → List Kind
-kinds_at at = slot_kinds (kind_of at.program) (bounds_of at.program) at.names
-
--- a state in a run, and a machine that is in one
-pub record IsRunningIn (at : RunSite) (statements : List Resolved) (s : State) : Type 0 where
-  pub formed : IsProgram None at.program
-  pub legal : IsLegal at.program
-  pub resolved : AreResolved at.program at.names statements
-  pub cells : length s.cells ≡ slot_count (bounds_of at.program) at.names
-  pub turns : length s.turns ≡ length at.program
-  pub comes : Comes at.program at.given (stands_for at s)
-
 abbrev pub IsRunning : RunSite → List Resolved → Machine → Type 0
 IsRunning at statements m = IsRunningIn at statements (state_of m)
-
--- a state that a run by statements resolved has come to
-pub record StateOfRun : Type 0 where
-  pub site : RunSite
-  pub statements : List Resolved
-  pub state : State
 
 -- The code is at the start of such a run: it is that of the statements, and
 -- the registers and counters have what the slots and the DOs of the state have.
@@ -74,27 +34,6 @@ pub record IsBegun (run : StateOfRun) (code : Code) (start : Place) (registers :
   pub place : start ≡ run.state.place
   pub loaded : AreLoaded (kinds_at run.site) run.state.cells code.constants.values.items registers.items.items
   pub counters : registers.counters.items ≡ counters_of run.statements run.state.turns
-
--- The run from a configuration comes to this end within so many steps, and within those that were
--- made, with these values. Where it meets the limit, they are those behind the steps that were made.
-pub record ComesToEnd (p : List LineFields) (steps : ℕ) (c : Config) (made : ℕ) (finish : Finish)
-    (values : Store) : Type 0 where
-  pub within : made ≤ steps
-  pub ends : IsOutcome p made c finish values
-  pub held : Store
-  pub outcome : IsOutcome p steps c finish held
-  pub told : finish ≢ StepLimit → held ≡ values
-
--- the dummy arguments hold the same
-abbrev pub AgreeOnDummies : List LineFields → Store → Store → Type 0
-AgreeOnDummies p s t = (name : Symbol) → list_any (bytes_eq name) (dummies p) ≡ true → s name ≡ t name
-
--- The same, where slots hold what the dummy arguments hold then.
-pub record ComesToCells (at : RunSite) (steps : ℕ) (c : Config) (made : ℕ) (finish : Finish)
-    (cells : Cells) : Type 0 where
-  pub values : Store
-  pub ends : ComesToEnd at.program steps c made finish values
-  pub dummies : AgreeOnDummies at.program values (values_at at cells)
 
 -- Behind so many instructions the code stands where it stood before, at an instruction.
 pub record CameBack (code : List Instruction) (start : Point) (made : ℕ) : Type 0 where

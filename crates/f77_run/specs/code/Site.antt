@@ -7,8 +7,8 @@ use Rattle.f77_legal.specs.Names.{bounds_of}
 use Rattle.f77_check.specs.Slots.{slot_count}
 use Rattle.f77_code.specs.Moves.{Cells}
 use Rattle.f77_run.specs.code.Registers.{shown_cells}
-use Rattle.f77_run.specs.code.Typed.{IsTyped}
-use Rattle.f77_run.specs.Site.{held}
+use Rattle.f77_meaning.specs.code.Typed.{IsTyped}
+use Rattle.f77_meaning.specs.Site.{held}
 
 -- there are all its slots, and each dummy argument has values
 pub record HoldDummies (checked : CheckedFields) (cells : Cells) : Type 0 where

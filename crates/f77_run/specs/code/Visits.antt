@@ -1,7 +1,7 @@
 -- Where control was in a run: the first times that it came to each statement,
 -- with the states of the machine then. Statements are numbered from 0 here.
 -- Private functions and proofs alone cite what stands here.
-use Rattle.std.specs.Prelude.{◌≡◌, ◌||◌, ℕ, Bool, true, false, List, [], ◌∷◌, ◌++◌, length}
+use Rattle.std.specs.Prelude.{◌≡◌, ℕ, true, false, List, [], ◌∷◌, ◌++◌, length}
 use Rattle.std.specs.List.{All}
 use Rattle.f77_run.specs.declared.visits.Visit.{Visit}
 use Rattle.f77_run.specs.declared.visits.Visited.{Visited}
@@ -19,11 +19,3 @@ pub data Notes (made : ℕ) (now : State) : Visited → Visited → Type 0 where
   kept : {old new : Visited} (visit : Visit)
       → old.more ≡ false → new.more ≡ false → new.visits.items ≡ old.visits.items ++ visit ∷ []
       → visit.made ≡ made → state_in visit ≡ now → Notes made now old new
-
--- control was at the statement
-abbrev pub has_some : List Visit → Bool
-has_some [] = false
-has_some (visit ∷ visits) = true
-
-abbrev pub is_visited : Visited → Bool
-is_visited visited = visited.more || has_some visited.visits.items

@@ -11,7 +11,7 @@ use Rattle.f77_syntax.specs.code.Names.{names_at}
 use Rattle.f77_syntax.specs.code.Declaration.{bound_at}
 use Rattle.f77_syntax.specs.code.Joined.{items_at}
 use Rattle.f77_tree.specs.Name.{cut}
-use Rattle.f77_nodes.specs.Limits.{largest_integer, magnitude}
+use Rattle.f77_tree.specs.Limits.{largest_integer, magnitude}
 use Rattle.f77_syntax.specs.Reading.{◌>>=◌, strip}
 use Rattle.f77_syntax.specs.code.Reading.{tree_after, past_comma}
 use Rattle.f77_tree.specs.Tree.{GroupFields}

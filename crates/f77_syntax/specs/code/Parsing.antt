@@ -2,7 +2,7 @@
 -- Private functions and proofs alone cite what stands here.
 use Rattle.std.specs.Prelude.{◌≡◌, ℕ, ◌<◌, true, false}
 use Rattle.f77_tree.specs.Statement.{Statement}
-use Rattle.f77_nodes.specs.Limits.{most_nodes, statement_constants, statement_nodes}
+use Rattle.f77_tree.specs.Limits.{most_nodes, statement_constants, statement_nodes}
 use Rattle.f77_program.specs.declared.fault.SyntaxFault.{SyntaxFault}
 use Rattle.f77_program.specs.declared.fault.SyntaxFault.TheVariants.{Memory, BadConstant, TooLong}
 

@@ -11,8 +11,8 @@ use Rattle.mothra_app.specs.declared.answer.Ready.{Ready}
 use Rattle.mothra_app.specs.declared.answer.Ready.TheVariants as ready
 use Rattle.mothra_app.specs.declared.fault.Fault.TheVariants.{Bench}
 use Rattle.mothra_bench.specs.Analysis.{IsNoReport, IsReport}
-use Rattle.mothra_bench.specs.declared.fault.BenchFault.{BenchFault}
-use Rattle.mothra_bench.specs.Bench.{BenchFields}
+use Rattle.mothra_verdicts.specs.declared.fault.BenchFault.{BenchFault}
+use Rattle.mothra_verdicts.specs.Bench.{BenchFields}
 use Rattle.mothra_codes.specs.declared.op.Op.{Op}
 use Rattle.mothra_cli.specs.declared.request.Request.{Request}
 use Rattle.mothra_cli.specs.declared.request.Request.TheVariants as command

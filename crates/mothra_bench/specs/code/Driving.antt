@@ -9,13 +9,13 @@ use Rattle.mothra_exchange.specs.Sharing.{MergesWell}
 use Rattle.mothra_exchange.specs.View.{united_view, whole_part}
 use Rattle.mothra_exchange.specs.declared.view.View.{View}
 use Rattle.mothra_ops.specs.Plan.{PlanFields}
-use Rattle.mothra_bench.specs.Bench.{BenchFields}
+use Rattle.mothra_verdicts.specs.Bench.{BenchFields}
 use Rattle.mothra_bench.specs.Feeding.{AreCounts, IsFed}
 use Rattle.mothra_bench.specs.Gathered.{AreVerdicts, row_list, tickets_in}
 use Rattle.mothra_bench.specs.Working.{AreOver}
-use Rattle.mothra_bench.specs.declared.fault.BenchFault.{BenchFault}
-use Rattle.mothra_bench.specs.declared.fault.BenchFault.TheVariants as fault
-use Rattle.mothra_bench.specs.declared.verdict.Row.{Row}
+use Rattle.mothra_verdicts.specs.declared.fault.BenchFault.{BenchFault}
+use Rattle.mothra_verdicts.specs.declared.fault.BenchFault.TheVariants as fault
+use Rattle.mothra_verdicts.specs.declared.verdict.Row.{Row}
 use Rattle.mothra_bench.specs.Driving.{IsWhole, IsNoDrive, WorkerEnd, HasWorked}
 use Rattle.mothra_bench.specs.Driving.{taken_by, all_rows, Run, answer_to, IsThreadRun}
 

@@ -3,14 +3,13 @@ use Rattle.std.specs.Prelude.{◌≡◌, ◌↔◌, ◌≤◌, ⊤, IsTrue, List
 use Rattle.mothra_exchange.specs.Tally.{operator_word}
 use Rattle.mothra_codes.specs.declared.ticket.Ticket.{Ticket}
 use Rattle.mothra_exchange.specs.declared.word.Word.{Word}
-use Rattle.mothra_bench.specs.Bench.{BenchFields}
-use Rattle.mothra_bench.specs.Collecting.{IsDeclared}
+use Rattle.mothra_verdicts.specs.Bench.{BenchFields, IsDeclared}
 use Rattle.mothra_bench.specs.code.RowMap.{ticket_row}
-use Rattle.mothra_bench.specs.declared.fault.BenchFault.{BenchFault}
-use Rattle.mothra_bench.specs.declared.fault.BenchFault.TheVariants as fault
+use Rattle.mothra_verdicts.specs.declared.fault.BenchFault.{BenchFault}
+use Rattle.mothra_verdicts.specs.declared.fault.BenchFault.TheVariants as fault
 use Rattle.mothra_bench.specs.declared.matrix.Entry.{Entry}
 use Rattle.mothra_bench.specs.declared.row_map.RowMap.{RowMap}
-use Rattle.mothra_bench.specs.declared.verdict.Row.{Row}
+use Rattle.mothra_verdicts.specs.declared.verdict.Row.{Row}
 
 -- the entry is made of its ticket's row
 pub record IsEntry (bench : BenchFields) (words : List Word) (map : RowMap) (entry : Entry) : Type 0 where

@@ -2,10 +2,10 @@
 -- Private functions and proofs alone cite what stands here.
 use Rattle.std.specs.Prelude.{◌≡◌, List, [], ◌∷◌, ◌++◌, Option, None, Some, Result, Ok, Err}
 use Rattle.mothra_codes.specs.declared.ticket.Ticket.{Ticket}
-use Rattle.mothra_bench.specs.Bench.{BenchFields}
-use Rattle.mothra_bench.specs.declared.fault.BenchFault.{BenchFault}
+use Rattle.mothra_verdicts.specs.Bench.{BenchFields}
+use Rattle.mothra_verdicts.specs.declared.fault.BenchFault.{BenchFault}
 use Rattle.mothra_bench.specs.declared.gathered.Gathered.{Gathered}
-use Rattle.mothra_bench.specs.declared.verdict.Row.{Row}
+use Rattle.mothra_verdicts.specs.declared.verdict.Row.{Row}
 use Rattle.mothra_bench.specs.Gathered.{IsOwn}
 
 -- the ticket's row came last

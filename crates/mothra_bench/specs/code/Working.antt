@@ -5,12 +5,12 @@ use Rattle.std.specs.Prelude.{Option, None, IfSome, IfNone, MatchOption}
 use Rattle.mothra_codes.specs.declared.ticket.Ticket.{Ticket}
 use Rattle.mothra_exchange.specs.declared.view.View.{View}
 use Rattle.mothra_ops.specs.Plan.{PlanFields}
-use Rattle.mothra_bench.specs.Bench.{BenchFields}
+use Rattle.mothra_verdicts.specs.Bench.{BenchFields}
 use Rattle.mothra_bench.specs.Gathered.{AreVerdicts}
-use Rattle.mothra_bench.specs.Verdict.{HasMutant}
-use Rattle.mothra_bench.specs.declared.fault.BenchFault.{BenchFault}
+use Rattle.mothra_verdicts.specs.Verdict.{HasMutant}
+use Rattle.mothra_verdicts.specs.declared.fault.BenchFault.{BenchFault}
 use Rattle.mothra_bench.specs.declared.gathered.Gathered.{Gathered}
-use Rattle.mothra_bench.specs.declared.verdict.Row.{Row}
+use Rattle.mothra_verdicts.specs.declared.verdict.Row.{Row}
 use Rattle.mothra_bench.specs.Working.{OnlyTook, TookRows, IsNoWork, NamesFirst}
 
 -- the tickets that the pass took: without a fault the plan has them all, and the first fault names the first that it

@@ -2,10 +2,10 @@
 -- Private functions and proofs alone cite what stands here.
 use Rattle.std.specs.Prelude.{◌≡◌, ℕ, List, Option, Some, Vec, map, option_map, slice_get}
 use Rattle.std.specs.declared.alloc.Global.{Global}
-use Rattle.f77_nodes.specs.Node.{NodeOf, node_of, nodes_of}
+use Rattle.f77_tree.specs.Node.{NodeOf, node_of, nodes_of}
 use Rattle.f77_program.specs.Program.{LineFields}
 use Rattle.f77_tree.specs.Statement.{statement_of, Statement}
-use Rattle.f77_nodes.specs.declared.node.Node.{Node}
+use Rattle.f77_tree.specs.declared.node.Node.{Node}
 use Rattle.mothra_ops.specs.Edits.{numbered}
 use Rattle.mothra_ops.specs.declared.site.Site.{Site}
 

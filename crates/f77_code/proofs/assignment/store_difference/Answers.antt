@@ -3,7 +3,7 @@ use Rattle.std.proofs.lemmas.Int.{to_z-of_z}
 use Rattle.f77_actions.specs.declared.expression.Arithmetic.TheVariants as arithmetic
 use Rattle.f77_code.specs.Evaluation.{calculated}
 use Rattle.f77_code.specs.Registers.{register}
-use Rattle.f77_values.specs.Value.{both}
+use Rattle.f77_actions.specs.Value.{both}
 use Rattle.f77_code.proofs.Points.{element_fails, element_put}
 use Rattle.f77_code.proofs.assignment.store_difference.Goals as goal
 

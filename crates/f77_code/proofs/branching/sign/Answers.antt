@@ -2,7 +2,7 @@ use Rattle.std.proofs.Common.{rules, w64, FitsSigned}
 use Rattle.std.proofs.lemmas.Int.{to_z-of_z}
 use Rattle.f77_code.specs.Choice.{by_sign}
 use Rattle.f77_code.specs.Operation.{point}
-use Rattle.f77_values.proofs.Bounds.{at_least, not_least}
+use Rattle.f77_actions.proofs.Bounds.{at_least, not_least}
 use Rattle.f77_code.proofs.Points.{fails, goes}
 use Rattle.f77_code.proofs.branching.sign.Goals as goal
 

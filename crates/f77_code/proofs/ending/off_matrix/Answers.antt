@@ -1,5 +1,5 @@
 use Rattle.std.proofs.lemmas.Int.{to_z-of_z}
-use Rattle.f77_values.proofs.Bounds.{at_least, not_least}
+use Rattle.f77_actions.proofs.Bounds.{at_least, not_least}
 use Rattle.f77_code.proofs.Points.{row_fault, column_fault}
 use Rattle.f77_code.proofs.ending.off_matrix.Goals as goal
 

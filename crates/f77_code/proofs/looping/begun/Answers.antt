@@ -1,7 +1,7 @@
 use Rattle.std.proofs.Common.{◌≡◌, ◌∙◌, pos, rules, sym, w32, FitsSigned}
 use Rattle.std.proofs.lemmas.Int.{to_z-of_z}
-use Rattle.f77_values.specs.declared.finish.Fault.TheVariants.{ZeroStep}
-use Rattle.f77_values.proofs.Bounds.{at_least, not_least, bits_zero, zero_bits, tells_fault}
+use Rattle.f77_actions.specs.declared.finish.Fault.TheVariants.{ZeroStep}
+use Rattle.f77_actions.proofs.Bounds.{at_least, not_least, bits_zero, zero_bits, tells_fault}
 use Rattle.f77_code.specs.Operation.{point, passed}
 use Rattle.f77_code.proofs.Begun.{first_fails, last_fails, step_fails, all_go}
 use Rattle.f77_code.proofs.Points.{begun_none, begun_some}

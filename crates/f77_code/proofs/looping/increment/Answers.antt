@@ -1,6 +1,6 @@
 use Rattle.std.proofs.Common.{◌∙◌, pos, get_or, rules, w32, w64, FitsSigned}
 use Rattle.std.proofs.lemmas.Int.{to_z-of_z}
-use Rattle.f77_values.proofs.Bounds.{at_least, not_least}
+use Rattle.f77_actions.proofs.Bounds.{at_least, not_least}
 use Rattle.f77_code.specs.declared.control.Turn.{Turn}
 use Rattle.f77_code.specs.Operation.{passed}
 use Rattle.f77_code.specs.Registers.{register}

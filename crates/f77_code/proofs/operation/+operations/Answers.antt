@@ -4,8 +4,8 @@ use Rattle.std.proofs.lemmas.Bool.{and_parts}
 use Rattle.std.proofs.lemmas.Int.{to_z-of_z}
 use Rattle.f77_code.specs.Operation.{operation_within, point, ran}
 use Rattle.f77_code.specs.Term.{term_value, term_within}
-use Rattle.f77_values.specs.Number.{is_same}
-use Rattle.f77_values.proofs.Bounds.{at_least, not_least, bits_zero, zero_bits}
+use Rattle.f77_actions.specs.Number.{is_same}
+use Rattle.f77_actions.proofs.Bounds.{at_least, not_least, bits_zero, zero_bits}
 use Rattle.f77_code.proofs.Depth.{depth}
 use Rattle.f77_code.proofs.Points.{fails, goes, zero_next, some_inner}
 use Rattle.f77_code.proofs.operation.+operations.Goals as goal

@@ -1,4 +1,4 @@
-use Rattle.f77_values.specs.Value.{whole}
+use Rattle.f77_actions.specs.Value.{whole}
 use Rattle.f77_conditions.proofs.Kept.{value_kept}
 use Rattle.f77_conditions.proofs.reading.+numbers.Goals as goal
 

@@ -1,6 +1,6 @@
 use Rattle.std.proofs.Common.{length, ap, ◌∙◌}
 use Rattle.std.specs.Prelude.{Ok}
-use Rattle.f77_values.specs.Value.{given}
+use Rattle.f77_actions.specs.Value.{given}
 use Rattle.f77_code.specs.Choice.{by_sign}
 use Rattle.f77_code.specs.Moves.{jump_chosen}
 use Rattle.f77_continuations.specs.code.Exits.{exit_numbered, exit_of}

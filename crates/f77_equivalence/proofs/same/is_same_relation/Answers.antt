@@ -1,7 +1,7 @@
 use Rattle.std.proofs.Common.{subst}
 use Rattle.std.specs.Prelude.{Ok}
 use Rattle.f77_actions.specs.declared.expression.Relation.{Relation}
-use Rattle.f77_values.specs.Value.{both}
+use Rattle.f77_actions.specs.Value.{both}
 use Rattle.f77_code.specs.Evaluation.{compared, number_in}
 use Rattle.f77_equivalence.specs.Same.{Agrees}
 use Rattle.f77_equivalence.proofs.same.is_same_relation.Goals as goal

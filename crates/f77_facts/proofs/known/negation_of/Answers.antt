@@ -1,6 +1,6 @@
 use Rattle.std.proofs.Common.{arith}
 use Rattle.std.proofs.lemmas.Int.{ints}
-use Rattle.f77_values.specs.Number.{negated}
+use Rattle.f77_actions.specs.Number.{negated}
 use Rattle.f77_facts.proofs.Suits.{given_suits}
 use Rattle.f77_facts.proofs.known.negation_of.Goals as goal
 

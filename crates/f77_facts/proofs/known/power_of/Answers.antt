@@ -1,7 +1,7 @@
 use Rattle.std.proofs.Common.{arith, ◌≡◌, ◌∙◌, pos}
 use Rattle.std.specs.Prelude.{◌*ℤ◌}
 use Rattle.std.proofs.lemmas.Int.{ints}
-use Rattle.f77_values.specs.Number.{power}
+use Rattle.f77_actions.specs.Number.{power}
 use Rattle.f77_facts.proofs.Suits.{both_suits, or_left, or_right}
 use Rattle.f77_facts.proofs.Powers.{power_zero, power_one, power_two}
 use Rattle.f77_facts.proofs.known.power_of.Goals as goal

@@ -1,7 +1,7 @@
 use Rattle.std.proofs.Common.{arith}
 use Rattle.std.proofs.lemmas.Int.{ints}
 use Rattle.std.proofs.Common.{subst, inl, inr}
-use Rattle.f77_values.specs.Number.{without_sign}
+use Rattle.f77_actions.specs.Number.{without_sign}
 use Rattle.f77_facts.specs.Known.{IsBetween}
 use Rattle.f77_facts.proofs.Inverses.{of_size, size_above}
 use Rattle.f77_facts.proofs.Refined.{ranged}

@@ -2,7 +2,7 @@ use Rattle.std.proofs.Common.{arith}
 use Rattle.std.proofs.lemmas.Int.{ints}
 use Rattle.std.proofs.Common.{subst}
 use Rattle.std.specs.Prelude.{if◌then◌else◌}
-use Rattle.f77_values.specs.Number.{is_below}
+use Rattle.f77_actions.specs.Number.{is_below}
 use Rattle.f77_facts.specs.Known.{IsBetween}
 use Rattle.f77_facts.proofs.Inverses.{least_le, least_own}
 use Rattle.f77_facts.proofs.narrowing.not_less.Goals as goal

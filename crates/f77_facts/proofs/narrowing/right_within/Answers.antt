@@ -1,6 +1,6 @@
 use Rattle.std.proofs.Common.{subst, sym, ◌∙◌, ◌≡◌}
 use Rattle.std.specs.Prelude.{if◌then◌else◌}
-use Rattle.f77_values.specs.Number.{is_below}
+use Rattle.f77_actions.specs.Number.{is_below}
 use Rattle.f77_facts.specs.Known.{IsBetween}
 use Rattle.f77_facts.proofs.Inverses.{least_swapped, greatest_swapped}
 use Rattle.f77_facts.proofs.narrowing.right_within.Goals as goal

@@ -1,6 +1,6 @@
 use Rattle.std.proofs.Common.{subst, sym}
-use Rattle.f77_values.specs.Number.{in_range, negated, without_sign}
-use Rattle.f77_values.specs.Value.{pushed}
+use Rattle.f77_actions.specs.Number.{in_range, negated, without_sign}
+use Rattle.f77_actions.specs.Value.{pushed}
 use Rattle.f77_code.specs.Evaluation.{calculated, number_in}
 use Rattle.f77_facts.specs.Known.{IsBetween}
 use Rattle.f77_facts.proofs.Refined.{element_limited, operand_within, operands_within, ranged}

@@ -1,4 +1,4 @@
-use Rattle.f77_values.specs.Number.{is_below, is_same}
+use Rattle.f77_actions.specs.Number.{is_below, is_same}
 use Rattle.f77_facts.proofs.Comparisons.{not_not}
 use Rattle.f77_facts.proofs.relations.opposite_of.Goals as goal
 

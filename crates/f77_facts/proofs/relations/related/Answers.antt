@@ -1,4 +1,4 @@
-use Rattle.f77_values.specs.Number.{is_below, is_same}
+use Rattle.f77_actions.specs.Number.{is_below, is_same}
 use Rattle.f77_facts.proofs.Comparisons.{below_lt, not_below_le, not_same_apart, equal_between, not_true}
 use Rattle.f77_facts.proofs.relations.related.Goals as goal
 

@@ -1,7 +1,7 @@
 use Rattle.std.proofs.Common.{not}
 use Rattle.std.specs.Prelude.{Ok, Err}
-use Rattle.f77_values.specs.declared.finish.Fault.TheVariants.{Undefined}
-use Rattle.f77_values.specs.Number.{is_below, is_same}
+use Rattle.f77_actions.specs.declared.finish.Fault.TheVariants.{Undefined}
+use Rattle.f77_actions.specs.Number.{is_below, is_same}
 use Rattle.f77_facts.proofs.Suits.{both_suit_truth, or_swapped}
 use Rattle.f77_facts.proofs.truths.related_of.Goals as goal
 

@@ -1,5 +1,5 @@
 use Rattle.std.proofs.Common.{ℤ, subst, ◌∙◌}
-use Rattle.f77_values.specs.Number.{in_range, negated, without_sign}
+use Rattle.f77_actions.specs.Number.{in_range, negated, without_sign}
 use Rattle.f77_code.specs.Evaluation.{number_in, calculated}
 use Rattle.f77_facts.proofs.Kept.{ok_then}
 use Rattle.f77_facts.proofs.Used.{used_for, both_used}

@@ -3,7 +3,7 @@ use Rattle.std.specs.Prelude.{map}
 use Rattle.std.specs.List.{list_all}
 use Rattle.f77_tree.specs.Data.{data_group_of}
 use Rattle.f77_program.specs.code.Data.{is_group}
-use Rattle.f77_nodes.specs.Names.{has_short_group_names}
+use Rattle.f77_tree.specs.Names.{has_short_group_names}
 use Rattle.f77_program.proofs.data.are_groups.Given as goal
 
 -- the answers rest on the other groups

@@ -3,7 +3,7 @@ use Rattle.std.specs.Prelude.{map}
 use Rattle.std.specs.List.{list_all}
 use Rattle.f77_tree.specs.Declaration.{decl_of}
 use Rattle.f77_program.specs.code.Declaration.{is_decl}
-use Rattle.f77_nodes.specs.Names.{decl_name}
+use Rattle.f77_tree.specs.Names.{decl_name}
 use Rattle.f77_program.proofs.declaration.known.Given as goal
 
 -- what holds of all rests on the other items

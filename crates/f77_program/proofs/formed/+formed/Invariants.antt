@@ -1,7 +1,7 @@
 use Rattle.std.proofs.Common.{◌≡◌, drop}
 use Rattle.std.specs.Prelude.{map}
 use Rattle.f77_program.specs.code.Formed.{all_formed}
-use Rattle.f77_nodes.specs.Names.{all_short_names}
+use Rattle.f77_tree.specs.Names.{all_short_names}
 use Rattle.f77_tree.specs.View.{tree_of, trees}
 use Rattle.f77_program.proofs.formed.+formed.Given as goal
 

@@ -1,9 +1,9 @@
 use Rattle.std.proofs.Common.{◌++◌, ◌∙◌, None, map, sym, ap, replicate}
 use Rattle.std.specs.List.{list_all}
 use Rattle.std.specs.Prelude.{option_map}
-use Rattle.f77_values.specs.Number.{fits}
+use Rattle.f77_actions.specs.Number.{fits}
 use Rattle.f77_run.specs.code.Registers.{counters_of, loaded, values_fit}
-use Rattle.f77_run.specs.Start.{constant_value}
+use Rattle.f77_meaning.specs.Start.{constant_value}
 use Rattle.f77_run.proofs.Answering.{slots_empty}
 use Rattle.f77_run.proofs.compiled.image_of.Goals as goal
 

@@ -3,11 +3,11 @@ use Rattle.std.specs.List.{zip}
 use Rattle.std.specs.Vec.{with_items}
 use Rattle.f77_tree.specs.declared.tree.Kind.{Kind}
 use Rattle.f77_code.specs.declared.control.Place.TheVariants.{Execute}
-use Rattle.f77_run.specs.code.Running.{ComesToCells, stands_for}
-use Rattle.f77_run.specs.code.Spans.{HaveRoom}
+use Rattle.f77_meaning.specs.code.InRun.{ComesToCells, stands_for}
+use Rattle.f77_meaning.specs.code.Spans.{HaveRoom}
 use Rattle.f77_run.proofs.Advancing.{put_back}
 use Rattle.f77_run.proofs.Answering.{shown_dummies, shown_here, shown_told, arguments_begun, slots_empty, start_run, starts_there}
-use Rattle.f77_run.proofs.Beginning.{empty, room}
+use Rattle.f77_meaning.proofs.Beginning.{empty, room}
 use Rattle.f77_run.proofs.Loaded.{loaded_room}
 use Rattle.f77_run.proofs.compiled.same_outcome.Goals as goal
 

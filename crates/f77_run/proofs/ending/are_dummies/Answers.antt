@@ -2,7 +2,7 @@ use Rattle.std.proofs.Common.{◌≡◌, true≢false, sym, ap, subst, ◌∙◌
 use Rattle.std.specs.Bool.{Decides}
 use Rattle.std.specs.List.{zip}
 use Rattle.f77_run.specs.code.Holding.{AreHeld}
-use Rattle.f77_run.specs.Interpreter.{AreFitting}
+use Rattle.f77_meaning.specs.Interpreter.{AreFitting}
 use Rattle.f77_run.proofs.Telling.{dummies_room, dummies_decided, dummies_misfit}
 use Rattle.f77_run.proofs.ending.are_dummies.Goals as goal
 

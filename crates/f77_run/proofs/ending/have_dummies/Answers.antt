@@ -4,8 +4,8 @@ use Rattle.std.specs.List.{zip}
 use Rattle.f77_run.specs.code.Holding.{AreHeld}
 use Rattle.f77_run.specs.code.Registers.{shown_cells}
 use Rattle.f77_run.specs.code.Site.{shown_by}
-use Rattle.f77_run.specs.code.Spans.{HaveRoom}
-use Rattle.f77_run.specs.Interpreter.{AreFitting}
+use Rattle.f77_meaning.specs.code.Spans.{HaveRoom}
+use Rattle.f77_meaning.specs.Interpreter.{AreFitting}
 use Rattle.f77_run.proofs.Loaded.{shown_count}
 use Rattle.f77_run.proofs.Telling.{dummies_room, dummies_decided, dummies_misfit}
 use Rattle.f77_run.proofs.ending.have_dummies.Goals as goal

@@ -1,6 +1,6 @@
 use Rattle.std.proofs.Common.{rules, ◌∙◌, FitsSigned, Some, ap, get_or, pos, sym, true≢false, w32}
 use Rattle.std.proofs.lemmas.Int.{to_z-of_z}
-use Rattle.f77_values.specs.declared.value.Value.TheVariants as held
+use Rattle.f77_actions.specs.declared.value.Value.TheVariants as held
 use Rattle.f77_run.specs.code.Registers.{shown_cells}
 use Rattle.f77_run.proofs.Entered.{one_other}
 use Rattle.f77_run.proofs.Held.{decided_not}

@@ -1,4 +1,4 @@
-use Rattle.f77_values.specs.declared.value.Value.TheVariants as held
+use Rattle.f77_actions.specs.declared.value.Value.TheVariants as held
 use Rattle.f77_run.specs.code.Registers.{shown_cells}
 use Rattle.f77_run.proofs.Entered.{AreSame}
 use Rattle.f77_run.proofs.entering.have_numbers.Given as goal

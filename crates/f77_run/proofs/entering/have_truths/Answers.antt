@@ -1,5 +1,5 @@
 use Rattle.std.proofs.Common.{◌∙◌, false, sym, true≢false}
-use Rattle.f77_values.specs.declared.value.Value.TheVariants as held
+use Rattle.f77_actions.specs.declared.value.Value.TheVariants as held
 use Rattle.f77_run.specs.code.Registers.{shown_cells}
 use Rattle.f77_run.proofs.Entered.{one_other}
 use Rattle.f77_run.proofs.Held.{decided_not}

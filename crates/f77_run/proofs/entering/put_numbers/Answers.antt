@@ -1,7 +1,7 @@
 use Rattle.std.proofs.Common.{rules, ◌+◌, ◌∙◌, FitsSigned, Some, get_or, pos, subst, w32}
 use Rattle.std.specs.Prelude.{slice_set}
 use Rattle.std.proofs.lemmas.Int.{to_z-of_z}
-use Rattle.f77_values.specs.declared.value.Value.TheVariants as held
+use Rattle.f77_actions.specs.declared.value.Value.TheVariants as held
 use Rattle.f77_run.proofs.Entered.{IsChanged, value_put, values_put}
 use Rattle.f77_run.proofs.entering.put_numbers.Goals as goal
 

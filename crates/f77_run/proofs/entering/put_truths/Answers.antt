@@ -1,5 +1,5 @@
 use Rattle.std.proofs.Common.{◌∙◌, false}
-use Rattle.f77_values.specs.declared.value.Value.TheVariants as held
+use Rattle.f77_actions.specs.declared.value.Value.TheVariants as held
 use Rattle.f77_run.proofs.Entered.{value_put, values_put}
 use Rattle.f77_run.proofs.entering.put_truths.Goals as goal
 

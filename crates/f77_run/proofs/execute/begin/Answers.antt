@@ -1,7 +1,7 @@
 use Rattle.std.proofs.Common.{◌≡◌, ◌++◌, pos, to_z, of_z, w32, Some, length, take, drop, slice_set, rules, ap, sym, ◌∙◌}
 use Rattle.f77_code.specs.Moves.{passing_at}
-use Rattle.f77_values.specs.Number.{trip_count}
-use Rattle.f77_values.specs.declared.value.Value.TheVariants as held
+use Rattle.f77_actions.specs.Number.{trip_count}
+use Rattle.f77_actions.specs.declared.value.Value.TheVariants as held
 use Rattle.f77_run.proofs.Steps.{begun_so, written}
 use Rattle.f77_run.proofs.execute.begin.Goals as goal
 

@@ -1,5 +1,5 @@
 use Rattle.std.proofs.Common.{◌≡◌, Some, map, take}
-use Rattle.f77_values.specs.declared.value.Value.TheVariants as held
+use Rattle.f77_actions.specs.declared.value.Value.TheVariants as held
 use Rattle.f77_run.proofs.holding.are_numbers.Given as goal
 
 abbrev pub invariant-loop-place : goal.invariant-loop-place

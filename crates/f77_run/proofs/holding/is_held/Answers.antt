@@ -1,4 +1,4 @@
-use Rattle.f77_values.specs.declared.value.Value.TheVariants as held
+use Rattle.f77_actions.specs.declared.value.Value.TheVariants as held
 use Rattle.f77_run.proofs.Held.{array_held}
 use Rattle.f77_run.proofs.holding.is_held.Goals as goal
 

@@ -1,6 +1,6 @@
 use Rattle.std.proofs.Common.{None, map, ap, ◌∙◌}
 use Rattle.std.specs.Prelude.{option_map, replicate}
-use Rattle.f77_run.specs.Start.{constant_value}
+use Rattle.f77_meaning.specs.Start.{constant_value}
 use Rattle.f77_run.proofs.interpreter.begin.Goals as goal
 
 pub enter-requires : goal.enter-requires

@@ -1,4 +1,4 @@
-use Rattle.f77_run.specs.Site.{site_of}
+use Rattle.f77_meaning.specs.Site.{site_of}
 use Rattle.f77_run.proofs.interpreter.counted_run.Given as goal
 
 abbrev pub ghost-outcome : goal.ghost-outcome

@@ -1,9 +1,9 @@
 use Rattle.std.proofs.Common.{◌≡◌, Some, map, ap, subst, ◌∙◌}
 use Rattle.std.specs.List.{zip}
-use Rattle.f77_run.specs.Interpreter.{AreFitting, values_in}
-use Rattle.f77_run.specs.Spans.{size_of}
-use Rattle.f77_run.specs.code.Spans.{span}
-use Rattle.f77_run.proofs.Beginning.{dummies_within, dummies_hold, dummies_read, both_ok}
+use Rattle.f77_meaning.specs.Interpreter.{AreFitting, values_in}
+use Rattle.f77_meaning.specs.Spans.{size_of}
+use Rattle.f77_meaning.specs.code.Spans.{span}
+use Rattle.f77_meaning.proofs.Beginning.{dummies_within, dummies_hold, dummies_read, both_ok}
 use Rattle.f77_run.proofs.interpreter.dummies.Goals as goal
 
 pub arguments-requires-2-clause-within : goal.arguments-requires-2-clause-within

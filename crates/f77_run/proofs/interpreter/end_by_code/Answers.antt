@@ -3,9 +3,9 @@ use Rattle.f77_actions.specs.declared.resolved.Resolved.{Resolved}
 use Rattle.f77_legal.specs.Names.{kind_of, bounds_of}
 use Rattle.f77_check.specs.Slots.{slot_kinds}
 use Rattle.f77_code.specs.Program.{IsCode}
-use Rattle.f77_run.specs.Running.{RunSite}
+use Rattle.f77_meaning.specs.Running.{RunSite}
 use Rattle.f77_run.specs.code.Running.{IsRunning}
-use Rattle.f77_run.specs.Site.{site_of}
+use Rattle.f77_meaning.specs.Site.{site_of}
 use Rattle.f77_run.proofs.Answering.{slots_counted}
 use Rattle.f77_run.proofs.interpreter.end_by_code.Goals as goal
 

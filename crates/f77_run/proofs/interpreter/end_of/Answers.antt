@@ -1,16 +1,17 @@
 use Rattle.std.proofs.Common.{arith, ◌≡◌, ◌≤◌, ℕ, List, Option, refl, sym, subst}
 use Rattle.std.specs.Prelude.{IfNone, IfSome}
 use Rattle.f77_actions.specs.declared.resolved.Resolved.{Resolved}
-use Rattle.f77_values.specs.declared.finish.Finish.TheVariants.{StepLimit}
-use Rattle.f77_run.specs.Endless.{Reaches}
-use Rattle.f77_run.specs.Running.{RunSite}
-use Rattle.f77_run.specs.code.Running.{ComesToEnd, IsRunning, config_at, values_at}
-use Rattle.f77_run.specs.Site.{site_of}
-use Rattle.f77_run.specs.code.Typed.{IsTyped}
+use Rattle.f77_actions.specs.declared.finish.Finish.TheVariants.{StepLimit}
+use Rattle.f77_meaning.specs.Endless.{Reaches}
+use Rattle.f77_meaning.specs.Running.{RunSite}
+use Rattle.f77_run.specs.code.Running.{IsRunning, config_at}
+use Rattle.f77_meaning.specs.code.InRun.{ComesToEnd, values_at}
+use Rattle.f77_meaning.specs.Site.{site_of}
+use Rattle.f77_meaning.specs.code.Typed.{IsTyped}
 use Rattle.f77_run.specs.declared.running.End.{End}
-use Rattle.f77_run.proofs.Beginning.{ends_typed}
-use Rattle.f77_run.proofs.Endless.{limit_met}
-use Rattle.f77_run.proofs.Walked.{from_there}
+use Rattle.f77_meaning.proofs.Beginning.{ends_typed}
+use Rattle.f77_meaning.proofs.Endless.{limit_met}
+use Rattle.f77_meaning.proofs.Walked.{from_there}
 use Rattle.f77_run.proofs.interpreter.end_of.Goals as goal
 
 pub walk-requires : goal.walk-requires

@@ -3,9 +3,9 @@ use Rattle.std.specs.List.{zip}
 use Rattle.std.proofs.lemmas.List.{length-map}
 use Rattle.f77_program.specs.Program.{line_of}
 use Rattle.f77_code.specs.Moves.{state}
-use Rattle.f77_run.specs.Spans.{all_filled}
+use Rattle.f77_meaning.specs.Spans.{all_filled}
 use Rattle.f77_code.specs.declared.control.Place.TheVariants as places
-use Rattle.f77_run.proofs.Beginning.{filled_cells, room, state_starts, state_runs}
+use Rattle.f77_meaning.proofs.Beginning.{filled_cells, room, state_starts, state_runs}
 use Rattle.f77_run.proofs.interpreter.enter.Goals as goal
 
 pub fill_all-requires : goal.fill_all-requires

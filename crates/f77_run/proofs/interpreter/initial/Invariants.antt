@@ -1,5 +1,5 @@
 use Rattle.std.proofs.Common.{◌≡◌, map, option_map, take}
-use Rattle.f77_run.specs.Start.{constant_value}
+use Rattle.f77_meaning.specs.Start.{constant_value}
 use Rattle.f77_run.proofs.interpreter.initial.Given as goal
 
 abbrev pub invariant-loop-constant : goal.invariant-loop-constant

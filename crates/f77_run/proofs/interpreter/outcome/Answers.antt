@@ -2,11 +2,12 @@ use Rattle.std.proofs.Common.{◌≡◌, map, sym, ap, subst, ◌∙◌}
 use Rattle.f77_program.specs.Program.{line_of}
 use Rattle.f77_legal.specs.Names.{bounds_of}
 use Rattle.f77_check.specs.Slots.{slot_count}
-use Rattle.f77_run.specs.Interpreter.{values_in}
-use Rattle.f77_run.specs.Running.{RunSite}
-use Rattle.f77_run.specs.code.Running.{IsRunning, ComesToCells, config_at}
-use Rattle.f77_run.specs.Site.{site_of}
-use Rattle.f77_run.specs.Start.{IsStart}
+use Rattle.f77_meaning.specs.Interpreter.{values_in}
+use Rattle.f77_meaning.specs.Running.{RunSite}
+use Rattle.f77_run.specs.code.Running.{IsRunning, config_at}
+use Rattle.f77_meaning.specs.code.InRun.{ComesToCells}
+use Rattle.f77_meaning.specs.Site.{site_of}
+use Rattle.f77_meaning.specs.Start.{IsStart}
 use Rattle.f77_run.proofs.Answering.{shown_dummies, shown_made, shown_outcome}
 use Rattle.f77_run.proofs.interpreter.outcome.Goals as goal
 

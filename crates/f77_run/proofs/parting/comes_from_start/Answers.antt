@@ -1,13 +1,13 @@
 use Rattle.std.proofs.Common.{◌≡◌, List, arith, map, subst}
 use Rattle.f77_program.specs.Program.{line_of}
 use Rattle.f77_check.specs.Checked.{CheckedFields}
-use Rattle.f77_run.specs.Interpreter.{values_in}
+use Rattle.f77_meaning.specs.Interpreter.{values_in}
 use Rattle.f77_run.specs.code.Parting.{site_in, start_in}
 use Rattle.f77_run.specs.code.Running.{IsRunning, config_at}
-use Rattle.f77_run.specs.Site.{site_of}
-use Rattle.f77_run.specs.Start.{IsStart}
-use Rattle.f77_run.specs.declared.argument.Arg.{Arg}
-use Rattle.f77_run.proofs.OneAnswer.{one_start}
+use Rattle.f77_meaning.specs.Site.{site_of}
+use Rattle.f77_meaning.specs.Start.{IsStart}
+use Rattle.f77_meaning.specs.declared.argument.Arg.{Arg}
+use Rattle.f77_meaning.proofs.OneAnswer.{one_start}
 use Rattle.f77_run.proofs.Parted.{begins_there, both_start, own_starts}
 use Rattle.f77_run.proofs.parting.comes_from_start.Goals as goal
 

@@ -4,14 +4,15 @@ use Rattle.std.specs.Bool.{Decides}
 use Rattle.f77_program.specs.Program.{line_of}
 use Rattle.f77_actions.specs.declared.resolved.Resolved.{Resolved}
 use Rattle.f77_check.specs.Checked.{CheckedFields}
-use Rattle.f77_run.specs.Endless.{Reaches}
-use Rattle.f77_run.specs.Interpreter.{Tells}
+use Rattle.f77_meaning.specs.Endless.{Reaches}
+use Rattle.f77_meaning.specs.Interpreter.{Tells}
 use Rattle.f77_run.specs.code.Parting.{changed_site, start_in}
-use Rattle.f77_run.specs.code.Running.{ComesToEnd, IsRunning, config_at, values_at}
+use Rattle.f77_run.specs.code.Running.{IsRunning, config_at}
+use Rattle.f77_meaning.specs.code.InRun.{ComesToEnd, values_at}
 use Rattle.f77_run.specs.code.Site.{HoldDummies}
-use Rattle.f77_run.specs.Site.{held}
+use Rattle.f77_meaning.specs.Site.{held}
 use Rattle.f77_run.specs.declared.running.End.{End}
-use Rattle.f77_run.proofs.Endless.{joined}
+use Rattle.f77_meaning.proofs.Endless.{joined}
 use Rattle.f77_run.proofs.Parted.{hold_dummies, told_there}
 use Rattle.f77_run.proofs.parting.comes_from_there.Goals as goal
 

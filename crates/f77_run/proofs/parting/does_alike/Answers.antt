@@ -2,10 +2,10 @@ use Rattle.std.proofs.Common.{◌≡◌, ◌∙◌, Some, length, get_or, refl, 
 use Rattle.std.specs.Prelude.{slice_get}
 use Rattle.std.proofs.lemmas.Option.{slice_get_read}
 use Rattle.f77_actions.specs.declared.resolved.Resolved.{Resolved}
-use Rattle.f77_run.specs.Machine.{placed_in_run}
+use Rattle.f77_meaning.specs.States.{placed_in_run}
 use Rattle.f77_code.specs.Moves.{Cells, acted}
 use Rattle.f77_run.specs.code.Parting.{changed_site, site_in}
-use Rattle.f77_run.specs.Reached.{statement_number}
+use Rattle.f77_meaning.specs.Reached.{statement_number}
 use Rattle.f77_run.proofs.DoingAlike.{there, own_runs, changed_runs, executes_below, executes_small, increments_below, increments_small, executes, names_within}
 use Rattle.f77_run.proofs.DoingAlike.{number_there, executes_alike, increments_alike}
 use Rattle.f77_run.proofs.parting.does_alike.Goals as goal

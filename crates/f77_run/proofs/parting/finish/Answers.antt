@@ -3,12 +3,12 @@ use Rattle.std.specs.Bool.{Decides}
 use Rattle.f77_tree.specs.declared.tree.Kind.{Kind}
 use Rattle.f77_program.specs.Program.{line_of}
 use Rattle.f77_check.specs.Checked.{CheckedFields}
-use Rattle.f77_run.specs.Interpreter.{Tells}
+use Rattle.f77_meaning.specs.Interpreter.{Tells}
 use Rattle.f77_run.specs.code.Parting.{changed_site}
 use Rattle.f77_run.specs.code.Running.{config_at}
 use Rattle.f77_run.specs.code.Registers.{shown_cells}
 use Rattle.f77_run.specs.code.Site.{HoldDummies, shown_by}
-use Rattle.f77_run.specs.Site.{held}
+use Rattle.f77_meaning.specs.Site.{held}
 use Rattle.f77_run.proofs.Answering.{slots_counted}
 use Rattle.f77_run.proofs.Parted.{hold_dummies, kinds_there, told_there, typed_behind}
 use Rattle.f77_run.proofs.parting.finish.Goals as goal

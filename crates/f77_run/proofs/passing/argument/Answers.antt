@@ -2,7 +2,7 @@ use Rattle.std.proofs.Common.{rules, ◌∙◌, ◌∷◌, [], Some, None, ap, m
 use Rattle.std.proofs.lemmas.Int.{to_z-of_z}
 use Rattle.std.proofs.lemmas.Simd.{map-map}
 use Rattle.f77_tree.specs.declared.tree.Kind.TheVariants as kind
-use Rattle.f77_values.specs.declared.value.Value.TheVariants as held
+use Rattle.f77_actions.specs.declared.value.Value.TheVariants as held
 use Rattle.f77_run.proofs.Filled.{array_kind, array_span, variable_kind, variable_span}
 use Rattle.f77_run.proofs.passing.argument.Goals as goal
 

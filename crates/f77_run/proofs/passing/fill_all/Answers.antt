@@ -1,6 +1,6 @@
 use Rattle.std.proofs.Common.{◌∷◌, ◌∙◌, [], length, ap, sym, length-append}
 use Rattle.std.proofs.lemmas.Slice.Zip.{zip_turn, zip_end}
-use Rattle.f77_run.specs.Spans.{all_filled}
+use Rattle.f77_meaning.specs.Spans.{all_filled}
 use Rattle.f77_run.proofs.Pairs.{pair_left, none_left}
 use Rattle.f77_run.proofs.Filled.{argument_put}
 use Rattle.f77_run.proofs.passing.fill_all.Goals as goal

@@ -1,7 +1,7 @@
 use Rattle.std.proofs.Common.{◌≡◌, length, drop}
 use Rattle.std.specs.List.{zip}
-use Rattle.f77_run.specs.code.Spans.{HaveRoom}
-use Rattle.f77_run.specs.Spans.{all_filled}
+use Rattle.f77_meaning.specs.code.Spans.{HaveRoom}
+use Rattle.f77_meaning.specs.Spans.{all_filled}
 use Rattle.f77_run.proofs.passing.fill_all.Given as goal
 
 -- what is filled, with the other arguments

@@ -1,6 +1,6 @@
 use Rattle.std.proofs.Common.{◌≡◌, ◌+◌, length, map, drop}
-use Rattle.f77_values.specs.declared.value.Value.TheVariants as held
-use Rattle.f77_run.specs.Spans.{filled}
+use Rattle.f77_actions.specs.declared.value.Value.TheVariants as held
+use Rattle.f77_meaning.specs.Spans.{filled}
 use Rattle.f77_run.proofs.passing.fill_truths.Given as goal
 
 -- what is filled, with the other slots

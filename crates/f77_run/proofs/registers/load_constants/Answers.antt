@@ -5,7 +5,7 @@ use Rattle.std.proofs.lemmas.Bool.{and_from}
 use Rattle.std.proofs.lemmas.Int.{to_z-of_z}
 use Rattle.std.proofs.lemmas.List.{length-set, take_all}
 use Rattle.std.proofs.lemmas.List.Folds.{list_all_more}
-use Rattle.f77_values.specs.Number.{fits}
+use Rattle.f77_actions.specs.Number.{fits}
 use Rattle.f77_code.specs.Registers.{are_held, is_held}
 use Rattle.f77_code.proofs.Points.{narrow_fits}
 use Rattle.f77_run.proofs.Overwritten.{behind_all, behind_more, behind_none}

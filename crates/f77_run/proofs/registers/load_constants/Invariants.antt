@@ -1,6 +1,6 @@
 use Rattle.std.proofs.Common.{◌≡◌, ◌+◌, ◌++◌, drop, length, take, true}
 use Rattle.std.specs.List.{list_all}
-use Rattle.f77_values.specs.Number.{fits}
+use Rattle.f77_actions.specs.Number.{fits}
 use Rattle.f77_code.specs.Registers.{are_held}
 use Rattle.f77_run.proofs.registers.load_constants.Given as goal
 

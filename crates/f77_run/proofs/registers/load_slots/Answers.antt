@@ -7,7 +7,7 @@ use Rattle.std.proofs.lemmas.List.{length-map, length-set, take_all}
 use Rattle.std.proofs.lemmas.List.Folds.{list_all_more}
 use Rattle.std.proofs.lemmas.Slice.Zip.{get_or-zip, length-zip}
 use Rattle.f77_tree.specs.declared.tree.Kind.TheVariants.{Integer}
-use Rattle.f77_values.specs.Told.{coded, is_fitting}
+use Rattle.f77_actions.specs.Told.{coded, is_fitting}
 use Rattle.f77_code.specs.Holds.{read_as}
 use Rattle.f77_code.specs.Registers.{are_held, is_held}
 use Rattle.f77_run.specs.code.Registers.{loaded}

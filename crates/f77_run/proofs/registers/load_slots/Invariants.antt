@@ -1,6 +1,6 @@
 use Rattle.std.proofs.Common.{◌≡◌, ◌≤◌, ◌++◌, drop, length, take, true}
 use Rattle.std.specs.List.{list_all, zip}
-use Rattle.f77_values.specs.Told.{is_fitting}
+use Rattle.f77_actions.specs.Told.{is_fitting}
 use Rattle.f77_code.specs.Holds.{read_as}
 use Rattle.f77_code.specs.Registers.{are_held}
 use Rattle.f77_run.specs.code.Registers.{loaded}

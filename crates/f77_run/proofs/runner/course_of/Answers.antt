@@ -1,16 +1,13 @@
 use Rattle.std.proofs.Common.{◌≡◌, length, map, sym, ap, subst, ◌∙◌}
 use Rattle.std.proofs.lemmas.List.{length-map}
-use Rattle.f77_program.specs.Program.{line_of}
 use Rattle.f77_legal.specs.Names.{bounds_of}
 use Rattle.f77_check.specs.Slots.{slot_count}
-use Rattle.f77_run.specs.Reached.{AreReached}
-use Rattle.f77_run.specs.Running.{RunSite}
-use Rattle.f77_run.specs.code.Running.{IsRunning, ComesToEnd, config_at, values_at}
-use Rattle.f77_run.specs.Site.{site_of}
+use Rattle.f77_meaning.specs.Running.{RunSite}
+use Rattle.f77_run.specs.code.Running.{IsRunning, config_at}
+use Rattle.f77_meaning.specs.code.InRun.{ComesToEnd, values_at}
+use Rattle.f77_meaning.specs.Site.{site_of}
 use Rattle.f77_run.specs.code.Visits.{AreUnvisited}
-use Rattle.f77_run.specs.Visits.{AreVisited}
-use Rattle.f77_run.proofs.Beginning.{ends_typed}
-use Rattle.f77_run.proofs.Visiting.{visited_reached}
+use Rattle.f77_meaning.proofs.Beginning.{ends_typed}
 use Rattle.f77_run.proofs.runner.course_of.Goals as goal
 
 pub follow-requires : goal.follow-requires
@@ -33,13 +30,3 @@ answer-requires g c =
       count = c.follow.ensures.cells ∙ ap (λ (at : RunSite). slot_count (bounds_of at.program) at.names) at;
       typed = ends_typed c.args.checked.now c.statements-statements.ensures.checked c.args.arguments.now c.requires.1.1 _ c.in_ok-restart.ensures.starts _ _ _ ends.ends;
     }
-
-pub returns-clause-reached : goal.returns-clause-reached
-returns-clause-reached g c =
-    let checked = c.args.checked.now in
-    let at : g.at ≡ site_of checked c.args.arguments.now = c.requires.0 in
-    let site = site_of checked c.args.arguments.now in
-    let visited = subst (λ (at : RunSite). AreVisited at (config_at at c.restart.new.machine) c.args.steps c.follow.new.visits.list.items) at c.in_ok-end.ensures.visited in
-    subst (AreReached (map line_of checked.program) c.args.arguments.now c.args.steps) (sym c.new-reached.ensures)
-    (visited_reached site (config_at site c.restart.new.machine) c.args.arguments.now c.args.steps c.in_ok-restart.ensures.starts c.follow.new.visits.list.items c.in_ok-reached.field-0.items
-    c.in_ok-reached.ensures.reached visited)

@@ -1,5 +1,6 @@
 use Rattle.std.proofs.Common.{◌∙◌, length, sym, ap, subst}
-use Rattle.f77_run.specs.code.Running.{ComesToCells, config_at}
+use Rattle.f77_run.specs.code.Running.{config_at}
+use Rattle.f77_meaning.specs.code.InRun.{ComesToCells}
 use Rattle.f77_run.proofs.running.go.Goals as goal
 
 pub returns-clause-ends : goal.returns-clause-ends

@@ -5,10 +5,11 @@ use Rattle.std.proofs.lemmas.Result.{on_ok_weaker}
 use Rattle.f77_tree.specs.declared.tree.Kind.{Kind}
 use Rattle.f77_legal.specs.Names.{bounds_of}
 use Rattle.f77_check.specs.Slots.{slot_count}
-use Rattle.f77_values.specs.Number.{fits}
+use Rattle.f77_actions.specs.Number.{fits}
 use Rattle.f77_run.specs.code.Machine.{state_of}
 use Rattle.f77_run.specs.code.Registers.{loaded, shown_cells}
-use Rattle.f77_run.specs.code.Running.{ComesToCells, config_at}
+use Rattle.f77_run.specs.code.Running.{config_at}
+use Rattle.f77_meaning.specs.code.InRun.{ComesToCells}
 use Rattle.f77_run.proofs.Going.{long, run_begun}
 use Rattle.f77_run.proofs.running.go_from.Goals as goal
 

@@ -4,7 +4,8 @@ use Rattle.f77_code.specs.Instructions.{place_at}
 use Rattle.f77_code.specs.Operation.{point}
 use Rattle.f77_code.specs.Places.{is_place_among}
 use Rattle.f77_run.specs.code.Registers.{shown_cells}
-use Rattle.f77_run.specs.code.Running.{CameBack, kinds_at}
+use Rattle.f77_run.specs.code.Running.{CameBack}
+use Rattle.f77_meaning.specs.code.InRun.{kinds_at}
 use Rattle.f77_run.proofs.Advancing.{put_back}
 use Rattle.f77_run.proofs.Going.{place_among, within, comes_to_cells, cells_shown, room_shown}
 use Rattle.f77_run.proofs.running.go_on.Goals as goal

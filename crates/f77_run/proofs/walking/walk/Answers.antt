@@ -1,6 +1,6 @@
 use Rattle.std.proofs.Common.{arith, ◌≡◌, ap, subst, ◌∙◌}
 use Rattle.std.specs.Prelude.{Some, Ok}
-use Rattle.f77_run.specs.Endless.{Reaches}
+use Rattle.f77_meaning.specs.Endless.{Reaches}
 use Rattle.f77_run.specs.code.Machine.{move_of}
 use Rattle.f77_run.specs.code.Running.{config_at}
 use Rattle.f77_run.proofs.Runs.{can_move, one_more, ends, are_short, are_within}

@@ -1,9 +1,9 @@
 use Rattle.std.proofs.Common.{◌≡◌, ◌⊎◌, inr, sym, subst, map, Some, Ok, Err, Result, IfSome}
 use Rattle.f77_program.specs.Program.{line_of}
-use Rattle.f77_run.specs.Interpreter.{refusal}
-use Rattle.f77_run.specs.declared.outcome.Outcome.{Outcome}
-use Rattle.f77_run.specs.declared.outcome.RunFault.{RunFault}
-use Rattle.f77_run.specs.declared.outcome.RunFault.TheVariants as fault
+use Rattle.f77_meaning.specs.Interpreter.{refusal}
+use Rattle.f77_meaning.specs.declared.outcome.Outcome.{Outcome}
+use Rattle.f77_meaning.specs.declared.outcome.RunFault.{RunFault}
+use Rattle.f77_meaning.specs.declared.outcome.RunFault.TheVariants as fault
 use Rattle.std.specs.Prelude.{Contains}
 use Rattle.mothra_app.specs.Fault.{of_runs}
 use Rattle.mothra_app.specs.declared.fault.Fault.TheVariants.{Run}

@@ -6,7 +6,7 @@ use Rattle.mothra_app.specs.Fault.{of_legal_programs}
 use Rattle.mothra_app.specs.Program.{IsLegalProgramOf}
 use Rattle.mothra_app.specs.Reporting.{IsPlanOf}
 use Rattle.mothra_app.specs.declared.fault.Fault.TheVariants.{Bench, Ops}
-use Rattle.mothra_bench.specs.Bench.{IsNoBench}
+use Rattle.mothra_verdicts.specs.Bench.{IsNoBench}
 use Rattle.mothra_app.proofs.Reports.{bench_refused, plan_refused, program_refused}
 use Rattle.mothra_app.proofs.Sources.{told}
 use Rattle.mothra_app.proofs.reporting.bench_of.Goals as goal

@@ -6,7 +6,7 @@ use Rattle.mothra_bench.specs.Driving.{IsNoDrive, IsShare, WorkerEnd}
 use Rattle.mothra_bench.specs.Gathered.{AreVerdicts, tickets_in}
 use Rattle.mothra_bench.specs.code.Gathered.{gathered_rows}
 use Rattle.mothra_bench.specs.Working.{AreOver}
-use Rattle.mothra_bench.specs.declared.fault.BenchFault.TheVariants as fault
+use Rattle.mothra_verdicts.specs.declared.fault.BenchFault.TheVariants as fault
 use Rattle.mothra_bench.proofs.driving.join_workers.Given as goal
 
 abbrev pub invariant-loop-worker : goal.invariant-loop-worker

@@ -1,7 +1,7 @@
 use Rattle.std.proofs.Common.{◌≡◌, ◌⊎◌, ◌∙◌, ◌++◌, inl, inr, sym, ap, ap₂, refl, List, [], ◌∷◌, ℕ, Some, Result, Ok, Err, map}
 use Rattle.serde_json.specs.Data.{Data}
 use Rattle.serde_json.specs.View.{view}
-use Rattle.f77_run.specs.declared.argument.Arg.{Arg}
+use Rattle.f77_meaning.specs.declared.argument.Arg.{Arg}
 use Rattle.mothra_job.specs.Equivalent.{tickets_named, entry_faults}
 use Rattle.mothra_job.specs.FirstFault.{fault_or}
 use Rattle.mothra_job.specs.Job.{JobFields, JobRead, job_with, list_faults}

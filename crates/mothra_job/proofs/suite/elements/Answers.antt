@@ -1,7 +1,7 @@
 use Rattle.std.proofs.Common.{◌≡◌, ◌∙◌, ◌==◌, refl, sym, ℤ, length, false, true≢false, List, [], ◌∷◌, Some}
 use Rattle.serde_json.specs.View.{items_view}
 use Rattle.serde_json.specs.declared.value.Value.{Value}
-use Rattle.f77_run.specs.declared.argument.Arg.TheVariants.{Ints}
+use Rattle.f77_meaning.specs.declared.argument.Arg.TheVariants.{Ints}
 use Rattle.mothra_job.specs.Suite.{each, array_of_items, integer}
 use Rattle.mothra_job.proofs.suite.elements.Goals as goal
 

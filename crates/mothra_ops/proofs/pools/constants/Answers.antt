@@ -3,7 +3,7 @@ use Rattle.std.specs.Prelude.{option_map}
 use Rattle.std.specs.Borrow.{Bor}
 use Rattle.std.specs.List.{list_any}
 use Rattle.f77_tree.specs.Comparing.{same_tree}
-use Rattle.f77_nodes.specs.Node.{node_of}
+use Rattle.f77_tree.specs.Node.{node_of}
 use Rattle.f77_tree.specs.SameTrees.{tree_equiv}
 use Rattle.f77_tree.specs.View.{tree_of}
 use Rattle.f77_tree.specs.declared.tree.Expr.{Expr}

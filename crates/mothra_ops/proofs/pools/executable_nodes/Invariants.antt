@@ -1,5 +1,5 @@
 use Rattle.std.proofs.Common.{◌≡◌, map, take}
-use Rattle.f77_nodes.specs.Node.{node_of}
+use Rattle.f77_tree.specs.Node.{node_of}
 use Rattle.f77_program.specs.Program.{line_of}
 use Rattle.mothra_ops.specs.Pools as model
 use Rattle.mothra_ops.proofs.pools.executable_nodes.Given as goal

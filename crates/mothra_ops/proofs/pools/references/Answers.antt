@@ -2,7 +2,7 @@ use Rattle.std.proofs.Common.{◌≡◌, sym, ap, ◌∙◌, None}
 use Rattle.std.specs.Prelude.{option_map}
 use Rattle.std.specs.Borrow.{Bor}
 use Rattle.std.specs.List.{list_any}
-use Rattle.f77_nodes.specs.Node.{node_of}
+use Rattle.f77_tree.specs.Node.{node_of}
 use Rattle.f77_tree.specs.declared.tree.Ref.{Ref}
 use Rattle.mothra_ops.specs.Pools as model
 use Rattle.mothra_ops.specs.Pools.{same_reference}

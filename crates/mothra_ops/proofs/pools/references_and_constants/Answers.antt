@@ -1,7 +1,7 @@
 use Rattle.std.proofs.Common.{map, ap, ◌∙◌}
 use Rattle.std.specs.List.{filter_map}
 use Rattle.f77_tree.specs.Comparing.{same_tree}
-use Rattle.f77_nodes.specs.Node.{node_of}
+use Rattle.f77_tree.specs.Node.{node_of}
 use Rattle.mothra_ops.specs.Pools.{each_once, same_reference, array_reference, constant}
 use Rattle.mothra_ops.proofs.pools.references_and_constants.Goals as goal
 

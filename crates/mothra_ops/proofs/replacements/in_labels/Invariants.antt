@@ -1,6 +1,6 @@
 use Rattle.std.proofs.Common.{◌≡◌, map}
-use Rattle.f77_nodes.specs.Node.{NodeOf}
-use Rattle.f77_sites.specs.Replacement.{replacement_of}
+use Rattle.f77_tree.specs.Node.{NodeOf}
+use Rattle.f77_tree.specs.Replacement.{replacement_of}
 use Rattle.mothra_ops.proofs.replacements.in_labels.Given as goal
 
 abbrev pub invariant-loop-label : goal.invariant-loop-label

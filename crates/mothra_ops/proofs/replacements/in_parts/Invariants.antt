@@ -1,7 +1,7 @@
 use Rattle.std.proofs.Common.{◌≡◌, map}
-use Rattle.f77_nodes.specs.Node.{NodeOf}
+use Rattle.f77_tree.specs.Node.{NodeOf}
 use Rattle.f77_tree.specs.View.{tree_of}
-use Rattle.f77_sites.specs.Replacement.{replacement_of}
+use Rattle.f77_tree.specs.Replacement.{replacement_of}
 use Rattle.mothra_ops.proofs.replacements.in_parts.Given as goal
 
 abbrev pub invariant-loop-expr : goal.invariant-loop-expr

@@ -1,6 +1,6 @@
 use Rattle.std.proofs.Common.{map, ◌++◌, ◌∷◌, [], ap, sym, ◌∙◌}
 use Rattle.std.proofs.lemmas.List.{map-append}
-use Rattle.f77_sites.specs.Replacement.{replacement_of}
+use Rattle.f77_tree.specs.Replacement.{replacement_of}
 use Rattle.mothra_ops.specs.Pools.{reference_of}
 use Rattle.mothra_ops.specs.Replacements.{as_variable}
 use Rattle.mothra_ops.proofs.Elements.{named}

@@ -1,6 +1,6 @@
 use Rattle.std.proofs.Common.{ap, sym, ◌∙◌}
 use Rattle.std.proofs.lemmas.Result.{on_ok_weaker}
-use Rattle.f77_nodes.specs.Node.{step_parts}
+use Rattle.f77_tree.specs.Node.{step_parts}
 use Rattle.f77_legal.specs.NameTable.{table_entries}
 use Rattle.f77_legal.specs.code.NameTable.{with_nodes}
 use Rattle.f77_legal.proofs.Listing.{logical_noted, value_named}

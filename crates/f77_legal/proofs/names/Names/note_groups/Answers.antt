@@ -1,6 +1,6 @@
 use Rattle.std.proofs.Common.{ap, sym, ◌∙◌}
 use Rattle.f77_tree.specs.Data.{data_group_of}
-use Rattle.f77_nodes.specs.Node.{group_nodes}
+use Rattle.f77_tree.specs.Node.{group_nodes}
 use Rattle.f77_legal.specs.NameTable.{table_entries}
 use Rattle.f77_legal.specs.code.NameTable.{with_nodes}
 use Rattle.f77_legal.proofs.Listing.{groups_more}

@@ -4,7 +4,7 @@ use Rattle.std.proofs.lemmas.Option.{slice_get_read}
 use Rattle.f77_program.specs.Program.{line_of}
 use Rattle.f77_check.specs.Checked.{CheckedFields}
 use Rattle.f77_run.specs.Changed.{ChangedFields, changed_fields}
-use Rattle.f77_run.specs.Interpreter.{IsOutcomeOf}
+use Rattle.f77_meaning.specs.Interpreter.{IsOutcomeOf}
 use Rattle.f77_run.specs.Visits.{IsFollowed}
 use Rattle.f77_run.proofs.Exchanged.{agree_elsewhere, are_parting, visits_there, visits_within}
 use Rattle.f77_run.proofs.changed.ChangedRunner.comes_to.Goals as goal

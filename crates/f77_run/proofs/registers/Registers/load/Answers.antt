@@ -5,7 +5,7 @@ use Rattle.std.proofs.lemmas.List.{length-append, length-drop, length-map, take-
 use Rattle.std.proofs.lemmas.List.Folds.{list_all-append}
 use Rattle.std.proofs.lemmas.Result.{on_ok_weaker}
 use Rattle.std.proofs.lemmas.Slice.Zip.{length-zip}
-use Rattle.f77_values.specs.Told.{coded}
+use Rattle.f77_actions.specs.Told.{coded}
 use Rattle.f77_code.specs.Holds.{read_as}
 use Rattle.f77_code.specs.Registers.{are_held, is_held}
 use Rattle.f77_run.specs.code.Registers.{counters_of, loaded, values_fit}

@@ -2,10 +2,10 @@ use Rattle.std.proofs.Common.{◌≡◌, ◌∙◌, map, subst}
 use Rattle.std.specs.Prelude.{IfOk}
 use Rattle.f77_program.specs.Program.{line_of}
 use Rattle.f77_check.specs.Checked.{CheckedFields}
-use Rattle.f77_run.specs.Interpreter.{IsOutcomeOf}
-use Rattle.f77_run.specs.declared.outcome.Outcome.{Outcome}
-use Rattle.f77_run.proofs.Beginning.{both_ok}
-use Rattle.f77_run.proofs.OneAnswer.{one_answer}
+use Rattle.f77_meaning.specs.Interpreter.{IsOutcomeOf}
+use Rattle.f77_meaning.specs.declared.outcome.Outcome.{Outcome}
+use Rattle.f77_meaning.proofs.Beginning.{both_ok}
+use Rattle.f77_meaning.proofs.OneAnswer.{one_answer}
 use Rattle.f77_run.proofs.runner.Runner.course.Goals as goal
 
 pub returns-in-Ok-clause-only : goal.returns-in-Ok-clause-only

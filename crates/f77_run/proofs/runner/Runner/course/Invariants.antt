@@ -1,4 +1,4 @@
-use Rattle.f77_run.specs.Site.{site_of}
+use Rattle.f77_meaning.specs.Site.{site_of}
 use Rattle.f77_run.proofs.runner.Runner.course.Given as goal
 
 abbrev pub ghost-course_of : goal.ghost-course_of

@@ -1,5 +1,5 @@
 use Rattle.std.proofs.Common.{◌≡◌, rules}
-use Rattle.mothra_bench.specs.Verdict.{IsNoVerdict}
+use Rattle.mothra_verdicts.specs.Verdict.{IsNoVerdict}
 use Rattle.mothra_bench.proofs.WorkerSteps.{first_fault}
 use Rattle.mothra_bench.proofs.gathered.Gathered.run.Goals as goal
 

@@ -1,6 +1,6 @@
 use Rattle.std.proofs.Common.{arith, ◌≤◌, ◌∙◌, Some, length, sym, ap}
-use Rattle.f77_sites.specs.Replacement.{replacement_of}
-use Rattle.f77_sites.specs.declared.replacement.Replacement.{Replacement}
+use Rattle.f77_tree.specs.Replacement.{replacement_of}
+use Rattle.f77_tree.specs.declared.replacement.Replacement.{Replacement}
 use Rattle.mothra_ops.proofs.Taken.{count_behind, left_behind, puts, some_taken}
 use Rattle.mothra_ops.proofs.given.Given.take.Goals as goal
 

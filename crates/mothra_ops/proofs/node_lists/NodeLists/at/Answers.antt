@@ -3,9 +3,9 @@ use Rattle.std.specs.Prelude.{Vec, option_map, slice_get}
 use Rattle.std.specs.declared.alloc.Global.{Global}
 use Rattle.std.proofs.lemmas.Bool.{ltb-false}
 use Rattle.std.proofs.lemmas.Option.{slice_get_past, slice_get_read}
-use Rattle.f77_nodes.specs.Node.{node_of}
+use Rattle.f77_tree.specs.Node.{node_of}
 use Rattle.f77_program.specs.Program.{line_of}
-use Rattle.f77_nodes.specs.declared.node.Node.{Node}
+use Rattle.f77_tree.specs.declared.node.Node.{Node}
 use Rattle.f77_program.specs.declared.program.Line.{Line}
 use Rattle.mothra_ops.specs.code.Original.{nodes_at}
 use Rattle.mothra_ops.proofs.NodeLists.{list_found}

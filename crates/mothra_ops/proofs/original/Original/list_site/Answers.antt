@@ -2,9 +2,9 @@ use Rattle.std.proofs.Common.{arith, ◌≡◌, ◌+◌, ◌<◌, length, set, s
 use Rattle.std.specs.Prelude.{◌⊎◌}
 use Rattle.std.proofs.lemmas.List.{length-set}
 use Rattle.std.proofs.lemmas.Result.{err_from_is_err_and}
-use Rattle.f77_nodes.specs.Node.{node_of}
+use Rattle.f77_tree.specs.Node.{node_of}
 use Rattle.f77_tree.specs.Statement.{statement_of}
-use Rattle.f77_sites.specs.Replacement.{replacement_of}
+use Rattle.f77_tree.specs.Replacement.{replacement_of}
 use Rattle.mothra_ops.specs.Edits.{IsTooLong}
 use Rattle.mothra_ops.specs.Original.{lines_of}
 use Rattle.mothra_ops.specs.Pools.{pool_fields, pools_of}

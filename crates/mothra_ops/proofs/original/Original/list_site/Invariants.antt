@@ -1,6 +1,6 @@
 use Rattle.std.proofs.Common.{◌≡◌, ◌+◌, drop, length, map}
-use Rattle.f77_nodes.specs.Node.{node_of}
-use Rattle.f77_sites.specs.Replacement.{replacement_of}
+use Rattle.f77_tree.specs.Node.{node_of}
+use Rattle.f77_tree.specs.Replacement.{replacement_of}
 use Rattle.f77_tree.specs.Statement.{statement_of}
 use Rattle.mothra_ops.specs.code.Listing.{HasCome}
 use Rattle.mothra_ops.specs.Original.{IsOriginal, lines_of}

@@ -1,7 +1,7 @@
 use Rattle.std.proofs.Common.{arith, ◌≡◌, length, map, ap, sym, ◌∙◌}
 use Rattle.std.proofs.lemmas.List.{length-map}
 use Rattle.std.proofs.lemmas.Result.{err_from_is_err_and}
-use Rattle.f77_nodes.specs.Node.{node_of, nodes_of}
+use Rattle.f77_tree.specs.Node.{node_of, nodes_of}
 use Rattle.f77_tree.specs.Statement.{statement_of}
 use Rattle.mothra_ops.specs.Original.{lines_of}
 use Rattle.mothra_ops.proofs.Comings.{statement_done, no_list_of}

@@ -1,0 +1,6 @@
+use Rattle.std.proofs.Common.{◌≡◌}
+use Rattle.f77_actions.specs.Number.{exact_power}
+use Rattle.f77_actions.proofs.number.repeated_product.Given as goal
+
+abbrev pub invariant-loop : goal.invariant-loop
+invariant-loop l = l.power ≡ exact_power l.base l.counter

@@ -1,0 +1,49 @@
+-- Where control is in a run, and that it is never lost.
+-- Proofs alone cite what stands here.
+use Rattle.std.specs.Prelude.{◌≡◌, ℕ, ◌+◌, ◌==◌, Bool, true, false, List, Option, Some, IsSome}
+use Rattle.std.specs.List.{list_any}
+use Rattle.std.specs.Option.{option_and_then}
+use Rattle.f77_program.specs.Formed.{is_action}
+use Rattle.f77_program.specs.Program.{LineFields}
+use Rattle.f77_tree.specs.Tree.{Tree}
+use Rattle.f77_tree.specs.Statement.{Statement, jumps_of}
+use Rattle.f77_legal.specs.Blocks.{has_at, is_alternative, block_end, branch_end}
+use Rattle.f77_legal.specs.Labels.{label_place, nth_statement, terminal_label}
+use Rattle.f77_legal.specs.Loops.{terminal}
+use Rattle.f77_check.specs.Start.{is_executable_statement}
+use Rattle.f77_meaning.specs.Step.{Config, Place, Execute, Increment, Turns}
+
+-- control may be there
+abbrev pub CanHaveControl : List LineFields → ℕ → Type 0
+CanHaveControl p i = has_at is_executable_statement p i ≡ true
+
+abbrev pub IsPlacedAt : List LineFields → Place → Turns → Type 0
+IsPlacedAt p (Execute i) active = CanHaveControl p i
+IsPlacedAt p (Increment d) active = IsSome (active d)
+
+-- each active DO is one
+abbrev pub AreLoops : List LineFields → Turns → Type 0
+AreLoops p active = (d : ℕ) → IsSome (active d) → IsSome (option_and_then terminal_label (nth_statement p d))
+
+pub record IsPlaced (p : List LineFields) (c : Config) : Type 0 where
+  pub at : IsPlacedAt p c.place c.active
+  pub loops : AreLoops p c.active
+
+abbrev pub is_last : Statement → Bool
+is_last Statement.End = true
+is_last _ = false
+
+-- a statement where control may be
+abbrev pub LeadsToStatement : List LineFields → Option ℕ → Type 0
+LeadsToStatement p o = (j : ℕ) × (o ≡ Some j) × CanHaveControl p j
+
+-- what a program has in which control is never lost
+pub record NeverLosesControl (p : List LineFields) : Type 0 where
+  pub follows : (i : ℕ) (s : Statement) → nth_statement p i ≡ Some s → is_executable_statement s ≡ true → is_last s ≡ false → CanHaveControl p (i + 1)
+  pub closes : (i : ℕ) → has_at is_alternative p i ≡ true → LeadsToStatement p (block_end p i)
+  pub blocks : (i : ℕ) (t : Tree) → nth_statement p i ≡ Some (Statement.BlockIf t) → LeadsToStatement p (branch_end p i)
+  pub branches : (i : ℕ) (t : Tree) → nth_statement p i ≡ Some (Statement.ElseIf t) → LeadsToStatement p (branch_end p i)
+  pub jumps : (i : ℕ) (s : Statement) (label : ℕ) → nth_statement p i ≡ Some s → list_any (λ l. l == label) (jumps_of s) ≡ true
+      → LeadsToStatement p (label_place p label)
+  pub ends : (d : ℕ) → IsSome (option_and_then terminal_label (nth_statement p d)) → (t : ℕ) × (terminal p d ≡ Some t) × CanHaveControl p (t + 1)
+  pub inner : (i : ℕ) (t : Tree) (s : Statement) → nth_statement p i ≡ Some (Statement.LogicalIf t s) → is_action s ≡ true

@@ -1,0 +1,108 @@
+-- What is answered for a checked program, values of its dummy arguments and a limit on steps.
+use Rattle.std.specs.Prelude.{◌≡◌, ◌+◌, ◌==◌, ◌&&◌, ◌∷◌, if◌then◌else◌, ℕ, Bool, true, false, not}
+use Rattle.std.specs.Prelude.{List, [], length, map, Option, Some, None, option_map, position}
+use Rattle.std.specs.List.{AllZip, zip}
+use Rattle.f77_program.specs.Program.{LineFields}
+use Rattle.f77_tree.specs.declared.tree.Kind.TheVariants.{Integer, Logical}
+use Rattle.f77_check.specs.Checked.{shapes}
+use Rattle.f77_tree.specs.Comparing.{same_kind}
+use Rattle.f77_check.specs.declared.checked.Shape.{Shape}
+use Rattle.f77_meaning.specs.declared.argument.Arg.{Arg}
+use Rattle.f77_meaning.specs.declared.argument.Arg.TheVariants.{Int, Truth, Ints, Truths}
+use Rattle.f77_actions.specs.declared.finish.Fault.{Fault}
+use Rattle.f77_actions.specs.declared.finish.Fault.TheVariants as fault
+use Rattle.f77_actions.specs.declared.finish.Finish.{Finish}
+use Rattle.f77_actions.specs.declared.finish.Finish.TheVariants as finish
+use Rattle.f77_meaning.specs.declared.outcome.Outcome.{Outcome}
+use Rattle.f77_meaning.specs.declared.outcome.Outcome.TheVariants as outcome
+use Rattle.f77_meaning.specs.declared.outcome.RunFault.{RunFault}
+use Rattle.f77_meaning.specs.declared.outcome.RunFault.TheVariants as fault_of
+use Rattle.f77_actions.specs.declared.value.Value.{Value}
+use Rattle.f77_actions.specs.declared.value.Value.TheVariants as held
+use Rattle.f77_meaning.specs.Outcome.{IsOutcome}
+use Rattle.f77_meaning.specs.Start.{IsStart, argument_values}
+use Rattle.f77_meaning.specs.Step.{Config}
+use Rattle.f77_meaning.specs.Value.{Store}
+
+-- the elements of an argument
+abbrev pub values_in : Arg → List Value
+values_in (Int z) = held.Number z ∷ []
+values_in (Truth b) = held.Truth b ∷ []
+values_in (Ints zs) = map (λ z. held.Number z) zs
+values_in (Truths bs) = map (λ b. held.Truth b) bs
+
+abbrev pub is_count : Option ℕ → ℕ → Bool
+is_count None n = false
+is_count (Some m) n = m == n
+
+abbrev pub is_single : Option ℕ → Bool
+is_single None = true
+is_single (Some m) = false
+
+-- the argument has this shape
+abbrev pub has_shape : Shape → Arg → Bool
+has_shape shape (Int z) = same_kind shape.kind Integer && is_single shape.elements
+has_shape shape (Truth b) = same_kind shape.kind Logical && is_single shape.elements
+has_shape shape (Ints zs) = same_kind shape.kind Integer && is_count shape.elements (length zs)
+has_shape shape (Truths bs) = same_kind shape.kind Logical && is_count shape.elements (length bs)
+
+-- as many arguments as shapes, each of its shape
+abbrev pub AreFitting : List Shape → List Arg → Type 0
+AreFitting list arguments =
+    AllZip (λ shape argument. has_shape shape argument ≡ true) list arguments
+
+-- the first argument, from 0, that has not its shape
+abbrev pub first_misfit : List Shape → List Arg → Option ℕ
+first_misfit shapes arguments =
+    position (λ pair. not (has_shape pair.0 pair.1)) (zip shapes arguments)
+
+-- what is told of arguments that do not fit, their
+-- number before their shapes, which are numbered from 1
+abbrev pub refusal : List Shape → List Arg → Option RunFault
+refusal shapes arguments =
+    if length arguments == length shapes
+    then option_map (λ i. fault_of.ArgumentShape (i + 1)) (first_misfit shapes arguments)
+    else Some fault_of.ArgumentCount
+
+-- the arguments are what the dummy arguments hold, and have their shapes
+pub record AreArguments (program : List LineFields) (store : Store)
+    (arguments : List Arg) : Type 0 where
+  pub fitting : AreFitting (shapes program) arguments
+  pub values : argument_values program store
+      ≡ map (λ argument. map (λ v. Some v) (values_in argument)) arguments
+
+-- the fault by which a run failed
+abbrev pub told_outcome : Fault → Outcome
+told_outcome fault.Overflow = outcome.Overflow
+told_outcome fault.DivideByZero = outcome.DivideByZero
+told_outcome fault.ZeroPower = outcome.ZeroPower
+told_outcome fault.BadSubscript = outcome.BadSubscript
+told_outcome fault.ZeroStep = outcome.ZeroStep
+told_outcome fault.Undefined = outcome.Undefined
+told_outcome fault.Trapped = outcome.Trapped
+
+-- what is told of an end with what the names hold then
+abbrev pub Tells : List LineFields → Finish → Store → Outcome → Type 0
+Tells program finish.Returned store (outcome.Returned arguments) =
+    AreArguments program store arguments
+Tells program finish.Stopped store (outcome.Stopped arguments) =
+    AreArguments program store arguments
+Tells program (finish.Failed fault) store answer = answer ≡ told_outcome fault
+Tells program finish.StepLimit store answer = answer ≡ outcome.StepLimit
+Tells program _ store _ = ⊥
+
+-- the outcome of the run with these arguments within so many steps
+pub record IsOutcomeOf (program : List LineFields) (arguments : List Arg) (steps : ℕ)
+    (answer : Outcome) : Type 0 where
+  pub start : Config
+  pub starts : IsStart program (map values_in arguments) start
+  pub finish : Finish
+  pub values : Store
+  pub ends : IsOutcome program steps start finish values
+  pub tells : Tells program finish values answer
+
+-- a run with these arguments has one outcome at most
+abbrev pub OneAnswer : Type 0
+OneAnswer = (program : List LineFields) (arguments : List Arg) (steps : ℕ) (answer other : Outcome)
+    → IsOutcomeOf program arguments steps answer
+    → IsOutcomeOf program arguments steps other → answer ≡ other

@@ -1,0 +1,15 @@
+pub mod Value
+pub mod Step
+pub mod Outcome
+pub mod Start
+pub mod Control
+pub mod States
+pub mod Interpreter
+pub mod Spans
+pub mod Running
+pub mod Site
+pub mod Endless
+pub mod Reached
+pub mod Active
+pub mod Together
+pub mod code

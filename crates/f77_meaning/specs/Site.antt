@@ -1,0 +1,22 @@
+-- A checked program with values of its dummy arguments, and what its names hold in slots.
+use Rattle.std.specs.Prelude.{List, map}
+use Rattle.f77_program.specs.Program.{line_of}
+use Rattle.f77_check.specs.Checked.{CheckedFields}
+use Rattle.f77_legal.specs.Names.{bounds_of}
+use Rattle.f77_meaning.specs.declared.argument.Arg.{Arg}
+use Rattle.f77_code.specs.Moves.{Cells}
+use Rattle.f77_meaning.specs.Interpreter.{values_in}
+use Rattle.f77_meaning.specs.Running.{RunSite}
+use Rattle.f77_meaning.specs.States.{values_of}
+use Rattle.f77_meaning.specs.Value.{Store}
+
+abbrev pub site_of : CheckedFields → List Arg → RunSite
+site_of checked arguments = record {
+  program = map line_of checked.program;
+  names = checked.names;
+  given = map values_in arguments;
+}
+
+-- what the names of the program hold in these slots
+abbrev pub held : CheckedFields → Cells → Store
+held checked cells = values_of (bounds_of (map line_of checked.program)) checked.names cells

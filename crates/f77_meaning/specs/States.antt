@@ -1,0 +1,36 @@
+-- What a state over slots stands for: the slots are the values
+-- of names, its place and its active DOs those of a run.
+use Rattle.std.specs.Prelude.{ℕ, ◌+◌, List, map, option_map}
+use Rattle.std.specs.Option.{option_and_then}
+use Rattle.f77_legal.specs.Blocks.{first_numbers}
+use Rattle.f77_legal.specs.Names.{Symbol}
+use Rattle.f77_legal.specs.Presets.{product}
+use Rattle.f77_check.specs.Slots.{first_slot}
+use Rattle.f77_code.specs.declared.control.Place.{Place}
+use Rattle.f77_code.specs.declared.control.Place.TheVariants.{Execute, Increment}
+use Rattle.f77_code.specs.declared.control.Turn.{Turn}
+use Rattle.f77_code.specs.Evaluation.{held_in}
+use Rattle.f77_code.specs.Moves.{Cells, TurnList, State, turn_at}
+use Rattle.f77_meaning.specs.Step as run
+use Rattle.f77_meaning.specs.Step.{Config, config}
+use Rattle.f77_meaning.specs.Value.{Store}
+
+-- what each name holds, where names have these bounds, and slots in the order of this list
+abbrev pub values_of : (Symbol → List ℕ) → List Symbol → Cells → Store
+values_of bounds names cells name =
+    map (λ k. option_and_then (λ first. held_in cells (first + k)) (first_slot bounds names name))
+    (first_numbers (product (bounds name)))
+
+abbrev pub turn_of : Turn → run.Turn
+turn_of turn = record { passes = turn.passes; step = turn.step }
+
+abbrev pub turns_of : TurnList → run.Turns
+turns_of turns d = option_map turn_of (turn_at turns d)
+
+abbrev pub placed_in_run : Place → run.Place
+placed_in_run (Execute i) = run.Execute i
+placed_in_run (Increment d) = run.Increment d
+
+abbrev pub config_of : (Symbol → List ℕ) → List Symbol → State → Config
+config_of bounds names s =
+    config (placed_in_run s.place) (values_of bounds names s.cells) (turns_of s.turns)

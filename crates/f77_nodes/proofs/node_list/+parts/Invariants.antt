@@ -1,8 +1,0 @@
-use Rattle.std.proofs.Common.{◌≡◌, ◌++◌, map, drop}
-use Rattle.f77_nodes.specs.Node.{NodeOf, node_of, all_parts}
-use Rattle.f77_tree.specs.View.{tree_of, trees}
-use Rattle.f77_nodes.proofs.node_list.+parts.Given as goal
-
-abbrev pub invariant-add_items-loop-item : goal.invariant-add_items-loop-item
-invariant-add_items-loop-item l = map node_of l.list.items ++ map NodeOf.Part (all_parts (trees (map tree_of (drop l.item-index l.items))))
-    ≡ map node_of l.initial.list.items ++ map NodeOf.Part (all_parts (trees (map tree_of l.items)))

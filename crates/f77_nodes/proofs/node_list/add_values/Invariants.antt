@@ -1,6 +1,0 @@
-use Rattle.std.proofs.Common.{◌≡◌, ◌++◌, map, drop}
-use Rattle.f77_nodes.specs.Node.{NodeOf, node_of}
-use Rattle.f77_nodes.proofs.node_list.add_values.Given as goal
-
-abbrev pub invariant-loop-value : goal.invariant-loop-value
-invariant-loop-value l = map node_of l.list.items ++ map NodeOf.Initial (drop l.value-index l.values) ≡ map node_of l.initial.list.items ++ map NodeOf.Initial l.values

@@ -1,3 +1,0 @@
-pub mod Node
-pub mod Limits
-pub mod Names

@@ -1,5 +1,0 @@
-use Rattle.f77_run.proofs.Unreached.{may_be_another}
-use Rattle.f77_run.proofs.law.unreached_statement.Goals as goal
-
-pub returns : goal.returns
-returns c = may_be_another

@@ -1,4 +1,0 @@
-pub mod Numbering
-pub mod Passes
-pub mod ExchangedExpressions
-pub mod ExchangedStatements

@@ -1,5 +1,0 @@
-use Rattle.f77_sites.proofs.Numbering.{numbering}
-use Rattle.f77_sites.proofs.law.sites_are_numbered_as_nodes.Goals as goal
-
-pub returns : goal.returns
-returns c = numbering

@@ -1,3 +1,0 @@
-pub mod Sites
-pub mod Replacement
-pub mod code

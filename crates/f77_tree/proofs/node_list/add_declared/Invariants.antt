@@ -1,0 +1,8 @@
+use Rattle.std.proofs.Common.{◌≡◌, ◌++◌, map, drop}
+use Rattle.f77_tree.specs.Declaration.{decl_of}
+use Rattle.f77_tree.specs.Node.{NodeOf, node_of}
+use Rattle.f77_tree.proofs.node_list.add_declared.Given as goal
+
+abbrev pub invariant-loop-item : goal.invariant-loop-item
+invariant-loop-item l = map node_of l.list.items ++ map NodeOf.Declared (map decl_of (drop l.item-index l.items))
+    ≡ map node_of l.initial.list.items ++ map NodeOf.Declared (map decl_of l.items)

@@ -1,0 +1,48 @@
+-- A node of a whole and another one that change places. The node is looked for from left to
+-- right: a number says where it is from here on, 1 where it is the next. It falls by the nodes
+-- that were passed.
+use Rattle.std.specs.Prelude.{◌≡◌, ◌≤◌, ◌-◌, ℕ, zero, suc, Bool, true, false, Option, None}
+use Rattle.std.specs.Prelude.{List, length, slice_get}
+use Rattle.f77_tree.specs.declared.tree.Ref.{Ref}
+use Rattle.f77_tree.specs.Node.{NodeOf}
+use Rattle.f77_tree.specs.Tree.{Tree, Trees}
+use Rattle.f77_tree.specs.Statement.{Statement}
+use Rattle.f77_tree.specs.View.{trees, reference_fields}
+use Rattle.f77_tree.specs.Sites.{Site, put_node}
+
+abbrev pub nth_item : {X : Type 0} → List X → ℕ → Option X
+nth_item xs zero = None
+nth_item xs (suc k) = slice_get xs k
+
+abbrev pub put_number : {X : Type 0} → List (Site X) → ℕ → NodeOf → X → X
+put_number xs number node x = put_node (nth_item xs number) node x
+
+-- with `a` in the place of the node of this number `x` is `y`, and with `b` there `y` is `x`
+pub record Exchanged {X : Type 0} (of : X → List (Site X)) (number : ℕ) (a b : NodeOf)
+    (x y : X) : Type 0 where
+  pub counted : 1 ≤ number
+  pub within : number ≤ length (of x)
+  pub within_new : number ≤ length (of y)
+  pub put : y ≡ put_number (of x) number a x
+  pub back : x ≡ put_number (of y) number b y
+
+-- nothing changed places, and with `a` in the place of that node nothing would change
+pub record PassedBy {X : Type 0} (of : X → List (Site X)) (start left : ℕ) (a b : NodeOf)
+    (x y : X) : Type 0 where
+  pub same : y ≡ x
+  pub kept : b ≡ a
+  pub counted : left ≡ start - length (of x)
+  pub unchanged : put_number (of x) start a x ≡ x
+
+-- what is told of the node with this number
+pub record Sought {X : Type 0} (of : X → List (Site X)) (told : Bool) (start left : ℕ)
+    (a b : NodeOf) (x y : X) : Type 0 where
+  pub found : told ≡ true → Exchanged of start a b x y
+  pub passed : told ≡ false → PassedBy of start left a b x y
+
+-- the reference that an assignment assigns to, its subscripts as one tree
+abbrev pub assigned_reference : Ref → List ℕ × Trees
+assigned_reference place = ((reference_fields place).0, trees (reference_fields place).1)
+
+abbrev pub assignment : List ℕ × Trees → Tree → Statement
+assignment place value = Statement.Assign place.0 place.1 value

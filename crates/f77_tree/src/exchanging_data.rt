@@ -1,0 +1,45 @@
+//! Values of DATA that change places with others: the names stay.
+
+ghost use Rattle.std.specs.Prelude.{map};
+ghost use Rattle.f77_tree.specs.Data.{data_group_of};
+ghost use Rattle.f77_tree.specs.code.Exchanging.{Sought};
+ghost use Rattle.f77_tree.specs.Replacement.{replacement_of};
+ghost use Rattle.f77_tree.specs.Sites.{group_sites, list_sites, value_sites};
+
+use crate::exchanging_node::exchange_value;
+use crate::replacement::Replacement;
+use crate::{DataGroup, Value};
+
+fn exchange_values(values: &mut [Value], number: &mut usize, node: &mut Replacement) -> bool
+    ensures { Sought (list_sites value_sites) result number.old number.new
+        (replacement_of node.old) (replacement_of node.new) values.old values.new }
+{
+    for value in values.iter_mut() {
+        if exchange_value(value, number, node) {
+            return true;
+        }
+    }
+    false
+}
+
+fn exchange_group(group: &mut DataGroup, number: &mut usize, node: &mut Replacement) -> bool
+    ensures { Sought group_sites result number.old number.new
+        (replacement_of node.old) (replacement_of node.new)
+        (data_group_of group.old) (data_group_of group.new) }
+{
+    *number = number.saturating_sub(group.names.len());
+    exchange_values(&mut group.values, number, node)
+}
+
+pub fn exchange_groups(groups: &mut [DataGroup], number: &mut usize, node: &mut Replacement) -> bool
+    ensures { Sought (list_sites group_sites) result number.old number.new
+        (replacement_of node.old) (replacement_of node.new)
+        (map data_group_of groups.old) (map data_group_of groups.new) }
+{
+    for group in groups.iter_mut() {
+        if exchange_group(group, number, node) {
+            return true;
+        }
+    }
+    false
+}

@@ -1,0 +1,96 @@
+//! Expressions, or parts of theirs, that change places with others.
+
+ghost use Rattle.std.specs.Prelude.{map, option_map};
+ghost use Rattle.f77_tree.specs.View.{tree_of, trees};
+ghost use Rattle.f77_tree.specs.code.Exchanging.{Sought, assigned_reference};
+ghost use Rattle.f77_tree.specs.Replacement.{replacement_of};
+ghost use Rattle.f77_tree.specs.Sites.{item_sites, step_sites, target_sites, tree_sites};
+
+use crate::exchanging_node::is_next;
+use crate::replacement::Replacement;
+use crate::{Expr, Ref};
+use std::mem;
+
+/// The expression with this number, from 1, and this one change places: whether they do.
+/// The number falls by the nodes that were passed.
+#[cycle(exchange)]
+pub fn exchange_expression(expr: &mut Expr, number: &mut usize, node: &mut Replacement) -> bool
+    ensures { Sought tree_sites result number.old number.new
+        (replacement_of node.old) (replacement_of node.new)
+        (tree_of expr.old) (tree_of expr.new) }
+{
+    if is_next(number) {
+        return match node {
+            Replacement::Expression(new) => {
+                mem::swap(expr, new);
+                true
+            }
+            _ => false,
+        };
+    }
+    match expr {
+        Expr::Number(_) | Expr::Truth(_) => false,
+        Expr::Reference(place) => exchange_items(&mut place.subscripts, number, node),
+        Expr::Call(_, arguments) => exchange_items(arguments, number, node),
+        Expr::Signed(_, inner) => exchange_boxed(inner, number, node),
+        Expr::Not(inner) => exchange_boxed(inner, number, node),
+        Expr::Binary(_, left, right) => {
+            exchange_boxed(left, number, node) || exchange_boxed(right, number, node)
+        }
+        Expr::ZeroPush(inner) => exchange_boxed(inner, number, node),
+    }
+}
+
+#[cycle(exchange)]
+#[inline]
+fn exchange_boxed(expr: &mut Box<Expr>, number: &mut usize, node: &mut Replacement) -> bool
+    ensures { Sought tree_sites result number.old number.new
+        (replacement_of node.old) (replacement_of node.new)
+        (tree_of expr.old.value) (tree_of expr.new.value) }
+{
+    exchange_expression(expr, number, node)
+}
+
+#[cycle(exchange)]
+fn exchange_items(items: &mut [Expr], number: &mut usize, node: &mut Replacement) -> bool
+    ensures { Sought item_sites result number.old number.new
+        (replacement_of node.old) (replacement_of node.new)
+        (trees (map tree_of items.old)) (trees (map tree_of items.new)) }
+{
+    for item in items.iter_mut() {
+        if exchange_expression(item, number, node) {
+            return true;
+        }
+    }
+    false
+}
+
+/// The third parameter of a DO.
+pub fn exchange_step(step: &mut Option<Expr>, number: &mut usize, node: &mut Replacement) -> bool
+    ensures { Sought step_sites result number.old number.new
+        (replacement_of node.old) (replacement_of node.new)
+        (option_map tree_of step.old) (option_map tree_of step.new) }
+{
+    match step {
+        Some(step) => exchange_expression(step, number, node),
+        None => false,
+    }
+}
+
+/// What an assignment assigns to.
+pub fn exchange_target(target: &mut Ref, number: &mut usize, node: &mut Replacement) -> bool
+    ensures { Sought target_sites result number.old number.new
+        (replacement_of node.old) (replacement_of node.new)
+        (assigned_reference target.old) (assigned_reference target.new) }
+{
+    if is_next(number) {
+        return match node {
+            Replacement::Target(new) => {
+                mem::swap(target, new);
+                true
+            }
+            _ => false,
+        };
+    }
+    exchange_items(&mut target.subscripts, number, node)
+}

@@ -1,0 +1,174 @@
+//! All nodes of a statement.
+
+ghost use Rattle.std.specs.Prelude.{◌≡◌, ◌++◌, IfOk, OnOk, map, flat_map, option_map};
+ghost use Rattle.f77_tree.specs.Data.{data_group_of};
+ghost use Rattle.f77_tree.specs.Declaration.{decl_of};
+ghost use Rattle.f77_tree.specs.Node.{NodeOf, node_of, nodes_of, tree_nodes, all_parts, step_parts, group_nodes};
+ghost use Rattle.f77_tree.specs.Statement.{statement_of};
+ghost use Rattle.f77_tree.specs.View.{tree_of, trees};
+
+use crate::node::Node;
+use crate::{DataGroup, Decl, Expr, Name, Stmt, Value};
+use std::alloc::{AllocError, Global};
+
+/// The nodes of the statement, in the order of their positions: itself first.
+pub fn nodes(alloc: Global, stmt: &Stmt) -> Result<Vec<Node<'_>>, AllocError>
+    ensures { IfOk result (λ list. map node_of list.items ≡ nodes_of (statement_of stmt.now)) }
+{
+    let mut list = Vec::new(alloc);
+    add_statement(&mut list, stmt)?;
+    Ok(list)
+}
+
+fn add_statement<'a>(list: &mut Vec<Node<'a>>, stmt: &'a Stmt) -> Result<(), AllocError>
+    ensures { OnOk result
+        (map node_of list.new.items ≡ map node_of list.old.items ++ nodes_of (statement_of stmt.now)) }
+{
+    list.push(Node::Statement(stmt))?;
+    match stmt {
+        Stmt::Subroutine { arguments, .. } => add_names(list, arguments),
+        Stmt::Declare { items, .. } | Stmt::Dimension { items } => add_declared(list, items),
+        Stmt::Preset { groups } => add_groups(list, groups),
+        Stmt::Assign { target, value } => {
+            list.push(Node::Target(target))?;
+            add_items(list, &target.subscripts)?;
+            add_tree(list, value)
+        }
+        Stmt::Goto { label } => add_labels(list, &[*label]),
+        Stmt::ComputedGoto { labels, value } => {
+            add_labels(list, labels)?;
+            add_tree(list, value)
+        }
+        Stmt::ArithIf {
+            value,
+            negative,
+            zero,
+            positive,
+        } => {
+            add_tree(list, value)?;
+            add_labels(list, &[*negative, *zero, *positive])
+        }
+        Stmt::LogicalIf {
+            condition,
+            statement,
+        } => {
+            add_tree(list, condition)?;
+            add_statement(list, statement)
+        }
+        Stmt::BlockIf { condition } | Stmt::ElseIf { condition } => add_tree(list, condition),
+        Stmt::Loop {
+            label,
+            variable,
+            first,
+            last,
+            step,
+        } => {
+            list.push(Node::Label(*label))?;
+            list.push(Node::Name(variable))?;
+            add_tree(list, first)?;
+            add_tree(list, last)?;
+            add_step(list, step)
+        }
+        Stmt::Else
+        | Stmt::EndIf
+        | Stmt::Continue
+        | Stmt::Return
+        | Stmt::Stop
+        | Stmt::Trap
+        | Stmt::End => Ok(()),
+    }
+}
+
+/// An expression and its parts.
+#[cycle(parts)]
+fn add_tree<'a>(list: &mut Vec<Node<'a>>, expr: &'a Expr) -> Result<(), AllocError>
+    ensures { OnOk result (map node_of list.new.items ≡ map node_of list.old.items ++ tree_nodes (tree_of expr.now)) }
+{
+    list.push(Node::Expression(expr))?;
+    match expr {
+        Expr::Number(_) | Expr::Truth(_) => Ok(()),
+        Expr::Reference(place) => add_items(list, &place.subscripts),
+        Expr::Call(_, arguments) => add_items(list, arguments),
+        Expr::Signed(_, inner) | Expr::Not(inner) | Expr::ZeroPush(inner) => add_tree(list, inner),
+        Expr::Binary(_, left, right) => {
+            add_tree(list, left)?;
+            add_tree(list, right)
+        }
+    }
+}
+
+#[cycle(parts)]
+fn add_items<'a>(list: &mut Vec<Node<'a>>, items: &'a [Expr]) -> Result<(), AllocError>
+    ensures { OnOk result (map node_of list.new.items
+        ≡ map node_of list.old.items ++ map NodeOf.Part (all_parts (trees (map tree_of items.now)))) }
+{
+    for item in items {
+        add_tree(list, item)?;
+    }
+    Ok(())
+}
+
+fn add_step<'a>(list: &mut Vec<Node<'a>>, step: &'a Option<Expr>) -> Result<(), AllocError>
+    ensures { OnOk result
+        (map node_of list.new.items ≡ map node_of list.old.items ++ step_parts (option_map tree_of step.now)) }
+{
+    match step {
+        Some(step) => add_tree(list, step),
+        None => Ok(()),
+    }
+}
+
+fn add_labels(list: &mut Vec<Node<'_>>, labels: &[u32]) -> Result<(), AllocError>
+    ensures { OnOk result (map node_of list.new.items ≡ map node_of list.old.items ++ map NodeOf.Labelled labels.now) }
+{
+    for label in labels {
+        list.push(Node::Label(*label))?;
+    }
+    Ok(())
+}
+
+fn add_names<'a>(list: &mut Vec<Node<'a>>, names: &'a [Name]) -> Result<(), AllocError>
+    ensures { OnOk result (map node_of list.new.items ≡ map node_of list.old.items ++ map NodeOf.Named names.now) }
+{
+    for name in names {
+        list.push(Node::Name(name))?;
+    }
+    Ok(())
+}
+
+fn add_declared<'a>(list: &mut Vec<Node<'a>>, items: &'a [Decl]) -> Result<(), AllocError>
+    ensures { OnOk result
+        (map node_of list.new.items ≡ map node_of list.old.items ++ map NodeOf.Declared (map decl_of items.now)) }
+{
+    for item in items {
+        list.push(Node::Declared(item))?;
+    }
+    Ok(())
+}
+
+fn add_groups<'a>(list: &mut Vec<Node<'a>>, groups: &'a [DataGroup]) -> Result<(), AllocError>
+    ensures { OnOk result (map node_of list.new.items
+        ≡ map node_of list.old.items ++ flat_map group_nodes (map data_group_of groups.now)) }
+{
+    for group in groups {
+        add_group(list, group)?;
+    }
+    Ok(())
+}
+
+fn add_group<'a>(list: &mut Vec<Node<'a>>, group: &'a DataGroup) -> Result<(), AllocError>
+    ensures { OnOk result
+        (map node_of list.new.items ≡ map node_of list.old.items ++ group_nodes (data_group_of group.now)) }
+{
+    add_names(list, &group.names)?;
+    add_values(list, &group.values)
+}
+
+fn add_values<'a>(list: &mut Vec<Node<'a>>, values: &'a [Value]) -> Result<(), AllocError>
+    ensures { OnOk result (map node_of list.new.items ≡ map node_of list.old.items ++ map NodeOf.Initial values.now) }
+{
+    for value in values {
+        list.push(Node::Value(value))?;
+    }
+    Ok(())
+}

@@ -1,0 +1,20 @@
+//! Nodes that take the place of others.
+
+use crate::{Expr, Name, Ref, Stmt, Value};
+
+/// A node that may take the place of one of a statement.
+#[derive(Drop)]
+pub enum Replacement {
+    /// A statement, in the place of the whole or of the one inside a logical IF.
+    Statement(Stmt),
+    /// What an assignment assigns to.
+    Target(Ref),
+    /// An expression, or a part of one.
+    Expression(Expr),
+    /// A DO variable.
+    Name(Name),
+    /// A label that the statement names.
+    Label(u32),
+    /// A value of DATA with its repeat.
+    Value(Value),
+}

@@ -1,6 +1,0 @@
-mod Powers
-mod Ranges
-pub mod Bounds
-pub mod Faults
-pub mod Sums
-pub mod Operations

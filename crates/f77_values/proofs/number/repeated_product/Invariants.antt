@@ -1,6 +1,0 @@
-use Rattle.std.proofs.Common.{◌≡◌}
-use Rattle.f77_values.specs.Number.{exact_power}
-use Rattle.f77_values.proofs.number.repeated_product.Given as goal
-
-abbrev pub invariant-loop : goal.invariant-loop
-invariant-loop l = l.power ≡ exact_power l.base l.counter

@@ -1,5 +1,0 @@
-use Rattle.mothra_bench.proofs.Kills.{one_verdict}
-use Rattle.mothra_bench.proofs.law.one_verdict.Goals as goal
-
-pub returns : goal.returns
-returns c = one_verdict c.one_outcome.ensures.answer

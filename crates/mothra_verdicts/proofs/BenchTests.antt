@@ -1,0 +1,97 @@
+-- Tests on which the program is run in order.
+use Rattle.std.proofs.Common.{◌≡◌, ◌∙◌, ◌+◌, ◌<◌, ◌≤◌, ◌++◌, ◌∷◌, ◌↔◌, ℕ, Bool, true, false, true≢false, IsTrue, List, [], None, length, map, take, drop, get_or, sym, ap, subst, arith}
+use Rattle.std.specs.Prelude.{All}
+use Rattle.std.proofs.lemmas.List.{take-append-drop, take_all, take_more, drop_more, length-take-le}
+use Rattle.std.proofs.lemmas.List.Elements.{All-nil, All-cons, All-head, All-tail, All-push, All-more, All-get_or}
+use Rattle.std.proofs.lemmas.Slice.Zip.{all_zipped_more}
+use Rattle.f77_program.specs.Program.{LineFields, line_of}
+use Rattle.f77_check.specs.Checked.{CheckedFields}
+use Rattle.f77_check.specs.declared.checked.Shape.{Shape}
+use Rattle.f77_meaning.specs.Interpreter.{IsOutcomeOf, refusal}
+use Rattle.f77_run.specs.Visits.{IsFollowed}
+use Rattle.f77_meaning.specs.declared.argument.Arg.{Arg}
+use Rattle.f77_meaning.specs.declared.outcome.Outcome.{Outcome}
+use Rattle.f77_run.specs.declared.visits.Visits.{Visits}
+use Rattle.mothra_verdicts.specs.Bench.{IsProgramEnd, AreOutcomes, EndsOn, IsFirstNot}
+use Rattle.mothra_verdicts.specs.code.Running.{AreCourses}
+
+-- a list, cut at an item
+pub cut_at : {X : Type 0} (xs : List X) (i : ℕ) (x : X) → i < length xs → x ≡ get_or xs i x → xs ≡ take i xs ++ x ∷ drop (i + 1) xs
+cut_at xs i x within is =
+    sym (take-append-drop i xs) ∙ ap (λ rest. take i xs ++ rest) (drop_more xs i x within ∙ ap (λ y. y ∷ drop (i + 1) xs) (sym is))
+
+-- with an item more
+pub next_taken : {X : Type 0} (xs : List X) (i : ℕ) (x : X) → i < length xs → x ≡ get_or xs i x → take (i + 1) xs ≡ take i xs ++ x ∷ []
+next_taken xs i x within is = take_more xs i x within ∙ ap (λ y. take i xs ++ y ∷ []) (sym is)
+
+-- the first item that does not hold
+pub first_not : {X : Type 0} (P : X → Type 0) (xs : List X) (i : ℕ) (x : X) → i < length xs → x ≡ get_or xs i x → All P (take i xs) → ¬ (P x)
+    → IsFirstNot P xs (i + 1)
+first_not P xs i x within is hold fails = record {
+  before = take i xs;
+  item = x;
+  after = drop (i + 1) xs;
+  cut = cut_at xs i x within is;
+  number = ap (λ n. n + 1) (sym (length-take-le i xs (omega (arith, within))));
+  hold = hold;
+  fails = fails;
+}
+
+-- one more that holds
+pub one_more : {X : Type 0} (P : X → Type 0) (xs : List X) (i : ℕ) (x : X) → i < length xs → x ≡ get_or xs i x → All P (take i xs) → P x
+    → All P (take (i + 1) xs)
+one_more P xs i x within is hold holds = All-more P xs i x within hold (subst P is holds)
+
+-- all, once none is left out
+pub none_left : {X : Type 0} (P : X → Type 0) (xs : List X) (i : ℕ) → length xs ≤ i → All P (take i xs) → All P xs
+none_left P xs i end hold = subst (All P) (take_all i xs end) hold
+
+-- the courses of a program on no tests, and on one test more
+pub no_courses : (checked : CheckedFields) (steps : ℕ) → AreCourses checked steps [] [] []
+no_courses checked steps = record { outcomes = tt; end = All-nil IsProgramEnd; visits = tt }
+
+pub course_more : (checked : CheckedFields) (steps : ℕ) (tests : List (List Arg)) (outcomes : List Outcome) (visits : List Visits) (i : ℕ) (test : List Arg)
+    (outcome : Outcome) (noted : Visits) → i < length tests → test ≡ get_or tests i test → AreCourses checked steps (take i tests) outcomes visits
+    → IsOutcomeOf (map line_of checked.program) test steps outcome → IsProgramEnd outcome → IsFollowed checked test steps noted
+    → AreCourses checked steps (take (i + 1) tests) (outcomes ++ outcome ∷ []) (visits ++ noted ∷ [])
+course_more checked steps tests outcomes visits i test outcome noted within is are one end follows =
+    subst (λ (taken : List (List Arg)). AreCourses checked steps taken (outcomes ++ outcome ∷ []) (visits ++ noted ∷ []))
+    (sym (next_taken tests i test within is))
+    (record {
+      outcomes = all_zipped_more (λ arguments outcome. IsOutcomeOf (map line_of checked.program) arguments steps outcome) (take i tests) outcomes test outcome are.outcomes one;
+      end = All-push IsProgramEnd outcomes outcome are.end end;
+      visits = all_zipped_more (λ arguments visits. IsFollowed checked arguments steps visits) (take i tests) visits test noted are.visits follows;
+    })
+
+pub courses_all : (checked : CheckedFields) (steps : ℕ) (tests : List (List Arg)) (outcomes : List Outcome) (visits : List Visits) (i : ℕ) → length tests ≤ i
+    → AreCourses checked steps (take i tests) outcomes visits → AreCourses checked steps tests outcomes visits
+courses_all checked steps tests outcomes visits i end are =
+    subst (λ (taken : List (List Arg)). AreCourses checked steps taken outcomes visits) (take_all i tests end) are
+
+-- the arguments of a test fit where those of all tests do
+pub test_fits : (shapes : List Shape) (tests : List (List Arg)) (i : ℕ) (test : List Arg) → i < length tests → test ≡ get_or tests i test
+    → All (λ arguments. refusal shapes arguments ≡ None) tests → refusal shapes test ≡ None
+test_fits shapes tests i test within is all =
+    subst (λ arguments. refusal shapes arguments ≡ None) (sym is) (All-get_or (λ arguments. refusal shapes arguments ≡ None) tests i test within all)
+
+-- on each of them it ends
+pub ends_all : (program : List LineFields) (steps : ℕ) (tests : List (List Arg)) (outcomes : List Outcome) → AreOutcomes program steps tests outcomes
+    → All IsProgramEnd outcomes → All (EndsOn program steps) tests
+ends_all program steps [] [] are end = All-nil (EndsOn program steps)
+ends_all program steps [] (outcome ∷ outcomes) are end = absurd are
+ends_all program steps (test ∷ tests) [] are end = absurd are
+ends_all program steps (test ∷ tests) (outcome ∷ outcomes) are end =
+    All-cons (EndsOn program steps) test tests (outcome, are.0, All-head IsProgramEnd outcome outcomes end)
+    (ends_all program steps tests outcomes are.1 (All-tail IsProgramEnd outcome outcomes end))
+
+-- it does not end where its one outcome is no end
+pub never_ends : (program : List LineFields) (steps : ℕ) (test : List Arg) (outcome : Outcome)
+    → ((other : Outcome) → IsOutcomeOf program test steps other → other ≡ outcome) → ¬ (IsProgramEnd outcome) → ¬ (EndsOn program steps test)
+never_ends program steps test outcome only other ends = other (subst IsProgramEnd (only ends.0 ends.1) ends.2)
+
+-- what a test says that decides a fact
+pub passed : {P : Type 0} (answer : Bool) → (IsTrue answer ↔ P) → answer ≡ true → P
+passed answer decides is = decides.0 is
+
+pub failed : {P : Type 0} (answer : Bool) → (IsTrue answer ↔ P) → answer ≡ false → ¬ P
+failed answer decides is holds = true≢false (sym (decides.1 holds) ∙ is)

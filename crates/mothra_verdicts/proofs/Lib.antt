@@ -1,0 +1,9 @@
+mod BenchTests
+mod BenchEntries
+mod BenchSets
+mod BenchFaults
+pub mod Kills
+mod KillsInTurn
+mod Wants
+mod Items
+pub mod Crossings

@@ -1,0 +1,5 @@
+pub mod Bench
+pub mod Killing
+pub mod Equivalents
+pub mod Verdict
+pub mod code

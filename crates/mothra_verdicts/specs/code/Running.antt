@@ -1,0 +1,24 @@
+-- What the program comes to on tests and where it was, and why that cannot be had.
+use Rattle.std.specs.Prelude.{⊤, ℕ, List, All, map}
+use Rattle.f77_program.specs.Program.{LineFields, line_of}
+use Rattle.f77_check.specs.Checked.{CheckedFields}
+use Rattle.f77_meaning.specs.declared.argument.Arg.{Arg}
+use Rattle.f77_meaning.specs.declared.outcome.Outcome.{Outcome}
+use Rattle.f77_run.specs.declared.visits.Visits.{Visits}
+use Rattle.mothra_verdicts.specs.Bench.{AreOutcomes, EndsOn, IsProgramEnd, IsFirstNot}
+use Rattle.mothra_verdicts.specs.Killing.{AreFollowedOn}
+use Rattle.mothra_verdicts.specs.declared.fault.BenchFault.{BenchFault}
+use Rattle.mothra_verdicts.specs.declared.fault.BenchFault.TheVariants as fault
+
+-- the outcomes of the program on the tests, on each of which it ends, and where control was on each
+pub record AreCourses (checked : CheckedFields) (steps : ℕ) (tests : List (List Arg)) (told : List Outcome)
+    (noted : List Visits) : Type 0 where
+  pub outcomes : AreOutcomes (map line_of checked.program) steps tests told
+  pub end : All IsProgramEnd told
+  pub visits : AreFollowedOn checked steps tests noted
+
+-- the first test on which the program does not end
+abbrev pub IsNoRun : List LineFields → ℕ → List (List Arg) → BenchFault → Type 0
+IsNoRun program steps tests fault.Memory = ⊤
+IsNoRun program steps tests (fault.OriginalFails test) = IsFirstNot (EndsOn program steps) tests test
+IsNoRun program steps tests _ = ⊥

@@ -1,0 +1,106 @@
+//! Which tests kill a mutant.
+
+ghost use Rattle.std.specs.Prelude.{◌≡◌, ◌<◌, List, length, map, slice_get, Some, None, All, IfOk, IfErr};
+ghost use Rattle.f77_program.specs.Program.{line_of};
+ghost use Rattle.f77_run.specs.Changed.{changed_program};
+ghost use Rattle.f77_meaning.specs.Interpreter.{refusal};
+ghost use Rattle.f77_meaning.specs.declared.argument.Arg.{Arg};
+ghost use Rattle.mothra_ops.specs.Mutants.{program_of};
+ghost use Rattle.mothra_verdicts.specs.Verdict.{IsAlone, IsKill};
+ghost use Rattle.mothra_verdicts.specs.declared.fault.BenchFault.TheVariants.{Memory};
+
+use crate::bench::Bench;
+use crate::fault::BenchFault;
+use crate::want;
+use f77_check::Checked;
+use f77_meaning::Values;
+use f77_run::{ChangedRunner, Runner};
+use std::alloc::Global;
+
+/// Whether the test of this number, from 0, kills the mutant, which is run from where it parts from the program.
+fn kill(bench: &Bench, mutant: &mut ChangedRunner<'_>, test: usize) -> Result<bool, BenchFault>
+    requires within { test < length bench.now.tests }
+    requires program { mutant.old.checked ≡ bench.now.plan.checked }
+    ensures kill { IfOk result (λ kill. (arguments : List Arg) → slice_get bench.now.tests test ≡ Some arguments
+        → IsKill (program_of bench.now.plan) (changed_program mutant.old) arguments bench.now.steps kill) }
+    ensures mutant { mutant.new ≡ mutant.old }
+    ensures memory { IfErr result (λ fault. fault ≡ Memory) }
+{
+    let visits = &bench.visits()[test];
+    let arguments = bench.tests()[test].as_slice();
+    let outcome = &bench.outcomes()[test];
+    match mutant.comes_to(visits, arguments, bench.steps(), outcome) {
+        Ok(same) => Ok(!same),
+        Err(fault) => Err(want::of_run(fault)),
+    }
+}
+
+/// Which tests of the bench kill the mutant, test by test: the one that the changed program of the runs is.
+pub(crate) fn kills_of(
+    alloc: Global,
+    bench: &Bench,
+    mutant: &mut ChangedRunner<'_>,
+) -> Result<Values<bool>, BenchFault>
+    requires { mutant.old.checked ≡ bench.now.plan.checked }
+    ensures kills { IfOk result (λ kills. IsAlone (program_of bench.now.plan) (changed_program mutant.old)
+        bench.now.steps bench.now.tests kills) }
+    ensures mutant { mutant.new ≡ mutant.old }
+    ensures memory { IfErr result (λ fault. fault ≡ Memory) }
+{
+    let mut kills = Vec::with_capacity(alloc, bench.tests().len())?;
+    for test in 0..bench.tests().len() {
+        kills.push(kill(bench, mutant, test)?)?;
+    }
+    Ok(Values::new(kills))
+}
+
+/// Whether the test of this number, from 0, kills the mutant, which is run from the start.
+fn kill_from_start(bench: &Bench, mutant: &mut Runner<'_>, test: usize) -> Result<bool, BenchFault>
+    requires within { test < length bench.now.tests }
+    requires fit { All (λ arguments. refusal mutant.old.arguments arguments ≡ None) bench.now.tests }
+    ensures kill { IfOk result (λ kill. (arguments : List Arg) → slice_get bench.now.tests test ≡ Some arguments
+        → IsKill (program_of bench.now.plan) (map line_of mutant.old.program) arguments bench.now.steps kill) }
+    ensures mutant { mutant.new ≡ mutant.old }
+    ensures memory { IfErr result (λ fault. fault ≡ Memory) }
+{
+    let arguments = bench.tests()[test].as_slice();
+    match mutant.comes_to(arguments, bench.steps(), &bench.outcomes()[test]) {
+        Ok(same) => Ok(!same),
+        Err(fault) => Err(want::of_run(fault)),
+    }
+}
+
+/// Which tests of the bench kill the mutant, test by test.
+fn kills_in_turn(
+    alloc: Global,
+    bench: &Bench,
+    mutant: &mut Runner<'_>,
+) -> Result<Values<bool>, BenchFault>
+    requires { All (λ arguments. refusal mutant.old.arguments arguments ≡ None) bench.now.tests }
+    ensures kills { IfOk result (λ kills. IsAlone (program_of bench.now.plan) (map line_of mutant.old.program)
+        bench.now.steps bench.now.tests kills) }
+    ensures memory { IfErr result (λ fault. fault ≡ Memory) }
+{
+    let mut kills = Vec::with_capacity(alloc, bench.tests().len())?;
+    for test in 0..bench.tests().len() {
+        kills.push(kill_from_start(bench, mutant, test)?)?;
+    }
+    Ok(Values::new(kills))
+}
+
+/// Which tests of the bench kill the mutant, whose runs all begin at the start.
+pub(crate) fn kills_from_start(
+    alloc: Global,
+    bench: &Bench,
+    mutant: &Checked,
+) -> Result<Values<bool>, BenchFault>
+    requires { All (λ arguments. refusal mutant.now.arguments arguments ≡ None) bench.now.tests }
+    ensures kills { IfOk result (λ kills. IsAlone (program_of bench.now.plan) (map line_of mutant.now.program)
+        bench.now.steps bench.now.tests kills) }
+    ensures memory { IfErr result (λ fault. fault ≡ Memory) }
+{
+    match Runner::of(alloc, mutant) {
+        Ok(mut runner) => kills_in_turn(alloc, bench, &mut runner),
+        Err(fault) => Err(want::of_run(fault)),
+    }
+}

@@ -1,0 +1,159 @@
+//! The program itself on the tests of a bench.
+
+ghost use Rattle.std.specs.Prelude.{◌≡◌, ◌↔◌, All, IsTrue, None, IfOk, IfErr, IfSome, IfNone, map};
+ghost use Rattle.f77_program.specs.Program.{line_of};
+ghost use Rattle.f77_check.specs.Checked.{shapes};
+ghost use Rattle.f77_meaning.specs.Interpreter.{IsOutcomeOf, refusal};
+ghost use Rattle.f77_run.specs.Visits.{IsFollowed};
+ghost use Rattle.mothra_verdicts.specs.Bench.{FitsProgram, IsProgramEnd, EndsOn, IsFirstNot};
+ghost use Rattle.mothra_verdicts.specs.code.Running.{AreCourses, IsNoRun};
+ghost use Rattle.mothra_verdicts.specs.declared.fault.BenchFault.TheVariants.{Memory};
+ghost use Rattle.mothra_ops.specs.Mutants.{program_of};
+
+use crate::fault::BenchFault;
+use crate::want;
+use f77_check::Shape;
+use f77_meaning::{Arg, Outcome, RunFault, Values};
+use f77_run::{Course, Runner, Visits, fit};
+use mothra_ops::Plan;
+use std::alloc::Global;
+
+/// How many values the states that are kept may have in all: each takes 24 bytes at most, all of them 32 MiB.
+const ROOM: usize = 1_398_101;
+
+/// The shapes of the program's dummy arguments.
+fn dummies(plan: &Plan) -> &[Shape]
+    ensures { result.now ≡ shapes (program_of plan.now) }
+{
+    let checked = plan.program();
+    // That its shapes are those of its program is told with the program.
+    let _ = checked.program();
+    checked.arguments()
+}
+
+/// Whether the values are those of the dummy arguments.
+fn fits(plan: &Plan, test: &Values<Arg>) -> bool
+    ensures { IsTrue result ↔ FitsProgram (program_of plan.now) test.now }
+{
+    match fit(dummies(plan), test.as_slice()) {
+        Ok(()) => true,
+        Err(RunFault::ArgumentCount | RunFault::ArgumentShape(_)) => false,
+        Err(RunFault::Memory) => unreachable!(),
+    }
+}
+
+/// The number, from 1, of the first test whose values are not those of the dummy arguments.
+pub(crate) fn first_misfit(plan: &Plan, tests: &[Values<Arg>]) -> Option<usize>
+    ensures fit { IfNone result (All (FitsProgram (program_of plan.now)) tests.now) }
+    ensures misfit { IfSome result (λ test. IsFirstNot (FitsProgram (program_of plan.now)) tests.now test) }
+{
+    for (index, test) in tests.iter().enumerate() {
+        if !fits(plan, test) {
+            return Some(index + 1);
+        }
+    }
+    None
+}
+
+/// Whether the program returned or stopped.
+fn is_end(outcome: &Outcome) -> bool
+    ensures { IsTrue result ↔ IsProgramEnd outcome.now }
+{
+    match outcome {
+        Outcome::Returned(_) | Outcome::Stopped(_) => true,
+        Outcome::Overflow
+        | Outcome::DivideByZero
+        | Outcome::ZeroPower
+        | Outcome::BadSubscript
+        | Outcome::ZeroStep
+        | Outcome::Undefined
+        | Outcome::Trapped
+        | Outcome::StepLimit => false,
+    }
+}
+
+/// The course of the program on a test; none where it neither returns nor stops.
+fn course_on(
+    alloc: Global,
+    original: &mut Runner<'_>,
+    test: &Values<Arg>,
+    steps: u32,
+    room: &mut usize,
+) -> Result<Option<Course>, BenchFault>
+    requires { refusal original.old.arguments test.now ≡ None }
+    ensures program { original.new ≡ original.old }
+    ensures outcome { IfOk result (λ course. IfSome course
+        (λ course. IsOutcomeOf (map line_of original.old.program) test.now steps course.outcome)) }
+    ensures end { IfOk result (λ course. IfSome course (λ course. IsProgramEnd course.outcome)) }
+    ensures visits { IfOk result
+        (λ course. IfSome course (λ course. IsFollowed original.old test.now steps course.visits)) }
+    ensures fails { IfOk result
+        (λ course. IfNone course (¬ (EndsOn (map line_of original.old.program) steps test.now))) }
+    ensures memory { IfErr result (λ fault. fault ≡ Memory) }
+{
+    match original.course(alloc, test.as_slice(), steps, room) {
+        Ok(course) => {
+            if is_end(&course.outcome) {
+                Ok(Some(course))
+            } else {
+                Ok(None)
+            }
+        }
+        Err(fault) => Err(want::of_run(fault)),
+    }
+}
+
+/// What the program comes to on tests, and where it was, test by test.
+#[derive(Drop)]
+pub(crate) struct Courses {
+    pub(crate) outcomes: Vec<Outcome>,
+    /// For each test, where control was.
+    pub(crate) visits: Vec<Visits>,
+}
+
+/// The courses of the program on tests, on each of which it is run once.
+fn courses_in_turn(
+    alloc: Global,
+    original: &mut Runner<'_>,
+    tests: &[Values<Arg>],
+    steps: u32,
+) -> Result<Courses, BenchFault>
+    requires { All (λ arguments. refusal original.old.arguments arguments ≡ None) tests.now }
+    ensures courses { IfOk result
+        (λ courses. AreCourses original.old steps tests.now courses.outcomes.items courses.visits.items) }
+    ensures refused { IfErr result (λ fault. IsNoRun (map line_of original.old.program) steps tests.now fault) }
+{
+    let mut outcomes = Vec::with_capacity(alloc, tests.len())?;
+    let mut visits = Vec::with_capacity(alloc, tests.len())?;
+    let mut room = ROOM;
+    for (index, test) in tests.iter().enumerate() {
+        let Some(course) = course_on(alloc, original, test, steps, &mut room)? else {
+            return Err(BenchFault::OriginalFails(index + 1));
+        };
+        outcomes.push(course.outcome)?;
+        visits.push(course.visits)?;
+    }
+    Ok(Courses { outcomes, visits })
+}
+
+/// The courses of the program on tests, on each of which it is run once. B4 is told of the first on which it neither
+/// returns nor stops.
+pub(crate) fn courses_on(
+    alloc: Global,
+    plan: &Plan,
+    tests: &[Values<Arg>],
+    steps: u32,
+) -> Result<Courses, BenchFault>
+    requires { All (FitsProgram (program_of plan.now)) tests.now }
+    ensures courses { IfOk result
+        (λ courses. AreCourses plan.now.checked steps tests.now courses.outcomes.items courses.visits.items) }
+    ensures refused { IfErr result (λ fault. IsNoRun (program_of plan.now) steps tests.now fault) }
+{
+    let checked = plan.program();
+    // That its shapes are those of its program is told with the program.
+    let _ = checked.program();
+    match Runner::of(alloc, checked) {
+        Ok(mut original) => courses_in_turn(alloc, &mut original, tests, steps),
+        Err(fault) => Err(want::of_run(fault)),
+    }
+}

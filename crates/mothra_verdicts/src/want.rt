@@ -1,0 +1,57 @@
+//! Want of memory in the crates below, where no other fault of theirs can come.
+
+ghost use Rattle.std.specs.Prelude.{◌≡◌};
+ghost use Rattle.f77_legal.specs.declared.fault.CheckFault.TheVariants as check;
+ghost use Rattle.f77_meaning.specs.declared.outcome.RunFault.TheVariants as run;
+ghost use Rattle.mothra_ops.specs.declared.fault.OpsFault.TheVariants as plan;
+ghost use Rattle.mothra_verdicts.specs.declared.fault.BenchFault.TheVariants.{Memory};
+
+use crate::fault::BenchFault;
+use f77_legal::CheckFault;
+use f77_meaning::RunFault;
+use mothra_ops::OpsFault;
+
+/// Of a run whose arguments fit.
+pub(crate) fn of_run(fault: RunFault) -> BenchFault
+    requires { fault ≡ run.Memory }
+    ensures { result ≡ Memory }
+{
+    match fault {
+        RunFault::Memory => BenchFault::Memory,
+        RunFault::ArgumentCount | RunFault::ArgumentShape(_) => unreachable!(),
+    }
+}
+
+/// Of a mutant of a plan.
+pub(crate) fn of_plan(fault: OpsFault) -> BenchFault
+    requires { fault ≡ plan.Memory }
+    ensures { result ≡ Memory }
+{
+    match fault {
+        OpsFault::Memory => BenchFault::Memory,
+        OpsFault::NotASite | OpsFault::TooMany(_) => unreachable!(),
+    }
+}
+
+/// Of a legal program.
+pub(crate) fn of_check(fault: &CheckFault) -> BenchFault
+    requires { fault.now ≡ check.Memory }
+    ensures { result ≡ Memory }
+{
+    match fault {
+        CheckFault::Memory => BenchFault::Memory,
+        CheckFault::RealName(_)
+        | CheckFault::Twice(_)
+        | CheckFault::TypeClash(_)
+        | CheckFault::Dimensions(_)
+        | CheckFault::DoubleLabel(_)
+        | CheckFault::NoLabel(_)
+        | CheckFault::BadTarget(_)
+        | CheckFault::IntoBlock(_)
+        | CheckFault::BadTerminal(_)
+        | CheckFault::Nesting(_)
+        | CheckFault::DoVariable(_)
+        | CheckFault::BadData(_)
+        | CheckFault::TooMany => unreachable!(),
+    }
+}
