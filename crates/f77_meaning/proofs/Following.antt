@@ -1,6 +1,6 @@
 -- Behind the end of a run there are no steps, and a state that can make a step is at a statement.
 use Rattle.std.proofs.Common.{arith, ◌≡◌, ℕ, suc, ◌+◌, ◌-◌, ◌<◌, true, true≢false, inl, inr, List, length, Some, None, sym, ap, subst, ◌∙◌}
-use Rattle.std.specs.Prelude.{IsSome, is_some, slice_get, if◌then◌else◌}
+use Rattle.std.specs.Prelude.{IsSome, is_some, option_map, slice_get, if◌then◌else◌}
 use Rattle.std.specs.Option.{option_and_then}
 use Rattle.std.proofs.lemmas.Option.{slice_get_cases}
 use Rattle.f77_program.specs.Program.{LineFields}

@@ -2,7 +2,7 @@ pub mod StateDefinitions
 pub mod OneWay
 mod Stepping
 mod Rows
-mod Numbered
+pub mod Numbered
 mod Control
 pub mod Soundness
 pub mod NeverLost

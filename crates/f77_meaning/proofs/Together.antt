@@ -1,5 +1,5 @@
 -- Runs of two programs that go together: the one may begin where they part, and where they do not they come to the same.
-use Rattle.std.proofs.Common.{arith, ◌≡◌, ◌+◌, ◌<◌, ℕ, zero, suc, inl, inr, List, refl, sym, subst}
+use Rattle.std.proofs.Common.{arith, ◌+◌, ℕ, zero, suc, inl, inr, List, refl, sym, subst}
 use Rattle.f77_program.specs.Program.{LineFields}
 use Rattle.f77_actions.specs.declared.value.Value.{Value}
 use Rattle.f77_meaning.specs.Control.{Comes}

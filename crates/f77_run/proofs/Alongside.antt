@@ -5,16 +5,14 @@ use Rattle.std.proofs.lemmas.Bool.{cases_lt}
 use Rattle.std.proofs.lemmas.Option.{same_Some}
 use Rattle.f77_program.specs.Program.{LineFields}
 use Rattle.f77_legal.specs.Frames.{HaveOneFrame}
-use Rattle.f77_actions.specs.declared.value.Value.{Value}
 use Rattle.f77_run.specs.declared.visits.Visit.{Visit}
-use Rattle.f77_meaning.specs.Control.{Comes}
 use Rattle.f77_meaning.specs.Endless.{Reaches}
 use Rattle.f77_meaning.specs.Reached.{statement_number, AreSameBut}
 use Rattle.f77_meaning.specs.Running.{RunSite}
-use Rattle.f77_meaning.specs.Step.{Config, Goes, Ends, Step}
-use Rattle.f77_meaning.specs.Together.{DoesAlikeFrom, GoTogether, MayBegin, ComeToTheSame}
+use Rattle.f77_meaning.specs.Step.{Config}
+use Rattle.f77_meaning.specs.Together.{DoesAlikeFrom}
 use Rattle.f77_run.specs.Visits.{AreVisits, IsVisit, config_in}
-use Rattle.f77_meaning.proofs.Endless.{determined, whole}
+use Rattle.f77_meaning.proofs.Endless.{determined}
 use Rattle.f77_meaning.proofs.Unreached.{step_same}
 
 -- a program that is another in the statement i alone goes with this one, but at the times when control is there

@@ -1,40 +1,34 @@
 -- The times at which control was at each statement, step by step.
-use Rattle.std.proofs.Common.{arith, ◌≡◌, ◌≢◌, ◌==◌, ℕ, zero, suc, ◌+◌, ◌<◌, ◌≤◌, ◌||◌, Bool, true, false, true≢false, inl, inr, List, [], ◌∷◌, ◌++◌, length, map, Some, refl, sym, ap, subst, ◌∙◌}
-use Rattle.std.specs.Prelude.{option_map, slice_get, slice_set, OnOk, Result, Ok, Err}
-use Rattle.std.specs.Bool.{Decides}
+use Rattle.std.proofs.Common.{arith, ◌≡◌, ◌≢◌, ◌==◌, ℕ, zero, suc, ◌+◌, ◌<◌, ◌≤◌, Bool, true, false, true≢false, inl, inr, List, [], ◌∷◌, ◌++◌, length, Some, refl, sym, ap, subst, ◌∙◌}
+use Rattle.std.specs.Prelude.{slice_get, slice_set, OnOk, Result, Ok, Err}
 use Rattle.std.specs.List.{All}
 use Rattle.std.proofs.Math.ListN.{length-set}
 use Rattle.std.proofs.lemmas.Bool.{cases_lt}
 use Rattle.std.proofs.lemmas.Bool.Decides.{nat_tests}
-use Rattle.std.proofs.lemmas.List.{length-map}
-use Rattle.std.proofs.lemmas.Option.{same_Some, slice_get_cases, slice_get-map, slice_get_within, get_or_from_slice_get}
+use Rattle.std.proofs.lemmas.Option.{same_Some, slice_get_cases, slice_get_within, get_or_from_slice_get}
 use Rattle.f77_program.specs.Program.{LineFields}
 use Rattle.f77_legal.specs.Names.{bounds_of}
 use Rattle.f77_check.specs.Slots.{slot_count}
 use Rattle.f77_actions.specs.declared.resolved.Resolved.{Resolved}
-use Rattle.f77_meaning.specs.declared.argument.Arg.{Arg}
 use Rattle.f77_actions.specs.declared.finish.Finish.{Finish}
 use Rattle.f77_run.specs.declared.machine.Machine.{Machine}
 use Rattle.f77_run.specs.declared.visits.Visit.{Visit}
 use Rattle.f77_run.specs.declared.visits.Visited.{Visited}
 use Rattle.f77_meaning.specs.Endless.{Reaches}
-use Rattle.f77_meaning.specs.Interpreter.{values_in}
 use Rattle.f77_meaning.specs.States.{config_of, placed_in_run}
 use Rattle.f77_code.specs.Moves.{Cells, State, moved}
 use Rattle.f77_run.specs.code.Machine.{state_of}
 use Rattle.f77_code.specs.Moves as moves
-use Rattle.f77_meaning.specs.Reached.{statement_number, IsReached, ComesTo, AreReached}
+use Rattle.f77_meaning.specs.Reached.{statement_number}
 use Rattle.f77_meaning.specs.Running.{RunSite}
 use Rattle.f77_run.specs.code.Running.{config_at}
 use Rattle.f77_meaning.specs.code.InRun.{values_at}
-use Rattle.f77_meaning.specs.Start.{IsStart}
 use Rattle.f77_meaning.specs.Step.{Config, Ends, Step}
 use Rattle.f77_meaning.specs.Value.{Store}
 use Rattle.f77_run.specs.code.Visits.{AreUnvisited, Notes}
 use Rattle.f77_run.specs.Visits.{AreDecided, AreVisited, AreVisits, IsAway, IsDecided, IsVisited, IsVisit, config_in}
 use Rattle.f77_meaning.proofs.Endless.{determined}
 use Rattle.f77_meaning.proofs.Following.{no_later}
-use Rattle.f77_meaning.proofs.OneAnswer.{one_start}
 use Rattle.f77_run.proofs.Runs.{IsLeft, is_step}
 
 own : (n : ℕ) → (n == n) ≡ true

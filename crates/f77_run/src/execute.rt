@@ -135,7 +135,7 @@ pub(crate) fn numbered(jumps: &[Jump], number: i32) -> Option<&Jump>
 }
 
 /// A computed GO TO.
-#[tactic(auto, using(crate::proofs::Numbered::numbered_within))]
+#[tactic(auto, using(f77_meaning::proofs::Numbered::numbered_within))]
 fn jump_by_number(
     resolved: &Resolved,
     value: &Number,

@@ -16,7 +16,6 @@ use crate::running::End;
 use crate::visits::Visits;
 use f77_actions::Finish;
 use f77_check::Resolved;
-use f77_code::Place;
 use f77_meaning::RunFault;
 use f77_tree::Shared;
 use std::alloc::Global;

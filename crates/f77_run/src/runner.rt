@@ -22,7 +22,7 @@ use crate::visits::Visits;
 use crate::workspace::Workspace;
 use f77_actions::Value;
 use f77_check::Checked;
-use f77_meaning::{Arg, Outcome, RunFault, Values};
+use f77_meaning::{Arg, Outcome, RunFault};
 use std::alloc::Global;
 use std::marker::Model;
 

@@ -1,6 +1,6 @@
 //! Where control was in a run: the first times that it came to each statement, with the states then.
 
-ghost use Rattle.std.specs.Prelude.{◌≡◌, ◌<◌, ◌||◌, ℕ, length, map, true};
+ghost use Rattle.std.specs.Prelude.{◌≡◌, ◌<◌, ◌||◌, ℕ, length, true};
 ghost use Rattle.std.specs.List.{All};
 ghost use Rattle.std.specs.Prelude.{slice_set, slice_get, Some, IfOk, IfErr, OnOk};
 ghost use Rattle.f77_meaning.specs.States.{placed_in_run};
