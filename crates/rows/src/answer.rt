@@ -1,0 +1,63 @@
+//! The answer to a row.
+
+use anyhow::Result;
+use equivalents_app::tell;
+use mothra_app::{AppFault, Status, Watched, serve};
+use std::alloc::AllocError;
+use std::str::from_utf8;
+use std::sync::Wait;
+use std::thread::Threads;
+
+/// The status with which the program ends that gives such an answer.
+fn exit_status(status: Status) -> char {
+    match status {
+        Status::Report | Status::Help => '0',
+        Status::Fault => '1',
+        Status::Words => '2',
+    }
+}
+
+/// Calls the program that the first of the words names on a job, and hands out what it writes.
+fn call(
+    rt: &(impl AllocGlobal + Threads + Wait + Sync),
+    words: &str,
+    job: &str,
+    written: &mut Vec<u8>,
+) -> Result<Status, AppFault> {
+    let words: Vec<&str> = words.split_whitespace().collect(rt.alloc())?;
+    let mut reader = Watched::new(job.as_bytes());
+    let mut writer = Watched::new(written);
+    match words.first() {
+        Some(&"equivalents") => tell(rt.alloc(), &words, &mut reader, &mut writer),
+        _ => serve(rt, &words, &mut reader, &mut writer),
+    }
+}
+
+/// Appends a text: its first line behind the exit status, each other line behind blanks.
+fn push_text(answers: &mut String, status: char, text: &str) -> Result<(), AllocError> {
+    answers.push(status)?;
+    let mut front = ": ";
+    if text.is_empty() {
+        answers.push_str(":\n")?;
+    }
+    for line in text.lines() {
+        answers.push_str(front)?;
+        answers.push_str(line)?;
+        answers.push('\n')?;
+        front = "   ";
+    }
+    Ok(())
+}
+
+/// Appends the answer to these words and this job.
+pub(crate) fn push_answer(
+    rt: &(impl AllocGlobal + Threads + Wait + Sync),
+    words: &str,
+    job: &str,
+    answers: &mut String,
+) -> Result<()> {
+    let mut written = Vec::new(rt.alloc());
+    let status = call(rt, words, job, &mut written)?;
+    push_text(answers, exit_status(status), from_utf8(&written)?)?;
+    Ok(())
+}
