@@ -1,0 +1,101 @@
+"""The tool rows: which answers of a table differ. A program that the test writes stands in place of the real one."""
+
+import shutil
+import subprocess
+import sys
+import tempfile
+import unittest
+from pathlib import Path
+
+from running import TOOLS
+
+TABLE = """\
+# Sums.
+$ mothra exec --test 1
+      SUBROUTINE ADD(I,J,K)
+      K=I+J
+      END
+> [[2,3,0]]
+> [[2,4,0]]
+
+# Damaged jobs.
+$ mothra print
+!
+"""
+ANSWERS = """\
+# Sums.
+$ mothra exec --test 1
+> [[2,3,0]]
+0: RETURNED 2 3 5
+> [[2,4,0]]
+0: RETURNED 2 4 6
+   OF 3
+
+# Damaged jobs.
+$ mothra print
+!
+1: FAULT J2
+"""
+
+
+class Rows(unittest.TestCase):
+    def setUp(self) -> None:
+        folder = tempfile.TemporaryDirectory()
+        self.addCleanup(folder.cleanup)
+        self.top = Path(folder.name)
+        crate = self.top / "crates" / "rows"
+        crate.mkdir(parents=True)
+        (self.top / "tools").mkdir()
+        shutil.copy(TOOLS / "rows", self.top / "tools")
+        (crate / "stdin").write_text(TABLE)
+        self.wanted = crate / "stdout"
+        self.wanted.write_text(ANSWERS)
+
+    def ended(self, answers: str, *words: str, status: int = 0) -> tuple[int, str]:
+        """The exit status and the output of the tool, where the program writes these answers of the table."""
+        program = self.top / "program"
+        program.write_text(
+            f"#!{sys.executable}\nimport sys\nassert sys.stdin.read() == {TABLE!r}\n"
+            f"sys.stdout.write({answers!r})\nsys.exit({status})\n"
+        )
+        program.chmod(0o755)
+        call = [sys.executable, self.top / "tools" / "rows", "--program", program, *words]
+        done = subprocess.run(call, capture_output=True, text=True)
+        return done.returncode, done.stdout + done.stderr
+
+    def test_the_wanted_answers(self) -> None:
+        self.assertEqual(self.ended(ANSWERS), (0, "3 rows, 0 differ\n"))
+
+    def test_a_line_that_differs_is_told_with_its_row(self) -> None:
+        told = (
+            "# Sums.\n\n$ mothra exec --test 1\n> [[2,4,0]]\n(line 7)\n"
+            "-0: RETURNED 2 4 6\n+0: RETURNED 2 4 8\n\n3 rows, 1 differ\n"
+        )
+        self.assertEqual(self.ended(ANSWERS.replace("4 6", "4 8")), (1, told))
+
+    def test_a_row_that_is_new_and_one_that_is_gone(self) -> None:
+        self.wanted.write_text(ANSWERS.replace("> [[2,3,0]]", "> [[9,9,0]]"))
+        status, told = self.ended(ANSWERS)
+        self.assertEqual(status, 1)
+        self.assertIn("> [[9,9,0]]\n(no longer in the table)\n-0: RETURNED 2 3 5\n", told)
+        self.assertIn("> [[2,3,0]]\n(line 6)\n+0: RETURNED 2 3 5\n", told)
+
+    def test_answers_are_accepted_once_they_were_told(self) -> None:
+        other = ANSWERS.replace("J2", "J3")
+        status, told = self.ended(other, "--accept")
+        self.assertEqual((status, self.wanted.read_text()), (0, other))
+        self.assertIn("(line 11)\n-1: FAULT J2\n+1: FAULT J3\n\n3 rows, 1 accepted\n", told)
+
+    def test_a_program_that_fails(self) -> None:
+        status, told = self.ended(ANSWERS, "--accept", status=1)
+        self.assertEqual((status, self.wanted.read_text()), (2, ANSWERS))
+        self.assertIn("ended with 1", told)
+
+    def test_no_program(self) -> None:
+        done = subprocess.run([self.top / "tools" / "rows"], capture_output=True, text=True)
+        self.assertEqual(done.returncode, 2)
+        self.assertIn("rows is not built", done.stderr)
+
+
+if __name__ == "__main__":
+    unittest.main()
