@@ -33,18 +33,22 @@ fn call(
     }
 }
 
+/// What stands in front of the line at this place of an answer.
+fn front(place: usize) -> &'static str {
+    if place == 0 { " " } else { "   " }
+}
+
 /// Appends a text: its first line behind the exit status, each other line behind blanks.
 fn push_text(answers: &mut String, status: char, text: &str) -> Result<(), AllocError> {
     answers.push(status)?;
-    let mut front = ": ";
+    answers.push(':')?;
     if text.is_empty() {
-        answers.push_str(":\n")?;
+        answers.push('\n')?;
     }
-    for line in text.lines() {
-        answers.push_str(front)?;
+    for (place, line) in text.lines().enumerate() {
+        answers.push_str(front(place))?;
         answers.push_str(line)?;
         answers.push('\n')?;
-        front = "   ";
     }
     Ok(())
 }
