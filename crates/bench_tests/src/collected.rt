@@ -5,7 +5,7 @@ use mothra_bench::{Bench, BenchFault, Matrix, Row, collect, verdict_of};
 use mothra_exchange::Tally;
 use mothra_ops::Op;
 use sample_benches::{rows, sum_bench, tally, ticket, whole_tally};
-use sample_programs::parts;
+use samples::parts;
 use std::process::Abort;
 use std::test::Fail;
 

@@ -1,7 +1,7 @@
 //! Declared entries of operators that were not asked for.
 
 use sample_benches::{Job, lines_of, report};
-use sample_programs::ADD;
+use samples::ADD;
 use std::process::Abort;
 use std::test::Fail;
 

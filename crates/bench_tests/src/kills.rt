@@ -3,7 +3,7 @@
 
 use mothra_bench::Row;
 use sample_benches::{Job, bench, rows};
-use sample_programs::{ADD, LOOP, parts, repeated};
+use samples::{ADD, LOOP, parts, repeated};
 use std::process::Abort;
 use std::test::Fail;
 

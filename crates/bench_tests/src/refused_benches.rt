@@ -3,7 +3,7 @@
 //! which of the list of ABS is kept, with ` | ` between them, ` => ` and the fault.
 
 use sample_benches::{Job, SUM, report};
-use sample_programs::{LOOP, parts};
+use samples::{LOOP, parts};
 use std::process::Abort;
 use std::test::Fail;
 

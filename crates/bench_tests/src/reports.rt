@@ -1,7 +1,7 @@
 //! Reports. A row is the words that lines begin with, ` => ` and these lines of the report.
 
 use sample_benches::{Job, SUM, lines_of, report};
-use sample_programs::{LOOP, parts};
+use samples::{LOOP, parts};
 use std::process::Abort;
 use std::test::Fail;
 

@@ -5,7 +5,7 @@ use mothra_bench::{Bench, Row, collect};
 use mothra_exchange::Ticket;
 use mothra_ops::Op;
 use sample_benches::{Job, SUM, bench, rows, whole_tally};
-use sample_programs::{parts, repeated};
+use samples::{parts, repeated};
 use std::process::Abort;
 use std::test::Fail;
 

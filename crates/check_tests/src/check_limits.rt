@@ -1,7 +1,7 @@
 //! The limits on statements, names and elements.
 
 use crate::verdicts::{assert_verdicts, verdict};
-use sample_programs::{expect, repeated};
+use samples::{expect, repeated};
 use std::test::Fail;
 
 const ELEMENTS: &str = "

@@ -2,7 +2,7 @@
 
 use f77_check::{Shape, Start};
 use f77_syntax::{Constant, print};
-use sample_programs::{checked, expect, program};
+use samples::{checked, expect, program};
 use std::test::Fail;
 
 const SHAPES: &str = "SUBROUTINE S(K,M,P); INTEGER M(3,4); LOGICAL P; P=K.GT.M(1,2); END";

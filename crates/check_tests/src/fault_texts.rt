@@ -2,7 +2,7 @@
 
 use f77_check::{CheckFault, check};
 use f77_syntax::Program;
-use sample_programs::{expect, program};
+use samples::{expect, program};
 use std::test::Fail;
 
 fn text_of(rt: &impl AllocGlobal, fault: &CheckFault) -> Result<String, Fail> {

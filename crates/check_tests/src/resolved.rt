@@ -3,7 +3,7 @@
 use crate::action_texts::shown;
 use f77_check::Resolved;
 use f77_syntax::Shared;
-use sample_programs::{checked, expect};
+use samples::{checked, expect};
 use std::process::Abort;
 use std::test::Fail;
 

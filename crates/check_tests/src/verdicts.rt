@@ -1,7 +1,7 @@
 //! Verdicts on programs.
 
 use f77_check::check;
-use sample_programs::{expect, parts, program, verdict_of};
+use samples::{expect, parts, program, verdict_of};
 use std::test::Fail;
 
 /// The verdict on the program of these statements.

@@ -12,7 +12,7 @@ use f77_conditions::equivalent::is_equivalent_where_told;
 use f77_equivalence::invariant::Invariant;
 use f77_finder::finding::entries_of;
 use f77_tree::Stmt;
-use sample_programs::{checked, held, holder, number_and_text};
+use samples::{checked, held, holder, number_and_text};
 use std::process::Abort;
 use std::test::Fail;
 

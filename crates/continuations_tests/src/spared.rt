@@ -11,7 +11,7 @@ use f77_continuations::spare::{continues, steps_to_spare};
 use f77_equivalence::invariant::Invariant;
 use f77_finder::finding::entries_of;
 use f77_tree::Stmt;
-use sample_programs::{checked, held, holder, number_and_text};
+use samples::{checked, held, holder, number_and_text};
 use std::process::Abort;
 use std::test::Fail;
 

@@ -10,7 +10,7 @@ use f77_check::Checked;
 use f77_differences::unread::is_unread;
 use f77_finder::finding::entries_of;
 use f77_tree::Stmt;
-use sample_programs::{checked, held, holder, number_and_text};
+use samples::{checked, held, holder, number_and_text};
 use std::process::Abort;
 use std::test::Fail;
 

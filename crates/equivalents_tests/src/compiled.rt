@@ -3,7 +3,7 @@
 use mothra_codes::Op;
 use mothra_equivalents::equivalents_of;
 use mothra_ops::Plan;
-use sample_programs::checked;
+use samples::checked;
 use std::process::Abort;
 use std::test::Fail;
 

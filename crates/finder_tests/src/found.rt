@@ -5,7 +5,7 @@ use f77_facts::entries::Entry;
 use f77_facts::facts::known_at;
 use f77_facts::known::{Known, hull_of};
 use f77_finder::finding::entries_of;
-use sample_programs::checked;
+use samples::checked;
 use std::process::Abort;
 use std::test::Fail;
 

@@ -3,7 +3,7 @@
 use f77_equivalence::start::holds_start;
 use f77_facts::inductive::is_inductive;
 use f77_finder::finding::entries_of;
-use sample_programs::{ADD, LOOP, PRESET, checked};
+use samples::{ADD, LOOP, PRESET, checked};
 use std::process::Abort;
 use std::test::Fail;
 

@@ -3,7 +3,7 @@
 use crate::chance::Chance;
 use f77_check::Checked;
 use f77_tree::{Expr, Stmt};
-use sample_programs::patched;
+use samples::patched;
 use std::alloc::{AllocError, Global};
 use std::test::Fail;
 

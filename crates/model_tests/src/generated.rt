@@ -8,7 +8,7 @@ use crate::tally::Tally;
 use f77_check::{Checked, check};
 use f77_source::{read_form, write_form};
 use f77_syntax::{Program, parse};
-use sample_programs::arguments;
+use samples::arguments;
 use std::alloc::Global;
 use std::process::Abort;
 use std::test::Fail;

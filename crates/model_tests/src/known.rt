@@ -4,7 +4,7 @@
 use crate::comparing::agreed;
 use f77_check::Checked;
 use f77_run::{Outcome, Values};
-use sample_programs::{ADD, LOOP, PRESET, arguments, checked, parts};
+use samples::{ADD, LOOP, PRESET, arguments, checked, parts};
 use std::test::Fail;
 
 /// The parts before and behind a mark.

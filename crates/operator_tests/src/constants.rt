@@ -1,7 +1,7 @@
 //! Constants and the values of DATA: CRP, SRC, SCR and DSA.
 
 use crate::listed::assert_mutants;
-use sample_programs::LOOP;
+use samples::LOOP;
 use std::test::Fail;
 
 const ZEROS: &str = "SUBROUTINE Z(K); K=K-0; K=-0; END";

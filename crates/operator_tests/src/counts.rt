@@ -1,7 +1,7 @@
 //! How many mutants operators have.
 
 use crate::listed::{assert_counts, assert_mutants};
-use sample_programs::repeated;
+use samples::repeated;
 use std::test::Fail;
 
 #[test]

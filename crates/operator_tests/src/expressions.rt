@@ -1,7 +1,7 @@
 //! Operators, signs and values of expressions: AOR, LCR, ROR, ABS and UOI.
 
 use crate::listed::assert_mutants;
-use sample_programs::{ADD, LOOP};
+use samples::{ADD, LOOP};
 use std::test::Fail;
 
 const LOG: &str = "SUBROUTINE LOG(P,Q); LOGICAL P,Q; P=P.AND.Q; END";

@@ -1,7 +1,7 @@
 //! Labels in the place of others: GLR and DER.
 
 use crate::listed::assert_mutants;
-use sample_programs::LOOP;
+use samples::LOOP;
 use std::test::Fail;
 
 const SELECTED: &str =

@@ -4,7 +4,7 @@ ghost use Rattle.std.specs.Prelude.{◌≤◌};
 
 use mothra_ops::listing::{Limits, Listing};
 use mothra_ops::{Edit, Op, OpsFault};
-use sample_programs::parts;
+use samples::parts;
 use std::process::Abort;
 use std::test::Fail;
 

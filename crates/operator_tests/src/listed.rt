@@ -3,7 +3,7 @@
 use f77_check::Checked;
 use f77_program::print_stmt;
 use mothra_ops::{Edit, Op, apply, edits};
-use sample_programs::{checked, parts};
+use samples::{checked, parts};
 use std::process::Abort;
 use std::test::Fail;
 

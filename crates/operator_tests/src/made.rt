@@ -4,7 +4,7 @@ use crate::listed::operator;
 use f77_check::Checked;
 use f77_program::print;
 use mothra_ops::{Edit, OpsFault, apply};
-use sample_programs::{ADD, LOOP, checked, parts, program};
+use samples::{ADD, LOOP, checked, parts, program};
 use std::process::Abort;
 use std::test::Fail;
 

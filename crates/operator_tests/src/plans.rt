@@ -2,7 +2,7 @@
 
 use crate::listed::operator;
 use mothra_ops::{Edit, Op, Plan};
-use sample_programs::{ADD, checked, parts};
+use samples::{ADD, checked, parts};
 use std::process::Abort;
 use std::test::Fail;
 

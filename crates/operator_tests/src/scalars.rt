@@ -1,7 +1,7 @@
 //! Scalars in the place of others: SVR, and which sites DO variables, targets and names that are only declared are.
 
 use crate::listed::assert_mutants;
-use sample_programs::{ADD, LOOP};
+use samples::{ADD, LOOP};
 use std::test::Fail;
 
 const LOG: &str = "SUBROUTINE LOG(P,Q); LOGICAL P,Q; P=P.AND.Q; END";

@@ -1,7 +1,7 @@
 //! Statements in the place of others: SDL, RSR and SAN.
 
 use crate::listed::assert_mutants;
-use sample_programs::LOOP;
+use samples::LOOP;
 use std::test::Fail;
 
 const RETURNS: &str = "SUBROUTINE S(K); RETURN; END";

@@ -1,7 +1,7 @@
 //! Lists of which each such mutant is kept, from the first.
 
 use crate::listed::assert_mutants;
-use sample_programs::ADD;
+use samples::ADD;
 use std::test::Fail;
 
 #[test]

@@ -3,7 +3,7 @@
 
 use f77_check::Checked;
 use f77_syntax::Stmt;
-use sample_programs::{changed, checked, held, holder, patch_fault, patched_fault, whole_fault};
+use samples::{changed, checked, held, holder, patch_fault, patched_fault, whole_fault};
 use std::process::Abort;
 use std::test::Fail;
 

@@ -3,9 +3,7 @@
 
 use f77_check::{CheckFault, Checked};
 use f77_syntax::Stmt;
-use sample_programs::{
-    checked, held, holder, number_and_text, patch_fault, patched_fault, program,
-};
+use samples::{checked, held, holder, number_and_text, patch_fault, patched_fault, program};
 use std::process::Abort;
 use std::test::Fail;
 

@@ -3,7 +3,7 @@
 
 use f77_check::Checked;
 use f77_syntax::print;
-use sample_programs::{
+use samples::{
     ADD, LOOP, PRESET, changed, checked, held, holder, number_and_text, parts, program, verdict_on,
 };
 use std::process::Abort;

@@ -1,7 +1,7 @@
 //! The variables, arrays and labels of checked programs.
 
 use f77_check::{Checked, Variable};
-use sample_programs::{changed, checked};
+use samples::{changed, checked};
 use std::process::Abort;
 use std::test::Fail;
 

@@ -2,7 +2,7 @@
 
 use f77_check::Checked;
 use f77_run::{Arg, Outcome, RunFault, run};
-use sample_programs::{arguments, checked, expect, parts};
+use samples::{arguments, checked, expect, parts};
 use std::test::Fail;
 
 fn show_numbers(text: &mut String, values: &[i32]) -> Result<(), Fail> {

@@ -2,7 +2,7 @@
 
 use crate::outcomes::halves;
 use f77_run::{Arg, Outcome, RunFault, Runner, Values};
-use sample_programs::{arguments, checked, expect, parts};
+use samples::{arguments, checked, expect, parts};
 use std::test::Fail;
 
 /// An outcome without values.

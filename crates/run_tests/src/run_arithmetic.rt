@@ -2,7 +2,7 @@
 
 use crate::outcomes::{assert_outcomes, halves, outcome};
 use f77_check::Checked;
-use sample_programs::{checked, expect, parts};
+use samples::{checked, expect, parts};
 use std::test::Fail;
 
 const ASSIGNMENTS: &str = "

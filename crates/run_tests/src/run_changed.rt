@@ -2,7 +2,7 @@
 
 use crate::outcomes::assert_outcomes_of;
 use f77_check::Checked;
-use sample_programs::{ADD, LOOP, PRESET, changed, checked};
+use samples::{ADD, LOOP, PRESET, changed, checked};
 use std::test::Fail;
 
 /// Compares the outcomes of a program with a change.

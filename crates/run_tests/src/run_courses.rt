@@ -4,7 +4,7 @@
 use crate::outcomes::{halves, outcome_text};
 use crate::run_reached::digits;
 use f77_run::{Course, RunFault, Runner};
-use sample_programs::{arguments, checked, expect, parts};
+use samples::{arguments, checked, expect, parts};
 use std::test::Fail;
 
 fn course_text(rt: &impl AllocGlobal, course: &Course) -> Result<String, Fail> {

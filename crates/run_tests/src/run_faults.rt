@@ -1,7 +1,7 @@
 //! The texts of faults of runs.
 
 use f77_run::RunFault;
-use sample_programs::expect;
+use samples::expect;
 use std::test::Fail;
 
 fn text_of(rt: &impl AllocGlobal, fault: &RunFault) -> Result<String, Fail> {

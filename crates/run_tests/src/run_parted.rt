@@ -4,7 +4,7 @@ use crate::outcomes::{halves, outcome};
 use f77_check::Checked;
 use f77_run::{Arg, ChangedRunner, Runner};
 use f77_tree::Stmt;
-use sample_programs::{arguments, changed, checked, expect, held, holder, number_and_text, parts};
+use samples::{arguments, changed, checked, expect, held, holder, number_and_text, parts};
 use std::process::Abort;
 use std::test::Fail;
 

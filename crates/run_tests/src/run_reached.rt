@@ -3,7 +3,7 @@
 use crate::outcomes::halves;
 use f77_check::Checked;
 use f77_run::{RunFault, Values, reached_statements};
-use sample_programs::{arguments, checked, expect, parts};
+use samples::{arguments, checked, expect, parts};
 use std::test::Fail;
 
 pub(crate) fn digits(rt: &impl AllocGlobal, reached: &Values<bool>) -> Result<String, Fail> {

@@ -4,7 +4,7 @@ use crate::codes::{operators, tickets};
 use f77_run::Values;
 use mothra_bench::{Bench, BenchFault};
 use mothra_ops::Plan;
-use sample_programs::{ADD, checked, suite};
+use samples::{ADD, checked, suite};
 use std::test::Fail;
 
 /// What a bench is made of: statements with `; ` between them, codes of operators

@@ -6,7 +6,7 @@ ghost use Rattle.f77_tree.specs.Statement.{statement_of};
 
 use crate::lines::{assign, lines_of, lines_text, printed, reprinted};
 use f77_syntax::{Expr, Line, Program, Stmt, SyntaxFault};
-use sample_sources::{expect, read, source};
+use samples::{expect, read, source};
 use std::mem::replace;
 use std::test::Fail;
 

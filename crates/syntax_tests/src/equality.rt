@@ -6,7 +6,7 @@ ghost use Rattle.f77_program.specs.Program.{line_of};
 use crate::cards::parsed;
 use f77_source::Card;
 use f77_syntax::{Expr, Line, Program, Stmt};
-use sample_sources::{parts, program};
+use samples::{parts, program};
 use std::process::Abort;
 use std::test::Fail;
 

@@ -2,7 +2,7 @@
 
 use f77_source::FormFault;
 use f77_syntax::SyntaxFault;
-use sample_sources::expect;
+use samples::expect;
 use std::fmt::Display;
 use std::test::Fail;
 

@@ -1,7 +1,7 @@
 //! The limits on one statement.
 
 use crate::statements::assert_shown;
-use sample_sources::{parts, repeated};
+use samples::{parts, repeated};
 use std::test::Fail;
 
 /// K = I in so many parentheses.

@@ -3,7 +3,7 @@
 use crate::cards::parsed;
 use f77_nodes::nodes;
 use f77_syntax::{Constant, Expr, Name, Node, Program, Stmt, Value, print_stmt};
-use sample_sources::{expect, parts};
+use samples::{expect, parts};
 use std::test::Fail;
 
 const HEADING: &str = "SUBROUTINEA(I,B1)";

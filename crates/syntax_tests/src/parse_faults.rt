@@ -3,7 +3,7 @@
 use crate::statements::{assert_statements, fault_text};
 use f77_source::{Card, read_form};
 use f77_syntax::{Program, parse};
-use sample_sources::{expect, parts};
+use samples::{expect, parts};
 use std::test::Fail;
 
 const STATEMENTS: &str = "

@@ -1,7 +1,7 @@
 //! Programs in fixed form.
 
 use crate::lines::reprinted;
-use sample_sources::{expect, parts, read};
+use samples::{expect, parts, read};
 use std::test::Fail;
 
 /// The program of a source, printed.

@@ -2,7 +2,7 @@
 
 use crate::lines::{assign, lines_of, lines_text, name, printed};
 use f77_syntax::{Expr, Intrinsic, Line, Ref, Stmt};
-use sample_sources::{expect, read};
+use samples::{expect, read};
 use std::test::Fail;
 
 const ADD: &str = "      SUBROUTINE ADD(I,J,K)\n      K=I+J\n      END\n";

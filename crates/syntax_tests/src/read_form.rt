@@ -1,7 +1,7 @@
 //! Sources and their cards, from the rules of fixed form.
 
 use f77_source::{Card, read_form};
-use sample_sources::{expect, parts, repeated};
+use samples::{expect, parts, repeated};
 use std::test::Fail;
 
 /// A card as `line:label:text;`.

@@ -4,7 +4,7 @@ use crate::cards::parsed;
 use crate::lines::name;
 use f77_source::Card;
 use f77_syntax::{Constant, DataGroup, Decl, Expr, Line, Operator, Ref, Sign, Stmt, Value};
-use sample_sources::expect;
+use samples::expect;
 use std::fmt::Debug;
 use std::test::Fail;
 

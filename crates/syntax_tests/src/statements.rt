@@ -2,7 +2,7 @@
 
 use crate::cards::parsed;
 use f77_syntax::{Program, SyntaxFault, print_stmt};
-use sample_sources::{expect, parts};
+use samples::{expect, parts};
 use std::test::Fail;
 
 /// A fault by its name, and its line.

@@ -1,7 +1,7 @@
 //! Cards and their lines, from the rules of fixed form.
 
 use f77_source::{Card, write_form};
-use sample_sources::{expect, repeated};
+use samples::{expect, repeated};
 use std::test::Fail;
 
 /// The lines of a card, or its fault.

@@ -4,7 +4,7 @@ ghost use Rattle.std.specs.Prelude.{◌≤◌};
 
 use mothra_bench::{Bench, analyse};
 use sample_benches::{Job, SUM, bench, report};
-use sample_programs::repeated;
+use samples::repeated;
 use std::process::Abort;
 use std::sync::Wait;
 use std::test::Fail;

@@ -1,7 +1,7 @@
 //! Programs that were checked.
 
+use crate::sources::program;
 use f77_check::{Checked, check};
-use sample_sources::program;
 use std::test::Fail;
 
 /// The program of statements with `; ` between them, checked.

@@ -1,9 +1,9 @@
 //! Changes of one statement of a checked program. A change is a number and a statement.
 
+use crate::sources::program;
 use crate::verdicts::verdict_of;
 use f77_check::{CheckFault, Checked, check};
 use f77_syntax::{Program, Stmt};
-use sample_sources::program;
 use std::alloc::Global;
 use std::test::Fail;
 
