@@ -1,10 +1,8 @@
 //! Changes of one statement of a checked program. A change is a number and a statement.
 
 use crate::sources::program;
-use crate::verdicts::verdict_of;
-use f77_check::{CheckFault, Checked, check};
+use f77_check::{CheckFault, Checked};
 use f77_syntax::{Program, Stmt};
-use std::alloc::Global;
 use std::test::Fail;
 
 /// A program that holds the statement of this text.
@@ -45,42 +43,8 @@ pub fn patched(old: &Checked, number: usize, stmt: &Stmt) -> Option<Result<Check
     Some(old.patched(number, stmt))
 }
 
-/// What `patch_fault` answers, None where the statement does not fit.
-pub fn patch_fault(old: &Checked, number: usize, stmt: &Stmt) -> Option<Option<CheckFault>> {
-    if !old.fits(number, stmt) {
-        return None;
-    }
-    Some(old.patch_fault(number, stmt))
-}
-
-/// The fault that `patched` answers, None where the statement does not fit.
-pub fn patched_fault(old: &Checked, number: usize, stmt: &Stmt) -> Option<Option<CheckFault>> {
-    if !old.fits(number, stmt) {
-        return None;
-    }
-    Some(old.patched(number, stmt).err())
-}
-
-fn fault_of(alloc: Global, program: &Program) -> Option<CheckFault> {
-    check(alloc, program).err()
-}
-
-/// The fault that the check of the whole changed program answers, None where the statement does not fit.
-pub fn whole_fault(
-    rt: &impl AllocGlobal,
-    old: &Checked,
-    number: usize,
-    stmt: &Stmt,
-) -> Result<Option<Option<CheckFault>>, Fail> {
-    if !old.fits(number, stmt) {
-        return Ok(None);
-    }
-    let new = old.program().with_statement(number, stmt)?;
-    Ok(Some(fault_of(rt.alloc(), &new)))
-}
-
 /// What `patched` answers to a change.
-pub fn answer(
+fn answer(
     rt: &impl AllocGlobal,
     old: &Checked,
     change: &str,
@@ -96,13 +60,5 @@ pub fn changed(rt: &impl AllocGlobal, old: &Checked, change: &str) -> Result<Che
     match answer(rt, old, change)? {
         Some(new) => Ok(new?),
         None => Err(Fail::new("the statement does not fit")),
-    }
-}
-
-/// The verdict on the program with a change.
-pub fn verdict_on(rt: &impl AllocGlobal, old: &Checked, change: &str) -> Result<String, Fail> {
-    match answer(rt, old, change)? {
-        Some(answer) => verdict_of(rt, &answer),
-        None => Ok(String::from_str(rt.alloc(), "does not fit")?),
     }
 }

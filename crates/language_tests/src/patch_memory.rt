@@ -1,0 +1,87 @@
+//! Each allocation can be refused: a change is then answered with want of memory, and else undisturbed, and the program
+//! that is changed stays as it was.
+
+use crate::patches::{patch_fault, patched_fault};
+use f77_check::{CheckFault, Checked};
+use f77_syntax::Stmt;
+use samples::{checked, held, holder, number_and_text, program};
+use std::process::Abort;
+use std::test::Fail;
+
+const LOOP: &str = "SUBROUTINE S(K); DO 10 I=1,3; 10 K=K+I; END";
+
+/// Judged by the changed statement alone, and legal.
+const ALONE: &str = "3 K=K-I";
+
+/// The same, with a fault.
+const ALONE_FAULT: &str = "3 I=K";
+
+/// Judged by the whole changed program, since the DO ends nowhere else, and legal.
+const WHOLE: &str = "2 K=0";
+
+/// The same, with a fault.
+const WHOLE_FAULT: &str = "2 DO 20 I=1,3";
+
+/// Whether a fault is of want of memory, or as it is with ample memory.
+fn assert_answer(rt: &impl Abort, answer: Option<Option<CheckFault>>, want: &Option<CheckFault>) {
+    match answer {
+        Some(fault) => assert!(rt; fault == Some(CheckFault::Memory) || fault == *want),
+        None => assert!(rt; false, "the statement does not fit"),
+    }
+}
+
+/// Asks by both calls.
+fn assert_answers(
+    rt: &impl Abort,
+    old: &Checked,
+    number: usize,
+    stmt: &Stmt,
+    want: &Option<CheckFault>,
+) {
+    assert_answer(rt, patched_fault(old, number, stmt), want);
+    assert_answer(rt, patch_fault(old, number, stmt), want);
+}
+
+/// Asks twice. Where a statement is not made for want of memory nothing is asked.
+fn assert_asked(
+    rt: &(impl AllocGlobal + Abort),
+    old: &Checked,
+    change: &str,
+    want: &Option<CheckFault>,
+) -> Result<(), Fail> {
+    let (number, text) = number_and_text(change)?;
+    let holder = holder(rt, text)?;
+    let stmt = held(&holder, text)?;
+    assert_answers(rt, old, number, stmt, want);
+    assert_answers(rt, old, number, stmt, want);
+    Ok(())
+}
+
+/// The program is still that of these statements. Where there is no memory for another nothing is compared.
+fn assert_kept(rt: &(impl AllocGlobal + Abort), old: &Checked) -> Result<(), Fail> {
+    assert!(rt; *old.program() == program(rt, LOOP)?);
+    Ok(())
+}
+
+/// Asks, and compares the program with what it was.
+fn assert_undisturbed(
+    rt: &(impl AllocGlobal + Abort),
+    change: &str,
+    want: Option<CheckFault>,
+) -> Result<(), Fail> {
+    let old = checked(rt, LOOP)?;
+    assert_asked(rt, &old, change, &want)?;
+    assert_kept(rt, &old)
+}
+
+#[test]
+fn refused_memory_changes_no_verdict_of_one_statement(rt: HostRuntime) -> Result<(), Fail> {
+    assert_undisturbed(&rt, ALONE, None)?;
+    assert_undisturbed(&rt, ALONE_FAULT, Some(CheckFault::DoVariable(3)))
+}
+
+#[test]
+fn refused_memory_changes_no_verdict_of_a_whole_program(rt: HostRuntime) -> Result<(), Fail> {
+    assert_undisturbed(&rt, WHOLE, None)?;
+    assert_undisturbed(&rt, WHOLE_FAULT, Some(CheckFault::NoLabel(2)))
+}
