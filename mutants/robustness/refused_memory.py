@@ -6,7 +6,7 @@ Of the crate `mothra` the commands print, exec, list and run (two workers) are c
 allocation of the undisturbed call: that one is refused, alone, and in a second round with all behind it. Each call has
 to give the undisturbed answer, or a fault of want of memory that this command may tell (of `run` also B2), or nothing
 with status 1. Of a crate of tests the tests that are about refused memory are run so, and have to pass, but where there
-was none for what the test itself is made of. Without a name the crates are mothra, exchange_tests, worker_tests and
+was none for what the test itself is made of. Without a name the crates are mothra, exchange_tests, bench_tests and
 mothra_tests.
 
 Programs are built by `rt try --fail-alloc`, which proves nothing and takes a minute or two a crate; with --keep they
@@ -34,7 +34,7 @@ from mutants.robustness.refusing import FROM_THEN_ON, ONLY, STOPS, Refusing, bui
 from mutants.statuses import FAULT, SUCCESS
 
 CRATES = ROOT / "crates"
-DEFAULT = ["mothra", "exchange_tests", "worker_tests", "mothra_tests"]
+DEFAULT = ["mothra", "exchange_tests", "bench_tests", "mothra_tests"]
 CALLS: dict[str, tuple[list[str], list[Any], str]] = {
     "print": (SUM, [], "J1 F1 S1"),
     "exec --test 1": (LOOP, [[3, 0]], "J1 F1 S1 C1 N1"),

@@ -1,31 +1,43 @@
 //! Rows collected. A row of a table is what is changed in the rows of all mutants, ` => ` and what they come to.
 
-use f77_run::Values;
+use crate::benches::{counts, rows, sum_bench, tally};
+use f77_meaning::Values;
 use mothra_bench::{Bench, BenchFault, Matrix, Row, collect, verdict_of};
-use mothra_exchange::Tally;
+use mothra_exchange::{Tally, Ticket};
 use mothra_ops::Op;
-use sample_benches::{rows, sum_bench, tally, ticket, whole_tally};
-use samples::parts;
-use std::process::Abort;
+use samples::{expect, parts};
 use std::test::Fail;
 
 /// `reversed`, `without the last`, or a row that is added: its ticket and its digits, `-` for none.
-const ROWS: &[&str] = &[
-    " => 33 entries",
-    "reversed => 33 entries",
-    "ABS 1 1 => Double(Ticket { op: Abs, number: 1 })",
-    "UOI 9 1; ABS 1 1 => Double(Ticket { op: Uoi, number: 9 })",
-    "ABS 10 1 => Stranger(Ticket { op: Abs, number: 10 })",
-    "ABS 0 1 => Stranger(Ticket { op: Abs, number: 0 })",
-    "AAR 1 1 => Stranger(Ticket { op: Aar, number: 1 })",
-    "ABS 1 - => Stranger(Ticket { op: Abs, number: 1 })",
-    "without the last => Missing(Ticket { op: Uoi, number: 9 })",
-    "without the last; without the last => Missing(Ticket { op: Uoi, number: 8 })",
-    // Strangers come before second rows, and these before missing ones.
-    "ABS 1 1; ABS 10 1 => Stranger(Ticket { op: Abs, number: 10 })",
-    "without the last; ABS 1 1 => Double(Ticket { op: Abs, number: 1 })",
-    "without the last; ABS 10 1 => Stranger(Ticket { op: Abs, number: 10 })",
-];
+const ROWS: &str = "
+ => 33 entries from ABS 1 to UOI 9
+reversed => 33 entries from ABS 1 to UOI 9
+ABS 1 1 => Double(Ticket { op: Abs, number: 1 })
+UOI 9 1; ABS 1 1 => Double(Ticket { op: Uoi, number: 9 })
+ABS 10 1 => Stranger(Ticket { op: Abs, number: 10 })
+ABS 0 1 => Stranger(Ticket { op: Abs, number: 0 })
+AAR 1 1 => Stranger(Ticket { op: Aar, number: 1 })
+ABS 1 - => Stranger(Ticket { op: Abs, number: 1 })
+without the last => Missing(Ticket { op: Uoi, number: 9 })
+without the last; without the last => Missing(Ticket { op: Uoi, number: 8 })
+ABS 1 1; ABS 10 1 => Stranger(Ticket { op: Abs, number: 10 })
+without the last; ABS 1 1 => Double(Ticket { op: Abs, number: 1 })
+without the last; ABS 10 1 => Stranger(Ticket { op: Abs, number: 10 })
+";
+
+/// The ticket written as `ABS 3`.
+fn ticket(text: &str) -> Result<Ticket, Fail> {
+    let Some((code, number)) = text.split_once(' ') else {
+        return Err(Fail::new("a ticket is a code and a number"));
+    };
+    match Op::of(code) {
+        Some(op) => Ok(Ticket {
+            op,
+            number: number.parse()?,
+        }),
+        None => Err(Fail::new("no operator has this code")),
+    }
+}
 
 /// A row written as `ABS 1 1`.
 fn row(rt: &impl AllocGlobal, text: &str) -> Result<Row, Fail> {
@@ -64,12 +76,21 @@ fn changed(rt: &impl AllocGlobal, bench: &Bench, changes: &str) -> Result<Vec<Ro
     Ok(rows)
 }
 
-fn told(rt: &impl AllocGlobal, matrix: Result<Matrix, BenchFault>) -> Result<String, Fail> {
+fn entries(rt: &impl AllocGlobal, matrix: &Matrix) -> Result<String, Fail> {
+    let count = matrix.entries().len();
+    let first = matrix.entries().first().ok_or("no entry")?.ticket;
+    let last = matrix.entries().last().ok_or("no entry")?.ticket;
+    let (from, to) = (first.op.code(), last.op.code());
+    let text = format!(in rt.alloc();
+        "{count} entries from {from} {} to {to} {}",
+        first.number, last.number
+    )?;
+    Ok(text)
+}
+
+fn told(rt: &impl AllocGlobal, matrix: &Result<Matrix, BenchFault>) -> Result<String, Fail> {
     match matrix {
-        Ok(matrix) => {
-            let count = matrix.entries().len();
-            Ok(format!(in rt.alloc(); "{count} entries")?)
-        }
+        Ok(matrix) => entries(rt, matrix),
         Err(fault) => Ok(format!(in rt.alloc(); "{fault:?}")?),
     }
 }
@@ -81,68 +102,35 @@ fn collected(
     changes: &str,
 ) -> Result<String, Fail> {
     let rows = changed(rt, bench, changes)?;
-    told(rt, collect(rt.alloc(), bench, tally, rows))
+    told(rt, &collect(rt.alloc(), bench, tally, rows))
 }
 
 fn assert_collected(
-    rt: &(impl AllocGlobal + Abort),
+    rt: &impl AllocGlobal,
     bench: &Bench,
     tally: &Tally,
-    rows: &[&str],
+    rows: &str,
 ) -> Result<(), Fail> {
-    for row in rows {
+    for row in rows.trim_matches('\n').lines() {
         let (changes, want) = parts(row)?;
-        assert_eq!(rt;
-            collected(rt, bench, tally, changes)?.as_str(),
-            want,
-            "{row}"
-        );
+        expect(collected(rt, bench, tally, changes), want, row)?;
     }
     Ok(())
 }
 
-#[test]
-fn are_one_for_each_mutant(rt: HostRuntime) -> Result<(), Fail> {
-    let bench = sum_bench(&rt)?;
-    assert_collected(&rt, &bench, &whole_tally(&rt, &bench)?, ROWS)
-}
-
-/// An exchange handed out all tickets of ABS but the last, and no other.
-fn assert_short(rt: &(impl AllocGlobal + Abort), bench: &Bench) -> Result<(), Fail> {
-    let mut counts = [0u32; 22];
-    counts[Op::Abs.index()] = 8;
-    assert_collected(
-        rt,
-        bench,
-        &tally(rt, counts)?,
-        &[" => Missing(Ticket { op: Abs, number: 9 })"],
-    )
+/// An exchange handed out all tickets, or all of ABS but the last, and no other.
+fn assert_all(rt: &impl AllocGlobal, bench: &Bench) -> Result<(), Fail> {
+    assert_collected(rt, bench, &tally(rt, counts(bench.plan()))?, ROWS)?;
+    let mut short = [0u32; 22];
+    short[Op::Abs.index()] = 8;
+    let missing = " => Missing(Ticket { op: Abs, number: 9 })";
+    assert_collected(rt, bench, &tally(rt, short)?, missing)
 }
 
 #[test]
-fn are_of_tickets_that_were_handed_out(rt: HostRuntime) -> Result<(), Fail> {
+fn are_one_for_each_mutant_that_was_handed_out(rt: HostRuntime) -> Result<(), Fail> {
     let bench = sum_bench(&rt)?;
-    assert_short(&rt, &bench)
-}
-
-/// The tickets of the first entry and the last.
-fn assert_ends(rt: &impl Abort, matrix: &Matrix) -> Result<(), Fail> {
-    let first = matrix.entries().first().ok_or("no entry")?.ticket;
-    let last = matrix.entries().last().ok_or("no entry")?.ticket;
-    assert_eq!(rt; first, ticket("ABS 1")?);
-    assert_eq!(rt; last, ticket("UOI 9")?);
-    Ok(())
-}
-
-fn reversed(rt: &impl AllocGlobal, bench: &Bench) -> Result<Matrix, Fail> {
-    let rows = changed(rt, bench, "reversed")?;
-    Ok(collect(rt.alloc(), bench, &whole_tally(rt, bench)?, rows)?)
-}
-
-#[test]
-fn stand_in_order(rt: HostRuntime) -> Result<(), Fail> {
-    let bench = sum_bench(&rt)?;
-    assert_ends(&rt, &reversed(&rt, &bench)?)
+    assert_all(&rt, &bench)
 }
 
 #[test]

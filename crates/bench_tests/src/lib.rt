@@ -1,15 +1,17 @@
-//! Tests of benches, verdicts, matrices, scores and reports, as their callers see them.
+//! Tests of benches, matrices, scores, workers and feeders, as their callers see them.
 #![tactic(auto)]
 
 #[cfg(test)]
+mod benches;
+#[cfg(test)]
 mod collected;
 #[cfg(test)]
-mod declared;
-#[cfg(test)]
-mod kills;
-#[cfg(test)]
-mod refused_benches;
-#[cfg(test)]
-mod reports;
+mod refused_memory;
 #[cfg(test)]
 mod scores;
+#[cfg(test)]
+mod tricked;
+#[cfg(test)]
+mod tricky;
+#[cfg(test)]
+mod workers;

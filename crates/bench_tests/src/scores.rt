@@ -1,62 +1,33 @@
-//! Mutation scores.
+//! Benches and scores that no job shows.
 
-use f77_run::Values;
-use mothra_bench::{Bench, Row, collect};
+use crate::benches::{bench, counts, tally};
+use f77_meaning::Values;
+use mothra_bench::{Bench, BenchFault, Row, collect};
 use mothra_exchange::Ticket;
 use mothra_ops::Op;
-use sample_benches::{Job, SUM, bench, rows, whole_tally};
-use samples::{parts, repeated};
+use samples::{ADD, repeated};
 use std::process::Abort;
 use std::test::Fail;
 
-fn score_of(rt: &impl AllocGlobal, bench: &Bench, rows: Vec<Row>) -> Result<Option<u32>, Fail> {
-    let tally = whole_tally(rt, bench)?;
-    Ok(collect(rt.alloc(), bench, &tally, rows)?.score())
+const NONE: Ticket = Ticket {
+    op: Op::Abs,
+    number: 0,
+};
+
+/// What keeps a bench of ABS from being made that has this declared mutant.
+fn fault(rt: &impl AllocGlobal, declared: Ticket) -> Result<Option<BenchFault>, Fail> {
+    Ok(bench(rt, ADD, &[Op::Abs], &[declared])?.err())
 }
 
-fn score(rt: &impl AllocGlobal, job: &Job<'_>) -> Result<Option<u32>, Fail> {
-    let bench = bench(rt, job)??;
-    score_of(rt, &bench, rows(rt, &bench)?)
-}
-
-/// A row is codes of operators, tests, which of each list is kept, and
-/// declared mutants, with ` | ` between them, ` => ` and the score.
-const ROWS: &[&str] = &[
-    " | 2 3 0; | 1 |  => Some(8181)",
-    "AOR | 2 2 0; | 1 |  => Some(6666)",
-    " |  | 1 |  => Some(0)",
-    "AOR UOI | 2 3 0; | 1 |  => Some(10000)",
-    // No mutant; each is equivalent.
-    "AAR | 2 3 0; | 1 |  => None",
-    "ABS | 2 3 0; | 8 | ABS 1,ABS 9 => None",
-];
-
-fn job(input: &str) -> Option<Job<'_>> {
-    let (ops, rest) = input.split_once(" | ")?;
-    let (suite, rest) = rest.split_once(" | ")?;
-    let (every, declared) = rest.split_once(" | ")?;
-    Some(Job {
-        ops,
-        every: every.parse().ok()?,
-        suite,
-        declared,
-        ..SUM
-    })
-}
-
-fn told(rt: &impl AllocGlobal, input: &str) -> Result<String, Fail> {
-    match job(input) {
-        Some(job) => Ok(format!(in rt.alloc(); "{:?}", score(rt, &job)?)?),
-        None => Err(input.into()),
-    }
-}
-
+/// An entry of number 0 names no mutant. It is passed over where its operator was not asked for.
 #[test]
-fn are_hundredths_of_a_percent_rounded_down(rt: HostRuntime) -> Result<(), Fail> {
-    for row in ROWS {
-        let (input, want) = parts(row)?;
-        assert_eq!(rt; told(&rt, input)?.as_str(), want, "{row}");
-    }
+fn number_0_is_no_mutant(rt: HostRuntime) -> Result<(), Fail> {
+    assert_eq!(rt; fault(&rt, NONE)?, Some(BenchFault::EquivalentUnknown(1)));
+    let other = Ticket {
+        op: Op::Uoi,
+        number: 0,
+    };
+    assert_eq!(rt; fault(&rt, other)?, None);
     Ok(())
 }
 
@@ -82,28 +53,20 @@ fn all_but_one(rt: &impl AllocGlobal, bench: &Bench) -> Result<Vec<Row>, Fail> {
     Ok(rows)
 }
 
-/// The bench of a program of 400 statements.
-fn large_bench(rt: &impl AllocGlobal) -> Result<Bench, Fail> {
-    let statements = repeated(rt, "SUBROUTINE ADD(I,J,K)", 400, "; K=I+J", "; END")?;
-    let job = Job {
-        statements: statements.as_str(),
-        ..SUM
-    };
-    Ok(bench(rt, &job)??)
-}
-
 /// The score where every mutant but the first is killed.
 fn score_but_one(rt: &impl AllocGlobal, bench: &Bench) -> Result<Option<u32>, Fail> {
+    let tally = tally(rt, counts(bench.plan()))?;
     let rows = all_but_one(rt, bench)?;
     if rows.len() <= 10_000 {
         return Err(Fail::new("there are too few mutants"));
     }
-    score_of(rt, bench, rows)
+    Ok(collect(rt.alloc(), bench, &tally, rows)?.score())
 }
 
 #[test]
 fn are_below_one_hundred_percent_while_one_survives(rt: HostRuntime) -> Result<(), Fail> {
-    let bench = large_bench(&rt)?;
+    let statements = repeated(&rt, "SUBROUTINE ADD(I,J,K)", 400, "; K=I+J", "; END")?;
+    let bench = bench(&rt, statements.as_str(), &Op::ALL, &[])??;
     assert_eq!(rt; score_but_one(&rt, &bench)?, Some(9999));
     Ok(())
 }

@@ -88,17 +88,3 @@ pub(crate) fn splits_and_merges<G: Gate, R: Wait + Abort>(rt: &R, gate: G, mut p
     let tally = gate.finish(pass);
     assert_tally(rt, &tally, Op::Aar, [3, 1, 1], false);
 }
-
-#[test]
-fn the_locked_form_splits_and_merges(rt: HostRuntime) -> Result<(), Fail> {
-    let (gate, pass) = LockedExchange::<2>::new(rt.alloc(), counts(Op::Aar, 3))?;
-    splits_and_merges(&rt, gate, pass);
-    Ok(())
-}
-
-#[test]
-fn the_word_form_splits_and_merges(rt: HostRuntime) -> Result<(), Fail> {
-    let (gate, pass) = TableExchange::<2>::new(rt.alloc(), counts(Op::Aar, 3))?;
-    splits_and_merges(&rt, gate, pass);
-    Ok(())
-}

@@ -4,15 +4,11 @@
 #[cfg(test)]
 mod both_forms;
 #[cfg(test)]
-mod count_limits;
-#[cfg(test)]
-mod fault_texts;
-#[cfg(test)]
 mod full_fields;
 #[cfg(test)]
-mod gates;
-#[cfg(test)]
 mod joined_takes;
+#[cfg(test)]
+mod limits;
 #[cfg(test)]
 mod logs;
 #[cfg(test)]
@@ -21,8 +17,6 @@ mod offers;
 mod operator_codes;
 #[cfg(test)]
 mod refused_exchanges;
-#[cfg(test)]
-mod stalling;
 #[cfg(test)]
 mod tickets;
 #[cfg(test)]

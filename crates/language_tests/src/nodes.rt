@@ -1,7 +1,7 @@
 //! The nodes of statements, in the order of their numbers.
 
-use f77_nodes::nodes;
 use f77_syntax::{Constant, Expr, Name, Node, Stmt, Value, print_stmt};
+use f77_tree::nodes;
 use samples::{expect, held, holder, parts};
 use std::test::Fail;
 

@@ -1,29 +1,40 @@
-//! Tests of the public calls that run programs. A row of a table is an input, ` => ` and what it gives.
+//! Tests of the public calls that run programs, and a plain model of runs to which `run` is held. The model is the
+//! definitions of `f77_run` as a slow interpreter: it looks up names and labels in the statements at each step, and
+//! has no slots and no code. The comment at each case names the definition that it is read off, and the section of
+//! ANSI X3.9-1978.
 #![tactic(auto)]
 
 #[cfg(test)]
-mod outcomes;
+mod arithmetic;
 #[cfg(test)]
-mod run_again;
+mod chance;
 #[cfg(test)]
-mod run_arguments;
+mod changed;
 #[cfg(test)]
-mod run_arithmetic;
+mod changes;
 #[cfg(test)]
-mod run_branches;
+mod comparing;
 #[cfg(test)]
-mod run_changed;
+mod control;
 #[cfg(test)]
-mod run_courses;
+mod expressions;
 #[cfg(test)]
-mod run_data;
+mod generated;
 #[cfg(test)]
-mod run_endless;
+mod generating;
 #[cfg(test)]
-mod run_faults;
+mod grammar;
 #[cfg(test)]
-mod run_loops;
+mod known;
 #[cfg(test)]
-mod run_parted;
+mod model;
 #[cfg(test)]
-mod run_reached;
+mod runs;
+#[cfg(test)]
+mod statements;
+#[cfg(test)]
+mod store;
+#[cfg(test)]
+mod tally;
+#[cfg(test)]
+mod unit;

@@ -1,7 +1,7 @@
 //! Test suites, written as words.
 
 use crate::words::arguments;
-use f77_run::{Arg, Values};
+use f77_meaning::{Arg, Values};
 use std::test::Fail;
 
 /// One test: no arguments where there is no word.

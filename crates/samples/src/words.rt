@@ -1,6 +1,6 @@
 //! The values of dummy arguments, written as words.
 
-use f77_run::{Arg, Values};
+use f77_meaning::{Arg, Values};
 use std::test::Fail;
 
 fn truth(word: &str) -> Result<bool, Fail> {

@@ -1,0 +1,110 @@
+//! Benches of one test, the rows of all their mutants, and their reports as one thread comes to them.
+
+ghost use Rattle.mothra_exchange.specs.Table.{IsPassOf};
+
+use f77_meaning::Values;
+use mothra_bench::{Bench, BenchFault, Row, Verdicts, collect, render};
+use mothra_exchange::{Gate, Pass, TableExchange, Tally, Ticket};
+use mothra_ops::{Op, Plan};
+use samples::{ADD, checked, suite};
+use std::test::Fail;
+
+fn plan(rt: &impl AllocGlobal, statements: &str, ops: &[Op]) -> Result<Plan, Fail> {
+    Ok(Plan::new(rt.alloc(), checked(rt, statements)?, ops, 1)?)
+}
+
+/// The bench of statements with `; ` between them, with these operators and declared mutants, or why there is none.
+pub(crate) fn bench(
+    rt: &impl AllocGlobal,
+    statements: &str,
+    ops: &[Op],
+    declared: &[Ticket],
+) -> Result<Result<Bench, BenchFault>, Fail> {
+    let tests = suite(rt, "2 3 0;")?;
+    if tests.as_slice().len() > 256 {
+        return Err(Fail::new("there are too many tests"));
+    }
+    let declared = Values::new(declared.to_vec(rt.alloc())?);
+    let plan = plan(rt, statements, ops)?;
+    Ok(Bench::new(rt.alloc(), plan, tests, 10_000, declared))
+}
+
+/// All operators on the sum of two numbers: 33 mutants.
+pub(crate) fn sum_bench(rt: &impl AllocGlobal) -> Result<Bench, Fail> {
+    Ok(bench(rt, ADD, &Op::ALL, &[])??)
+}
+
+/// How many mutants each operator has.
+pub(crate) fn counts(plan: &Plan) -> [u32; 22] {
+    let mut counts = [0u32; 22];
+    for op in Op::ALL {
+        counts[op.index()] = plan.count(op);
+    }
+    counts
+}
+
+/// Hands out so many tickets of an operator.
+fn hand_out(exchange: &TableExchange<64>, pass: &mut Pass, op: Op, count: u32)
+    requires { IsPassOf exchange.now pass.old }
+    ensures { IsPassOf exchange.now pass.new }
+{
+    for before in 0..count {
+        exchange.try_offer(
+            pass,
+            Ticket {
+                op,
+                number: before + 1,
+            },
+        );
+        exchange.try_take(pass, op);
+    }
+}
+
+/// What an exchange ends with through which so many tickets of each operator went.
+pub(crate) fn tally(rt: &impl AllocGlobal, counts: [u32; 22]) -> Result<Tally, Fail> {
+    let (exchange, mut pass) = TableExchange::<64>::new(rt.alloc(), counts)?;
+    for op in Op::ALL {
+        hand_out(&exchange, &mut pass, op, counts[op.index()]);
+    }
+    Ok(exchange.finish(pass))
+}
+
+/// The row of each mutant of one operator, behind the others.
+fn push_rows(
+    rt: &impl AllocGlobal,
+    bench: &Bench,
+    verdicts: &mut Verdicts<'_>,
+    op: Op,
+    rows: &mut Vec<Row>,
+) -> Result<(), Fail> {
+    for before in 0..bench.plan().count(op) {
+        let number = before + 1;
+        rows.push(verdicts.row(rt.alloc(), Ticket { op, number })?)?;
+    }
+    Ok(())
+}
+
+fn rows_by(
+    rt: &impl AllocGlobal,
+    bench: &Bench,
+    verdicts: &mut Verdicts<'_>,
+) -> Result<Vec<Row>, Fail> {
+    let mut rows = Vec::new(rt.alloc());
+    for op in Op::ALL {
+        push_rows(rt, bench, verdicts, op, &mut rows)?;
+    }
+    Ok(rows)
+}
+
+/// The row of each mutant, by operator and number.
+pub(crate) fn rows(rt: &impl AllocGlobal, bench: &Bench) -> Result<Vec<Row>, Fail> {
+    let mut verdicts = Verdicts::of(rt.alloc(), bench)?;
+    rows_by(rt, bench, &mut verdicts)
+}
+
+/// The report of a bench.
+pub(crate) fn report(rt: &impl AllocGlobal, bench: &Bench) -> Result<String, Fail> {
+    let tally = tally(rt, counts(bench.plan()))?;
+    let matrix = collect(rt.alloc(), bench, &tally, rows(rt, bench)?)?;
+    Ok(render(rt.alloc(), bench, &matrix)?)
+}

@@ -1,0 +1,175 @@
+//! Workers over gates that hold the first of them, invent tickets, drop them, hand them out in another order, end
+//! early, refuse offers, or give up. The passes of two workers are split off first, then those of the feeders.
+
+ghost use Rattle.std.specs.Prelude.{◌≡◌, ◌+◌, ◌≤◌, true};
+
+use crate::benches::{counts, report, sum_bench};
+use crate::tricky::{Counted, Trick, Tricky};
+use mothra_bench::{Bench, BenchFault, collect, drive, render};
+use mothra_exchange::{Gate, LockedExchange, TableExchange, Ticket};
+use mothra_ops::Op;
+use std::process::Abort;
+use std::sync::Wait;
+use std::test::Fail;
+use std::thread::Threads;
+
+/// The report that so many workers come to through a gate.
+fn driven<G: Gate + Sync, R: AllocGlobal + Threads + Wait + Sync>(
+    rt: &R,
+    bench: &Bench,
+    gate: G,
+    pass: G::Pass,
+    workers: u32,
+) -> Result<String, BenchFault>
+where
+    G::Pass: Send + Drop,
+    requires own { G.is_pass gate pass }
+    requires workers { (1 ≤ workers) × (workers ≤ 32) }
+    requires part { G.needs_parts ≡ true → workers + 3 ≤ (G.view pass).part }
+{
+    let (rows, tally) = drive(rt, rt.alloc(), gate, pass, bench, workers)?;
+    let matrix = collect(rt.alloc(), bench, &tally, rows)?;
+    render(rt.alloc(), bench, &matrix)
+}
+
+/// The same over a gate that plays a trick, round an exchange of words.
+fn tricked<R: AllocGlobal + Threads + Wait + Sync>(
+    rt: &R,
+    bench: &Bench,
+    trick: Trick,
+    workers: u32,
+) -> Result<Result<String, BenchFault>, Fail>
+    requires { (1 ≤ workers) × (workers ≤ 32) }
+{
+    let (inner, pass) = TableExchange::<64>::new(rt.alloc(), counts(bench.plan()))?;
+    let counted = Counted::new();
+    let (gate, pass) = Tricky::of(inner, pass, trick, &counted);
+    Ok(driven(rt, bench, gate, pass, workers))
+}
+
+/// Round a locked exchange.
+fn tricked_locked<R: AllocGlobal + Threads + Wait + Sync>(
+    rt: &R,
+    bench: &Bench,
+    trick: Trick,
+    workers: u32,
+) -> Result<Result<String, BenchFault>, Fail>
+    requires { (1 ≤ workers) × (workers ≤ 32) }
+{
+    let (inner, pass) = LockedExchange::<64>::new(rt.alloc(), counts(bench.plan()))?;
+    let counted = Counted::new();
+    let (gate, pass) = Tricky::of(inner, pass, trick, &counted);
+    Ok(driven(rt, bench, gate, pass, workers))
+}
+
+fn assert_answer(
+    rt: &impl Abort,
+    report: Result<String, BenchFault>,
+    want: Result<&str, BenchFault>,
+) {
+    match report {
+        Ok(report) => assert_eq!(rt; Ok(report.as_str()), want),
+        Err(fault) => assert_eq!(rt; Err(fault), want),
+    }
+}
+
+/// Over both forms of the exchange the workers come to this report, or to this fault.
+fn assert_tricked<R: Abort + AllocGlobal + Threads + Wait + Sync>(
+    rt: &R,
+    bench: &Bench,
+    trick: Trick,
+    workers: u32,
+    want: Result<&str, BenchFault>,
+) -> Result<(), Fail>
+    requires { (1 ≤ workers) × (workers ≤ 32) }
+{
+    assert_answer(rt, tricked(rt, bench, trick, workers)?, want);
+    assert_answer(rt, tricked_locked(rt, bench, trick, workers)?, want);
+    Ok(())
+}
+
+const FIRST: Ticket = Ticket {
+    op: Op::Abs,
+    number: 1,
+};
+
+const SECOND: Ticket = Ticket {
+    op: Op::Abs,
+    number: 2,
+};
+
+const LAST: Ticket = Ticket {
+    op: Op::Uoi,
+    number: 9,
+};
+/// Of no mutant.
+const NONE: Ticket = Ticket {
+    op: Op::Abs,
+    number: 10,
+};
+
+/// Of two threads with a fault that of the first is told: of the feeders, then of the workers.
+const FAULTS: [(Trick, BenchFault); 8] = [
+    (Trick::Invents(1, FIRST), BenchFault::Double(FIRST)),
+    (Trick::Invents(0, NONE), BenchFault::Stranger(NONE)),
+    (Trick::Refuses, BenchFault::Missing(FIRST)),
+    (Trick::Drops(LAST), BenchFault::Missing(LAST)),
+    (Trick::Mishaps(1, NONE, 3), BenchFault::Stalled),
+    (Trick::Mishaps(1, NONE, 4), BenchFault::Stalled),
+    (Trick::Mishaps(1, NONE, 2), BenchFault::Stranger(NONE)),
+    (Trick::Mishaps(2, NONE, 1), BenchFault::Stalled),
+];
+
+fn assert_faults<R: Abort + AllocGlobal + Threads + Wait + Sync>(
+    rt: &R,
+    bench: &Bench,
+) -> Result<(), Fail> {
+    for (trick, fault) in FAULTS {
+        assert_tricked(rt, bench, trick, 2, Err(fault))?;
+    }
+    for calls in 0..50 {
+        assert_tricked(
+            rt,
+            bench,
+            Trick::GivesUp(calls),
+            2,
+            Err(BenchFault::Stalled),
+        )?;
+    }
+    // It waits for a second worker, which there is not.
+    assert_tricked(rt, bench, Trick::Holds, 1, Err(BenchFault::Stalled))
+}
+
+#[test]
+fn tell_the_fault_that_a_trick_leads_to(rt: HostRuntime) -> Result<(), Fail> {
+    let bench = sum_bench(&rt)?;
+    assert_faults(&rt, &bench)
+}
+
+fn assert_reports<R: Abort + AllocGlobal + Threads + Wait + Sync>(
+    rt: &R,
+    bench: &Bench,
+    report: &str,
+) -> Result<(), Fail> {
+    assert_tricked(rt, bench, Trick::Holds, 2, Ok(report))?;
+    assert_tricked(rt, bench, Trick::Swaps(FIRST, SECOND), 2, Ok(report))
+}
+
+#[test]
+fn write_the_report_where_one_is_held_or_tickets_are_swapped(rt: HostRuntime) -> Result<(), Fail> {
+    let bench = sum_bench(&rt)?;
+    assert_reports(&rt, &bench, report(&rt, &bench)?.as_str())
+}
+
+fn is_short(report: Result<String, BenchFault>) -> bool {
+    matches!(report.err(), Some(BenchFault::Missing(_)))
+}
+
+/// Over both forms some ticket is missing: which one, the order of the threads decides.
+#[test]
+fn miss_mutants_where_a_gate_ends_early(rt: HostRuntime) -> Result<(), Fail> {
+    let bench = sum_bench(&rt)?;
+    assert!(rt; is_short(tricked(&rt, &bench, Trick::Ends(16), 2)?));
+    assert!(rt; is_short(tricked_locked(&rt, &bench, Trick::Ends(16), 2)?));
+    Ok(())
+}

@@ -1,0 +1,267 @@
+//! A gate that keeps no records, counts its calls, and plays a trick.
+
+ghost use Rattle.std.specs.Prelude.{◌≡◌};
+
+use mothra_exchange::{Close, Gate, Offer, Take, Tally, Ticket};
+use mothra_ops::Op;
+use std::hint::spin_loop;
+use std::sync::Wait;
+use std::sync::atomic::{AtomicBool, AtomicU64, Ordering};
+
+/// How often the gate looks for another take before it gives up.
+const MOST_TURNS: u32 = 50_000_000;
+
+/// Passes are numbered from 1 in the order in which they are split off.
+#[derive(Clone, Copy, Drop)]
+pub(crate) enum Trick {
+    /// Each call is handed on.
+    Nothing,
+    /// The take behind so many takes answers a ticket of its own.
+    Invents(u64, Ticket),
+    /// Two tickets change places.
+    Swaps(Ticket, Ticket),
+    /// Each offer is answered as if the operator were closed.
+    Refuses,
+    /// A ticket is dropped, and the take is made again.
+    Drops(Ticket),
+    /// The takes behind so many tickets answer that all is finished.
+    Ends(u64),
+    /// Of all offers, takes and closes those behind so many give up.
+    GivesUp(u64),
+    /// The first take of the first pass waits for a take of another one.
+    Holds,
+    /// The first take of one pass answers a ticket of its own, and each call of another gives up.
+    Mishaps(u64, Ticket, u64),
+}
+
+/// What such a gate has counted.
+#[derive(Drop)]
+pub(crate) struct Counted {
+    /// How many passes were split off.
+    pub(crate) splits: AtomicU64,
+    /// How many closes were answered to be done.
+    pub(crate) closes: AtomicU64,
+    /// How many calls, or tickets, the trick has counted.
+    made: AtomicU64,
+    /// Another pass than the first took.
+    others: AtomicBool,
+    /// A call gave up. Takes then give up, too, since the operators of a feeder may stay open.
+    stalled: AtomicBool,
+}
+
+impl Counted {
+    /// Nothing so far.
+    pub(crate) fn new() -> Counted {
+        Counted {
+            splits: AtomicU64::new(0),
+            closes: AtomicU64::new(0),
+            made: AtomicU64::new(0),
+            others: AtomicBool::new(false),
+            stalled: AtomicBool::new(false),
+        }
+    }
+
+    /// Whether another pass than the first takes in time.
+    fn waits(&self) -> bool {
+        for _ in 0..MOST_TURNS {
+            if self.others.load(Ordering::SeqCst) {
+                return true;
+            }
+            spin_loop();
+        }
+        false
+    }
+}
+
+/// Round another gate.
+#[derive(Drop)]
+pub(crate) struct Tricky<'a, G> {
+    inner: G,
+    trick: Trick,
+    counted: &'a Counted,
+}
+
+/// A pass of the gate within.
+#[derive(Drop)]
+pub(crate) struct TrickyPass<P> {
+    inner: P,
+    number: u64,
+    /// It took already.
+    took: bool,
+}
+
+impl<'a, G> Tricky<'a, G> {
+    /// Round this gate, with its pass.
+    pub(crate) fn of<P>(
+        inner: G,
+        pass: P,
+        trick: Trick,
+        counted: &'a Counted,
+    ) -> (Tricky<'a, G>, TrickyPass<P>)
+        ensures { (result.0.inner ≡ inner) × (result.1.inner ≡ pass) }
+    {
+        let gate = Tricky {
+            inner,
+            trick,
+            counted,
+        };
+        let pass = TrickyPass {
+            inner: pass,
+            number: 0,
+            took: false,
+        };
+        (gate, pass)
+    }
+
+    /// Whether this call of the pass of this number gives up.
+    fn gives_up(&self, number: u64) -> bool {
+        let gives_up = match self.trick {
+            Trick::GivesUp(calls) => self.counted.made.fetch_add(1, Ordering::SeqCst) >= calls,
+            Trick::Mishaps(_, _, other) => number == other,
+            _ => false,
+        };
+        if gives_up {
+            self.counted.stalled.store(true, Ordering::SeqCst);
+        }
+        gives_up
+    }
+
+    /// Whether this take, the first of its pass or a later one, may be made.
+    fn lets(&self, number: u64, first: bool) -> bool {
+        if number != 1 {
+            self.counted.others.store(true, Ordering::SeqCst);
+            return true;
+        }
+        match self.trick {
+            Trick::Holds if first => self.counted.waits(),
+            _ => true,
+        }
+    }
+
+    /// The ticket that this take answers by itself.
+    fn invented(&self, number: u64, first: bool) -> Option<Ticket> {
+        match self.trick {
+            Trick::Invents(takes, ticket) => {
+                (self.counted.made.fetch_add(1, Ordering::SeqCst) == takes).then_some(ticket)
+            }
+            Trick::Mishaps(one, ticket, _) => (first && number == one).then_some(ticket),
+            _ => None,
+        }
+    }
+
+    /// Whether so many tickets were handed out that no more are.
+    fn ends(&self) -> bool {
+        match self.trick {
+            Trick::Ends(tickets) => self.counted.made.load(Ordering::SeqCst) >= tickets,
+            _ => false,
+        }
+    }
+
+    /// Counts a ticket that is handed out, where the trick counts tickets.
+    fn count(&self) {
+        if let Trick::Ends(_) = self.trick {
+            self.counted.made.fetch_add(1, Ordering::SeqCst);
+        }
+    }
+
+    fn drops(&self, ticket: Ticket) -> bool {
+        match self.trick {
+            Trick::Drops(dropped) => ticket == dropped,
+            _ => false,
+        }
+    }
+
+    /// What is handed out in the place of a ticket.
+    fn handed(&self, ticket: Ticket) -> Ticket {
+        match self.trick {
+            Trick::Swaps(one, other) if ticket == one => other,
+            Trick::Swaps(one, other) if ticket == other => one,
+            _ => ticket,
+        }
+    }
+}
+
+impl<G: Gate> Gate for Tricky<'_, G> {
+    ghost use Rattle.std.specs.Prelude.{true, false};
+
+    type Pass = TrickyPass<G::Pass>;
+
+    ghost is_pass = { λ g p. G.is_pass g.inner p.inner };
+
+    ghost view = { λ p. G.view p.inner };
+
+    ghost keeps_records = { false };
+
+    ghost needs_parts = { G.needs_parts };
+
+    ghost may_give_up = { true };
+
+    ghost bound = { G.bound };
+
+    fn split(&self, pass: &mut TrickyPass<G::Pass>) -> TrickyPass<G::Pass> {
+        let splits = self.counted.splits.fetch_add(1, Ordering::SeqCst);
+        let inner = self.inner.split(&mut pass.inner);
+        TrickyPass {
+            inner,
+            number: splits.wrapping_add(1),
+            took: false,
+        }
+    }
+
+    fn merge(&self, pass: &mut TrickyPass<G::Pass>, other: TrickyPass<G::Pass>) {
+        let TrickyPass { inner, .. } = other;
+        self.inner.merge(&mut pass.inner, inner);
+    }
+
+    fn offer<R: Wait>(&self, rt: &R, pass: &mut TrickyPass<G::Pass>, ticket: Ticket) -> Offer {
+        if self.gives_up(pass.number) {
+            return Offer::GaveUp;
+        }
+        if matches!(self.trick, Trick::Refuses) {
+            return Offer::Closed;
+        }
+        self.inner.offer(rt, &mut pass.inner, ticket)
+    }
+
+    fn take<R: Wait>(&self, rt: &R, pass: &mut TrickyPass<G::Pass>, op: Op) -> Take {
+        let first = !pass.took;
+        pass.took = true;
+        if self.gives_up(pass.number) || !self.lets(pass.number, first) {
+            return Take::GaveUp;
+        }
+        if let Some(ticket) = self.invented(pass.number, first) {
+            return Take::Taken(ticket);
+        }
+        if self.counted.stalled.load(Ordering::SeqCst) {
+            return Take::GaveUp;
+        }
+        if self.ends() {
+            return Take::Finished;
+        }
+        match self.inner.take(rt, &mut pass.inner, op) {
+            Take::Taken(ticket) if self.drops(ticket) => self.inner.take(rt, &mut pass.inner, op),
+            Take::Taken(ticket) => {
+                self.count();
+                Take::Taken(self.handed(ticket))
+            }
+            answer => answer,
+        }
+    }
+
+    fn close<R: Wait>(&self, rt: &R, pass: &mut TrickyPass<G::Pass>, op: Op) -> Close {
+        if self.gives_up(pass.number) {
+            return Close::GaveUp;
+        }
+        let answer = self.inner.close(rt, &mut pass.inner, op);
+        if matches!(answer, Close::Done) {
+            self.counted.closes.fetch_add(1, Ordering::SeqCst);
+        }
+        answer
+    }
+
+    fn finish(self, pass: TrickyPass<G::Pass>) -> Tally {
+        let Tricky { inner, .. } = self;
+        let TrickyPass { inner: own, .. } = pass;
+        inner.finish(own)
+    }
+}

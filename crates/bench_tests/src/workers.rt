@@ -1,0 +1,90 @@
+//! Each mutant has its row, and there is one report, by any number of workers.
+
+ghost use Rattle.std.specs.Prelude.{◌≤◌};
+
+use crate::benches::{bench, counts, report, sum_bench};
+use crate::tricky::{Counted, Trick, Tricky};
+use mothra_bench::{Bench, analyse, drive};
+use mothra_exchange::TableExchange;
+use mothra_ops::Op;
+use samples::repeated;
+use std::process::Abort;
+use std::sync::Wait;
+use std::sync::atomic::Ordering;
+use std::test::Fail;
+use std::thread::Threads;
+
+/// A pass is split off for each worker and each feeder: as many are started as are asked for.
+fn assert_driven<R: Abort + AllocGlobal + Threads + Wait + Sync>(
+    rt: &R,
+    bench: &Bench,
+    workers: u32,
+) -> Result<(), Fail>
+    requires { (1 ≤ workers) × (workers ≤ 32) }
+{
+    let (inner, pass) = TableExchange::<64>::new(rt.alloc(), counts(bench.plan()))?;
+    let counted = Counted::new();
+    let (gate, pass) = Tricky::of(inner, pass, Trick::Nothing, &counted);
+    let rows = drive(rt, rt.alloc(), gate, pass, bench, workers)?.0.len();
+    assert_eq!(rt; rows, 33usize);
+    assert_eq!(rt;
+        counted.splits.load(Ordering::SeqCst),
+        u64::from(workers) + 2
+    );
+    Ok(())
+}
+
+#[test]
+fn are_as_many_as_are_asked_for(rt: HostRuntime) -> Result<(), Fail> {
+    let bench = sum_bench(&rt)?;
+    for workers in 1..33 {
+        assert_driven(&rt, &bench, workers)?;
+    }
+    Ok(())
+}
+
+/// So many workers write this report, so many times.
+fn assert_report<R: Abort + AllocGlobal + Threads + Wait + Sync>(
+    rt: &R,
+    bench: &Bench,
+    want: &str,
+    workers: u32,
+    times: u32,
+) -> Result<(), Fail>
+    requires { (1 ≤ workers) × (workers ≤ 32) }
+{
+    for _ in 0..times {
+        let report = analyse(rt, rt.alloc(), bench, workers)?;
+        assert_eq!(rt; report.as_str(), want);
+    }
+    Ok(())
+}
+
+fn assert_reports<R: Abort + AllocGlobal + Threads + Wait + Sync>(
+    rt: &R,
+    bench: &Bench,
+    want: &str,
+) -> Result<(), Fail> {
+    assert_report(rt, bench, want, 1, 200)?;
+    assert_report(rt, bench, want, 2, 200)?;
+    assert_report(rt, bench, want, 8, 200)?;
+    assert_report(rt, bench, want, 32, 200)
+}
+
+#[test]
+fn write_the_same_report(rt: HostRuntime) -> Result<(), Fail> {
+    let bench = sum_bench(&rt)?;
+    assert_reports(&rt, &bench, report(&rt, &bench)?.as_str())
+}
+
+fn many(rt: &impl AllocGlobal) -> Result<Bench, Fail> {
+    let front = "SUBROUTINE MANY(I,J,K); RETURN";
+    let statements = repeated(rt, front, 310, "; K=I+J", "; END")?;
+    Ok(bench(rt, statements.as_str(), &Op::ALL, &[])??)
+}
+
+#[test]
+fn write_the_report_of_ten_thousand_mutants(rt: HostRuntime) -> Result<(), Fail> {
+    let bench = many(&rt)?;
+    assert_report(&rt, &bench, report(&rt, &bench)?.as_str(), 2, 1)
+}

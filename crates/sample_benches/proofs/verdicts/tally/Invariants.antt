@@ -1,5 +1,0 @@
-use Rattle.mothra_exchange.specs.Table.{IsPassOf}
-use Rattle.sample_benches.proofs.verdicts.tally.Given as goal
-
-abbrev pub invariant-loop-op : goal.invariant-loop-op
-invariant-loop-op g l = IsPassOf l.exchange l.pass
