@@ -34,7 +34,7 @@ os.environ.pop("PROVED", None)
 
 # The modules of the package are imported where they lie, and leave no files there.
 sys.dont_write_bytecode = True
-sys.path.insert(0, str(ROOT))
+sys.path[:0] = [str(ROOT), str(TOOLS)]
 
 from mutants.program import calling, many  # noqa: E402
 from mutants.subcommands.registry import SUBCOMMANDS  # noqa: E402

@@ -11,13 +11,13 @@ from pathlib import Path
 from unittest import mock
 
 import running
-from mutants.measuring import building, calls, command, suites
-from mutants.measuring.building import Built, build_all, built, copied
-from mutants.measuring.calls import called, instructions, least_of, total_in
-from mutants.measuring.command import BEGIN, END
-from mutants.measuring.costs import Cost, cost_in
-from mutants.measuring.jobs import Job, Measure, all_jobs, chosen_of, measures_of
-from mutants.measuring.tables import Result, table_of
+from developing.measuring import building, calls, command, suites
+from developing.measuring.building import Built, build_all, built, copied
+from developing.measuring.calls import called, instructions, least_of, total_in
+from developing.measuring.command import BEGIN, END
+from developing.measuring.costs import Cost, cost_in
+from developing.measuring.jobs import Job, Measure, all_jobs, chosen_of, measures_of
+from developing.measuring.tables import Result, table_of
 from mutants.statuses import SUCCESS
 
 # What callgrind writes begins and ends so; the lines between are of functions.

@@ -8,11 +8,11 @@ from pathlib import Path
 from unittest import mock
 
 import running
+from developing.gate import pages
+from developing.gate.browser import Browser
+from developing.gate.pages import Look, faults_of, is_there
+from developing.gate.shots import SHOTS, terminal_page
 from mutants import statuses
-from mutants.gate import pages
-from mutants.gate.browser import Browser
-from mutants.gate.pages import Look, faults_of, is_there
-from mutants.gate.shots import SHOTS, terminal_page
 from running import run
 
 # A browser that answers each command at once, and knows of one error.

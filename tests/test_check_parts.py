@@ -8,8 +8,7 @@ from unittest import mock
 
 import running
 from mutants import progress
-from mutants.checks import batches, parts
-from mutants.checks import running as checks_running
+from mutants.checks import batches, parts, running as checks_running
 from mutants.checks.batches import MOST_BYTES, batch_text
 from mutants.checks.running import Means
 from mutants.texts.jobs import Job

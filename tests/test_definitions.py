@@ -10,15 +10,15 @@ from pathlib import Path
 from unittest import mock
 
 import running
-from mutants.gate.definitions import command
-from mutants.gate.definitions.citing import cites_of
-from mutants.gate.definitions.placing import faults_of, placed_in
-from mutants.gate.definitions.reaching import Reached, reach
-from mutants.gate.definitions.telling import files_of, modules_of, names_of, table_of, totals_of
-from mutants.gate.definitions.terms import cited_in
-from mutants.gate.definitions.units import units_in
-from mutants.gate.definitions.uses import uses_in
-from mutants.gate.definitions.widths import unquoted, wide_of
+from developing.gate.definitions import command
+from developing.gate.definitions.citing import cites_of
+from developing.gate.definitions.placing import faults_of, placed_in
+from developing.gate.definitions.reaching import Reached, reach
+from developing.gate.definitions.telling import files_of, modules_of, names_of, table_of, totals_of
+from developing.gate.definitions.terms import cited_in
+from developing.gate.definitions.units import units_in
+from developing.gate.definitions.uses import uses_in
+from developing.gate.definitions.widths import unquoted, wide_of
 
 CRATES = "sums: thiserror\nmothra_app: sums\nmothra may_wait=1: mothra_app\nsums_tests: sums\n"
 LIB = """\

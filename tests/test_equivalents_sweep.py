@@ -11,19 +11,18 @@ from random import Random
 from unittest import mock
 
 import running
+from developing.robustness import equivalence
+from developing.robustness.edges import edges_of, rows_for
+from developing.robustness.programs import program_of
 from mutants import statuses
-from mutants.fortran.unit import read_unit
 from mutants.jobs.cells import GREATEST, LEAST
-from mutants.robustness import equivalence
-from mutants.robustness.edges import edges_of, rows_for
-from mutants.robustness.programs import program_of
 from mutants.suggestions.asking import Asker
 from mutants.suggestions.shapes import Row
 from mutants.texts.cards import action_at, cards_of, source_lines
+from mutants.texts.dummies import read_unit
 from mutants.texts.lines import Mutant
 from mutants.texts.proofs import Proof
-from running import LEAST as SOURCE
-from running import PROVER, STAND_IN, run
+from running import PROVER, STAND_IN, LEAST as SOURCE, run
 
 JUMPS = re.compile(r"GOTO(\d+)|GOTO\(([\d,]+)\)|\)(\d+,\d+,\d+)$")
 

@@ -9,8 +9,9 @@ from functools import partial
 from pathlib import Path
 
 import running
-from mutants.fortran.comparing import compare_tests
-from mutants.fortran.mutants import (
+from developing.gfortran.comparing import compare_tests
+from developing.gfortran.driver import driver_of, written_by
+from developing.gfortran.mutants import (
     Mutant,
     Outcome,
     compare_mutants,
@@ -20,8 +21,8 @@ from mutants.fortran.mutants import (
     source_of,
     with_calls,
 )
-from mutants.fortran.unit import driver_of, lines_of, read_unit, written_by
-from mutants.texts.cards import cards_of
+from mutants.texts.cards import cards_of, lines_of
+from mutants.texts.dummies import read_unit
 from running import LEAST, STAND_IN
 
 JOB = json.dumps({"source": LEAST, "suite": [[1, 2, 0], [2, 1, 0]]}).encode()

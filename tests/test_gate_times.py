@@ -13,13 +13,13 @@ from pathlib import Path
 from unittest import mock
 
 import running
+from developing.gate.times import command
+from developing.gate.times.chain import below_in, chain_of, read_below
+from developing.gate.times.functions import functions_in, table_of_functions
+from developing.gate.times.record import Check, Record, read_record, tasks_of, text_of
+from developing.gate.times.sampling import Watch, begin_of, kind_of, process_in, processes
+from developing.gate.times.tables import tables_of
 from mutants import statuses
-from mutants.gate.times import command
-from mutants.gate.times.chain import below_in, chain_of, read_below
-from mutants.gate.times.functions import functions_in, table_of_functions
-from mutants.gate.times.record import Check, Record, read_record, tasks_of, text_of
-from mutants.gate.times.sampling import Watch, begin_of, kind_of, process_in, processes
-from mutants.gate.times.tables import tables_of
 
 CRATES = "low: thiserror\nmiddle may_wait=1: low # it waits\ntop: low middle\nside:\n"
 # Two processors: the wrong bodies of low take what the proofs leave free.
@@ -320,8 +320,8 @@ class Tool(unittest.TestCase):
 
 class Hints(unittest.TestCase):
     def test_each_call_has_hints_that_stand(self) -> None:
-        folder = running.ROOT / "mutants" / "gate" / "times"
-        names = sorted(f"mutants.gate.times.{path.stem}" for path in folder.glob("[a-z]*.py"))
+        folder = running.TOOLS / "developing" / "gate" / "times"
+        names = sorted(f"developing.gate.times.{path.stem}" for path in folder.glob("[a-z]*.py"))
         self.assertGreater(len(names), 4)
         for module in map(importlib.import_module, names):
             classes = [it for _, it in inspect.getmembers(module, inspect.isclass) if it.__module__ == module.__name__]

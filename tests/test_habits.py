@@ -7,12 +7,12 @@ from pathlib import Path
 from unittest import mock
 
 import running  # noqa: F401  it finds the package
+from developing.gate import habits
 from mutants.checks.faults import told_of_program
 from mutants.explanations.habits import HABITS, read_paragraph
 from mutants.explanations.names import called_names, declared_arrays, logical_names
 from mutants.explanations.seeing import advice_of_all, habits_seen, said_of_all, statement_habits
 from mutants.explanations.told import explained
-from mutants.gate import habits
 from mutants.program.calling import Fault
 
 # Statements, with the name of the habit that is seen in each.

@@ -6,11 +6,11 @@ import unittest
 from pathlib import Path
 
 import running
-from mutants.robustness.calls import Ended, answer_of, called, line_of
-from mutants.robustness.jobs import SUM, damaged, fronts, job_of, source_of
-from mutants.robustness.sources import GROUPS as SOURCES
-from mutants.robustness.texts import GROUPS as TEXTS
-from mutants.robustness.refusing import FROM_THEN_ON, MARK, STOPS, Refusing, places_in
+from developing.robustness.calls import Ended, answer_of, called, line_of
+from developing.robustness.jobs import SUM, damaged, fronts, job_of, source_of
+from developing.robustness.refusing import FROM_THEN_ON, MARK, STOPS, Refusing, places_in
+from developing.robustness.sources import GROUPS as SOURCES
+from developing.robustness.texts import GROUPS as TEXTS
 
 COMPARES = b"\x48\x3d" + struct.pack("<i", MARK) + b"\x75\x0c\x31\xc0"
 

@@ -9,9 +9,9 @@ from pathlib import Path
 from unittest import mock
 
 import running  # noqa: F401
-from mutants.robustness import longest_list
-from mutants.robustness.jobs import source_of
-from mutants.robustness.longest_list import LOGICALS, length_of, lengths, listed, statements_of, with_list_of
+from developing.robustness import longest_list
+from developing.robustness.jobs import source_of
+from developing.robustness.longest_list import LOGICALS, length_of, lengths, listed, statements_of, with_list_of
 from mutants.statuses import FAULT, SUCCESS
 
 # It lists the mutants of SVR in a statement of P and Q on the fourth line behind two, as mothra does of any; three fit.

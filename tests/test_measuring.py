@@ -10,7 +10,7 @@ from types import ModuleType
 from unittest import mock
 
 import running  # noqa: F401
-from mutants.robustness import little_memory, widest
+from developing.robustness import little_memory, widest
 from mutants.statuses import FAULT, SUCCESS
 
 # It says how many mutants it keeps by --every, as mothra does of a million.

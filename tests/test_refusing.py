@@ -10,8 +10,8 @@ from types import ModuleType
 from unittest import mock
 
 import running  # noqa: F401
-from mutants.robustness import failing_streams, refused_memory
-from mutants.robustness.refusing import MARK
+from developing.robustness import failing_streams, refused_memory
+from developing.robustness.refusing import MARK
 from mutants.statuses import FAULT, SUCCESS
 
 # It writes its text where it has read all, and tells of what failed; or of nothing.

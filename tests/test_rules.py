@@ -5,9 +5,9 @@ import unittest
 from pathlib import Path
 from typing import Any
 
-from mutants.gate.contracts_page import faults_of_told, read_told
-from mutants.gate.crates_page import directly, faults_of_crates, read_crates, read_table
-from mutants.gate.rules_page import Rule, faults_of_rules, read_rules
+from developing.gate.contracts_page import faults_of_told, read_told
+from developing.gate.crates_page import directly, faults_of_crates, read_crates, read_table
+from developing.gate.rules_page import Rule, faults_of_rules, read_rules
 from test_theorems import LAW, SOURCE, SPEC
 
 PROOF = "-- what a sum has\npub sum_has : IsSum 1 1\nsum_has = record { is = refl }\n"

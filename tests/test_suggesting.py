@@ -5,9 +5,9 @@ import unittest
 from unittest import mock
 
 import running
+from developing.gate import suggesting
+from developing.gate.suggesting import BEGIN, CASES, END, Case
 from mutants import statuses
-from mutants.gate import suggesting
-from mutants.gate.suggesting import BEGIN, CASES, END, Case
 from mutants.jobs.making import made_of
 from mutants.suggestions import choosing, rounds
 from room import Room

@@ -26,8 +26,7 @@ from mutants.suggestions.told import mutants_text
 from mutants.suggestions.values import Values, constants_of
 from mutants.texts.jobs import Job
 from mutants.texts.lines import Mutant
-from mutants.texts.reports import Count, Report, read_report
-from mutants.texts.reports import Row as Verdict
+from mutants.texts.reports import Count, Report, Row as Verdict, read_report
 
 FREE = Kept({}, {})
 # A number, an array of numbers in order, a truth value, and an array of these.

@@ -6,8 +6,8 @@ from pathlib import Path
 from typing import Any
 
 import running
-from mutants.gate.contracts import cites, clauses_of, contracts_of, definition_in, owner_of
-from mutants.gate.theorems_page import Row, definitions_in, faults_of, read_rows, totals
+from developing.gate.contracts import cites, clauses_of, contracts_of, definition_in, owner_of
+from developing.gate.theorems_page import Row, definitions_in, faults_of, read_rows, totals
 
 SOURCE = """\
 //! Sums.

@@ -9,7 +9,7 @@ from pathlib import Path
 from unittest import mock
 
 import running  # noqa: F401
-from mutants.robustness import threads
+from developing.robustness import threads
 from mutants.statuses import FAULT, SUCCESS
 
 # Each thread beside the first is one that is begun, and all stay for a while.

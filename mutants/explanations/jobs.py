@@ -6,12 +6,12 @@ from collections.abc import Mapping, Sequence
 from typing import Any
 
 from mutants.explanations.ends import DEFAULT, end_notes
-from mutants.fortran.unit import Dummy, read_head, read_unit
 from mutants.jobs.cells import is_value
 from mutants.operators import NAMES
 from mutants.pages.frame import plural
 from mutants.program.calling import Fault, answer
 from mutants.texts.cards import cards_of
+from mutants.texts.dummies import Dummy, read_head, read_unit
 
 # So many characters of a value are shown.
 LONGEST = 100

@@ -8,12 +8,12 @@ from pathlib import Path
 from typing import Any, NamedTuple, TypeVar
 
 from mutants.declarations.files import NONE_MEANT, Meant, found_beside, meant_by, read_declarations
-from mutants.fortran.unit import read_head, read_unit
 from mutants.jobs.sizes import bounds_of, read_sizes
 from mutants.jobs.sources import Source, Wish, source_of
 from mutants.jobs.tables import Table, read_table
 from mutants.pages.frame import joined_words
 from mutants.texts.cards import cards_of
+from mutants.texts.dummies import read_head, read_unit
 
 # The limits of a job: its tests, and its bytes.
 TESTS, BYTES = 256, 1_048_576

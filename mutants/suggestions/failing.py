@@ -9,9 +9,8 @@ import re
 from collections.abc import Iterable, Iterator, Mapping, Sequence
 from itertools import count, islice
 
-from mutants.fortran.unit import lines_of
 from mutants.suggestions.shapes import Row, items_of
-from mutants.texts.cards import cards_of
+from mutants.texts.cards import cards_of, lines_of
 
 # A label, which may be empty, and a text.
 Statement = tuple[str, str]

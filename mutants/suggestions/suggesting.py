@@ -7,7 +7,6 @@ from mutants.checks.checking import Checked, dummies_of
 from mutants.checks.choice import restricted
 from mutants.checks.outcomes import asked_outcomes
 from mutants.checks.running import Means, asked_in_parts
-from mutants.fortran.unit import read_unit
 from mutants.pages.cover import smallest_set
 from mutants.pages.suite import killers_of
 from mutants.program.calling import OutOfTime
@@ -21,6 +20,7 @@ from mutants.suggestions.reaching import Reached, reached_of
 from mutants.suggestions.rounds import Search
 from mutants.suggestions.shapes import Row, Shape, Value, row_of, test_of
 from mutants.suggestions.values import constants_of
+from mutants.texts.dummies import read_unit
 from mutants.texts.jobs import Job
 
 

@@ -80,3 +80,9 @@ def action_at(text: str) -> int:
         if depth == 0 and character == ")":
             return 0 if text[at + 1 : at + 2] in ("", "=") else at + 1
     return 0
+
+
+def lines_of(label: str, text: str) -> list[str]:
+    """The lines in fixed form of a statement."""
+    pieces = [text[at : at + 66] for at in range(0, len(text), 66)]
+    return [(f"{label:>5} " if at == 0 else "     +") + piece for at, piece in enumerate(pieces)]

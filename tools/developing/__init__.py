@@ -1,0 +1,1 @@
+"""What developers of Mothra call: the files of tools/ name its modules."""

@@ -1,0 +1,1 @@
+"""What gfortran makes of jobs, compared with what mothra says of them."""
