@@ -88,7 +88,7 @@ def printed_of(program: str, path: Path, job: Job, shown: str) -> list[str]:
     try:
         return asked_print(program, source_alone(job))
     except Fault as fault:
-        raise told_of_program(path, shown, fault) from None
+        raise told_of_program(path, job.source, shown, fault) from None
 
 
 def ops_of(asked: Asked) -> list[str]:
@@ -128,7 +128,7 @@ def listed_of(program: str, asked: Asked, job: Job, shown: str) -> tuple[dict[st
     try:
         return asked_list(program, words_of_ops(asked), source_alone(job))
     except Fault as fault:
-        raise told_of_program(asked.program, shown, fault) from None
+        raise told_of_program(asked.program, job.source, shown, fault) from None
 
 
 def ops_left_out(asked: Asked) -> list[str]:

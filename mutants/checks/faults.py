@@ -19,21 +19,22 @@ def said_of(line: str) -> str:
     return f"{meaning.says} ({line})" if meaning else line
 
 
-def told_of_program(path: Path, source: str, fault: Fault) -> ValueError:
+def told_of_program(path: Path, source: str, shown: str, fault: Fault) -> ValueError:
     """What keeps a program from being read, with its line where the fault has one; other faults stay as they are.
 
-    A habit of other Fortran is told in the place of what the fault means.
+    A habit of other Fortran is told in the place of what the fault means: of the source of the job, where bounds have
+    their values. The line is told as it is shown.
     """
     code, _, detail = fault.line.removeprefix("FAULT ").partition(" ")
     meaning = MEANINGS.get(code) if fault.line.startswith("FAULT ") else None
     if not meaning or code[0] not in "JFSCO":
         return fault
-    lines, seen = source_lines(source), said_of_all(habits_seen(code, detail, source))
+    lines, seen = source_lines(shown), said_of_all(habits_seen(code, detail, source))
     said = f"{' '.join(seen)} ({fault.line})" if seen else said_of(fault.line)
     if meaning.detail != "line" or not detail.isdecimal() or not 0 < int(detail) <= len(lines):
         return ValueError(f"{path}: {said}")
-    shown = " ".join(lines[int(detail) - 1].split())[:LONGEST]
-    return ValueError(f"{path}, line {detail}: {said}: {shown}")
+    line = " ".join(lines[int(detail) - 1].split())[:LONGEST]
+    return ValueError(f"{path}, line {detail}: {said}: {line}")
 
 
 def told_of_run(declared: Sequence[object], fault: Fault) -> ValueError:

@@ -1,20 +1,33 @@
 """The options of a check that a file beside the program has: mutants.ini, or mutants.toml, its section [mutants].
 
 An option has the name that it has on the command line, without the hyphens in front. What the command line says comes
-first. Names of files in it are from its own folder.
+first. Names of files in it are from its own folder, and files that are written lie in it. The file may come with a
+program from anywhere: so it names neither a machine nor a program that is called.
 """
 
 import argparse
 import configparser
 import difflib
-from collections.abc import Callable, Mapping
+from collections.abc import Callable, Collection, Iterable, Mapping
 from importlib import import_module
 from pathlib import Path
 from typing import NoReturn
 
+from mutants.program.programs import PROGRAMS
+
 SECTION = "mutants"
 INI, TOML = "mutants.ini", "mutants.toml"
 AddOptions = Callable[[argparse.ArgumentParser], None]
+# What a file may set, and which of that are files that are written.
+OUTPUTS = ("page", "report", "json", "csv", "junit")
+KEYS = frozenset(
+    "ops except lines changed unit size expand-tabs equivalent undeclared steps workers jobs no-proofs fail-under expect"
+    " show-proved no-page".split()
+).union(OUTPUTS)
+# What other subcommands than those that check take of it: how a program is read, and what is declared and proved.
+READING = ("unit", "size", "expand_tabs", "equivalent", "undeclared", "no_proofs", "steps", "workers")
+# The options that name programs, which no check's own options are.
+CALLED = [program.option for program in PROGRAMS.values()]
 # An option of the command line, and one of the file that is passed over then.
 OVERRULES = (
     ("ops", "without"),
@@ -69,6 +82,18 @@ def read_toml(path: Path) -> dict[str, str]:
     return {key: toml_text(value) for key, value in section.items()} if isinstance(section, dict) else no_section()
 
 
+def assert_allowed(key: str, value: str, folder: Path, known: Iterable[str]) -> None:
+    """A file may set this key; what it has written lies in its folder, where links lead too."""
+    if key in OUTPUTS and not (folder / value).resolve().is_relative_to(folder.resolve()):
+        raise ValueError(f"{key} is {value}, and a file is written in the folder of the options alone")
+    if key in KEYS:
+        return
+    if f"--{key}" in known or f"--{key}" in CALLED:
+        raise ValueError(f"{key} is for the command line alone: a file names no machine and no program that is called")
+    near = difflib.get_close_matches(key, sorted(KEYS), 1)
+    raise ValueError(f"{key} is no option{f'; is {near[0]} meant?' if near else ''}")
+
+
 def words_for(action: argparse.Action, option: str, value: str, folder: Path) -> list[str]:
     """The words of an option with its value in a file."""
     if action.nargs == 0:
@@ -82,16 +107,14 @@ def words_in(values: Mapping[str, str], parser: Parser, folder: Path) -> list[st
     actions = {option: action for action in parser._actions for option in action.option_strings}
     words = []
     for key, value in values.items():
-        option = f"--{key.strip().replace('_', '-')}"
-        if option not in actions:
-            near = difflib.get_close_matches(option, actions, 1)
-            raise ValueError(f"{key} is no option{f'; is {near[0][2:]} meant?' if near else ''}")
-        words += words_for(actions[option], option, value, folder)
+        name = key.strip().replace("_", "-")
+        assert_allowed(name, value, folder, actions)
+        words += words_for(actions[f"--{name}"], f"--{name}", value, folder)
     return words
 
 
-def file_beside(program: Path) -> Path | None:
-    return next((path for path in (program.with_name(INI), program.with_name(TOML)) if path.is_file()), None)
+def file_in(folder: Path) -> Path | None:
+    return next((path for path in (folder / INI, folder / TOML) if path.is_file()), None)
 
 
 def read_settings(path: Path, add_options: AddOptions) -> argparse.Namespace:
@@ -109,14 +132,18 @@ def is_open(value: object) -> bool:
     return value is None or value is False or value == []
 
 
-def with_settings(given: argparse.Namespace, add_options: AddOptions) -> Path | None:
-    """Fills in what the command line left open, from the file beside the program; its path, where there is one.
-    Options that the command has not are passed over."""
-    path = file_beside(given.program)
+def with_settings(
+    given: argparse.Namespace, folder: Path, add_options: AddOptions, names: Collection[str] | None = None
+) -> Path | None:
+    """Fills in what the command line left open, from the file in a folder; its path, where there is one.
+    Options that the command has not, or that are none of these names, are passed over."""
+    path = file_in(folder)
     if path:
         kept = vars(read_settings(path, add_options))
         overruled = {other for name, other in OVERRULES if getattr(given, name, None)}
+        given.shares_sizes = is_open(given.size)
         for name, value in kept.items():
-            if name in given and is_open(getattr(given, name)) and name not in overruled:
+            is_asked = name in given and (names is None or name in names)
+            if is_asked and is_open(getattr(given, name)) and name not in overruled:
                 setattr(given, name, value)
     return path

@@ -158,8 +158,8 @@ def lay(lines: list[str], line: int, text: str) -> None:
         lines[at] = lines[at][:6].ljust(6) + piece if piece else ""
 
 
-def sized(source: str, sizes: Mapping[str, int]) -> str:
-    """The source with the bounds that have a value now. Each name of --size has to give one."""
+def sized(source: str, sizes: Mapping[str, int], shares: bool = False) -> str:
+    """The source with the bounds that have a value now. Each name of --size has to give one, unless they are shared."""
     lines, used = source.split("\n"), set[str]()
     for card in cards_of(source):
         text, names = with_bounds(card, sizes)
@@ -167,7 +167,7 @@ def sized(source: str, sizes: Mapping[str, int]) -> str:
         if text != card.text:
             lay(lines, card.line, text)
     for name in sizes:
-        if name not in used:
+        if name not in used and not shares:
             raise ValueError(f"--size has {name}, but no bound of an array is made of it, and no array has that name")
     return "\n".join(lines)
 

@@ -19,11 +19,15 @@ FREE = (".f90", ".f95", ".f03", ".f08")
 
 
 class Wish(NamedTuple):
-    """What is asked of the making of a job: a unit by name, the values of bounds, and whether tabs become blanks."""
+    """What is asked of the making of a job: a unit by name, the values of bounds, and whether tabs become blanks.
+
+    Sizes that are shared are for several programs: one that is of none of a program's bounds is passed over.
+    """
 
     unit: str | None = None
     sizes: Mapping[str, int] = MappingProxyType({})
     expands_tabs: bool = False
+    shares_sizes: bool = False
 
 
 class Source(NamedTuple):
@@ -102,7 +106,7 @@ def source_of(data: bytes, wish: Wish) -> Source:
     shown, told = kept, tabs_told(kept)
     if told:
         raise ValueError(told)
-    kept = sized(kept, wish.sizes) if wish.sizes else kept
+    kept = sized(kept, wish.sizes, wish.shares_sizes) if wish.sizes else kept
     size = len(kept.encode())
     if size > LARGEST:
         advice = "leave out comments" if unit else "leave out comments, or pick a unit by --unit"

@@ -164,7 +164,7 @@ def end_lines(proofs: Proofs, settings: Path | None, remark: str) -> list[str]:
 
 
 def run(given: argparse.Namespace, name: str) -> int:
-    settings = with_settings(given, add_options)
+    settings = with_settings(given, given.program.parent, add_options)
     outputs = outputs_of(given)
     wish = wish_of(given)
     made = made_of(given.program, given.tests, wish)

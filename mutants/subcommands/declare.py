@@ -22,6 +22,7 @@ import sys
 from collections.abc import Iterable, Sequence
 from pathlib import Path
 
+from mutants.checks.settings import READING, with_settings
 from mutants.declarations.entries import Entry, appended, entries_text, written_entries
 from mutants.declarations.files import asked_present, path_beside
 from mutants.declarations.proofs import Proofs
@@ -34,6 +35,7 @@ from mutants.operators import NAMES
 from mutants.pages.frame import joined_words, plural
 from mutants.program.finding import add_mothra_option, find_program
 from mutants.statuses import SUCCESS
+from mutants.subcommands.check import add_options
 from mutants.texts.jobs import Job
 from mutants.texts.lines import Mutant
 from mutants.texts.twins import name_of, others_by_name
@@ -122,6 +124,7 @@ def run(given: argparse.Namespace, name: str) -> int:
     names = names_in(given.mutants) if given.mutants else []
     if bool(names) == given.renew or names and not (given.reason or "").strip():
         raise ValueError("it takes mutants and their --reason, or --renew alone")
+    with_settings(given, given.program.parent, add_options, READING)
     made = made_of(given.program, None, wish_of(given))
     path = given.equivalent or path_beside(given.program, made.source.unit)
     entries = told_of(path, lambda: written_entries(path))

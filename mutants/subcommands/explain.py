@@ -24,6 +24,7 @@ from collections.abc import Callable, Sequence
 from functools import cache
 from pathlib import Path
 
+from mutants.checks.settings import READING, with_settings
 from mutants.explanations.also import also_told
 from mutants.explanations.told import BAD_LIST, explained, explained_words
 from mutants.explanations.words import OPTIONS, words_say
@@ -34,6 +35,7 @@ from mutants.program.calling import Fault, call, failure_of
 from mutants.program.finding import add_mothra_option, find_program, find_program_if_any
 from mutants.program.unproved import remark_on
 from mutants.statuses import SUCCESS
+from mutants.subcommands.check import add_options
 from mutants.texts.jobs import read_job
 from mutants.words import tell_remarks
 
@@ -102,6 +104,8 @@ def explanation(line: str, words: list[str], asked: Given, program: str | None, 
 def run(given: argparse.Namespace, name: str) -> int:
     find = cache(lambda: find_program(given.mothra))
     tests, rest = given_words(given)
+    if is_program(given.job):
+        with_settings(given, given.job.parent, add_options, READING)
     asked = asked_job(given, tests, find)
     tell_remarks(name, asked.warnings)
     line, words = told_line(rest), rest or ["run"]

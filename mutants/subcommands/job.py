@@ -19,9 +19,11 @@ import argparse
 import sys
 from pathlib import Path
 
+from mutants.checks.settings import READING, with_settings
 from mutants.jobs.making import add_making_options, made_of, meant_for, whole_text, wish_of
 from mutants.program.finding import add_mothra_option, find_program
 from mutants.statuses import SUCCESS
+from mutants.subcommands.check import add_options
 from mutants.words import tell_remarks
 
 
@@ -33,6 +35,7 @@ def add_words(parser: argparse.ArgumentParser) -> None:
 
 
 def run(given: argparse.Namespace, name: str) -> int:
+    with_settings(given, given.program.parent, add_options, READING)
     made = made_of(given.program, given.tests, wish_of(given))
     meant = meant_for(
         made, given.program, given.equivalent, lambda: find_program(given.mothra), looks_beside=not given.undeclared

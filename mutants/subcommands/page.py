@@ -26,16 +26,19 @@ from pathlib import Path
 
 from mutants.checks.outcomes import asked_outcomes
 from mutants.checks.running import Means
+from mutants.checks.settings import READING, with_settings
 from mutants.declarations.proofs import NO_PROOFS, Proofs
 from mutants.declarations.proving import add_proof_options, prover_of
 from mutants.jobs.given import given_job
 from mutants.jobs.making import add_making_options
+from mutants.jobs.sources import is_program
 from mutants.pages.report import Outcomes, report_page
 from mutants.program.asking import asked_report
 from mutants.program.calling import answer, read_as, text_of
 from mutants.program.finding import add_mothra_option, find_program
 from mutants.program.unproved import remark_on
 from mutants.statuses import SUCCESS
+from mutants.subcommands.check import add_options
 from mutants.texts.jobs import Job, declared_text, read_job
 from mutants.texts.lines import Mutant, lines_of_text
 from mutants.texts.lists import read_list
@@ -80,6 +83,8 @@ def proofs_of(given: argparse.Namespace, job: Job, listed: Sequence[Mutant]) -> 
 
 def run(given: argparse.Namespace, name: str) -> int:
     command, find = name, cache(lambda: find_program(given.mothra))
+    if given.tests or is_program(given.job):
+        with_settings(given, given.job.parent, add_options, READING)
     asked = given_job(given, given.job, given.tests, find)
     text, job = asked.job, read_as(given.job, read_job, asked.job)
     needed = [given.print, given.list, given.report]

@@ -114,7 +114,7 @@ def write_table(path: Path, given: argparse.Namespace, table: Table, found: Sugg
 def run(given: argparse.Namespace, name: str) -> int:
     aim = aim_of(given)
     clock = Clock(aim.seconds)
-    settings = with_settings(given, checks.add_options)
+    settings = with_settings(given, given.program.parent, checks.add_options)
     assert_table_free(given)
     wish = wish_of(given)
     made = made_of(given.program, given.tests, wish)
