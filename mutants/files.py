@@ -1,7 +1,9 @@
 """Files that are written as a whole or not at all."""
 
 import os
+import stat
 import sys
+import tempfile
 from pathlib import Path
 
 
@@ -13,28 +15,45 @@ def is_standard_output(path: Path) -> bool:
         return False
 
 
-def written(path: Path, data: bytes) -> None:
-    """Writes a file under another name and then renames it, so that it is there as a whole or not at all.
+def takes_bytes(path: Path) -> bool:
+    """Whether a path is a pipe or a device, which takes bytes as they are. Links to such stand in /dev alone."""
+    is_other = path.exists() and not path.is_file() and not path.is_symlink()
+    return is_other or path.absolute().is_relative_to("/dev")
 
-    A link is followed. A pipe or a terminal, such as /dev/stdout, takes the bytes as they are.
+
+def written(path: Path, data: bytes) -> None:
+    """Writes a file under a name of its own and then renames it, so that it is there as a whole or not at all.
+
+    A file whose place it takes leaves it its mode. The place of a link is taken: nobody can have another file written.
     """
     if is_standard_output(path):
         sys.stdout.flush()
         sys.stdout.buffer.write(data)
-    elif path.exists() and not path.is_file():
+    elif takes_bytes(path):
         path.write_bytes(data)
     else:
-        replaced(path.resolve(), data)
+        replaced(path, data)
+
+
+def mode_for(path: Path) -> int:
+    """The mode of a file whose place is taken, or that of a new one."""
+    if path.is_file() and not path.is_symlink():
+        return stat.S_IMODE(path.stat().st_mode)
+    mask = os.umask(0)
+    os.umask(mask)
+    return 0o666 & ~mask
 
 
 def replaced(path: Path, data: bytes) -> None:
     """Writes a file that is none yet, or takes the place of one."""
-    part = path.with_name(path.name + ".part")
+    handle, part = tempfile.mkstemp(dir=path.parent, prefix=".mutants-", suffix=".part")
     try:
-        part.write_bytes(data)
+        with os.fdopen(handle, "wb") as file:
+            file.write(data)
+        os.chmod(part, mode_for(path))
         os.replace(part, path)
     except BaseException:
-        part.unlink(missing_ok=True)
+        os.unlink(part)
         raise
 
 

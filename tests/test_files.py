@@ -3,6 +3,7 @@
 import json
 import os
 import unittest
+from concurrent.futures import ThreadPoolExecutor
 from pathlib import Path
 from unittest import mock
 
@@ -14,16 +15,42 @@ from running import LEAST, STAND_IN, refuses, run
 
 
 class Written(Room):
-    def test_a_file_is_there_as_a_whole_and_a_link_stays_one(self) -> None:
-        path, link = self.folder / "a.json", self.folder / "latest.json"
-        link.symlink_to(path)
-        for text in (b"one", b"two"):
-            files.written(link, text)
-            self.assertEqual((path.read_bytes(), link.is_symlink()), (text, True))
+    def test_a_file_is_there_as_a_whole_and_keeps_its_mode(self) -> None:
+        path = self.folder / "a.json"
+        files.written(path, b"one")
+        mask = os.umask(0)
+        os.umask(mask)
+        self.assertEqual(path.stat().st_mode & 0o777, 0o666 & ~mask)
+        path.chmod(0o640)
+        files.written(path, b"two")
         with mock.patch.object(os, "replace", side_effect=KeyboardInterrupt), self.assertRaises(KeyboardInterrupt):
             files.written(path, b"three")
-        self.assertEqual(path.read_bytes(), b"two")
-        self.assertEqual(self.names(), ["a.json", "latest.json", "least.f", "tests.csv"])
+        self.assertEqual((path.read_bytes(), path.stat().st_mode & 0o777), (b"two", 0o640))
+        self.assertEqual(self.names(), ["a.json", "least.f", "tests.csv"])
+
+    def test_no_link_is_followed(self) -> None:
+        mine, link = self.put("mine", "mine"), self.folder / "a.json"
+        for name in ("a.json", "a.json.part"):
+            (self.folder / name).symlink_to(mine)
+        files.written(link, b"one")
+        self.assertEqual((mine.read_text(), link.read_text(), link.is_symlink()), ("mine", "one", False))
+        link.unlink()
+        link.symlink_to("/dev/null")
+        files.written(link, b"two")
+        self.assertEqual(link.read_text(), "two")
+
+    def test_many_writers_tear_no_file(self) -> None:
+        path, texts = self.folder / "a.json", [bytes([65 + writer]) * 300_000 for writer in range(4)]
+        torn: list[int] = []
+
+        def write(text: bytes) -> None:
+            for _ in range(25):
+                files.written(path, text)
+                torn.extend([1] if path.read_bytes() not in texts else [])
+
+        with ThreadPoolExecutor(4) as pool:
+            list(pool.map(write, texts))
+        self.assertEqual((torn, self.names()), ([], ["a.json", "least.f", "tests.csv"]))
 
     def test_a_pipe_takes_the_bytes(self) -> None:
         source, target = os.pipe()
@@ -42,6 +69,16 @@ class Written(Room):
         report, _, rest = out.partition("\n")
         self.assertEqual(len(json.loads(report)["files"][str(self.program)]["mutants"]), 16)
         self.assertTrue(rest.startswith("LEAST of "), rest[:60])
+
+    def test_a_page_of_another_hand_is_not_replaced_unless_it_is_asked_for(self) -> None:
+        page = self.put("least.html", "<h1>My notes</h1>")
+        refuses(self, self.check(), f"{page}: no check has written it", f"--page {page}")
+        settings = self.put("mutants.ini", "[mutants]\npage = least.html\n")
+        refuses(self, self.check(), f"{page}: no check has written it")
+        settings.unlink()
+        self.assertEqual(page.read_text(), "<h1>My notes</h1>")
+        self.assertEqual(self.check("--page", page)[0], 0)
+        self.assertEqual(self.check()[0], 0)
 
 
 class Declared(Room):

@@ -132,7 +132,7 @@ class Told(unittest.TestCase):
             ("FAULT C2 ABS", "a.f: ABS is FORTRAN 77, for any kind of number or for REAL."),
             ("FAULT C2 X", "a.f: This name is REAL"),
         ):
-            told = str(told_of_program(Path("a.f"), source, Fault("print", line)))
+            told = str(told_of_program(Path("a.f"), source, source, Fault("print", line)))
             self.assertTrue(told.startswith(begin), told)
             self.assertIn(f"({line})", told)
 

@@ -11,8 +11,11 @@ from mutants.exports.junit import junit_text
 from mutants.exports.mutation_report import mutation_report_text
 from mutants.exports.rows import table_text
 from mutants.files import written
-from mutants.pages.report import Outcomes, report_page
+from mutants.pages.report import KIND, Outcomes, report_page
 from mutants.texts.report_lines import report_text
+
+# How the title of a page ends, and within how many bytes.
+TITLE, TOP = f": {KIND}</title>", 1000
 
 
 class Shown(NamedTuple):
@@ -52,6 +55,12 @@ def read_files(given: argparse.Namespace) -> list[Path]:
     return [path for path in found if path is not None and path.is_file()]
 
 
+def assert_made_here(path: Path) -> None:
+    """What stands where a page is to be written, and nobody has said so, is a page that a check has written."""
+    if path.is_file() and TITLE not in path.read_bytes()[:TOP].decode("utf-8", "replace"):
+        raise ValueError(f"{path}: no check has written it, so it stays; --page {path} takes its place")
+
+
 def assert_free(outputs: Sequence[Output], reads: Sequence[Path]) -> None:
     """Each file has a folder, and takes the place neither of another one nor of one that is read."""
     for place, output in enumerate(outputs):
@@ -83,6 +92,8 @@ def outputs_of(given: argparse.Namespace) -> list[Output]:
     ]
     found = [Output(what, path, text, needs) for what, path, text, needs in asked if path]
     assert_free(found, read_files(given))
+    if page and (given.page is None or "page" in given.from_file):
+        assert_made_here(page)
     return found
 
 

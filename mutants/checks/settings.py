@@ -21,8 +21,8 @@ AddOptions = Callable[[argparse.ArgumentParser], None]
 # What a file may set, and which of that are files that are written.
 OUTPUTS = ("page", "report", "json", "csv", "junit")
 KEYS = frozenset(
-    "ops except lines changed unit size expand-tabs equivalent undeclared steps workers jobs no-proofs fail-under expect"
-    " show-proved no-page".split()
+    "ops except lines changed unit size expand-tabs equivalent undeclared steps workers jobs no-proofs fail-under"
+    " expect show-proved no-page".split()
 ).union(OUTPUTS)
 # What other subcommands than those that check take of it: how a program is read, and what is declared and proved.
 READING = ("unit", "size", "expand_tabs", "equivalent", "undeclared", "no_proofs", "steps", "workers")
@@ -136,14 +136,15 @@ def with_settings(
     given: argparse.Namespace, folder: Path, add_options: AddOptions, names: Collection[str] | None = None
 ) -> Path | None:
     """Fills in what the command line left open, from the file in a folder; its path, where there is one.
-    Options that the command has not, or that are none of these names, are passed over."""
-    path = file_in(folder)
+    Options that the command has not, or that are none of these names, are passed over. The names of those that it gave
+    are kept as `from_file`."""
+    path, given.from_file = file_in(folder), set()
     if path:
         kept = vars(read_settings(path, add_options))
         overruled = {other for name, other in OVERRULES if getattr(given, name, None)}
-        given.shares_sizes = is_open(given.size)
         for name, value in kept.items():
             is_asked = name in given and (names is None or name in names)
             if is_asked and is_open(getattr(given, name)) and name not in overruled:
                 setattr(given, name, value)
+                given.from_file.add(name)
     return path

@@ -170,4 +170,4 @@ def add_making_options(parser: argparse.ArgumentParser) -> None:
 
 
 def wish_of(given: argparse.Namespace) -> Wish:
-    return Wish(given.unit, given.size or {}, given.expand_tabs, getattr(given, "shares_sizes", False))
+    return Wish(given.unit, given.size or {}, given.expand_tabs, "size" in getattr(given, "from_file", ()))

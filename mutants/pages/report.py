@@ -23,6 +23,9 @@ from mutants.texts.lines import Mutant
 from mutants.texts.reports import Count, Report, Row, assert_same_mutants, score_of, summed, with_status
 from mutants.texts.twins import name_of, twins_in
 
+# What a page is, as its title says it.
+KIND = "kills and survivors"
+
 
 def counts_by_line(listed: Sequence[Mutant], rows: Iterable[Row]) -> dict[int, Count]:
     """How many mutants each line has, how many are killed, and how many are declared and survived."""
@@ -170,7 +173,7 @@ def report_page(
     head += unexpected_part(outcomes.unexpected) + score_part(count, proved) + proofs_part(count, proved)
     head += facts_of(report) + wrong_part(report.rows, proofs)
     head += remarks_part(said.remarks)
-    return page(f"{report.unit}: kills and survivors", head + first_look(survivors, proved) + links, bodies)
+    return page(f"{report.unit}: {KIND}", head + first_look(survivors, proved) + links, bodies)
 
 
 def listing_part(
