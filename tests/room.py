@@ -44,7 +44,8 @@ class Room(unittest.TestCase):
             return self.check_by_calls(*words)
 
     def check_by_calls(self, *words: object, program: Path = STAND_IN) -> running.Ended:
-        return run("check", "--mothra", program, *words, self.program, self.tests)
+        """The same by processes. All is told: what is told without a word has tests of its own."""
+        return run("check", "--all", "--mothra", program, *words, self.program, self.tests)
 
     def names(self) -> list[str]:
         return sorted(path.name for path in self.folder.iterdir())

@@ -1,9 +1,10 @@
-"""What a check tells on the terminal: the program on the tests, the score, the survivors by line,
-tests that add nothing."""
+"""What a check tells on the terminal: the score and the lines with most survivors, or all of it: the program on the
+tests, the survivors by line with what each changes, tests that add nothing."""
 
 from collections.abc import Iterable, Iterator, Sequence
 from itertools import groupby
 from textwrap import wrap
+from typing import NamedTuple
 
 from mutants.checks.checking import Checked
 from mutants.declarations.proofs import (
@@ -25,8 +26,19 @@ from mutants.texts.twins import count_of_programs, name_of, names_text, twins_in
 
 # So many survivors of an operator are shown on a line; so wide is a name at least.
 ALIKE, NAME = 8, 8
+# The lines of the program, and the survivors of each, that are told where not all is asked for.
+TOP, FEW = 10, 3
+ABS = "ABS"
 # Where more lines than these are told, the score is told at the end again; and so wide is a long sentence.
 LONG, WIDTH = 60, 118
+
+
+class Telling(NamedTuple):
+    """How much is told: the survivors of so many lines of the program, or all there is; and each proved mutant."""
+
+    top: int = TOP
+    is_all: bool = False
+    shows_proved: bool = False
 
 
 def outcome_lines(checked: Checked) -> Iterator[str]:
@@ -144,7 +156,19 @@ def line_lines(survivors: Iterable[Mutant], statement: str) -> Iterator[str]:
             yield f"  {op:<{wide}}  and {sum(map(len, groups[len(shown) :]))} more"
 
 
-def survivor_lines(checked: Checked) -> Iterator[str]:
+def few_lines(survivors: Iterable[Mutant], statement: str) -> Iterator[str]:
+    """A few survivors of a line, those of ABS last, which are equivalent most often."""
+    groups = sorted(twins_in(survivors), key=lambda twins: twins[0].op == ABS)
+    shown = groups if len(groups) <= FEW else groups[: FEW - 1]
+    for twins in shown:
+        yield f"  {names_text(twins):<{NAME}}  {changed_text(statement, twins[0].text)}"
+    rest = [mutant for twins in groups[len(shown) :] for mutant in twins]
+    if rest:
+        yield f"  and {len(rest)} more, of {joined_words(sorted({mutant.op for mutant in rest}))}"
+
+
+def survivor_lines(checked: Checked, telling: Telling) -> Iterator[str]:
+    """The survivors by line: all of them, or a few of those lines that have most."""
     survivors, counts = checked.report.survivors, counts_by_line(checked.listed, checked.report.rows)
     lines = by_line(survivors)
     if not survivors:
@@ -153,10 +177,14 @@ def survivor_lines(checked: Checked) -> Iterator[str]:
     told = f"{plural(len(survivors), 'survivor')} on {plural(len(lines), 'line')}"
     different = len(twins_in(survivors))
     told += f", {plural(different, 'different program')}" if different < len(survivors) else ""
-    yield f"{told}, each with what it changes:"
-    for line in sorted(lines):
+    order = sorted(lines, key=lambda line: (-len(lines[line]), line))[: telling.top]
+    rest = len(lines) - len(order)
+    more = f" The {plural(len(order), 'line')} with most (--top N tells more, --all all):" if rest else ""
+    yield f"{told}, each with what it changes:" if telling.is_all else f"{told}.{more}" if more else f"{told}:"
+    for line in sorted(lines) if telling.is_all else order:
         yield f"line {line}: {checked.statements[line]} ({len(lines[line])} of {counts[line].total} survive)"
-        yield from line_lines(lines[line], checked.statements[line])
+        tell = line_lines if telling.is_all else few_lines
+        yield from tell(lines[line], checked.statements[line])
 
 
 def half_declared_lines(checked: Checked) -> Iterator[str]:
@@ -201,22 +229,36 @@ def suite_lines(checked: Checked) -> Iterator[str]:
         yield from wrap(f"They are {ranges_text(numbers)}.", WIDTH, subsequent_indent="  ")
 
 
-def summary(checked: Checked, program: object, more: Sequence[str], shows_proved: bool = False) -> str:
-    """The whole text; `more` are lines on what was written."""
-    lines = [f"{checked.report.unit} of {program}: {plural(len(checked.job.suite), 'test')}", *outcome_lines(checked)]
-    lines += [*difference_lines(checked), "", *wrong_lines(checked), score_line(checked)]
-    lines += [*proof_lines(checked), *twin_lines(checked)]
-    lines += [f"Left out: {each}." for each in checked.left_out]
-    lines += [
-        "",
-        *survivor_lines(checked),
-        *half_declared_lines(checked),
-        *unreached_lines(checked),
-        *declared_lines(checked),
-        *proved_lines(checked, shows_proved),
-        "",
-        *suite_lines(checked),
-    ]
-    lines += [score_line(checked)] if len(lines) > LONG else []
+def score_lines(checked: Checked) -> Iterator[str]:
+    """The score, first what is wrong with it and then what it leaves out."""
+    yield from wrong_lines(checked)
+    yield score_line(checked)
+    yield from proof_lines(checked)
+    yield from (f"Left out: {each}." for each in checked.left_out)
+
+
+def short_lines(checked: Checked, telling: Telling, since: Sequence[str]) -> Iterator[str]:
+    """The score, what changed, and the lines with most survivors."""
+    yield from [*difference_lines(checked), *score_lines(checked), *since, ""]
+    yield from survivor_lines(checked, telling)
+    yield from [*half_declared_lines(checked), *unreached_lines(checked)]
+    yield from [*(proved_lines(checked, True) if telling.shows_proved else ()), ""]
+
+
+def all_lines(checked: Checked, telling: Telling, since: Sequence[str]) -> Iterator[str]:
+    yield from [*outcome_lines(checked), *difference_lines(checked), ""]
+    yield from [*score_lines(checked), *twin_lines(checked), *since, ""]
+    yield from survivor_lines(checked, telling)
+    yield from [*half_declared_lines(checked), *unreached_lines(checked), *declared_lines(checked)]
+    yield from [*proved_lines(checked, telling.shows_proved), "", *suite_lines(checked)]
+
+
+def summary(
+    checked: Checked, program: object, more: Sequence[str], telling: Telling = Telling(), since: Sequence[str] = ()
+) -> str:
+    """The whole text; `since` are lines on the last check, and `more` those on what was written."""
+    lines = [f"{checked.report.unit} of {program}: {plural(len(checked.job.suite), 'test')}"]
+    lines += (all_lines if telling.is_all else short_lines)(checked, telling, since)
+    lines += [score_line(checked)] if telling.is_all and len(lines) > LONG else []
     lines += more
     return "\n".join(lines).rstrip("\n") + "\n"

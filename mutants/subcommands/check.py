@@ -38,7 +38,8 @@ from mutants.checks.coverage import covering
 from mutants.checks.outputs import Shown, outputs_of, write_outputs
 from mutants.checks.running import Means
 from mutants.checks.settings import with_settings
-from mutants.checks.summary import summary
+from mutants.checks.summary import TOP, Telling, summary
+from mutants.colours import painted
 from mutants.declarations.files import NONE_MEANT, Meant
 from mutants.declarations.proofs import Proofs
 from mutants.declarations.proving import add_proofs_switch, prover_of
@@ -79,6 +80,10 @@ def add_results(parser: argparse.ArgumentParser) -> None:
     told = "exit status 3 where the score is below this percentage"
     parser.add_argument("--fail-under", metavar="PERCENT", type=percent, help=told)
     parser.add_argument("--expect", metavar="FILE", type=Path, help="what the program has to do, a line for each test")
+    told = f"tell survivors of so many lines, those with most; {TOP} where nothing is said"
+    parser.add_argument("--top", metavar="N", type=number_from_1, help=told)
+    told = "tell all survivors with what each changes, the program's outcome on each test, and tests that add nothing"
+    parser.add_argument("--all", action="store_true", help=told)
     parser.add_argument("--show-proved", action="store_true", help="tell each mutant that is proved equivalent")
     parser.add_argument("--page", metavar="FILE", type=Path, help="where the page is written, else PROGRAM.html")
     parser.add_argument("--no-page", action="store_true", help="write no page")
@@ -181,5 +186,6 @@ def run(given: argparse.Namespace, name: str) -> int:
     shown = Shown(checked, given.program, given.tests, remark, covered)
     more = [*write_outputs(outputs, shown), *status_lines(given, checked)]
     more += end_lines(checked.said.proofs, settings, remark)
-    sys.stdout.write(summary(checked, given.program, more, given.show_proved))
+    telling = Telling(given.top or TOP, given.all, given.show_proved)
+    sys.stdout.write(painted(summary(checked, given.program, more, telling)))
     return status_of(given, checked)

@@ -1,0 +1,27 @@
+"""Colours on a terminal: nowhere else, and not where NO_COLOR is set. What has a colour says the same without it."""
+
+import os
+import re
+import sys
+
+RED, GREEN, BOLD, END = "\x1b[31m", "\x1b[32m", "\x1b[1m", "\x1b[0m"
+# What is wrong, the score, and what a mutant changes.
+WRONG = re.compile(r"^(?:NOT AS EXPECTED|WRONGLY DECLARED|PROVED, AND YET|BELOW|NEWLY SURVIVING).*", re.M)
+SCORE = re.compile(r"^(?:Score [\d.]+ %|No score)", re.M)
+CHANGE = re.compile(r"\[(.*?) -> (.*?)\](?=.*$)", re.M)
+
+
+def has_colours() -> bool:
+    return sys.stdout.isatty() and not os.environ.get("NO_COLOR") and os.environ.get("TERM") != "dumb"
+
+
+def coloured(told: str) -> str:
+    """A text with its colours."""
+    told = CHANGE.sub(rf"[{RED}\1{END} -> {GREEN}\2{END}]", told)
+    told = SCORE.sub(rf"{BOLD}\g<0>{END}", told)
+    return WRONG.sub(rf"{BOLD}{RED}\g<0>{END}", told)
+
+
+def painted(told: str) -> str:
+    """A text as standard output takes it."""
+    return coloured(told) if has_colours() else told
