@@ -31,6 +31,9 @@ os.environ["PATH"] = f"{Path(sys.executable).parent}:{os.environ['PATH']}"
 # A program equivalents that is built or installed here is not asked: without a word of a test nothing is proved.
 os.environ["EQUIVALENTS"] = str(PROVER)
 os.environ.pop("PROVED", None)
+# What is kept of a check is kept for these tests alone.
+CACHES = tempfile.TemporaryDirectory()
+os.environ["XDG_CACHE_HOME"] = CACHES.name
 
 # The modules of the package are imported where they lie, and leave no files there.
 sys.dont_write_bytecode = True

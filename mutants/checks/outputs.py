@@ -51,7 +51,7 @@ def json_text(shown: Shown) -> str:
 
 def read_files(given: argparse.Namespace) -> list[Path]:
     """The files that the check reads, and that lie on a disk."""
-    found = [given.program, given.tests, given.expect, given.changed, given.equivalent]
+    found = [given.program, given.tests, given.expect, given.changed, given.equivalent, given.baseline]
     return [path for path in found if path is not None and path.is_file()]
 
 

@@ -22,7 +22,7 @@ AddOptions = Callable[[argparse.ArgumentParser], None]
 OUTPUTS = ("page", "report", "json", "csv", "junit")
 KEYS = frozenset(
     "ops except lines changed unit size expand-tabs equivalent undeclared steps workers jobs no-proofs fail-under"
-    " expect show-proved no-page".split()
+    " expect show-proved no-page top all baseline".split()
 ).union(OUTPUTS)
 # What other subcommands than those that check take of it: how a program is read, and what is declared and proved.
 READING = ("unit", "size", "expand_tabs", "equivalent", "undeclared", "no_proofs", "steps", "workers")

@@ -3,7 +3,7 @@
 from collections.abc import Sequence
 from typing import NamedTuple
 
-from mutants.comparisons.matching import Matched, matched, tests_matched
+from mutants.comparisons.matching import Matched, Pair, matched, tests_matched
 from mutants.comparisons.states import State, Verdict
 from mutants.texts.lines import Mutant
 
@@ -69,14 +69,21 @@ def change_of_test(old: int, new: int, found: Matched) -> TestChange:
     return TestChange(old, new, gained, lost)
 
 
+def newly_killed(pairs: Sequence[Pair]) -> list[Pair]:
+    return [(before, now) for before, now in pairs if now.is_killed and not before.is_killed]
+
+
+def newly_surviving(pairs: Sequence[Pair]) -> list[Pair]:
+    """What was killed and survives. What is proved now no test can kill: the program has changed, or its tests leave
+    steps to spare."""
+    return [(before, now) for before, now in pairs if before.is_killed and not now.is_killed and not now.is_proved]
+
+
 def compared(old: State, new: State) -> Comparison:
     """The comparison of two states, by the operators that both have."""
     ops = [op for op in new.ops if op in old.ops]
     one, other = with_ops(old, ops), with_ops(new, ops)
     found = matched(one, other)
-    killed = [(b, n) for b, n in found.pairs if n.is_killed and not b.is_killed]
-    # What is proved now no test can kill: the program has changed, or its tests leave steps to spare.
-    lost = [(b, n) for b, n in found.pairs if b.is_killed and not n.is_killed and not n.is_proved]
     # Survivors before and now.
     alive: list[tuple[Verdict, Verdict]] = [(b, n) for b, n in found.pairs if not b.is_killed and not n.is_killed]
     by_word = [(b, n) for b, n in alive if not b.is_proved and not n.is_proved]
@@ -86,8 +93,8 @@ def compared(old: State, new: State) -> Comparison:
         one,
         other,
         found,
-        [Change(n.mutant, n.killers, n.status == "W") for _, n in killed],
-        [Change(n.mutant, b.killers, n.status == "E") for b, n in lost],
+        [Change(n.mutant, n.killers, n.status == "W") for _, n in newly_killed(found.pairs)],
+        [Change(n.mutant, b.killers, n.status == "E") for b, n in newly_surviving(found.pairs)],
         [n.mutant for b, n in by_word if (b.status, n.status) == ("S", "E")],
         [n.mutant for b, n in by_word if (b.status, n.status) == ("E", "S")],
         [n.mutant for b, n in found.pairs if n.is_proved and not b.is_proved],

@@ -4,9 +4,10 @@
 
 The program is in fixed form, the table as `mutants job` takes it, of any length: suites of more than 256 tests are run
 in batches, and long jobs in parts, side by side on all processors, or by GNU parallel on the machines of --sshlogin.
-Told are: what the program itself does on each test; the score; the survivors by line, with what each changes; the tests
-that kill nothing which no other kills; and where the page lies, which is that of `mutants page`: PROGRAM.html beside
-the program, or FILE of --page.
+Told are: the score; what changed since the last check that was asked the same, or since the file of --baseline; the
+lines of the program with most survivors; and where the page lies, which is that of `mutants page`: PROGRAM.html beside
+the program, or FILE of --page. --all tells all survivors, with what each changes, what the program itself does on each
+test, and the tests that kill nothing which no other kills.
 
 --json, --csv and --junit write the mutants for other programs: in the JSON that Stryker, Infection and PIT share for
 mutation reports, as a table, and as test cases by line.
@@ -32,28 +33,27 @@ from collections.abc import Iterator
 from fractions import Fraction
 from pathlib import Path
 
-from mutants.checks.checking import Asked, Checked, check
+from mutants.caches import caches_folder, keep
+from mutants.checks.checking import Checked, ops_of
 from mutants.checks.choice import ranges_in
 from mutants.checks.coverage import covering
 from mutants.checks.outputs import Shown, outputs_of, write_outputs
-from mutants.checks.running import Means
 from mutants.checks.settings import with_settings
+from mutants.checks.starting import Start, start_of
 from mutants.checks.summary import TOP, Telling, summary
 from mutants.colours import painted
-from mutants.declarations.files import NONE_MEANT, Meant
+from mutants.comparisons.reading import read_state
+from mutants.comparisons.since import KEPT, Since, bytes_of, kept_path, kept_state, since, state_of
+from mutants.comparisons.states import State
 from mutants.declarations.proofs import Proofs
-from mutants.declarations.proving import add_proofs_switch, prover_of
-from mutants.jobs.expecting import COLUMN, Expected, expected_in_file
-from mutants.jobs.making import Made, add_making_options, made_of, meant_for, wish_of
+from mutants.declarations.proving import add_proofs_switch
+from mutants.jobs.making import add_making_options
 from mutants.operators import codes_in
-from mutants.pages.declared import Said
-from mutants.program.calling import Fault
-from mutants.program.finding import add_equivalents_option, add_mothra_option, find_program
+from mutants.program.finding import add_equivalents_option, add_mothra_option
 from mutants.program.unproved import remark_on
-from mutants.statuses import BELOW, SUCCESS, UNEXPECTED
-from mutants.texts.jobs import Job
+from mutants.statuses import BELOW, NEWLY_SURVIVING, SUCCESS, UNEXPECTED
 from mutants.texts.reports import summed
-from mutants.words import add_mothra_options, number_from_1, percent, percent_text, read_by, tell_remarks
+from mutants.words import add_mothra_options, number_from_1, percent, percent_text, read_by
 
 
 def add_choices(parser: argparse.ArgumentParser) -> None:
@@ -79,6 +79,8 @@ def add_results(parser: argparse.ArgumentParser) -> None:
     """The options that say what is asked of the result, and where it is written."""
     told = "exit status 3 where the score is below this percentage"
     parser.add_argument("--fail-under", metavar="PERCENT", type=percent, help=told)
+    told = "tell what changed since this file of --json; exit status 3 where a mutant that was killed survives"
+    parser.add_argument("--baseline", metavar="OLD.json", type=Path, help=told)
     parser.add_argument("--expect", metavar="FILE", type=Path, help="what the program has to do, a line for each test")
     told = f"tell survivors of so many lines, those with most; {TOP} where nothing is said"
     parser.add_argument("--top", metavar="N", type=number_from_1, help=told)
@@ -109,30 +111,6 @@ def add_words(parser: argparse.ArgumentParser) -> None:
     add_mothra_option(parser)
     add_equivalents_option(parser)
     add_options(parser)
-
-
-def expected_of(given: argparse.Namespace, made: Made) -> Expected:
-    """What is expected of each test: what a file says comes before the column of the table."""
-    column = made.table.others.get(COLUMN.upper(), []) if made.table else []
-    texts = {number: "" if text is None else str(text) for number, text in enumerate(column, 1)}
-    table = Expected(given.tests, [], texts)
-    return expected_in_file(given.expect, len(made.suite)) if given.expect else table
-
-
-def declared_of(given: argparse.Namespace, made: Made, means: Means) -> Meant:
-    """What is declared; where the source has a fault, that is told by the check."""
-    try:
-        return meant_for(
-            made, given.program, given.equivalent, lambda: means.program, looks_beside=not given.undeclared
-        )
-    except Fault:
-        return NONE_MEANT
-
-
-def means_of(given: argparse.Namespace) -> Means:
-    # With other machines the word is one that each of them knows.
-    program = find_program(given.mothra)
-    return Means(program, given.steps, given.workers, given.jobs, given.sshlogin, given.mothra or program)
 
 
 def share_of(checked: Checked) -> Fraction | None:
@@ -168,24 +146,39 @@ def end_lines(proofs: Proofs, settings: Path | None, remark: str) -> list[str]:
     return [each for each in told if each]
 
 
+def last_check(start: Start, checked: Checked) -> list[Since]:
+    """What changed since the last check that was asked the same, if anything did; the state of this one takes its
+    place."""
+    asked, folder = start.asked, caches_folder("checks")
+    if folder is None or not asked.tests.is_file():
+        return []
+    files = [asked.program.resolve(), asked.tests.resolve(), checked.report.unit]
+    path = kept_path(folder, [*files, ops_of(asked), asked.ranges, asked.old])
+    old = kept_state(path)
+    keep(path, bytes_of(state_of(checked)), KEPT)
+    found = [since("the last check", old, checked)] if old else []
+    return [each for each in found if each.changes]
+
+
+def changes_of(start: Start, baseline: Path | None, old: State | None, checked: Checked) -> list[Since]:
+    """What changed since the file of --baseline, else since the last check."""
+    return [since(str(baseline), old, checked)] if old else last_check(start, checked)
+
+
 def run(given: argparse.Namespace, name: str) -> int:
     settings = with_settings(given, given.program.parent, add_options)
     outputs = outputs_of(given)
-    wish = wish_of(given)
-    made = made_of(given.program, given.tests, wish)
-    expected = expected_of(given, made)
-    means, prover = means_of(given), prover_of(given)
-    meant = declared_of(given, made, means)
-    tell_remarks(name, made.remarks + meant.remarks)
-    job = Job(made.source.text, made.suite, meant.names)
-    said = Said(made.source.shown, meant.reasons, made.remarks + meant.remarks)
-    asked = Asked(given.program, given.tests, given.ops, given.without or [], given.lines, given.changed, wish)
-    checked = check(asked, job, said, expected, means, name, prover)._replace(file=made.source.file)
-    remark = remark_on(means.program)
-    covered = covering(checked, means, name) if any(output.needs_cover for output in outputs) else {}
+    baseline = read_state(given.baseline) if given.baseline else None
+    start = start_of(given, name)
+    checked = start.checked(name)
+    changes = changes_of(start, given.baseline, baseline, checked)
+    remark = remark_on(start.means.program)
+    covered = covering(checked, start.means, name) if any(output.needs_cover for output in outputs) else {}
     shown = Shown(checked, given.program, given.tests, remark, covered)
     more = [*write_outputs(outputs, shown), *status_lines(given, checked)]
     more += end_lines(checked.said.proofs, settings, remark)
     telling = Telling(given.top or TOP, given.all, given.show_proved)
-    sys.stdout.write(painted(summary(checked, given.program, more, telling)))
-    return status_of(given, checked)
+    told = [line for each in changes for line in each.lines()]
+    sys.stdout.write(painted(summary(checked, given.program, more, telling, told)))
+    is_lost = baseline is not None and any(each.lost for each in changes)
+    return status_of(given, checked) or (NEWLY_SURVIVING if is_lost else SUCCESS)

@@ -24,14 +24,13 @@ import argparse
 import sys
 from pathlib import Path
 
-from mutants.checks.checking import Asked, check, dummies_of
+from mutants.checks.checking import dummies_of
 from mutants.checks.outputs import Output, assert_free
 from mutants.checks.settings import with_settings
-from mutants.declarations.proving import add_proof_options, prover_of
+from mutants.checks.starting import start_of
+from mutants.declarations.proving import add_proof_options
 from mutants.files import written
-from mutants.jobs.making import made_of, wish_of
 from mutants.jobs.tables import Table
-from mutants.pages.declared import Said
 from mutants.program.finding import add_mothra_option
 from mutants.program.unproved import remark_on
 from mutants.statuses import INTERRUPTED, SUCCESS
@@ -41,8 +40,7 @@ from mutants.suggestions.clock import Clock
 from mutants.suggestions.suggesting import Suggested, suggested
 from mutants.suggestions.tables import Layout, layout_of, table_with
 from mutants.suggestions.told import summary
-from mutants.texts.jobs import Job
-from mutants.words import add_mothra_options, number_from_1, read_by, tell_remarks
+from mutants.words import add_mothra_options, number_from_1, read_by
 
 
 def seconds_word(word: str) -> float:
@@ -116,20 +114,14 @@ def run(given: argparse.Namespace, name: str) -> int:
     clock = Clock(aim.seconds)
     settings = with_settings(given, given.program.parent, checks.add_options)
     assert_table_free(given)
-    wish = wish_of(given)
-    made = made_of(given.program, given.tests, wish)
-    assert made.table
-    means, prover = checks.means_of(given), prover_of(given)
-    meant = checks.declared_of(given, made, means)
-    tell_remarks(name, made.remarks + meant.remarks)
-    job = Job(made.source.text, made.suite, meant.names)
-    said = Said(made.source.shown, meant.reasons, made.remarks + meant.remarks)
-    asked = Asked(given.program, given.tests, given.ops, given.without or [], given.lines, given.changed, wish)
-    start = check(asked, job, said, checks.expected_of(given, made), means, name, prover)
-    found = suggested(start, aim, means, clock, name)
-    layout = layout_of(given.tests, made.table, dummies_of(start.printed))
-    more = [write_table(given.table, given, made.table, found, layout)] if given.table else []
-    more += checks.end_lines(start.said.proofs, settings, remark_on(means.program))
+    begun = start_of(given, name)
+    table = begun.made.table
+    assert table
+    start = begun.checked(name)
+    found = suggested(start, aim, begun.means, clock, name)
+    layout = layout_of(given.tests, table, dummies_of(start.printed))
+    more = [write_table(given.table, given, table, found, layout)] if given.table else []
+    more += checks.end_lines(start.said.proofs, settings, remark_on(begun.means.program))
     text = summary(found, given.program, given.tests, layout, aim)
     sys.stdout.write(text + "".join(f"{line}\n" for line in more))
     return INTERRUPTED if found.is_cut else SUCCESS

@@ -1,0 +1,27 @@
+"""The user's folder for caches: what can be made anew, and is kept so that it need not be."""
+
+import os
+from pathlib import Path
+
+from mutants.files import written
+
+
+def caches_folder(kind: str) -> Path | None:
+    """Where things of a kind are kept; None where this user has no folder."""
+    try:
+        caches = os.environ.get("XDG_CACHE_HOME") or Path.home() / ".cache"
+    except RuntimeError:
+        return None
+    return Path(caches, "mutants", kind).absolute()
+
+
+def keep(path: Path, data: bytes, most: int) -> None:
+    """Keeps a file, and of its folder so many as are newest. What cannot be kept is made anew another time."""
+    try:
+        path.parent.mkdir(parents=True, exist_ok=True)
+        written(path, data)
+        every = sorted(path.parent.iterdir(), key=lambda each: each.stat().st_mtime, reverse=True)
+        for old in every[most:]:
+            old.unlink(missing_ok=True)
+    except OSError:
+        pass

@@ -1,0 +1,71 @@
+"""What a check is asked for by the words of a call, read before anything is run; check and suggest share it."""
+
+import argparse
+from typing import NamedTuple
+
+from mutants.checks.checking import Asked, Checked, check
+from mutants.checks.running import Means
+from mutants.declarations.files import NONE_MEANT, Meant
+from mutants.declarations.proving import Prover, prover_of
+from mutants.jobs.expecting import COLUMN, Expected, expected_in_file
+from mutants.jobs.making import Made, made_of, meant_for, wish_of
+from mutants.pages.declared import Said
+from mutants.program.calling import Fault
+from mutants.program.finding import find_program
+from mutants.texts.jobs import Job
+from mutants.words import tell_remarks
+
+
+class Start(NamedTuple):
+    """The program and its table, what is asked about them, the job, what is known beside it, what is expected of the
+    program, and what it is run with."""
+
+    made: Made
+    asked: Asked
+    job: Job
+    said: Said
+    expected: Expected
+    means: Means
+    prover: Prover
+
+    def checked(self, name: str) -> Checked:
+        """The check."""
+        found = check(self.asked, self.job, self.said, self.expected, self.means, name, self.prover)
+        return found._replace(file=self.made.source.file)
+
+
+def expected_of(given: argparse.Namespace, made: Made) -> Expected:
+    """What is expected of each test: what a file says comes before the column of the table."""
+    column = made.table.others.get(COLUMN.upper(), []) if made.table else []
+    texts = {number: "" if text is None else str(text) for number, text in enumerate(column, 1)}
+    table = Expected(given.tests, [], texts)
+    return expected_in_file(given.expect, len(made.suite)) if given.expect else table
+
+
+def declared_of(given: argparse.Namespace, made: Made, means: Means) -> Meant:
+    """What is declared; where the source has a fault, that is told by the check."""
+    try:
+        return meant_for(
+            made, given.program, given.equivalent, lambda: means.program, looks_beside=not given.undeclared
+        )
+    except Fault:
+        return NONE_MEANT
+
+
+def means_of(given: argparse.Namespace) -> Means:
+    # With other machines the word is one that each of them knows.
+    program = find_program(given.mothra)
+    return Means(program, given.steps, given.workers, given.jobs, given.sshlogin, given.mothra or program)
+
+
+def start_of(given: argparse.Namespace, name: str) -> Start:
+    """All that the words name, as it is; warnings are told by the name of the command."""
+    wish = wish_of(given)
+    made = made_of(given.program, given.tests, wish)
+    expected, means, prover = expected_of(given, made), means_of(given), prover_of(given)
+    meant = declared_of(given, made, means)
+    remarks = made.remarks + meant.remarks
+    tell_remarks(name, remarks)
+    asked = Asked(given.program, given.tests, given.ops, given.without or [], given.lines, given.changed, wish)
+    job = Job(made.source.text, made.suite, meant.names)
+    return Start(made, asked, job, Said(made.source.shown, meant.reasons, remarks), expected, means, prover)

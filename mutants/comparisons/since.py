@@ -1,0 +1,101 @@
+"""What changed since an earlier state of the same program and its tests, in a line or two; and the state of the last
+check, which is kept in the user's folder for caches.
+
+What is kept is this tool's own, so a file that is damaged, or of another version, is as if there were none.
+"""
+
+import gzip
+import hashlib
+import json
+from collections.abc import Iterator, Sequence
+from pathlib import Path
+from typing import NamedTuple
+
+from mutants import __version__
+from mutants.checks.checking import Checked
+from mutants.comparisons.comparing import newly_killed, newly_surviving, with_ops
+from mutants.comparisons.matching import Matched, matched, tests_matched
+from mutants.comparisons.states import State, Verdict, count_of
+from mutants.comparisons.telling import mutants_text, score_text
+from mutants.pages.frame import plural
+from mutants.texts.lines import Mutant
+from mutants.texts.twins import name_of
+
+# So many states are kept, the newest.
+KEPT = 100
+
+
+def state_of(checked: Checked) -> State:
+    """What a check says, as a comparison takes it; which tests kill is left out."""
+    proofs = checked.said.proofs
+    verdicts = [
+        Verdict(mutant, row.status, (), proofs.is_alone(name_of(mutant)))
+        for mutant, row in zip(checked.listed, checked.report.rows)
+    ]
+    report, tests = checked.report, [json.dumps(test) for test in checked.job.suite]
+    return State(report.unit, report.steps, 1, list(report.counts), verdicts, tests, checked.statements)
+
+
+class Since(NamedTuple):
+    """Two states, the mutants that both have, and what the older one is called."""
+
+    what: str
+    old: State
+    new: State
+    found: Matched
+
+    @property
+    def lost(self) -> list[Mutant]:
+        """The mutants that were killed and survive."""
+        return [now.mutant for _, now in newly_surviving(self.found.pairs)]
+
+    @property
+    def changes(self) -> list[str]:
+        """What changed, and how often."""
+        same = len(tests_matched(self.old.tests, self.new.tests))
+        found = (
+            (len(newly_killed(self.found.pairs)), "mutant", "newly killed"),
+            (len(self.lost), "mutant", "newly surviving"),
+            (len(self.found.added), "mutant", "new"), (len(self.found.gone), "mutant", "gone"),
+            (len(self.new.tests) - same, "test", "new"), (len(self.old.tests) - same, "test", "gone"),
+        )  # fmt: skip
+        return [f"{plural(count, noun)} {how}" for count, noun, how in found if count]
+
+    def lines(self) -> Iterator[str]:
+        yield f"Since {self.what} ({score_text(self.old)}): {', '.join(self.changes) or 'nothing has changed'}."
+        if self.lost:
+            yield f"NEWLY SURVIVING: {mutants_text(self.lost)}."
+
+
+def since(what: str, old: State, checked: Checked) -> Since:
+    """The comparison of an older state with a check, by the operators that both have."""
+    new = state_of(checked)
+    ops = [op for op in new.ops if op in old.ops]
+    one, other = with_ops(old, ops), with_ops(new, ops)
+    return Since(what, one, other, matched(one, other))
+
+
+def kept_path(folder: Path, asked: Sequence[object]) -> Path:
+    """Where the state of a check that is asked these things is kept."""
+    told = json.dumps([__version__, *map(str, asked)])
+    return folder / f"{hashlib.sha256(told.encode()).hexdigest()[:32]}.json.gz"
+
+
+def kept_state(path: Path) -> State | None:
+    """The state that is kept; None where there is none that can be read."""
+    try:
+        found = json.loads(gzip.decompress(path.read_bytes()))
+        verdicts = [Verdict(Mutant(*mutant), status, (), proved) for mutant, status, proved in found.pop("verdicts")]
+        statements = {int(line): told for line, told in found.pop("statements").items()}
+        state = State(**found, verdicts=verdicts, statements=statements)
+        count_of(state.verdicts)
+        return state
+    except (OSError, EOFError, ValueError, TypeError, KeyError, AttributeError):
+        return None
+
+
+def bytes_of(state: State) -> bytes:
+    """A state as it is kept."""
+    verdicts = [[each.mutant, each.status, each.is_proved] for each in state.verdicts]
+    told = {**state._asdict(), "verdicts": verdicts}
+    return gzip.compress(json.dumps(told).encode(), 1, mtime=0)
