@@ -3,11 +3,14 @@
 import csv
 import io
 import re
+import time
 from typing import Any
 from unittest import mock
 
 import running
 from mutants import statuses
+from mutants.declarations.proofs import NO_PROOFS, Proofs
+from mutants.declarations.proving import Prover
 from mutants.program.calling import OutOfTime
 from mutants.subcommands import suggest  # noqa: F401  read once, for all copies of this process
 from mutants.suggestions import choosing, rounds
@@ -73,6 +76,21 @@ class Told(Search):
         found = re.search(r"^Tried: (\d+) rows, \d rounds, seed 1\.$", out := self.told(), re.M)
         assert found
         self.assertIn(f"line 4: IF (J.LT.I) K=J (1 left; {found[1]} of the {found[1]} rows came here)\n", out)
+
+    def test_the_time_is_that_of_the_search_alone(self) -> None:
+        def slow(prover: Prover, *asked: object) -> Proofs:
+            time.sleep(0.3)
+            return NO_PROOFS
+
+        with mock.patch.object(Prover, "proofs", slow):
+            out = self.suggest("--seconds", "0.25")[1]
+        self.assertRegex(out, r"Tried: [1-9]\d* rows")
+
+    def test_without_a_row_there_is_no_hint(self) -> None:
+        with mock.patch.object(Asker, "kills", side_effect=OutOfTime):
+            out = self.suggest()[1]
+        has(self, out, "Tried: 0 rows", "that no row killed. No row was tried, so this says nothing of them.\n")
+        self.assertNotIn("hint", out)
 
     def test_the_same_seed_and_rounds_give_the_same_text(self) -> None:
         texts = [self.told("--seed", seed) for seed in ("1", "1", "2", "3", "4")]

@@ -1,12 +1,13 @@
 """A check: the program and its tests asked for all that is told of them."""
 
+import time
 from collections.abc import Callable, Sequence
 from pathlib import Path
 from typing import NamedTuple, TypeVar
 
 from mutants.checks.batches import batch_text
 from mutants.checks.choice import Choice, choose, lines_changed, lines_within, restricted, totals_of
-from mutants.checks.faults import told_of_program
+from mutants.checks.faults import program_told
 from mutants.checks.outcomes import Difference, asked_outcomes, differences
 from mutants.checks.running import Means, asked_in_parts
 from mutants.declarations.proving import NO_PROVER, Prover
@@ -46,7 +47,7 @@ class Checked(NamedTuple):
     """What came of a check. The list and the report have the mutants that were asked about; `whole` has all that ran.
 
     Of so many tests as `expected` says it was said what the program has to do. `file` is the text of the file that the
-    source is from, with its tabs and its other units.
+    source is from, with its tabs and its other units. The run of the mutants took so many `seconds`.
     """
 
     job: Job
@@ -62,6 +63,7 @@ class Checked(NamedTuple):
     said: Said = NOTHING
     expected: int = 0
     file: str = ""
+    seconds: float = 0.0
 
     @property
     def shown(self) -> str:
@@ -85,10 +87,8 @@ def source_alone(job: Job) -> bytes:
 
 def printed_of(program: str, path: Path, job: Job, shown: str) -> list[str]:
     """The printed text of each statement. A fault is told with the line as it is shown."""
-    try:
+    with program_told(path, job.source, shown):
         return asked_print(program, source_alone(job))
-    except Fault as fault:
-        raise told_of_program(path, job.source, shown, fault) from None
 
 
 def ops_of(asked: Asked) -> list[str]:
@@ -125,10 +125,8 @@ def chosen(program: str, asked: Asked, job: Job, printed: Sequence[str], listed:
 
 
 def listed_of(program: str, asked: Asked, job: Job, shown: str) -> tuple[dict[str, int], list[Mutant]]:
-    try:
+    with program_told(asked.program, job.source, shown):
         return asked_list(program, words_of_ops(asked), source_alone(job))
-    except Fault as fault:
-        raise told_of_program(asked.program, job.source, shown, fault) from None
 
 
 def ops_left_out(asked: Asked) -> list[str]:
@@ -189,11 +187,12 @@ def check(
     outcomes = named(asked.tests, lambda: asked_outcomes(job, means, name))
     unexpected = named(expected.path, lambda: differences(expected.texts, outcomes, names))
     job, said = with_proofs([*words_of_ops(asked), *means.step_words], job, said, listed, prover, name)
-    is_whole = len(choice.listed) == len(listed)
+    is_whole, begun = len(choice.listed) == len(listed), time.monotonic()
     whole = ran(job, printed, totals if is_whole else totals_of(totals, choice.listed), means, name)
+    seconds = time.monotonic() - begun
     report = whole if is_whole else restricted(whole, choice.listed)
     left_out = ops_left_out(asked) + choice.left_out
     statements = statements_by_line(job.source, printed)
     number = sum(bool(text.strip()) for text in expected.texts.values())
     found = job, printed, statements, choice.listed, report, whole, left_out, outcomes, unexpected
-    return Checked(*found, said=said, expected=number)
+    return Checked(*found, said=said, expected=number, seconds=seconds)

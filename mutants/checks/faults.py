@@ -1,6 +1,7 @@
 """What keeps a check from being made, in one line for its user."""
 
-from collections.abc import Sequence
+from collections.abc import Iterator, Sequence
+from contextlib import contextmanager
 from pathlib import Path
 
 from mutants.explanations.meanings import MEANINGS
@@ -35,6 +36,15 @@ def told_of_program(path: Path, source: str, shown: str, fault: Fault) -> ValueE
         return ValueError(f"{path}: {said}")
     line = " ".join(lines[int(detail) - 1].split())[:LONGEST]
     return ValueError(f"{path}, line {detail}: {said}: {line}")
+
+
+@contextmanager
+def program_told(path: Path, source: str, shown: str) -> Iterator[None]:
+    """While it holds, a fault of a program is told with its line."""
+    try:
+        yield
+    except Fault as fault:
+        raise told_of_program(path, source, shown, fault) from None
 
 
 def told_of_run(declared: Sequence[object], fault: Fault) -> ValueError:

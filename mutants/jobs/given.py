@@ -9,6 +9,7 @@ from mutants.declarations.files import NONE_MEANT, Meant, meant_by, read_declara
 from mutants.jobs.making import made_of, meant_for, whole_text, wish_of
 from mutants.jobs.sources import FREE, SUFFIXES, is_program
 from mutants.pages.declared import Said
+from mutants.program.calling import Fault
 
 MORE = "of a program that is read with options, or with declarations, take PROGRAM.f in place of a job"
 
@@ -53,3 +54,14 @@ def given_job(given: argparse.Namespace, path: Path, tests: Path | None, mothra:
     if given.unit or given.size or given.expand_tabs or given.undeclared:
         raise ValueError(f"{path} is taken for a job: {MORE}")
     return of_job(path, given.equivalent, mothra)
+
+
+def job_to_tell(
+    given: argparse.Namespace, path: Path, tests: Path | None, mothra: Callable[[], str | None]
+) -> Given:
+    """The same; where the source has a fault, which is told later, there are no mutants that could be declared."""
+    try:
+        return given_job(given, path, tests, mothra)
+    except Fault:
+        given.undeclared, given.equivalent = is_program(path), None
+        return given_job(given, path, tests, mothra)

@@ -97,17 +97,18 @@ def made_of(program: Path, tests: Path | None = None, wish: Wish = Wish(), is_st
     """The job of these files; ValueError names the file that does not serve, and why.
 
     Where it is not strict, tests may have other numbers of values than there are dummy arguments: the program tells.
+    Of what does not begin with SUBROUTINE the program tells too, so no table is read for it.
     """
     source = told_of(program, lambda: source_of(program.read_bytes(), wish))
     remarks = [f"{program}: {remark}" for remark in source.remarks]
-    if tests is None:
-        return Made(source, None, remarks)
     path, dummies = tests, dummies_of(source.text)
+    if path is None or dummies is None:
+        return Made(source, None, remarks)
     table = told_of(path, lambda: read_table(path, dummies, is_strict))
-    if wish.sizes and dummies is not None:
+    if wish.sizes:
         told_of(path, lambda: check_sizes(source, table, wish.sizes))
     told = table.remarks + (ones_told(source, table) if dummies else [])
-    return Made(source, table, remarks + [f"{tests}: {remark}" for remark in told])
+    return Made(source, table, remarks + [f"{path}: {remark}" for remark in told])
 
 
 def meant_for(

@@ -15,6 +15,7 @@ from mutants.texts.tabs import has_tab, without_tabs
 # What a source may have, in bytes.
 LARGEST = 65_536
 SUFFIXES = (".f", ".for", ".ftn", ".f77")
+UTF_16 = (b"\xff\xfe", b"\xfe\xff")
 FREE = (".f90", ".f95", ".f03", ".f08")
 
 
@@ -52,6 +53,8 @@ def is_program(path: Path) -> bool:
 def decoded(data: bytes) -> str:
     """The text of a file. What is no UTF-8 is Latin-1, as comments of old programs are;
     an end of file of DOS is left out."""
+    if data.startswith(UTF_16):
+        raise ValueError("it is a text in UTF-16: save it in UTF-8")
     try:
         text = data.decode("utf-8-sig")
     except UnicodeDecodeError:

@@ -22,6 +22,7 @@ import sys
 from collections.abc import Iterable, Sequence
 from pathlib import Path
 
+from mutants.checks.faults import program_told
 from mutants.checks.settings import READING, with_settings
 from mutants.declarations.entries import Entry, appended, entries_text, written_entries
 from mutants.declarations.files import asked_present, path_beside
@@ -130,7 +131,8 @@ def run(given: argparse.Namespace, name: str) -> int:
     entries = told_of(path, lambda: written_entries(path))
     # Twins may be of any operator.
     ops = list(NAMES) if names else sorted({entry.op for entry in entries})
-    present = asked_present(find_program(given.mothra), ops, made.text().encode())
+    with program_told(given.program, made.source.text, made.source.shown):
+        present = asked_present(find_program(given.mothra), ops, made.text().encode())
     found = settled(entries, present)
     if given.renew:
         written(path, entries_text(renewed(entries, found, present)).encode())

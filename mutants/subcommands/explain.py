@@ -20,7 +20,7 @@ The exit status is 0 where a fault was explained, or where there is none.
 import argparse
 import re
 import sys
-from collections.abc import Callable, Sequence
+from collections.abc import Sequence
 from functools import cache
 from pathlib import Path
 
@@ -28,10 +28,10 @@ from mutants.checks.settings import READING, with_settings
 from mutants.explanations.also import also_told
 from mutants.explanations.told import BAD_LIST, explained, explained_words
 from mutants.explanations.words import OPTIONS, words_say
-from mutants.jobs.given import Given, given_job
+from mutants.jobs.given import Given, job_to_tell
 from mutants.jobs.making import add_making_options
 from mutants.jobs.sources import is_program
-from mutants.program.calling import Fault, call, failure_of
+from mutants.program.calling import call, failure_of
 from mutants.program.finding import add_mothra_option, find_program, find_program_if_any
 from mutants.program.unproved import remark_on
 from mutants.statuses import SUCCESS
@@ -71,15 +71,6 @@ def given_words(given: argparse.Namespace) -> tuple[Path | None, list[str]]:
     return None, words
 
 
-def asked_job(given: argparse.Namespace, tests: Path | None, mothra: Callable[[], str | None]) -> Given:
-    """The job; where the source has a fault there are no mutants that could be declared."""
-    try:
-        return given_job(given, given.job, tests, mothra)
-    except Fault:
-        given.undeclared, given.equivalent = True, None
-        return given_job(given, given.job, tests, mothra)
-
-
 def row_told(line: str, rows: Sequence[int]) -> str:
     """In which row of its table a test stands that a fault names."""
     found = re.fullmatch(r"FAULT (?:B3|B4|J4) (\d+)", line)
@@ -106,7 +97,7 @@ def run(given: argparse.Namespace, name: str) -> int:
     tests, rest = given_words(given)
     if is_program(given.job):
         with_settings(given, given.job.parent, add_options, READING)
-    asked = asked_job(given, tests, find)
+    asked = job_to_tell(given, given.job, tests, find)
     tell_remarks(name, asked.warnings)
     line, words = told_line(rest), rest or ["run"]
     is_asked = line is None

@@ -40,6 +40,8 @@ def run(given: argparse.Namespace, name: str) -> int:
     meant = meant_for(
         made, given.program, given.equivalent, lambda: find_program(given.mothra), looks_beside=not given.undeclared
     )
+    if given.tests and not made.table:
+        raise ValueError(f"{given.program}: it does not begin with SUBROUTINE; mutants explain {given.program} says more")
     tell_remarks(name, made.remarks + meant.remarks)
     sys.stdout.write(whole_text(made, meant.names if meant.is_of_file else None))
     return SUCCESS

@@ -20,21 +20,22 @@ joined. A text that is no such text, is cut short or is not of this job is refus
 
 import argparse
 import sys
-from collections.abc import Sequence
+from collections.abc import Mapping, Sequence
 from functools import cache
 from pathlib import Path
 
+from mutants.checks.faults import program_told, told_of_run
 from mutants.checks.outcomes import asked_outcomes
 from mutants.checks.running import Means
 from mutants.checks.settings import READING, with_settings
 from mutants.declarations.proofs import NO_PROOFS, Proofs
 from mutants.declarations.proving import add_proof_options, prover_of
-from mutants.jobs.given import given_job
+from mutants.jobs.given import job_to_tell
 from mutants.jobs.making import add_making_options
 from mutants.jobs.sources import is_program
 from mutants.pages.report import Outcomes, report_page
 from mutants.program.asking import asked_report
-from mutants.program.calling import answer, read_as, text_of
+from mutants.program.calling import Fault, answer, read_as, text_of
 from mutants.program.finding import add_mothra_option, find_program
 from mutants.program.unproved import remark_on
 from mutants.statuses import SUCCESS
@@ -43,7 +44,7 @@ from mutants.texts.jobs import Job, declared_text, read_job
 from mutants.texts.lines import Mutant, lines_of_text
 from mutants.texts.lists import read_list
 from mutants.texts.prints import read_print
-from mutants.texts.reports import read_report
+from mutants.texts.reports import Report, read_report
 from mutants.words import add_mothra_options, asked_words, tell_remarks
 
 
@@ -81,26 +82,34 @@ def proofs_of(given: argparse.Namespace, job: Job, listed: Sequence[Mutant]) -> 
     return prover_of(given).proofs(asked_words(given, "ops", "every", "steps"), job, listed)
 
 
+def report_of(given: argparse.Namespace, program: str, totals: Mapping[str, int], text: bytes, name: str) -> Report:
+    """The report that is given, or that the program is asked for."""
+    if given.report:
+        return read_as(given.report, read_report, text_of(given.report))
+    try:
+        return asked_report(program, asked_words(given, "every", "steps", "workers"), totals, text, name)
+    except Fault as fault:
+        raise told_of_run(read_job(text).equivalent, fault) from None
+
+
 def run(given: argparse.Namespace, name: str) -> int:
     command, find = name, cache(lambda: find_program(given.mothra))
     if given.tests or is_program(given.job):
         with_settings(given, given.job.parent, add_options, READING)
-    asked = given_job(given, given.job, given.tests, find)
+    asked = job_to_tell(given, given.job, given.tests, find)
     text, job = asked.job, read_as(given.job, read_job, asked.job)
     needed = [given.print, given.list, given.report]
     program = find() if None in needed else ""
     tell_remarks(name, asked.warnings)
     chosen = asked_words(given, "ops", "every")
-    name, told = text_from(given.print, program, ["print"], text)
-    printed = read_as(name, read_print, told)
-    name, told = text_from(given.list, program, ["list", *chosen], text)
-    totals, listed = read_as(name, read_list, told)
+    shown = job.source if asked.said.shown is None else asked.said.shown
+    with program_told(given.job, job.source, shown):
+        name, told = text_from(given.print, program, ["print"], text)
+        printed = read_as(name, read_print, told)
+        name, told = text_from(given.list, program, ["list", *chosen], text)
+        totals, listed = read_as(name, read_list, told)
     proofs = proofs_of(given, job, listed)
-    if given.report:
-        report = read_as(given.report, read_report, text_of(given.report))
-    else:
-        words, text = asked_words(given, "every", "steps", "workers"), declared_text(text, proofs.names)
-        report = asked_report(program, words, totals, text, command)
+    report = report_of(given, program, totals, declared_text(text, proofs.names), command)
     outcomes = outcomes_of(given, program, job, command)
     # A page is UTF-8 whatever the terminal takes.
     said = asked.said._replace(proofs=proofs)

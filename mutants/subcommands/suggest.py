@@ -57,7 +57,7 @@ def seconds_word(word: str) -> float:
 def add_search(parser: argparse.ArgumentParser) -> None:
     """The options that say how long is searched, and where."""
     most = parser.add_mutually_exclusive_group()
-    told = f"how long, with the last run on top; {SECONDS:g} where nothing is said"
+    told = f"how long the search is, with the last run on top; {SECONDS:g} where nothing is said"
     most.add_argument("--seconds", metavar="N", type=read_by(seconds_word), help=told)
     told = "how many rounds of 256 rows, whatever time they take"
     most.add_argument("--rounds", metavar="N", type=number_from_1, help=told)
@@ -111,14 +111,14 @@ def write_table(path: Path, given: argparse.Namespace, table: Table, found: Sugg
 
 def run(given: argparse.Namespace, name: str) -> int:
     aim = aim_of(given)
-    clock = Clock(aim.seconds)
     settings = with_settings(given, given.program.parent, checks.add_options)
     assert_table_free(given)
     begun = start_of(given, name)
     table = begun.made.table
-    assert table
     start = begun.checked(name)
-    found = suggested(start, aim, begun.means, clock, name)
+    assert table
+    # What comes before, such as proofs, takes nothing of the time of the search.
+    found = suggested(start, aim, begun.means, Clock(aim.seconds), name)
     layout = layout_of(given.tests, table, dummies_of(start.printed))
     more = [write_table(given.table, given, table, found, layout)] if given.table else []
     more += checks.end_lines(start.said.proofs, settings, remark_on(begun.means.program))

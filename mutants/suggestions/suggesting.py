@@ -87,9 +87,8 @@ class Suggesting:
 
     def rows(self) -> list[Row]:
         """The rows that are chosen. Ctrl-C, and a call that takes too long, end what is going on."""
-        clock = self.search.clock
         try:
-            self.search.begin(self.tests, clock.passed() / max(len(self.tests), 1))
+            self.search.begin(self.tests, self.start.seconds / max(len(self.tests), 1))
             self.search.go(self.tell)
         except KeyboardInterrupt:
             self.is_cut = True

@@ -19,6 +19,7 @@ from mutants.texts.twins import names_text, twins_in
 
 LOOK = "What the program does on a row is its own outcome, right or wrong: look at it before you take the row."
 HINT = "That is a hint at equivalence, and no more than that."
+UNTRIED = "No row was tried, so this says nothing of them."
 
 
 def new_number(found: Suggested, place: int) -> int:
@@ -103,7 +104,8 @@ def left_lines(found: Suggested) -> Iterator[str]:
         yield "No mutant survives that is not declared equivalent."
         return
     verb = "is one survivor" if len(survivors) == 1 else f"are {len(survivors)} survivors"
-    yield f"There {verb} on {plural(len(lines), 'line')} that no row killed. {HINT}"
+    told = HINT if found.search.tried else UNTRIED
+    yield f"There {verb} on {plural(len(lines), 'line')} that no row killed. {told}"
     for line in sorted(lines):
         statement = found.final.statements[line]
         yield f"line {line}: {statement} ({len(lines[line])} left{reached_text(found, line)})"
