@@ -10,9 +10,10 @@ import running
 from mutants.jobs.cells import read_cell
 from mutants.jobs.making import Made, made_of, whole_text
 from mutants.jobs.remarks import hidden_statement, is_statement, remarks_on_text
+from mutants.jobs.setting import only_set, zeros_of
 from mutants.jobs.sizes import bounds_of, read_sizes, sized, unsized
 from mutants.jobs.sources import LARGEST, Wish, decoded, is_program
-from mutants.jobs.tables import Table, read_table
+from mutants.jobs.tables import Table, read_table, titles_of
 from mutants.jobs.units import units_of
 from mutants.texts.tabs import without_tabs
 from running import LEAST, STAND_IN, refuses, run
@@ -237,11 +238,8 @@ class Sizes(Room):
         self.assertEqual(made.suite[1], [3, [1, 2, 3], [1, 2, 3, 4], [1, 2], 0])
         self.assertEqual(made.source.shown, SUM)
         for table, told in (
-            (
-                row.replace("1 2 3,", "1 2,", 1),
-                r"tests.csv: row 1: X has 2 elements, and its bounds with --size take 3",
-            ),
-            (row + row.replace("1 2,0", "1,0"), "row 2: LAST has 1 elements, and its bounds with --size take 2"),
+            (row.replace("1 2 3,", "1 2 3 4,", 1), "tests.csv: row 1: X has 4 elements, and its bounds with --size take 3"),
+            (row + row.replace("1 2,0", "3*1,0"), "row 2: LAST has 3 elements, and its bounds with --size take 2"),
             (row.replace("3", "4", 1), "row 1: N is 4, above the 3 of --size"),
         ):
             with self.subTest(told), self.assertRaisesRegex(ValueError, told):
@@ -260,7 +258,18 @@ class Sizes(Room):
         told = self.made(source, "1 2 3,1,4 5\n1 2 3,2,4 5\n").remarks
         self.assertEqual(told, [f"{self.room}/tests.csv: X and Y have one element, and the tests more: --size X=3,Y=2"])
         self.assertEqual(self.made(source, "1 2 3,1,4 5\n", Wish(sizes={"X": 3, "Y": 2})).remarks, [])
-        self.assertEqual(self.made(source, "[[[1],1,[2]],[[1,2],1,[2]]]", ending=".json").remarks, [])
+        told = self.made(source, "[[[1],1,[2]],[[1,2],1,[2]]]", ending=".json").remarks
+        self.assertEqual(told, [f"{self.room}/tests.json: X has one element, and the tests more: --size X=2"])
+
+    def test_shorter_arrays_are_filled_where_the_last_bound_alone_has_a_size(self) -> None:
+        source = "      SUBROUTINE A(X,K,P,Y)\n      INTEGER X(*),Y(N,2)\n      LOGICAL P(N)\n      END\n"
+        wish = Wish(sizes={"X": 4, "N": 2})
+        made = self.made(source, "1 2,1,T,4*5\n3*7,1,F T,4*5\n", wish)
+        self.assertEqual(made.suite, [[[1, 2, 0, 0], 1, [True, False], [5] * 4], [[7, 7, 7, 0], 1, [False, True], [5] * 4]])
+        told = f"{self.room}/tests.csv: rows with fewer elements than --size gives have 0 or F for those behind: P and X"
+        self.assertEqual(made.remarks, [told])
+        with self.assertRaisesRegex(ValueError, "row 1: Y has 3 elements, and its bounds with --size take 4"):
+            self.made(source, "1 2,1,T,3*5\n", wish)
 
     def test_words_that_are_no_sizes_are_refused_as_words(self) -> None:
         status, out, errors = run("job", "--size", "N", self.put("a.f", SUM))
@@ -284,10 +293,40 @@ class Tables(Room):
         found = self.table("I,P,expect,M\n7,T,RETURNED 7,1 2\n")
         self.assertEqual((found.tests, found.others), ([[7, True, [1, 2]]], {"EXPECT": ["RETURNED 7"]}))
 
+    def test_columns_beside_the_arguments_and_the_names_of_tests(self) -> None:
+        found = self.table("Test,I,P,M,seen by (who)\nborder,7,T,1 2, ada\n,8,F,1 2,\n")
+        self.assertEqual((found.tests[0], found.others["SEEN BY (WHO)"]), ([7, True, [1, 2]], [" ada", ""]))
+        self.assertEqual(titles_of(found), ["border", ""])
+        self.assertEqual(titles_of(self.table("7,T,1 2\n")), [])
+
+    def test_blank_cells_of_arguments_that_are_only_set(self) -> None:
+        for text, ending in (("1,,\n2,T,\n", ".csv"), ("[[1,null,null],[2,true,null]]", ".json")):
+            path = self.put(f"tests{ending}", text)
+            found = read_table(path, ["I", "P", "M"], blanks={"P": False, "M": [0, 0]})
+            self.assertEqual(found.tests, [[1, False, [0, 0]], [2, True, [0, 0]]])
+            told = "cells that are left blank have the value behind each, since it is only set: P (F) and M (0)"
+            self.assertEqual(found.remarks, [told])
+
+    def test_which_arguments_are_only_set(self) -> None:
+        for body, read in (
+            ("K=I", "I"), ("K=K+I", "IK"), ("IF (I.GT.0) K=1", "I"), ("IF (K.GT.0) K=1", "K"), ("K=1|I=K", ""),
+            ("IF (I.GT.0) K=1|I=K", "IK"), ("IF (I.GT.0) THEN|K=1|END IF|I=K", "IK"), ("DO 10 K=1,I|10 CONTINUE", "I"),
+            ("DO 10 J=1,I|10 K=1|I=K", "IK"), ("DO 10 J=1,I|10 CONTINUE|K=1|I=K", "I"), ("GO TO 10|K=1|10 I=K", "K"),
+            ("A(I)=K", "IK"), ("A(1)=A(2)", "A"), ("IF (I) 10,10,20|10 K=1|20 I=K", "IK"), ("GO TO (10,10),K|10 K=1", "K"),
+            ("IF (I.GT.0) RETURN|K=1|A(1)=K", "I"),
+        ):  # fmt: skip
+            laid = [f" {each[:2]}   {each[3:]}" if each[0].isdigit() else f"      {each}" for each in body.split("|")]
+            source = "\n".join(["      SUBROUTINE S(I,K,A)", "      INTEGER A(2)", *laid, "      END", ""])
+            self.assertEqual(only_set(source, "IKA"), [name for name in "IKA" if name not in read], body)
+        self.assertEqual(zeros_of(source, ["I", "K", "A"]), {"K": 0, "A": [0, 0]})
+
     def test_a_cell_is_told_by_row_and_column_with_the_reason(self) -> None:
         for text, told in (
             ("7,T,1 2\n7,x,1 2\n", "row 2, column 2 (P): 'x' is no number and no truth value"),
-            ("7,T,1 2\n\n7,,1 2\n", "row 3, column 2 (P): the cell is empty"),
+            ("7,T,1 2\n\n7,,1 2\n", "row 3, column 2 (P): the cell is empty, and the program reads P"),
+            ("I,P,M,expcet\n", "row 1, column 4: EXPCET is no column that is known; is expect meant?"),
+            ("7,T,0*1\n", "row 1, column 3 (M): '0*1' repeats a value 0 times: it is from 1 to 10000 times"),
+            ("7,T,2*x\n", "row 1, column 3 (M): 'x' is no number"),
             (
                 "2147483648,T,1\n",
                 "row 1, column 1 (I): 2147483648 is out of range: a value is from -2147483648 to 2147483647",
@@ -342,6 +381,11 @@ class Tables(Room):
             ("-0", 0),
             ("0007", 7),
             ("t", True),
+            (".TRUE.", True),
+            (".f.", False),
+            ("3*0", [0, 0, 0]),
+            ("2*T .FALSE.", [True, True, False]),
+            ("1 2*-3", [1, -3, -3]),
             (".", None),
             (" 1  2 ", [1, 2]),
             ("false F", [False, False]),

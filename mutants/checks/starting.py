@@ -70,4 +70,5 @@ def start_of(given: argparse.Namespace, name: str) -> Start:
     tell_remarks(name, remarks)
     asked = Asked(given.program, given.tests, given.ops, given.without or [], given.lines, given.changed, wish)
     job = Job(made.source.text, made.suite, meant.names)
-    return Start(made, asked, job, Said(made.source.shown, meant.reasons, remarks), expected, means, prover)
+    said = Said(made.source.shown, meant.reasons, remarks, titles=made.titles)
+    return Start(made, asked, job, said, expected, means, prover)

@@ -17,7 +17,7 @@ from mutants.declarations.proofs import (
 from mutants.pages.declared import NO_REASON, Group, groups_of_person, groups_of_proofs, proved_text
 from mutants.pages.frame import joined_words, plural
 from mutants.pages.report import DISAGREE, by_line, counts_by_line, no_survivor_text
-from mutants.pages.suite import NUMBERS, alone_of, needless_text, values_of
+from mutants.pages.suite import NUMBERS, alone_of, needless_text, titled
 from mutants.pages.spans import change_of
 from mutants.texts.lines import Mutant
 from mutants.texts.ranges import rows_of
@@ -43,7 +43,8 @@ class Telling(NamedTuple):
 
 def outcome_lines(checked: Checked) -> Iterator[str]:
     """What the program itself does on each test."""
-    shown = [(values_of(test), outcome) for test, outcome in zip(checked.job.suite, checked.outcomes)]
+    told, titles = [*enumerate(checked.job.suite, 1)], checked.said.titles
+    shown = [(titled(test, number, titles), outcome) for (number, test), outcome in zip(told, checked.outcomes)]
     if not shown:
         return
     yield "The program on the tests:"
@@ -60,7 +61,7 @@ def difference_lines(checked: Checked) -> Iterator[str]:
     if found:
         yield f"NOT AS EXPECTED: {plural(len(found), 'test')}. The score is that of a program that is wrong."
     for each in found:
-        values = values_of(checked.job.suite[each.test - 1])
+        values = titled(checked.job.suite[each.test - 1], each.test, checked.said.titles)
         yield f"  test {each.test}  {values}: {each.outcome}, expected {each.expected}"
 
 

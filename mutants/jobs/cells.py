@@ -7,6 +7,10 @@ from typing import Any
 from mutants.texts.jobs import Value
 
 TRUTHS = {"T": True, "TRUE": True, "F": False, "FALSE": False}
+# The same as FORTRAN writes it.
+TRUTHS |= {f".{word}.": value for word, value in TRUTHS.items()}
+# Repeats as FORTRAN has them: 15*0 are fifteen zeros. An array has no more elements.
+REPEAT, MOST = re.compile(r"(\d+)\*(.+)"), 10_000
 LEAST, GREATEST = -(2**31), 2**31 - 1
 # So many characters of a cell are shown.
 LONGEST = 40
@@ -39,14 +43,27 @@ def read_word(word: str) -> Value:
     return value
 
 
+def read_words(word: str) -> list[Value]:
+    """The value of a word, as often as it says."""
+    found = REPEAT.fullmatch(word)
+    if found and not 0 < int(found[1][:9]) <= MOST:
+        raise ValueError(f"{word[:LONGEST]!r} repeats a value {found[1][:9]} times: it is from 1 to {MOST} times")
+    return [read_word(found[2])] * int(found[1]) if found else [read_word(word)]
+
+
 def read_cell(cell: str) -> Any:
     """The value of a cell; several words are an array."""
-    values = [read_word(word) for word in cell.split()]
+    values = [value for word in cell.split() for value in read_words(word)]
     if not values:
         raise ValueError("the cell is empty")
     if len(set(map(type, values))) > 1:
         raise ValueError(f"{cell.strip()[:LONGEST]!r} has numbers and truth values in one array")
     return values[0] if len(values) == 1 else values
+
+
+def is_blank(cell: object) -> bool:
+    """Whether a cell has nothing in it; in JSON it is null."""
+    return cell is None or isinstance(cell, str) and not cell.strip()
 
 
 def checked_value(value: object) -> Any:

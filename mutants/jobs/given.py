@@ -44,7 +44,7 @@ def of_program(given: argparse.Namespace, program: Path, tests: Path | None, mot
     told = made.remarks + meant.remarks
     text = whole_text(made, meant.names if meant.is_of_file else None)
     rows = made.table.rows if made.table else []
-    return Given(text.encode(), Said(made.source.shown, meant.reasons, told), told, rows)
+    return Given(text.encode(), Said(made.source.shown, meant.reasons, told, titles=made.titles), told, rows)
 
 
 def given_job(given: argparse.Namespace, path: Path, tests: Path | None, mothra: Callable[[], str | None]) -> Given:

@@ -3,17 +3,18 @@
 import argparse
 import csv
 import json
-from collections.abc import Callable, Mapping, Sequence
+from collections.abc import Callable, Sequence
 from pathlib import Path
 from typing import Any, NamedTuple, TypeVar
 
 from mutants.declarations.files import NONE_MEANT, Meant, found_beside, meant_by, read_declarations
-from mutants.jobs.sizes import bounds_of, read_sizes
+from mutants.jobs.fitting import fit, ones_told
+from mutants.jobs.setting import zeros_of
+from mutants.jobs.sizes import read_sizes
 from mutants.jobs.sources import Source, Wish, source_of
-from mutants.jobs.tables import Table, read_table
-from mutants.pages.frame import joined_words
+from mutants.jobs.tables import Table, read_table, titles_of
 from mutants.texts.cards import cards_of
-from mutants.texts.dummies import read_head, read_unit
+from mutants.texts.dummies import read_head
 
 # The limits of a job: its tests, and its bytes.
 TESTS, BYTES = 256, 1_048_576
@@ -30,6 +31,11 @@ class Made(NamedTuple):
     @property
     def suite(self) -> list[list[Any]]:
         return self.table.tests if self.table else []
+
+    @property
+    def titles(self) -> list[str]:
+        """The names of the tests, where a column of the table has them."""
+        return titles_of(self.table) if self.table else []
 
     def text(self, equivalent: Sequence[str] | None = None, suite: Sequence[Any] | None = None) -> str:
         """The job in JSON, with these declared mutants; another suite may stand in the place of its own."""
@@ -58,41 +64,6 @@ def dummies_of(source: str) -> list[str] | None:
         return None
 
 
-def check_sizes(source: Source, table: Table, sizes: Mapping[str, int]) -> None:
-    """The tests fit the sizes: an array has as many elements as its bounds say, and no N is above its value."""
-    names, dummies = dummies_of(source.text) or [], read_unit(source.text)[1]
-    changed = {
-        bound.array for card in cards_of(source.shown) for bound in bounds_of(card.text)
-        if bound.array in sizes or not bound.text.isdecimal()
-    }  # fmt: skip
-    for row, test in zip(table.rows, table.tests):
-        for name, (_, elements), value in zip(names, dummies, test):
-            if name in changed and elements is not None:
-                count = len(value) if isinstance(value, list) else 1
-                if count != elements:
-                    raise ValueError(
-                        f"row {row}: {name} has {count} elements, and its bounds with --size take {elements}"
-                    )
-            elif name in sizes and elements is None and isinstance(value, int) and value > sizes[name]:
-                raise ValueError(f"row {row}: {name} is {value}, above the {sizes[name]} of --size")
-
-
-def ones_told(source: Source, table: Table) -> list[str]:
-    """A sentence on dummy arrays of one element for which the tests have more: a bound (1) once meant any size."""
-    sizes: dict[str, int] = {}
-    for place, (name, (_, elements)) in enumerate(zip(dummies_of(source.text) or [], read_unit(source.text)[1])):
-        values = [test[place] for test in table.tests if place < len(test)]
-        lengths = {len(value) for value in values if isinstance(value, list)}
-        if elements == 1 and len(lengths) == 1 and lengths != {1}:
-            sizes[name] = lengths.pop()
-    if not sizes:
-        return []
-    words = ",".join(f"{name}={size}" for name, size in sizes.items())
-    return [
-        f"{joined_words(sizes)} {'has' if len(sizes) == 1 else 'have'} one element, and the tests more: --size {words}"
-    ]
-
-
 def made_of(program: Path, tests: Path | None = None, wish: Wish = Wish(), is_strict: bool = True) -> Made:
     """The job of these files; ValueError names the file that does not serve, and why.
 
@@ -104,11 +75,9 @@ def made_of(program: Path, tests: Path | None = None, wish: Wish = Wish(), is_st
     path, dummies = tests, dummies_of(source.text)
     if path is None or dummies is None:
         return Made(source, None, remarks)
-    table = told_of(path, lambda: read_table(path, dummies, is_strict))
-    if wish.sizes:
-        told_of(path, lambda: check_sizes(source, table, wish.sizes))
-    told = table.remarks + (ones_told(source, table) if dummies else [])
-    return Made(source, table, remarks + [f"{path}: {remark}" for remark in told])
+    table = told_of(path, lambda: read_table(path, dummies, is_strict, zeros_of(source.text, dummies)))
+    told = table.remarks + told_of(path, lambda: fit(source, table, dummies, wish.sizes)) if wish.sizes else table.remarks
+    return Made(source, table, remarks + [f"{path}: {each}" for each in told + ones_told(source, table, dummies)])
 
 
 def meant_for(

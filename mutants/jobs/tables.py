@@ -1,20 +1,21 @@
 """Tables of tests: JSON or CSV, with or without a row of names, and what is told of a cell that does not serve."""
 
 import csv
+import difflib
 import io
 import json
 import re
-from collections.abc import Callable, Collection, Iterator, Sequence
+from collections.abc import Callable, Iterator, Mapping, Sequence
 from pathlib import Path
 from typing import Any, NamedTuple
 
-from mutants.jobs.cells import LONGEST, TRUTHS, checked_value, read_cell
+from mutants.jobs.cells import LONGEST, TRUTHS, checked_value, is_blank, read_cell
 from mutants.jobs.sources import decoded
 from mutants.pages.frame import joined_words, plural
 
 NAME = re.compile(r"[A-Za-z][A-Za-z0-9]*")
-# Columns that a table may have beside those of the dummy arguments.
-OTHERS = ("EXPECT",)
+# A column that means something beside those of the dummy arguments; and those that name the tests, where one is there.
+EXPECT, TITLES = "EXPECT", ("TEST", "NAME")
 Cells = list[Any]
 
 
@@ -62,26 +63,35 @@ def rows_of_json(text: str) -> Iterator[tuple[int, Cells]]:
         yield number, test
 
 
+def names_in(cells: Cells) -> list[str]:
+    """The cells of a row of names, in upper case."""
+    return [str(cell).strip().upper() for cell in cells]
+
+
 def is_head(cells: Cells, dummies: Sequence[str]) -> bool:
-    """Whether a row has names alone. T and F are truth values, unless the dummy arguments are just those."""
-    if not cells or not all(isinstance(cell, str) and NAME.fullmatch(cell.strip()) for cell in cells):
+    """Whether a row has names: those of all dummy arguments, or names alone. T and F are truth values then."""
+    if not cells or not all(isinstance(cell, str) for cell in cells):
         return False
-    names = [cell.strip().upper() for cell in cells]
-    return sorted(names) == sorted(dummies) or not set(names) <= set(TRUTHS)
+    names = names_in(cells)
+    if dummies and set(dummies) <= set(names):
+        return True
+    return all(map(NAME.fullmatch, names)) and not set(names) <= set(TRUTHS)
 
 
-def columns_of(row: int, cells: Cells, dummies: Sequence[str], others: Collection[str]) -> list[str]:
-    """The columns that a row of names has; each dummy argument has to be among them, once."""
-    names = [str(cell).strip().upper() for cell in cells]
+def columns_of(row: int, cells: Cells, dummies: Sequence[str]) -> list[str]:
+    """The columns that a row of names has: each dummy argument, once, and others beside them, as remarks are."""
+    names, missing = names_in(cells), [name for name in dummies if name not in names_in(cells)]
     known = f"the dummy arguments are {joined_words(dummies) or 'none'}"
     for column, name in enumerate(names, 1):
-        if name not in dummies and name not in others:
-            raise ValueError(f"{Cell(row, column).told()}: {name} is no dummy argument; {known}")
-        if name in names[: column - 1]:
-            raise ValueError(f"{Cell(row, column).told()}: {name} stands twice")
-    for name in dummies:
-        if name not in names:
-            raise ValueError(f"row {row} names no column for {name}; {known}")
+        where = Cell(row, column).told()
+        if name in names[: column - 1] and name:
+            raise ValueError(f"{where}: {name} stands twice")
+        if name not in dummies and name != EXPECT and missing:
+            raise ValueError(f"{where}: {name} is no dummy argument; {known}")
+        if name not in dummies and name != EXPECT and difflib.get_close_matches(name, [EXPECT], 1, 0.8):
+            raise ValueError(f"{where}: {name} is no column that is known; is {EXPECT.lower()} meant?")
+    for name in missing:
+        raise ValueError(f"row {row} names no column for {name}; {known}")
     return names
 
 
@@ -100,13 +110,20 @@ def shape_fault(row: int, cells: Cells, columns: Sequence[str], is_text: bool) -
 class Reading:
     """Reads the rows of a table, one after the other."""
 
-    def __init__(self, dummies: Sequence[str] | None, others: Collection[str], is_strict: bool) -> None:
+    def __init__(self, dummies: Sequence[str] | None, blanks: Mapping[str, Any], is_strict: bool) -> None:
         self.dummies, self.names, self.is_strict = dummies, dummies or [], is_strict
-        self.others = others
+        self.blanks, self.left_blank = blanks, dict[str, str]()
         self.columns: list[str] = []
         self.table = Table([], [], {}, [])
 
     def value(self, cell: Cell, given: Any, read: Callable[[Any], Any]) -> Any:
+        if is_blank(given) and cell.name in self.blanks:
+            value = self.blanks[cell.name]
+            is_truth = isinstance(value[0] if isinstance(value, list) else value, bool)
+            self.left_blank[cell.name] = "F" if is_truth else "0"
+            return value
+        if is_blank(given) and cell.name and self.dummies is not None:
+            raise ValueError(f"{cell.told()}: the cell is empty, and the program reads {cell.name}")
         try:
             return read(given)
         except ValueError as fault:
@@ -136,19 +153,27 @@ class Reading:
     def take(self, rows: Iterator[tuple[int, Cells]], read: Callable[[Any], Any], is_text: bool) -> Table:
         for place, (row, cells) in enumerate(rows):
             if place == 0 and self.dummies is not None and is_head(cells, self.names):
-                self.columns = columns_of(row, cells, self.names, self.others)
+                self.columns = columns_of(row, cells, self.names)
             else:
                 self.add(row, cells, read, is_text)
-        return self.table._replace(columns=self.columns)
+        told = joined_words(f"{name} ({value})" for name, value in self.left_blank.items())
+        more = [f"cells that are left blank have the value behind each, since it is only set: {told}"] if told else []
+        return self.table._replace(columns=self.columns, remarks=self.table.remarks + more)
+
+
+def titles_of(table: Table) -> list[str]:
+    """The names of the tests, where a column has them."""
+    column = next((table.others[name] for name in TITLES if name in table.others), [])
+    return ["" if is_blank(cell) else " ".join(str(cell).split()) for cell in column]
 
 
 def read_table(
-    path: Path, dummies: Sequence[str] | None = None, is_strict: bool = True, others: Collection[str] = OTHERS
+    path: Path, dummies: Sequence[str] | None = None, is_strict: bool = True, blanks: Mapping[str, Any] = {}
 ) -> Table:
-    """The table of a file for these dummy arguments; None where they are not known.
-    What is not strict may be ragged."""
+    """The table of a file for these dummy arguments; None where they are not known. Some of them have values for blank
+    cells. What is not strict may be ragged."""
     text = decoded(path.read_bytes())
-    reading = Reading(dummies, others, is_strict)
+    reading = Reading(dummies, blanks, is_strict)
     if path.suffix.lower() == ".csv":
         return reading.take(rows_of_csv(text), read_cell, True)
     return reading.take(rows_of_json(text), checked_value, False)

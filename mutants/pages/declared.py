@@ -29,13 +29,14 @@ STEPS_TO_SPARE = (
 
 
 class Said(NamedTuple):
-    """What is known of a job beside its texts: the source as its file has it, reasons by mutant, what is told, and what
-    is proved of its mutants."""
+    """What is known of a job beside its texts: the source as its file has it, reasons by mutant, what is told, what is
+    proved of its mutants, and the names of its tests, where they have some."""
 
     shown: str | None = None
     reasons: Mapping[str, str] = MappingProxyType({})
     remarks: Sequence[str] = ()
     proofs: Proofs = NO_PROOFS
+    titles: Sequence[str] = ()
 
     @property
     def all_reasons(self) -> dict[str, str]:

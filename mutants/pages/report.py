@@ -164,7 +164,7 @@ def report_page(
             *([("declared", "Declared equivalent", reasons)] if reasons else []),
             *([("proved", "Proved equivalent", folded)] if folded else []),
             ("operators", "The operators", operators_part(report.counts)),
-            ("tests", "The tests", tests_part(job.suite, report.rows, *outcomes)),
+            ("tests", "The tests", tests_part(job.suite, report.rows, *outcomes, said.titles)),
             ("matrix", "The kill matrix", matrix_part(listed, report.rows, statements, report.tests)),
         ]
     )

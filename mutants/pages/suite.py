@@ -87,10 +87,16 @@ def alone_text(alone: Sequence[Row]) -> str:
     return names_text(alone[:NAMED]) + rest
 
 
-def test_cells(number: int, test: object, kills: int, alone: Sequence[Row], mutants: int) -> list[Cell]:
+def titled(test: object, number: int, titles: Sequence[str]) -> str:
+    """The values of a test, with its name where it has one."""
+    title = titles[number - 1] if number <= len(titles) else ""
+    return f"{shortened(title)}: {values_of(test)}" if title else values_of(test)
+
+
+def test_cells(number: int, told: str, kills: int, alone: Sequence[Row], mutants: int) -> list[Cell]:
     return [
         ("n", number),
-        ("", f"<code>{text(values_of(test))}</code>"),
+        ("", f"<code>{text(told)}</code>"),
         ("n", kills),
         ("n", f"<b>{len(alone)}</b>" if alone else "none"),
         ("", text(alone_text(alone))),
@@ -104,7 +110,11 @@ HEAD: list[Cell] = [
 
 
 def tests_part(
-    suite: Sequence[object], rows: Sequence[Row], outcomes: Sequence[str] = (), unexpected: Mapping[int, str] = {}
+    suite: Sequence[object],
+    rows: Sequence[Row],
+    outcomes: Sequence[str] = (),
+    unexpected: Mapping[int, str] = {},
+    titles: Sequence[str] = (),
 ) -> str:
     """The table of the tests of a suite, those first that alone kill the most, and what follows of it.
 
@@ -115,7 +125,8 @@ def tests_part(
     kills, alone = kills_of(rows, len(suite)), alone_by_test(rows, len(suite))
     head, shown = [*HEAD], []
     for place in sorted(range(len(suite)), key=lambda place: (-len(alone[place]), -kills[place], place)):
-        cells = test_cells(place + 1, suite[place], kills[place], alone[place], len(rows))
+        told = titled(suite[place], place + 1, titles)
+        cells = test_cells(place + 1, told, kills[place], alone[place], len(rows))
         if outcomes:
             cells.insert(2, outcome_cell(outcomes[place], unexpected.get(place + 1)))
         shown.append(cells)

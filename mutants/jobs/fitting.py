@@ -1,0 +1,61 @@
+"""The arrays of the tests and the bounds of the program: elements that are missing, and more than there are."""
+
+from collections.abc import Mapping, Sequence
+from typing import Any
+
+from mutants.jobs.sizes import Bound, bounds_of
+from mutants.jobs.sources import Source
+from mutants.jobs.tables import Table
+from mutants.pages.frame import joined_words
+from mutants.texts.cards import cards_of
+from mutants.texts.dummies import read_unit
+
+
+def sized_arrays(source: Source, sizes: Mapping[str, int]) -> dict[str, bool]:
+    """The arrays whose bounds --size gives; and whether that is true of the last bound alone, so that an array that
+    has fewer elements has those in front."""
+    found: dict[str, list[Bound]] = {}
+    for card in cards_of(source.shown):
+        for bound in bounds_of(card.text):
+            if bound.array in sizes and bound.is_last or not bound.text.isdecimal():
+                found.setdefault(bound.array, []).append(bound)
+    return {array: all(bound.is_last for bound in bounds) for array, bounds in found.items()}
+
+
+def filled(value: Any, elements: int) -> list[Any]:
+    """An array with 0 or .FALSE. for the elements behind its own."""
+    values = value if isinstance(value, list) else [value]
+    return [*values, *[type(values[0])()] * (elements - len(values))]
+
+
+def fit(source: Source, table: Table, names: Sequence[str], sizes: Mapping[str, int]) -> list[str]:
+    """Fills the arrays of the tests that have fewer elements than --size gives; what is told of it. An array has no
+    more elements than its bounds say, and no N is above its value."""
+    arrays, short = sized_arrays(source, sizes), set[str]()
+    for row, test in zip(table.rows, table.tests):
+        for place, (name, (_, elements), value) in enumerate(zip(names, read_unit(source.text)[1], test)):
+            count = len(value) if isinstance(value, list) else 1
+            if name in arrays and elements is not None and count < elements and arrays[name]:
+                test[place] = filled(value, elements)
+                short.add(name)
+            elif name in arrays and elements is not None and count != elements:
+                raise ValueError(f"row {row}: {name} has {count} elements, and its bounds with --size take {elements}")
+            elif name in sizes and elements is None and isinstance(value, int) and value > sizes[name]:
+                raise ValueError(f"row {row}: {name} is {value}, above the {sizes[name]} of --size")
+    told = "rows with fewer elements than --size gives have 0 or F for those behind"
+    return [f"{told}: {joined_words(sorted(short))}"] if short else []
+
+
+def ones_told(source: Source, table: Table, names: Sequence[str]) -> list[str]:
+    """A sentence on dummy arrays of one element for which the tests have more: a bound (1) once meant any size."""
+    sizes: dict[str, int] = {}
+    for place, (name, (_, elements)) in enumerate(zip(names, read_unit(source.text)[1])):
+        values = [test[place] for test in table.tests if place < len(test)]
+        lengths = {len(value) for value in values if isinstance(value, list)}
+        if elements == 1 and lengths and lengths != {1}:
+            sizes[name] = max(lengths)
+    if not sizes:
+        return []
+    words = ",".join(f"{name}={size}" for name, size in sizes.items())
+    verb = "has" if len(sizes) == 1 else "have"
+    return [f"{joined_words(sizes)} {verb} one element, and the tests more: --size {words}"]
