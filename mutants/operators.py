@@ -29,6 +29,10 @@ NAMES = {
 }
 
 
+# Sets of operators by name. These five make nearly all that is needed (Offutt, Lee, Rothermel, Untch and Zapf 1996).
+SETS = {"SUFFICIENT": ("ABS", "AOR", "LCR", "ROR", "UOI")}
+
+
 def code_of(word: str) -> str:
     """The code of an operator that a word writes in any case; ValueError tells the nearest one."""
     if word.upper() in NAMES:
@@ -39,8 +43,10 @@ def code_of(word: str) -> str:
 
 
 def codes_in(text: str) -> list[str]:
-    """The codes in a text, with commas or blanks between them, each once and in the order of the operators."""
-    found = {code_of(word) for word in re.split(r"[,\s]+", text) if word}
+    """The codes in a text, with commas or blanks between them, each once and in the order of the operators; a name of
+    a set stands for all of it."""
+    words = [word for word in re.split(r"[,\s]+", text) if word]
+    found = {code for word in words for code in SETS.get(word.upper()) or [code_of(word)]}
     if not found:
         raise ValueError("there is no code of an operator")
     return [code for code in NAMES if code in found]

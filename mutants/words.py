@@ -9,6 +9,7 @@ from pathlib import Path
 from typing import TypeVar
 
 from mutants import __version__
+from mutants.operators import codes_in
 
 Read = TypeVar("Read")
 # Options whose value is a list with commas, and what may stand in one behind a comma: codes, lines, or sizes.
@@ -85,15 +86,16 @@ def whole_path(word: str) -> str:
 
 
 def add_mothra_options(parser: argparse.ArgumentParser, *names: str) -> None:
-    """Those options of mothra that are handed over as they are."""
+    """Those options of mothra that are handed over, the operators by their codes."""
     for option, value, told in (
-        ("ops", "A,B", "the operators, as mothra run takes them"),
+        ("ops", "A,B", "these operators alone, in any case; sufficient is a set of five"),
         ("every", "Q", "of each list the mutants 1, Q+1, 2Q+1 and on"),
         ("steps", "N", "the limit on steps"),
         ("workers", "N", "how many threads run mutants"),
     ):
         if option in names:
-            parser.add_argument(f"--{option}", metavar=value, help=told)
+            read = read_by(lambda word: ",".join(codes_in(word))) if option == "ops" else str
+            parser.add_argument(f"--{option}", metavar=value, type=read, help=told)
 
 
 def asked_words(given: argparse.Namespace, *names: str) -> list[str]:

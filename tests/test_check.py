@@ -20,6 +20,7 @@ The program on the tests:
     2  [2, 1, 0]  RETURNED 2 1 1
 
 Score 93.75 %: 15 of 16 mutants killed.
+Where each mutant is left out that is killed whenever another is, it is 66.66 %: 2 of 3 mutants killed.
 
 1 survivor on 1 line, each with what it changes:
 line 4: IF (J.LT.I) K=J (1 of 13 survive)

@@ -13,6 +13,7 @@ from running import STAND_IN, has, refuses, run, without_processes
 SHORT = """\
 LEAST of {program}: 1 test
 Score 50.00 %: 8 of 16 mutants killed.
+Where each mutant is left out that is killed whenever another is, it is 11.11 %: 1 of 9 mutants killed.
 
 8 survivors on 1 line:
 line 4: IF (J.LT.I) K=J (8 of 13 survive)

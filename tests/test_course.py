@@ -12,6 +12,7 @@ from pathlib import Path
 from unittest import mock
 
 import running
+from mutants import statuses
 from mutants.classes import processes
 from mutants.classes.results import COLUMNS, Result, failed_told
 from mutants.classes.running import answers_in, text_of_answer
@@ -228,7 +229,7 @@ class Refusals(Class):
         self.put({"a.json": "[]", "a.csv": ""})
         refuses(self, self.course(), "a.csv and a.json are tables of one name")
         (self.folder / "a.csv").unlink()
-        refuses(self, self.course("--ops", "XYZ"), "BAD OPERATOR LIST")
+        self.assertEqual(self.course("--ops", "XYZ")[0], statuses.WORDS)
         self.folder = self.folder / "none"
         refuses(self, self.course(), "no such folder")
         self.assertEqual(run("course", "--help")[0], 0)

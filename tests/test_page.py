@@ -181,7 +181,7 @@ class Refusals(unittest.TestCase):
         refuses(self, page_of(b"[]"), "no job")
         refuses(self, page_of(job_of(source="      SUBROUTINE OTHER\n      END\n")), "FAULT S2 1")
         refuses(self, page_of(job_of(suite=[[1]])), "FAULT B3 1")
-        refuses(self, page_of(job_of(), "--ops", "XYZ"), "BAD OPERATOR LIST")
+        self.assertEqual(page_of(job_of(), "--ops", "XYZ")[0], statuses.WORDS)
         refuses(self, run("page", "--mothra", STAND_IN, "there-is-none"), "there-is-none", "No such file")
         refuses(self, run("page", "--mothra", "there-is-none", EUCLID), "no program there-is-none")
         refuses(self, run("page", "--mothra", STAND_IN, running.ROOT), "Is a directory")

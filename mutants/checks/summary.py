@@ -22,6 +22,7 @@ from mutants.pages.spans import change_of
 from mutants.texts.lines import Mutant
 from mutants.texts.ranges import rows_of
 from mutants.texts.reports import score_of, summed
+from mutants.texts.subsuming import subsuming
 from mutants.texts.twins import count_of_programs, name_of, names_text, twins_in
 
 # So many survivors of an operator are shown on a line; so wide is a name at least.
@@ -84,6 +85,13 @@ def proof_lines(checked: Checked) -> Iterator[str]:
     proved = proved_count(checked)
     if proved:
         yield f"Without the proofs it is {score_without(summed(checked.report.counts.values()), proved)}."
+
+
+def subsuming_lines(checked: Checked) -> Iterator[str]:
+    """The score over the mutants that subsume all others, where it tells something else."""
+    found = subsuming(checked.listed, checked.report.rows)
+    if found.count.total < sum(row.status != "E" for row in checked.report.rows):
+        yield found.told()
 
 
 def twin_lines(checked: Checked) -> Iterator[str]:
@@ -235,6 +243,7 @@ def score_lines(checked: Checked) -> Iterator[str]:
     yield from wrong_lines(checked)
     yield score_line(checked)
     yield from proof_lines(checked)
+    yield from subsuming_lines(checked)
     yield from (f"Left out: {each}." for each in checked.left_out)
 
 

@@ -21,6 +21,7 @@ from mutants.pages.suite import tests_part
 from mutants.texts.jobs import Job
 from mutants.texts.lines import Mutant
 from mutants.texts.reports import Count, Report, Row, assert_same_mutants, score_of, summed, with_status
+from mutants.texts.subsuming import subsuming
 from mutants.texts.twins import name_of, twins_in
 
 # What a page is, as its title says it.
@@ -56,6 +57,16 @@ def proofs_part(count: Count, proved: int) -> str:
     """The score without the proofs, where there are some."""
     told = f"Without the proofs the score is {score_without(count, proved)}."
     return f'<p class="soft">{told}</p>\n' if proved else ""
+
+
+def subsuming_part(listed: Sequence[Mutant], rows: Sequence[Row]) -> str:
+    """The score over the mutants that subsume all others, and those of them that are killed, folded."""
+    found = subsuming(listed, rows)
+    if found.count.total == sum(row.status != "E" for row in rows):
+        return ""
+    links = [f'<a href="#L{mutant.line}">{text(name_of(mutant))}</a>' for mutant in found.killed]
+    whose = f"Killed: {joined_words(links) or 'none'}. {plural(found.survivors, 'survivor')}, each program once."
+    return f'<details class="soft"><summary>{text(found.told())}</summary>\n<p>{whose}</p></details>\n'
 
 
 def facts_of(report: Report) -> str:
@@ -171,7 +182,7 @@ def report_page(
     head = f"<h1>{text(report.unit)}: which mutants the tests kill</h1>\n" + remark_part(remark)
     head += remark_part(proofs.remark) if proved else ""
     head += unexpected_part(outcomes.unexpected) + score_part(count, proved) + proofs_part(count, proved)
-    head += facts_of(report) + wrong_part(report.rows, proofs)
+    head += subsuming_part(listed, report.rows) + facts_of(report) + wrong_part(report.rows, proofs)
     head += remarks_part(said.remarks)
     return page(f"{report.unit}: {KIND}", head + first_look(survivors, proved) + links, bodies)
 

@@ -59,7 +59,7 @@ from mutants.words import add_mothra_options, number_from_1, percent, percent_te
 def add_choices(parser: argparse.ArgumentParser) -> None:
     """The options that say which mutants are asked about."""
     ops = read_by(codes_in)
-    parser.add_argument("--ops", metavar="A,B", type=ops, help="these operators alone, in any case")
+    parser.add_argument("--ops", metavar="A,B", type=ops, help="these operators alone, in any case; sufficient is a set of five")
     parser.add_argument("--except", metavar="A,B", type=ops, dest="without", help="all operators but these")
     told = "mutants of the statements on these lines alone, as 10-20,25"
     parser.add_argument("--lines", metavar="A-B", type=read_by(ranges_in), help=told)
