@@ -36,6 +36,7 @@ class Subcommand(NamedTuple):
 SUBCOMMANDS = [
     Subcommand("check", "run the mutants of a program on its tests: score, survivors, page"),
     Subcommand("suggest", "suggest tests that kill the survivors of a suite"),
+    Subcommand("approve", "fill the column expect of a table with what the program does now"),
     Subcommand("job", "make a job of a program and a table of its tests"),
     Subcommand("declare", "declare mutants equivalent, tied to the texts that this is said of"),
     Subcommand("compare", "tell what is killed, and what survives, since an earlier check"),
