@@ -80,9 +80,15 @@ def assert_free(outputs: Sequence[Output], reads: Sequence[Path]) -> None:
             raise ValueError(f"{path}: two files are to be written there")
 
 
+def page_of(given: argparse.Namespace) -> Path:
+    """Where the page of a program lies."""
+    path: Path = given.page or given.program.with_suffix(".html")
+    return path
+
+
 def outputs_of(given: argparse.Namespace) -> list[Output]:
     """The files that are asked for. That each can be written is seen before anything is run."""
-    page = None if given.no_page else given.page or given.program.with_suffix(".html")
+    page = None if given.no_page else page_of(given)
     asked: list[tuple[str, Path | None, Callable[[Shown], str], bool]] = [
         ("page", page, page_text, False),
         ("report", given.report, lambda shown: report_text(shown.checked.whole), False),

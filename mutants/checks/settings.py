@@ -1,4 +1,5 @@
-"""The options of a check that a file beside the program has: mutants.ini, or mutants.toml, its section [mutants].
+"""The options of a check that a file beside the program has: mutants.ini, or mutants.toml, its section [mutants] and
+the one of the program.
 
 An option has the name that it has on the command line, without the hyphens in front. What the command line says comes
 first. Names of files in it are from its own folder, and files that are written lie in it. The file may come with a
@@ -6,17 +7,14 @@ program from anywhere: so it names neither a machine nor a program that is calle
 """
 
 import argparse
-import configparser
 import difflib
 from collections.abc import Callable, Collection, Iterable, Mapping
-from importlib import import_module
 from pathlib import Path
 from typing import NoReturn
 
+from mutants.checks.sections import INI, file_in, read_sections
 from mutants.program.programs import PROGRAMS
 
-SECTION = "mutants"
-INI, TOML = "mutants.ini", "mutants.toml"
 AddOptions = Callable[[argparse.ArgumentParser], None]
 # What a file may set, and which of that are files that are written.
 OUTPUTS = ("page", "report", "json", "csv", "junit")
@@ -25,7 +23,7 @@ KEYS = frozenset(
     " expect show-proved no-page top all baseline".split()
 ).union(OUTPUTS)
 # What other subcommands than those that check take of it: how a program is read, and what is declared and proved.
-READING = ("unit", "size", "expand_tabs", "equivalent", "undeclared", "no_proofs", "steps", "workers")
+READING = ("tests", "unit", "size", "expand_tabs", "equivalent", "undeclared", "no_proofs", "steps", "workers")
 # The options that name programs, which no check's own options are.
 CALLED = [program.option for program in PROGRAMS.values()]
 # An option of the command line, and one of the file that is passed over then.
@@ -50,36 +48,6 @@ def parser_of(add_options: AddOptions) -> Parser:
     parser = Parser(add_help=False, allow_abbrev=False)
     add_options(parser)
     return parser
-
-
-def no_section() -> NoReturn:
-    # To pass it over would leave out options that a build relies on, without a word.
-    raise ValueError(f"it has no section [{SECTION}]")
-
-
-def read_ini(path: Path) -> dict[str, str]:
-    found = configparser.ConfigParser(interpolation=None)
-    try:
-        found.read_string(path.read_text(encoding="utf-8-sig"), str(path))
-    except configparser.Error as fault:
-        raise ValueError(" ".join(str(fault).split())) from None
-    return dict(found[SECTION]) if SECTION in found else no_section()
-
-
-def toml_text(value: object) -> str:
-    """A value of toml as the command line would have it."""
-    if isinstance(value, bool):
-        return "yes" if value else "no"
-    return ",".join(map(str, value)) if isinstance(value, list) else str(value)
-
-
-def read_toml(path: Path) -> dict[str, str]:
-    try:
-        loads: Callable[[str], dict[str, object]] = import_module("tomllib").loads
-    except ImportError:
-        raise ValueError(f"Python reads toml from 3.11 on; {INI} is read by all") from None
-    section = loads(path.read_text(encoding="utf-8")).get(SECTION)
-    return {key: toml_text(value) for key, value in section.items()} if isinstance(section, dict) else no_section()
 
 
 def assert_allowed(key: str, value: str, folder: Path, known: Iterable[str]) -> None:
@@ -107,22 +75,20 @@ def words_in(values: Mapping[str, str], parser: Parser, folder: Path) -> list[st
     actions = {option: action for action in parser._actions for option in action.option_strings}
     words = []
     for key, value in values.items():
-        name = key.strip().replace("_", "-")
-        assert_allowed(name, value, folder, actions)
-        words += words_for(actions[f"--{name}"], f"--{name}", value, folder)
+        assert_allowed(key, value, folder, actions)
+        words += words_for(actions[f"--{key}"], f"--{key}", value, folder)
     return words
 
 
-def file_in(folder: Path) -> Path | None:
-    return next((path for path in (folder / INI, folder / TOML) if path.is_file()), None)
-
-
-def read_settings(path: Path, add_options: AddOptions) -> argparse.Namespace:
-    """The options that a file has, as the command line would give them."""
+def read_settings(path: Path, program: Path, add_options: AddOptions) -> argparse.Namespace:
+    """The options that a file has for a program, as the command line would give them, and its tests."""
     try:
-        values = read_toml(path) if path.suffix == ".toml" else read_ini(path)
-        parser = parser_of(add_options)
-        return parser.parse_args(words_in(values, parser, path.parent))
+        sections, parser = read_sections(path), parser_of(add_options)
+        own = sections.of(program)
+        values = {**sections.common, **(own.values if own else {})}
+        found = parser.parse_args(words_in(values, parser, path.parent))
+        found.tests = own.tests if own else None
+        return found
     except ValueError as fault:
         raise ValueError(f"{path}: {fault}") from None
 
@@ -133,14 +99,14 @@ def is_open(value: object) -> bool:
 
 
 def with_settings(
-    given: argparse.Namespace, folder: Path, add_options: AddOptions, names: Collection[str] | None = None
+    given: argparse.Namespace, program: Path, add_options: AddOptions, names: Collection[str] | None = None
 ) -> Path | None:
-    """Fills in what the command line left open, from the file in a folder; its path, where there is one.
+    """Fills in what the command line left open, from the file beside a program; its path, where there is one.
     Options that the command has not, or that are none of these names, are passed over. The names of those that it gave
     are kept as `from_file`."""
-    path, given.from_file = file_in(folder), set()
+    path, given.from_file = file_in(program.parent), set()
     if path:
-        kept = vars(read_settings(path, add_options))
+        kept = vars(read_settings(path, program, add_options))
         overruled = {other for name, other in OVERRULES if getattr(given, name, None)}
         for name, value in kept.items():
             is_asked = name in given and (names is None or name in names)
@@ -148,3 +114,9 @@ def with_settings(
                 setattr(given, name, value)
                 given.from_file.add(name)
     return path
+
+
+def assert_tests(given: argparse.Namespace) -> None:
+    """There is a table of tests: by the command line, or by the file."""
+    if given.tests is None:
+        raise ValueError(f"{given.program}: there is no table of its tests: give TESTS, or name it in {INI}")

@@ -17,7 +17,7 @@ from pathlib import Path
 from mutants.checks.checking import dummies_of, printed_of
 from mutants.checks.outcomes import asked_outcomes, differences
 from mutants.checks.running import Means
-from mutants.checks.settings import READING, with_settings
+from mutants.checks.settings import READING, assert_tests, with_settings
 from mutants.files import written
 from mutants.jobs.approving import filled
 from mutants.jobs.making import Made, add_reading_options, made_of, wish_of
@@ -36,7 +36,7 @@ LOOK = "What a program does is its own outcome, right or wrong: read each before
 
 def add_words(parser: argparse.ArgumentParser) -> None:
     parser.add_argument("program", metavar="PROGRAM.f", type=Path)
-    parser.add_argument("tests", metavar="TESTS.csv", type=Path, help="a table of tests in CSV")
+    parser.add_argument("tests", metavar="TESTS.csv", type=Path, nargs="?", help="a table of tests in CSV")
     add_mothra_option(parser)
     add_reading_options(parser)
     add_mothra_options(parser, "steps")
@@ -51,7 +51,8 @@ def cells_of(made: Made, is_anew: bool) -> dict[int, str]:
 
 
 def run(given: argparse.Namespace, name: str) -> int:
-    with_settings(given, given.program.parent, add_options, READING)
+    with_settings(given, given.program, add_options, READING)
+    assert_tests(given)
     if given.tests.suffix.lower() != ".csv":
         raise ValueError(f"{given.tests}: a table in JSON has no column expect; write it as CSV")
     made = made_of(given.program, given.tests, wish_of(given))

@@ -1,6 +1,7 @@
 """Run the mutants of a program on its tests, and tell the score, the survivors, and what else a tester asks.
 
     mutants check [OPTION..] PROGRAM.f TESTS.json|TESTS.csv
+    mutants check [OPTION..] [PROGRAM.f|FOLDER]
 
 The program is in fixed form, the table as `mutants job` takes it, of any length: suites of more than 256 tests are run
 in batches, and long jobs in parts, side by side on all processors, or by GNU parallel on the machines of --sshlogin.
@@ -24,7 +25,9 @@ asks for no proofs. A proof with steps to spare, SPARE-n, is of these tests and 
 n steps more, and each test leaves room for them.
 
 Options that are always the same can stand in mutants.ini beside the program (or mutants.toml), in its section
-[mutants], by the same names: `fail-under = 80`. What the command line says comes first.
+[mutants], by the same names: `fail-under = 80`. What the command line says comes first. A section of its own for a
+program has the keys `source` and `tests` and its options: then PROGRAM.f alone is enough, and FOLDER, or no word at
+all, checks all of them. The exit status is the worst, and mutants.html in the folder leads to their pages.
 """
 
 import argparse
@@ -37,8 +40,9 @@ from mutants.caches import caches_folder, keep
 from mutants.checks.checking import Checked, ops_of
 from mutants.checks.choice import ranges_in
 from mutants.checks.coverage import covering
-from mutants.checks.outputs import Shown, outputs_of, write_outputs
-from mutants.checks.settings import with_settings
+from mutants.checks.folder import Done, Folder, assert_for_many
+from mutants.checks.outputs import Shown, outputs_of, page_of, write_outputs
+from mutants.checks.settings import assert_tests, with_settings
 from mutants.checks.starting import Start, start_of
 from mutants.checks.summary import TOP, Telling, summary
 from mutants.colours import painted
@@ -106,8 +110,10 @@ def add_options(parser: argparse.ArgumentParser) -> None:
 
 
 def add_words(parser: argparse.ArgumentParser) -> None:
-    parser.add_argument("program", metavar="PROGRAM.f", type=Path)
-    parser.add_argument("tests", metavar="TESTS", type=Path, help="a table of tests, .json or .csv")
+    told = "a program in fixed form; a folder, or no word, stands for all programs that its mutants.ini or .toml names"
+    parser.add_argument("program", metavar="PROGRAM.f", type=Path, nargs="?", help=told)
+    told = "a table of tests, .json or .csv; else the one that the file of options names"
+    parser.add_argument("tests", metavar="TESTS", type=Path, nargs="?", help=told)
     add_mothra_option(parser)
     add_equivalents_option(parser)
     add_options(parser)
@@ -165,8 +171,10 @@ def changes_of(start: Start, baseline: Path | None, old: State | None, checked: 
     return [since(str(baseline), old, checked)] if old else last_check(start, checked)
 
 
-def run(given: argparse.Namespace, name: str) -> int:
-    settings = with_settings(given, given.program.parent, add_options)
+def done_of(given: argparse.Namespace, name: str) -> Done:
+    """The check of one program, with all files that are asked for."""
+    settings = with_settings(given, given.program, add_options)
+    assert_tests(given)
     outputs = outputs_of(given)
     baseline = read_state(given.baseline) if given.baseline else None
     start = start_of(given, name)
@@ -178,7 +186,28 @@ def run(given: argparse.Namespace, name: str) -> int:
     more = [*write_outputs(outputs, shown), *status_lines(given, checked)]
     more += end_lines(checked.said.proofs, settings, remark)
     telling = Telling(given.top or TOP, given.all, given.show_proved)
-    told = [line for each in changes for line in each.lines()]
-    sys.stdout.write(painted(summary(checked, given.program, more, telling, told)))
+    told = summary(checked, given.program, more, telling, [line for each in changes for line in each.lines()])
     is_lost = baseline is not None and any(each.lost for each in changes)
-    return status_of(given, checked) or (NEWLY_SURVIVING if is_lost else SUCCESS)
+    status = status_of(given, checked) or (NEWLY_SURVIVING if is_lost else SUCCESS)
+    return Done(checked, told, status, None if given.no_page else page_of(given), remark)
+
+
+def check_folder(given: argparse.Namespace, name: str) -> int:
+    """Checks all programs of a folder; the status is the worst."""
+    assert_for_many(given)
+    folder = Folder(given, given.program or Path(), name)
+    for line in folder.lines(done_of):
+        sys.stdout.write(painted(f"{line}\n"))
+        sys.stdout.flush()
+    if not given.no_page:
+        folder.write_page()
+        sys.stdout.write(f"The page: {folder.page}\n")
+    return folder.status
+
+
+def run(given: argparse.Namespace, name: str) -> int:
+    if given.program is None or given.program.is_dir():
+        return check_folder(given, name)
+    done = done_of(given, name)
+    sys.stdout.write(painted(done.text))
+    return done.status

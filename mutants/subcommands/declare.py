@@ -125,7 +125,7 @@ def run(given: argparse.Namespace, name: str) -> int:
     names = names_in(given.mutants) if given.mutants else []
     if bool(names) == given.renew or names and not (given.reason or "").strip():
         raise ValueError("it takes mutants and their --reason, or --renew alone")
-    with_settings(given, given.program.parent, add_options, READING)
+    with_settings(given, given.program, add_options, READING)
     made = made_of(given.program, None, wish_of(given))
     path = given.equivalent or path_beside(given.program, made.source.unit)
     entries = told_of(path, lambda: written_entries(path))

@@ -96,7 +96,7 @@ def run(given: argparse.Namespace, name: str) -> int:
     find = cache(lambda: find_program(given.mothra))
     tests, rest = given_words(given)
     if is_program(given.job):
-        with_settings(given, given.job.parent, add_options, READING)
+        with_settings(given, given.job, add_options, READING)
     asked = job_to_tell(given, given.job, tests, find)
     tell_remarks(name, asked.warnings)
     line, words = told_line(rest), rest or ["run"]

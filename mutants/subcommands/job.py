@@ -35,7 +35,7 @@ def add_words(parser: argparse.ArgumentParser) -> None:
 
 
 def run(given: argparse.Namespace, name: str) -> int:
-    with_settings(given, given.program.parent, add_options, READING)
+    with_settings(given, given.program, add_options, READING)
     made = made_of(given.program, given.tests, wish_of(given))
     meant = meant_for(
         made, given.program, given.equivalent, lambda: find_program(given.mothra), looks_beside=not given.undeclared

@@ -95,7 +95,7 @@ def report_of(given: argparse.Namespace, program: str, totals: Mapping[str, int]
 def run(given: argparse.Namespace, name: str) -> int:
     command, find = name, cache(lambda: find_program(given.mothra))
     if given.tests or is_program(given.job):
-        with_settings(given, given.job.parent, add_options, READING)
+        with_settings(given, given.job, add_options, READING)
     asked = job_to_tell(given, given.job, given.tests, find)
     text, job = asked.job, read_as(given.job, read_job, asked.job)
     needed = [given.print, given.list, given.report]

@@ -26,7 +26,7 @@ from pathlib import Path
 
 from mutants.checks.checking import dummies_of
 from mutants.checks.outputs import Output, assert_free
-from mutants.checks.settings import with_settings
+from mutants.checks.settings import assert_tests, with_settings
 from mutants.checks.starting import start_of
 from mutants.declarations.proving import add_proof_options
 from mutants.files import written
@@ -76,7 +76,7 @@ def add_search(parser: argparse.ArgumentParser) -> None:
 
 def add_words(parser: argparse.ArgumentParser) -> None:
     parser.add_argument("program", metavar="PROGRAM.f", type=Path)
-    parser.add_argument("tests", metavar="TESTS", type=Path, help="a table of tests, .json or .csv")
+    parser.add_argument("tests", metavar="TESTS", type=Path, nargs="?", help="a table of tests, .json or .csv")
     add_mothra_option(parser)
     add_proof_options(parser)
     checks.add_choices(parser)
@@ -111,7 +111,8 @@ def write_table(path: Path, given: argparse.Namespace, table: Table, found: Sugg
 
 def run(given: argparse.Namespace, name: str) -> int:
     aim = aim_of(given)
-    settings = with_settings(given, given.program.parent, checks.add_options)
+    settings = with_settings(given, given.program, checks.add_options)
+    assert_tests(given)
     assert_table_free(given)
     begun = start_of(given, name)
     table = begun.made.table

@@ -1,0 +1,93 @@
+"""The sections of a file of options: [mutants], which is for all programs of its folder, and one for each program that
+the file names, with the keys `source` and `tests` beside the options."""
+
+import configparser
+from collections.abc import Callable, Mapping
+from importlib import import_module
+from pathlib import Path
+from typing import NamedTuple, NoReturn
+
+SECTION = "mutants"
+INI, TOML = "mutants.ini", "mutants.toml"
+SOURCE, TESTS = "source", "tests"
+Values = dict[str, str]
+
+
+class Program(NamedTuple):
+    """A program that a file names: its section, its files, and its options."""
+
+    name: str
+    source: Path
+    tests: Path | None
+    values: Values
+
+
+class Sections(NamedTuple):
+    path: Path
+    common: Values
+    programs: list[Program]
+
+    def of(self, source: Path) -> Program | None:
+        """What is said of a program."""
+        return next((each for each in self.programs if each.source.resolve() == source.resolve()), None)
+
+
+def read_ini(path: Path) -> dict[str, Values]:
+    found = configparser.ConfigParser(interpolation=None)
+    try:
+        found.read_string(path.read_text(encoding="utf-8-sig"), str(path))
+    except configparser.Error as fault:
+        raise ValueError(" ".join(str(fault).split())) from None
+    return {name: dict(found[name]) for name in found.sections()}
+
+
+def toml_text(value: object) -> str:
+    """A value of toml as the command line would have it."""
+    if isinstance(value, bool):
+        return "yes" if value else "no"
+    if isinstance(value, dict):
+        return ",".join(f"{key}={number}" for key, number in value.items())
+    return ",".join(map(str, value)) if isinstance(value, list) else str(value)
+
+
+def read_toml(path: Path) -> dict[str, Values]:
+    try:
+        loads: Callable[[str], dict[str, object]] = import_module("tomllib").loads
+    except ImportError:
+        raise ValueError(f"Python reads toml from 3.11 on; {INI} is read by all, with the same sections") from None
+    sections = loads(path.read_text(encoding="utf-8"))
+    return {
+        name: {key: toml_text(value) for key, value in section.items()}
+        for name, section in sections.items() if isinstance(section, dict)
+    }  # fmt: skip
+
+
+def no_section() -> NoReturn:
+    # To pass it over would leave out options that a build relies on, without a word.
+    raise ValueError(f"it has neither a section [{SECTION}] nor one with a {SOURCE}")
+
+
+def program_of(name: str, section: Mapping[str, str], folder: Path) -> Program:
+    if SOURCE not in section:
+        raise ValueError(f"[{name}] has {TESTS}, and no {SOURCE}")
+    tests = folder / section[TESTS] if TESTS in section else None
+    rest = {key: value for key, value in section.items() if key not in (SOURCE, TESTS)}
+    return Program(name, folder / section[SOURCE], tests, rest)
+
+
+def read_sections(path: Path) -> Sections:
+    """The sections of a file; ValueError says why it does not serve."""
+    read = read_toml if path.suffix == ".toml" else read_ini
+    sections = {
+        name: {key.strip().replace("_", "-"): value for key, value in section.items()}
+        for name, section in read(path).items()
+    }
+    common = sections.pop(SECTION, None)
+    named = {name: section for name, section in sections.items() if {SOURCE, TESTS} & set(section)}
+    if common is None and not named:
+        no_section()
+    return Sections(path, common or {}, [program_of(*each, path.parent) for each in named.items()])
+
+
+def file_in(folder: Path) -> Path | None:
+    return next((path for path in (folder / INI, folder / TOML) if path.is_file()), None)
