@@ -8,6 +8,7 @@ From a program in FORTRAN 77 and its tests to what the tests kill, with the prov
 import argparse
 import sys
 from collections.abc import Callable, Sequence
+from typing import Any
 
 from mutants import __version__, statuses
 from mutants.ending import run_tool
@@ -16,6 +17,22 @@ from mutants.words import add_version, text_of_help, with_whole_lists
 
 NAME = "mutants"
 RAW = argparse.RawDescriptionHelpFormatter
+
+
+class Parser(argparse.ArgumentParser):
+    """A parser that takes a file that may be left out in any place: PROGRAM.f --ops ROR TESTS."""
+
+    is_within = False
+
+    def parse_known_args(self, args: Any = None, namespace: Any = None) -> Any:  # type: ignore[override]
+        kinds = {action.nargs for action in self._get_positional_actions()}
+        if self.is_within or "?" not in kinds or not kinds <= {None, "?"}:
+            return super().parse_known_args(args, namespace)
+        self.is_within = True
+        try:
+            return self.parse_known_intermixed_args(args, namespace)
+        finally:
+            self.is_within = False
 
 
 def add_subcommand(add: Callable[..., argparse.ArgumentParser], command: Subcommand, is_asked: bool) -> None:
@@ -48,7 +65,7 @@ def parser_for(words: Sequence[str]) -> argparse.ArgumentParser:
         prog=NAME, usage=usage, description=told, epilog=statuses.told(), formatter_class=RAW
     )
     add_version(parser)
-    kind = parser.add_subparsers(metavar="SUBCOMMAND", required=True, prog=NAME)
+    kind = parser.add_subparsers(metavar="SUBCOMMAND", required=True, prog=NAME, parser_class=Parser)
     asked = asked_name(words)
     for command in SUBCOMMANDS:
         add_subcommand(kind.add_parser, command, command.name == asked)

@@ -46,13 +46,13 @@ class Settings(Room):
     def test_a_file_without_the_section_is_refused(self) -> None:
         for text in ("", "[mutant]\nfail-under = 99\n"):
             self.put("mutants.ini", text)
-            refuses(self, self.check(), "mutants.ini: it has no section [mutants]")
+            refuses(self, self.check(), "mutants.ini: it has neither a section [mutants] nor one with a source")
 
     @unittest.skipUnless(sys.version_info >= (3, 11), "this Python has no tomllib")
     def test_and_so_is_one_in_toml(self) -> None:
         for text in ("fail-under = 99\n", "mutants = 99\n"):
             self.put("mutants.toml", text)
-            refuses(self, self.check(), "mutants.toml: it has no section [mutants]")
+            refuses(self, self.check(), "mutants.toml: it has neither a section [mutants] nor one with a source")
 
     def test_what_the_command_line_declares_comes_first(self) -> None:
         names = self.put("names.csv", DECLARED)
