@@ -4,21 +4,18 @@ import io
 import tempfile
 import unittest
 from argparse import Namespace
-from collections.abc import Collection
 from contextlib import redirect_stdout
 from pathlib import Path
 from unittest import mock
 
 import running
-from developing.gate.definitions import command
-from developing.gate.definitions.citing import cites_of
-from developing.gate.definitions.placing import faults_of, placed_in
-from developing.gate.definitions.reaching import Reached, reach
-from developing.gate.definitions.telling import files_of, modules_of, names_of, table_of, totals_of
-from developing.gate.definitions.terms import cited_in
-from developing.gate.definitions.units import units_in
-from developing.gate.definitions.uses import uses_in
-from developing.gate.definitions.widths import unquoted, wide_of
+from developing import definitions
+from developing.antt.placing import misplaced
+from developing.antt.reaching import reach
+from developing.antt.units import units_in
+from developing.antt.uses import uses_in
+from developing.antt.widths import unquoted, wide_of
+from developing.definitions import named_twice, table_of
 
 CRATES = "sums: thiserror\nmothra_app: sums\nmothra may_wait=1: mothra_app\nsums_tests: sums\n"
 LIB = """\
@@ -38,11 +35,11 @@ ghost use Rattle.sums.specs.Sum.{
 ghost use Rattle.sums.specs.Sum as sums;
 
 /// The sum.
-pub fn sum_of(is_small: u32, b: u32) -> u32
-    requires { is_small ≤ 9 }
-    ensures { IsSum is_small b result }
+pub fn sum_of(a: u32, b: u32) -> u32
+    requires { a ≤ 9 }
+    ensures { IsSum a b result }
 {
-    add(is_small, b)
+    add(a, b)
 }
 
 #[tactic(auto, using(crate::specs::Sum::small_sum))]
@@ -102,7 +99,7 @@ pub record IsSum (n m r : ℕ) : Type 0 where
 abbrev pub HasSum : ℕ → ℕ → ℕ → Type 0
 HasSum zero m r = digits.value m ≡ r
 -- the other case
-HasSum (suc n) m is_small = HasSum n (suc m) is_small
+HasSum (suc n) m r = HasSum n (suc m) r
 
 abbrev pub is_small : ℕ → Type 0
 is_small n = n ≤ 9
@@ -150,35 +147,22 @@ FILES = {
     "sums/src/law.rt": LAW, "sums/specs/Sum.antt": SPEC, "sums/specs/Pair.antt": PAIR_SPEC,
     "sums/specs/Digits.antt": DIGITS, "sums/specs/Hidden.antt": HIDDEN_SPEC, "sums/specs/Lemma.antt": LEMMA,
     "sums/specs/Lib.antt": "pub mod Sum\n", "sums/proofs/Placed.antt": PROOF,
-    "mothra_app/src/lib.rt": SERVING, "mothra/src/main.rt": "fn main() {}\n", "sums_tests/src/lib.rt": TESTED,
+    "mothra_app/src/lib.rt": SERVING, "mothra/src/main.rt": "use mothra_app::{Status, serve};\n", "sums_tests/src/lib.rt": TESTED,
 }  # fmt: skip
-
-
-def is_case(word: str) -> bool:
-    return word in ("Some", "None", "zero", "suc")
-
-
-def cited(text: str, bound: Collection[str] = ()) -> list[str]:
-    return sorted(cited_in(text, bound, is_case)[0])
-
-
-def cited_by(text: str) -> list[str]:
-    return sorted(cites_of(text.split("\n"), (), is_case))
 
 
 class Texts(unittest.TestCase):
     def test_reads_imports(self) -> None:
-        text = "use A.B as c\npub use A.{x, y as z, N.{p, q as r}}\n"
+        text = "use A.B as c\npub use A.{x, y as z}\n"
         text += "    ghost use M.{\n    i,\n    j\n};\nuse D.E\nuser = 1\n"
         uses = list(uses_in(text))
-        self.assertEqual([leaf for use in uses[:2] for leaf in use.leaves], [
-            ("A.B", "c", False), ("A.x", "x", True), ("A.y", "z", True), ("A.N.p", "p", True), ("A.N.q", "r", True),
+        self.assertEqual([use.paths for use in uses], [
+            {"c": "A.B"}, {"x": "A.x", "z": "A.y"}, {"i": "M.i", "j": "M.j"}, {"E": "D.E"},
         ])  # fmt: skip
-        self.assertEqual([leaf.name for leaf in uses[2].leaves], ["i", "j"])
-        self.assertEqual([(use.is_public, use.is_ghost, use.indent) for use in uses], [
-            (False, False, ""), (True, False, ""), (False, True, "    "), (False, False, ""),
+        self.assertEqual([(use.is_of_items, use.is_ghost, use.indent) for use in uses], [
+            (False, False, ""), (True, False, ""), (True, True, "    "), (False, False, ""),
         ])  # fmt: skip
-        self.assertEqual(text[uses[2].start : uses[2].end], "    ghost use M.{\n    i,\n    j\n};")
+        self.assertTrue(text[: uses[2].end].endswith("    j\n}"))
 
     def test_reads_definitions_with_their_comments(self) -> None:
         units = units_in(SPEC)
@@ -197,38 +181,6 @@ class Texts(unittest.TestCase):
         self.assertEqual(found[0], (["even", "odd"], []))
         self.assertEqual(found[1], (["◌+◌"], []))
         self.assertEqual(found[2], (["List", "List-set"], ["nil", "none", "cons"]))
-
-    def test_tells_what_a_term_cites_from_what_it_binds(self) -> None:
-        rows = {
-            "(x : A) → P x": ["A", "P"],
-            "(λ x. f x) x": ["f", "x"],
-            "λ (a, b). a b c": ["c"],
-            "λ x (y : B). y x": ["B"],
-            "let x : A = e in x": ["A", "e"],
-            "let (a, b) = p in a + b": ["+", "p"],
-            "elim e as (λ v. P v) [ Some x ↦ x | None ↦ y | other ↦ other ]": ["None", "P", "Some", "e", "y"],
-            "record { low = a.low; high = f (g b).low }": ["a.low", "b", "f", "g"],
-            "f {x = y} M.z": ["M.z", "f", "y"],
-            'codes "a b" -- no c': ["codes"],
-            "«low» x-y": ["low", "x-y"],
-        }
-        for text, want in rows.items():
-            self.assertEqual(cited(text), want, text)
-        self.assertEqual(cited("self.now x result", ["self", "result"]), ["x"])
-
-    def test_reads_all_parts_of_a_definition(self) -> None:
-        function = "abbrev pub f : A → B\nf (Some x) y = g x\nf None y = y\n"
-        self.assertEqual(cited_by(function), ["A", "B", "None", "Some", "g"])
-        helped = "f : A\nf x = h x y\n  where\n    h : B → C\n    h (Some z) w = k x z\n    h z w = z\n"
-        self.assertEqual(cited_by(helped), ["A", "B", "C", "Some", "k", "y"])
-        record = "pub record R (p : A) : Type 0 where\n  pub low : B p\n  pub high :\n      C low\n"
-        self.assertEqual(cited_by(record), ["0", "A", "B", "C"])
-        family = "data D (p : A) : B → Type 0 where\n  one two : (x : C) → D p x\n  three : E\n"
-        self.assertEqual(cited_by(family), ["0", "A", "B", "C", "D", "E"])
-        block = "module _ {T : Type 0} (t : A) where\n  f : B T\n  f = t\n"
-        self.assertEqual(cited_by(block), ["0", "A", "B"])
-        self.assertEqual(cited_by("f : A\nunfolding g\nf = h\n"), ["A", "g", "h"])
-        self.assertEqual(cited_by("f : A\nf x = g (record {\n  low = h x;\n}) k\n"), ["A", "g", "h", "k"])
 
     def test_texts_in_quotation_marks_have_no_width(self) -> None:
         rows = {
@@ -261,9 +213,12 @@ class Crates(unittest.TestCase):
         found = [(each.node.module.split(".")[-1], each) for each in reached.definitions()]
         return {f"{module}.{each.node.name}": reached.class_of(each) for module, each in found}
 
-    def faults(self, reached: Reached) -> dict[str, list[str]]:
-        told = {placed.file.path.as_posix(): list(faults_of(placed)) for placed in placed_in(reached)}
-        return {file.removeprefix("crates/sums/"): faults for file, faults in told.items() if faults}
+    def faults(self) -> dict[str, list[str]]:
+        found: dict[str, list[str]] = {}
+        for line in misplaced(reach(self.root)):
+            file, _, fault = line.partition(": ")
+            found.setdefault(file.removeprefix("crates/sums/"), []).append(fault)
+        return found
 
     def test_tells_from_where_definitions_are_reached(self) -> None:
         self.assertEqual(self.classes(), {
@@ -287,7 +242,7 @@ class Crates(unittest.TestCase):
         self.assertEqual(self.classes()["Pair.IsPair"], "program")
 
     def test_tells_files_in_the_wrong_place(self) -> None:
-        self.assertEqual(self.faults(reach(self.root)), {
+        self.assertEqual(self.faults(), {
             "specs/Hidden.antt": ["no public contract cites it: it belongs in crates/sums/specs/code/"],
             "specs/Lemma.antt": ["only proofs cite it: it belongs in crates/sums/proofs/"],
             "specs/Sum.antt": [
@@ -300,9 +255,9 @@ class Crates(unittest.TestCase):
         more = "use Rattle.sums.specs.Lemma.{Place}\n\nabbrev pub More : Type 0\nMore = Place 0\n"
         self.put("sums/specs/code/More.antt", more)
         in_code = "no public contract cites it: it belongs in crates/sums/specs/code/"
-        self.assertEqual(self.faults(reach(self.root))["specs/Lemma.antt"], [in_code])
+        self.assertEqual(self.faults()["specs/Lemma.antt"], [in_code])
         self.move("Lemma.antt")
-        self.assertNotIn("specs/code/Lemma.antt", self.faults(reach(self.root)))
+        self.assertNotIn("specs/code/Lemma.antt", self.faults())
 
     def move(self, name: str) -> None:
         (self.root / "crates/sums/specs/code").mkdir(exist_ok=True)
@@ -315,33 +270,21 @@ class Crates(unittest.TestCase):
 
     def test_tells_files_that_are_wrong_in_the_folder_of_code(self) -> None:
         self.move("Hidden.antt")
-        self.assertNotIn("specs/code/Hidden.antt", self.faults(reach(self.root)))
+        self.assertNotIn("specs/code/Hidden.antt", self.faults())
         self.move("Digits.antt")
         self.move("Lemma.antt")
         self.move("Sum.antt")
-        faults = self.faults(reach(self.root))
+        faults = self.faults()
         in_specs = "public contracts cite it: it belongs in crates/sums/specs/"
         self.assertEqual(faults["specs/code/Digits.antt"], [in_specs])
         self.assertEqual(faults["specs/code/Lemma.antt"], ["only proofs cite it: it belongs in crates/sums/proofs/"])
         self.assertEqual(faults["specs/code/Sum.antt"][1], "public contracts cite HasSum, IsSum, Adding, Law")
 
-    def test_tells_lines_by_classes(self) -> None:
+    def test_tells_lines_by_classes_and_names_of_two_modules(self) -> None:
         reached = reach(self.root)
         table = [line.split() for line in table_of(reached)]
         self.assertEqual(table[-1], ["all", "6", "12", "2", "6", "4", "2", "32"])
-        self.assertEqual(next(totals_of(reached)).split()[0], "6")
-
-    def test_tells_files_names_and_modules(self) -> None:
-        reached = reach(self.root)
-        told = list(files_of(reached))
-        self.assertIn("code         2 crates/sums/specs/Hidden.antt", told)
-        self.assertIn("    code: is_small, Place", told)
-        self.assertEqual(list(names_of(reached)), ["Place: sums.specs.Lemma, sums.specs.Sum"])
-        wide = ["crates/sums/specs/Digits.antt:4: 101 columns, and 100 at most are wanted"]
-        self.assertEqual(list(wide_of(reached)), wide)
-        self.assertEqual(list(modules_of(reached)), [
-            "sums: file Digits, cited by none", "sums: file Lemma, cited by none", "sums: module law, cites Sum",
-        ])  # fmt: skip
+        self.assertEqual(list(named_twice(reached)), ["two modules define Place: sums.specs.Lemma, sums.specs.Sum"])
 
     def test_tells_wide_lines_of_each_folder(self) -> None:
         self.put("sums/src/hidden.rt", f"{HIDDEN}// {'x' * 118}\n#[tactic({'x' * 118})]\nlet x = \"{'x' * 200}\";\n")
@@ -355,17 +298,15 @@ class Crates(unittest.TestCase):
             "src/hidden.rt:6: 121 columns, and 120 at most are wanted",
         ])  # fmt: skip
 
-    def ended(self, **given: bool) -> tuple[int, list[str]]:
-        words = Namespace(**{name: given.get(name, False) for name in (*command.LISTS, "check")})
-        with mock.patch.object(command, "ROOT", self.root), redirect_stdout(io.StringIO()) as out:
-            return command.run(words, "tools/definitions"), out.getvalue().splitlines()
+    def checked(self) -> tuple[int, list[str]]:
+        with mock.patch.object(definitions, "ROOT", self.root), redirect_stdout(io.StringIO()) as out:
+            return definitions.run(Namespace(check=True), "tools/definitions"), out.getvalue().splitlines()
 
-    def test_fails_only_when_it_is_asked_to_check(self) -> None:
-        self.assertEqual(self.ended()[0], 0)
-        status, told = self.ended(check=True, names=True)
-        self.assertEqual((status, told[0].split(":")[0], len(told)), (1, "Place", 7))
-        self.assertEqual(told[5], "two modules define Place: sums.specs.Lemma, sums.specs.Sum")
-        self.assertIn("Digits.antt:4: 101 columns", told[6])
+    def test_a_check_fails_where_something_is_wrong(self) -> None:
+        status, told = self.checked()
+        self.assertEqual((status, len(told)), (1, 6))
+        self.assertEqual(told[4], "two modules define Place: sums.specs.Lemma, sums.specs.Sum")
+        self.assertIn("Digits.antt:4: 101 columns", told[5])
         for file in ("Hidden", "Lemma"):
             (self.root / f"crates/sums/specs/{file}.antt").unlink()
         front, _, back = SPEC.partition("abbrev pub is_small")
@@ -373,11 +314,15 @@ class Crates(unittest.TestCase):
         self.put("sums/specs/Sum.antt", front + back)
         self.put("sums/specs/Digits.antt", DIGITS.replace(" + 1000000000000000000000", "", 1))
         right = "each file of specs/ stands where it belongs, each name stands for one definition"
-        self.assertEqual(self.ended(check=True, names=True), (0, ["", right]))
+        self.assertEqual(self.checked(), (0, [right]))
 
 
 class Tool(unittest.TestCase):
     def test_reads_the_repository(self) -> None:
         status, out, errors = running.run("definitions")
         self.assertEqual((status, errors), (0, ""), out)
-        self.assertRegex(out, r"\n\d+ lines are reached from the calls of the programs \(wanted: under 3000\)\n")
+        self.assertRegex(out, r"\nall  ( +\d+){7}\n")
+
+
+if __name__ == "__main__":
+    unittest.main()

@@ -11,7 +11,7 @@ from typing import ContextManager
 from unittest import mock
 
 import running  # noqa: F401
-from developing.gate import edits
+from developing import edits
 from mutants.program.roots import ROOT
 from mutants.statuses import FAULT, SUCCESS
 

@@ -11,7 +11,7 @@ from random import Random
 from unittest import mock
 
 import running
-from developing.robustness import equivalence
+from developing import equivalents_sweep as equivalence
 from developing.robustness.edges import edges_of, rows_for
 from developing.robustness.programs import program_of
 from mutants import statuses
@@ -139,22 +139,6 @@ class Sweeps(unittest.TestCase):
         status, out, _ = self.sweep("", "--programs", "1")
         self.assertEqual(status, statuses.FAULT)
         self.assertIn(f"program 1: mothra list: FAULT S2 1\n{program_of(1, 1)}", out)
-
-    def test_other_words_have_to_prove_the_same(self) -> None:
-        wrong = mock.patch.object(running.module_of(PROVER), "answer", self.forgetful)
-        with wrong:
-            status, out, _ = self.sweep("ROR 1=SAME", "--programs", "0")
-        self.assertEqual(status, statuses.FAULT)
-        self.assertIn("least.f: with --every 3 others are proved\nleast.f: --json --every 3 names others\n", out)
-
-    def forgetful(self, words: list[str], job: bytes) -> tuple[str, int]:
-        """A program that proves nothing with --every."""
-        told = "" if "--every" in words else "ROR 1=SAME"
-        with mock.patch.dict(os.environ, {"PROVED": told}):
-            return ORIGINAL(words, job)
-
-
-ORIGINAL = running.module_of(PROVER).answer
 
 
 if __name__ == "__main__":

@@ -9,18 +9,17 @@ from functools import partial
 from pathlib import Path
 
 import running
-from developing.gfortran.comparing import compare_tests
-from developing.gfortran.driver import driver_of, written_by
-from developing.gfortran.mutants import (
+from developing.gfortran.comparing import (
     Mutant,
     Outcome,
-    compare_mutants,
+    compared_runs,
     judged,
     mutants_of,
     refusals,
     source_of,
     with_calls,
 )
+from developing.gfortran.driver import driver_of, written_by
 from mutants.texts.cards import cards_of, lines_of
 from mutants.texts.dummies import read_unit
 from running import LEAST, STAND_IN
@@ -102,18 +101,16 @@ class WithGfortran(unittest.TestCase):
         self.addCleanup(room.cleanup)
         self.folder = Path(room.name)
 
-    def test_the_program_agrees_on_each_test(self) -> None:
-        self.assertEqual(compare_tests(str(STAND_IN), JOB, self.folder), (2, 0, []))
-
-    def test_each_mutant_agrees_with_its_bits(self) -> None:
-        self.assertEqual(compare_mutants(str(STAND_IN), JOB, self.folder), (16, Counter(agree=32), []))
+    def test_the_program_and_each_mutant_agree(self) -> None:
+        self.assertEqual(compared_runs(str(STAND_IN), JOB, self.folder, False), (0, Counter(agree=2), []))
+        self.assertEqual(compared_runs(str(STAND_IN), JOB, self.folder, True), (16, Counter(agree=32), []))
 
     def test_a_wrong_program_is_told(self) -> None:
         wrong = self.folder / "wrong"
         wrong.write_text("#!/bin/sh\necho RETURNED 1 2 3\n")
         wrong.chmod(0o755)
-        agreeing, _, differences = compare_tests(str(wrong), JOB, self.folder)
-        self.assertEqual((agreeing, differences[0]), (0, (1, "RETURNED 1 2 3", "RETURNED 1 2 1")))
+        told = "test 1: mothra RETURNED 1 2 3, gfortran RETURNED 1 2 1"
+        self.assertIn(told, compared_runs(str(wrong), JOB, self.folder, False)[2])
 
 
 if __name__ == "__main__":

@@ -7,7 +7,7 @@ from pathlib import Path
 from unittest import mock
 
 import running  # noqa: F401  it finds the package
-from developing.gate import habits
+from developing import examples
 from mutants.checks.faults import told_of_program
 from mutants.explanations.habits import HABITS, read_paragraph
 from mutants.explanations.names import called_names, declared_arrays, logical_names
@@ -64,8 +64,8 @@ class Texts(unittest.TestCase):
             read_paragraph("CALL\nFor: S2 CALL X\nCALL is a call.")
 
     def test_the_examples_are_held_against_the_program(self) -> None:
-        with mock.patch.object(habits, "asked_fault", lambda mothra, source: ("C2", "FOO")):
-            found = dict(habits.compare_habits("mothra"))
+        with mock.patch.object(examples, "asked_fault", lambda mothra, source: ("C2", "FOO")):
+            found = dict(examples.compare_habits("mothra"))
         self.assertGreater(len(found), 150)
         self.assertEqual([what for what, is_same in found.items() if is_same], ["call of a function: K=FOO(I)"])
 

@@ -1,6 +1,7 @@
 """The tools that make streams and memory fail, with small programs in the place of mothra."""
 
 import io
+import struct
 import tempfile
 import unittest
 from argparse import Namespace
@@ -10,8 +11,10 @@ from types import ModuleType
 from unittest import mock
 
 import running  # noqa: F401
-from developing.robustness import failing_streams, refused_memory
-from developing.robustness.refusing import MARK
+from developing import failing_streams, little_memory, refused_memory
+from developing.robustness import calls
+from developing.robustness.calls import Ended, answer_of, called
+from developing.robustness.refusing import FROM_THEN_ON, MARK, STOPS, Refusing, places_in
 from mutants.statuses import FAULT, SUCCESS
 
 # It writes its text where it has read all, and tells of what failed; or of nothing.
@@ -28,6 +31,40 @@ echo FAULT CODE
 exit 1
 """
 PLACE = b"\x48\x3d" + MARK.to_bytes(4, "little") + b"\x75\x00\x31\xc0"
+COMPARES = b"\x48\x3d" + struct.pack("<i", MARK) + b"\x75\x0c\x31\xc0"
+# It answers by the limit that it is called with.
+LITTLE = """\
+#!/bin/sh
+case $(ulimit -v) in
+    unlimited | 900000) echo REPORT ;;
+    800000) echo FAULT B2; exit 1 ;;
+    700000) exit 1 ;;
+    600000) exit 127 ;;
+    500000) printf REP ;;
+esac
+"""
+
+
+class Answers(unittest.TestCase):
+    def test_tells_how_a_call_ended(self) -> None:
+        rows = {
+            (b"FAULT J2\n", 1): "J2", (b"FAULT C2 X\n", 1): "C2", (b"", 1): "nothing", (b"END\n", 0): "report",
+            (b"error\n", 2): "words",
+        }  # fmt: skip
+        for (text, status), want in rows.items():
+            self.assertEqual(answer_of(Ended(text, status)), want)
+
+    def test_tells_answers_that_are_none(self) -> None:
+        rows = [(b"", -11), (b"FAULT J2\n", 0 - 6), (b"REPORT 2\n", 1), (b"FAULT J2\nEND\n", 1), (b"END", 0), (b"", 0)]
+        for text, status in rows:
+            self.assertTrue(answer_of(Ended(text, status)).startswith("BROKEN"), (text, status))
+
+    def test_ends_a_call_that_takes_too_long(self) -> None:
+        with mock.patch.object(calls, "MOST_SECONDS", 0.1):
+            self.assertEqual(called(["sleep", "9"], b"").status, -9)
+
+    def test_hands_over_the_bytes(self) -> None:
+        self.assertEqual(called(["cat"], b"a\0b").text, b"a\0b")
 
 
 class Tool(unittest.TestCase):
@@ -90,6 +127,45 @@ class RefusedMemory(Tool):
         self.assertEqual(status, FAULT)
         self.assertEqual(lines[1], "  allocation 1: BROKEN: C1")
         self.assertIn("mothra run: 11 allocations, each refused alone: C1 3, undisturbed 8", lines)
+
+
+class Refused(unittest.TestCase):
+    def test_finds_two_places_or_none(self) -> None:
+        self.assertEqual(places_in(b"--" + COMPARES + b"-" + COMPARES), [2, 3 + len(COMPARES)])
+        for program in (b"", COMPARES, COMPARES * 3):
+            self.assertRaises(ValueError, places_in, program)
+
+    def test_changes_the_number_in_both(self) -> None:
+        with tempfile.TemporaryDirectory() as folder:
+            built, copy = Path(folder, "built"), Path(folder, "copy")
+            built.write_bytes(COMPARES * 2)
+            program = Refusing(built, copy)
+            program.refuse(7)
+            self.assertEqual(copy.read_bytes(), COMPARES.replace(struct.pack("<i", MARK), b"\7\0\0\0") * 2)
+            program.refuse(8, FROM_THEN_ON, STOPS)
+            self.assertEqual(copy.read_bytes(), b"\x48\x3d\x08\0\0\0\x72\x0c\xcc\xcc" * 2)
+
+
+class LittleMemory(Tool):
+    def call_text(self, text: str) -> tuple[int, list[str]]:
+        with tempfile.TemporaryDirectory() as folder:
+            program = Path(folder, "program")
+            program.write_text(text)
+            program.chmod(0o755)
+            return self.call(little_memory, mothra=str(program))
+
+    def test_counts_the_answers_by_limits(self) -> None:
+        with mock.patch.object(little_memory, "LIMITS", [600_000, 700_000, 800_000, 900_000]):
+            status, lines = self.call_text(LITTLE)
+        self.assertEqual(status, SUCCESS)
+        told = "3 limits: B2 1, nothing 1, undisturbed 1"
+        self.assertEqual(lines, [f"{workers} workers, {told}" for workers in (1, 2, 8, 32)])
+
+    def test_a_part_of_a_report_is_no_answer(self) -> None:
+        with mock.patch.object(little_memory, "LIMITS", [500_000, 900_000]):
+            status, lines = self.call_text(LITTLE)
+        self.assertEqual(status, FAULT)
+        self.assertIn("BROKEN: status 0, 3 bytes 1", lines[0])
 
 
 if __name__ == "__main__":

@@ -1,122 +1,298 @@
-"""Compare what mothra says of the subroutines of jobs with what gfortran makes of them.
+"""The mutants of a job as gfortran compiles them, and what they do on its tests."""
 
-    tools/against-gfortran MOTHRA JOB.json...
-    tools/against-gfortran --mutants MOTHRA JOB.json...
-
-For each test of a job `MOTHRA exec --test N --steps 1000000` is run with the job on standard input. Where it says
-RETURNED or STOPPED, the subroutine is run too as gfortran compiles it, by a driver that calls it with the test's
-values and prints the same kind of line. The two lines are to be equal; but STOP ends the driver before it prints,
-so of STOPPED the values are not compared. Outcomes without values, such as OVERFLOW, are counted and not compared.
-Anything else that MOTHRA writes counts as a difference.
-
-With --mutants each mutant of `MOTHRA list` is made: the statement of its line is replaced by the text of the list. It
-is compiled by gfortran and run on every test, and so is the program itself. A test kills the mutant where the two runs
-write other lines, and that is compared with the bit of the report of `MOTHRA run`. STOP, TRAP and ZPUSH are calls of
-routines of the driver: of STOP the values are printed, and a trap ends the run with a status of its own. A run that
-takes more than a tenth of a second of the processor has no end, which is a line of its own.
-
-gfortran checks subscripts, the steps of DO, divisors, powers, and sums, differences, products and signs against the
-range of INTEGER. Each mutant is compiled three times, with other values for variables that have none, so that a run
-that rests on one is told. What such a check finds is outside the standard: it is told and not counted, where the
-report's bit is 1. So are mutants that gfortran does not compile. Where gfortran finds nothing and the bits are not the
-same, `MOTHRA exec` is asked for the outcome of the mutant: a run that it says is outside the standard, or beyond the
-limit on steps, is told and not counted either.
-
-There is one line for each job, behind it what was not counted, and each difference. The exit status is 1 where there
-is a difference, or where a job cannot be compared. Half of the processors are used.
-"""
-
-import argparse
 import json
-import sys
-import tempfile
+import os
+import re
+import signal
+import subprocess
 from collections import Counter
-from collections.abc import Sequence
+from collections.abc import Callable, Sequence
+from concurrent.futures import ThreadPoolExecutor
 from pathlib import Path
+from typing import NamedTuple
 
 from developing.gfortran.driver import compile_in, driver_of, written_by
-from developing.gfortran.mutants import compare_mutants
-from mutants.statuses import FAULT, SUCCESS
+from mutants.statuses import SUCCESS
+from mutants.texts.cards import Card, action_at, cards_of, lines_of
 from mutants.texts.dummies import read_unit
+from mutants.texts.jobs import Value
 
-STEPS = "1000000"
-# The number of a test, mothra's line and gfortran's.
-Difference = tuple[int, str, str]
-WITHOUT_VALUES = "OVERFLOW DIVIDEBYZERO ZEROPOWER BADSUBSCRIPT ZEROSTEP UNDEFINED TRAPPED STEPLIMIT".split()
+# So many mutants stand in one file. Each run takes at most so many microseconds of a processor.
+TOGETHER = 200
+MICROSECONDS = 100_000
+LONGEST, STEPS = 600, "10000"
+# All that gfortran can look for. Both operands of .AND. and .OR. are evaluated without its optimization.
+CHECKS = (
+    "-ffixed-form -fno-frontend-optimize -fmax-errors=0 -fcheck=all"
+    " -ftrapv -fsanitize=signed-integer-overflow -fsanitize-undefined-trap-on-error"
+).split()
+# A variable without a value has one of these. So a run that rests on one is told by answers that are not the same.
+WITHOUT_A_VALUE = [
+    ["-finit-integer=1795163377", "-finit-logical=true"],
+    ["-finit-integer=-1604329131", "-finit-logical=false"],
+    ["-finit-integer=0", "-finit-logical=false"],
+]
+# The statuses of a trap, and of a power that has no value; how a run ends that has left the standard.
+TRAPPED, NO_POWER = 70, 71
+OUTSIDE = {
+    NO_POWER: "a power out of range, or of zero",
+    -signal.SIGILL: "a sum, difference, product or sign out of range",
+    -signal.SIGABRT: "a sum, difference, product or sign out of range",
+    -signal.SIGFPE: "a division by zero or out of range",
+}
+BY_MOTHRA = "OVERFLOW DIVIDEBYZERO ZEROPOWER BADSUBSCRIPT ZEROSTEP UNDEFINED STEPLIMIT".split()
 
-
-def mothra_line(mothra: str, job: bytes, number: int) -> str:
-    return written_by([mothra, "exec", "--test", str(number), "--steps", STEPS], given=job)
-
-
-def compare_tests(mothra: str, text: bytes, folder: Path) -> tuple[int, int, list[Difference]]:
-    """How many tests agree, how many have no values, and the differences: number, mothra's and gfortran's line."""
-    job = json.loads(text)
-    unit, dummies = read_unit(job["source"])
-    tests = job.get("suite", [])
-    (folder / "unit.f").write_bytes(job["source"].encode())
-    compile_in(folder, "-ffixed-form", "-fno-range-check", "-c", "unit.f")
-    (folder / "driver.f90").write_text(driver_of([unit], dummies, tests))
-    compile_in(folder, "-ffree-line-length-none", "-fno-range-check", "-o", "driver", "driver.f90", "unit.o")
-    agreeing = without_values = 0
-    differences: list[Difference] = []
-    for number in range(1, len(tests) + 1):
-        ours = mothra_line(mothra, text, number)
-        if ours in WITHOUT_VALUES:
-            without_values += 1
-            continue
-        has_values = ours.startswith(("RETURNED", "STOPPED"))
-        theirs = written_by([folder / "driver", "1", str(number)]) or "STOPPED" if has_values else "not run"
-        if ours == theirs or ours.split(" ")[0] == theirs == "STOPPED":
-            agreeing += 1
-        else:
-            differences.append((number, ours, theirs))
-    return agreeing, without_values, differences
+# How a run compares, and the line that tells it where it differs.
+Judged = tuple[str, str | None]
 
 
-def tell_tests(name: str, agreeing: int, without_values: int, differences: Sequence[Difference]) -> None:
-    rest = f", {without_values} not compared" if without_values else ""
-    print(f"{name}: {agreeing} of {agreeing + len(differences)} agree{rest}")
-    for number, ours, theirs in differences:
-        print(f"{name}: test {number}\n  mothra:   {ours}\n  gfortran: {theirs}")
+class Mutant(NamedTuple):
+    """Its operator and number, its line, what stands there then, and a digit for each test."""
+
+    name: str
+    line: int
+    text: str
+    bits: str
 
 
-def tell_mutants(name: str, mutants: int, counts: Counter[str], differences: Sequence[str]) -> None:
-    compared = counts["agree"] + counts["differ"]
-    left = sum(counts.values()) - compared
-    rest = f", {left} not counted" if left else ""
-    print(f"{name}: {mutants} mutants: {counts['agree']} of {compared} runs agree{rest}")
-    for reason, count in sorted(counts.items()):
-        if reason not in ("agree", "differ"):
-            print(f"{name}: {count} {reason}")
-    for line in differences:
-        print(f"{name}: {line}")
+class Outcome(NamedTuple):
+    """What comes of a run: what it wrote, or, where it left the standard, by what."""
+
+    text: str | None
+    outside: str | None
 
 
-def add_words(parser: argparse.ArgumentParser) -> None:
-    parser.add_argument("mothra", metavar="MOTHRA", help="the program")
-    parser.add_argument("jobs", metavar="JOB.json", nargs="+", type=Path)
-    parser.add_argument("--mutants", action="store_true", help="compare the mutants' kills, by list and run")
+class Compared(NamedTuple):
+    """A job that is compared: the program mothra, its bytes, its statements, its tests, and the limit on steps."""
+
+    mothra: str
+    job: bytes
+    cards: Sequence[Card]
+    tests: Sequence[Sequence[Value]]
+    steps: str
 
 
-def compare_job(mothra: str, path: Path, with_mutants: bool) -> bool:
-    """Compares one job, and tells what came of it. Whether there is a difference."""
-    with tempfile.TemporaryDirectory() as folder:
-        if with_mutants:
-            mutants, counts, lines = compare_mutants(mothra, path.read_bytes(), Path(folder))
-            tell_mutants(path.stem, mutants, counts, lines)
-            return bool(lines)
-        agreeing, without_values, differences = compare_tests(mothra, path.read_bytes(), Path(folder))
-        tell_tests(path.stem, agreeing, without_values, differences)
-        return bool(differences)
+# What mutants call in the place of STOP, TRAP and ZPUSH, the timer, and powers, which end a run that leaves the range.
+# gfortran calls the last one by this name; the value is that of its own powers in 64 bits.
+STOP, TRAP = "CALLSTOP_HERE", "CALLTRAP_HERE"
+ROUTINES = f"""
+subroutine stop_here
+    use the_values
+    call print_values('STOPPED')
+    stop
+end subroutine
+subroutine trap_here
+    stop {TRAPPED}
+end subroutine
+integer function no_zero(value)
+    integer :: value
+    if (value == 0) stop {TRAPPED}
+    no_zero = value
+end function
+function power(base, exponent) bind(c, name='_gfortran_pow_i4_i4')
+    use iso_c_binding
+    integer(c_int32_t), value :: base, exponent
+    integer(c_int32_t) :: power, turn
+    integer(c_int64_t) :: exact
+    if (base == 0 .and. exponent <= 0) stop {NO_POWER}
+    exact = 1
+    do turn = 1, merge(exponent, 0, abs(int(base, 8)) > 1)
+        exact = exact * base
+        if (exact > 2147483647 .or. exact < -2147483647 - 1_8) stop {NO_POWER}
+    end do
+    power = int(int(base, 8) ** exponent, 4)
+end function
+subroutine limit_time
+    use iso_c_binding
+    interface
+        integer(c_int) function setitimer(which, new, old) bind(c)
+            import
+            integer(c_int), value :: which
+            integer(c_long) :: new(4)
+            type(c_ptr), value :: old
+        end function
+    end interface
+    integer :: ignored
+    ignored = setitimer(1, [0_c_long, 0_c_long, 0_c_long, {MICROSECONDS}_c_long], c_null_ptr)
+end subroutine
+"""
 
 
-def run(given: argparse.Namespace, name: str) -> int:
-    differ = False
-    for path in given.jobs:
-        try:
-            differ = compare_job(given.mothra, path, given.mutants) or differ
-        except (OSError, ValueError, KeyError) as fault:
-            print(f"{name}: {path}: {fault}", file=sys.stderr)
-            differ = True
-    return FAULT if differ else SUCCESS
+def told_by(mothra: str, command: str, job: bytes) -> list[str]:
+    text = written_by([mothra, command], given=job, seconds=LONGEST)
+    if text.startswith(("FAULT", "status")):
+        raise ValueError(f"mothra {command}: {text}")
+    return text.split("\n")
+
+
+def mutants_of(mothra: str, job: bytes) -> tuple[list[Mutant], str]:
+    """The mutants of `mothra list` with the bits of the report of `mothra run`, and the report's limit on steps."""
+    report = [line.split(" ") for line in told_by(mothra, "run", job)]
+    steps = next(words[1] for words in report if words[0] == "STEPS")
+    bits = {" ".join(words[1:3]): words[5] for words in report if words[0] == "MUTANT"}
+    rows = [re.fullmatch(r"(\S+ \d+) \d+ LINE (\d+) (.*)", line) for line in told_by(mothra, "list", job)]
+    mutants = [Mutant(row[1], int(row[2]), row[3], bits.pop(row[1])) for row in rows if row]
+    if bits:
+        raise ValueError(f"mothra list has no {min(bits)}")
+    return mutants, steps
+
+
+def with_calls(text: str) -> str:
+    """A statement with calls in the place of STOP, TRAP and ZPUSH."""
+    text = re.sub(r"\bZPUSH\(", "NO_ZERO(", text).replace(" ", "")
+    at = action_at(text)
+    return text[:at] + {"STOP": STOP, "TRAP": TRAP}.get(text[at:], text[at:])
+
+
+def source_of(cards: Sequence[Card], name: str, mutant: Mutant | None) -> list[str]:
+    """The lines of a mutant, or of the program for None, as a unit of this name."""
+    lines: list[str] = []
+    for card in cards:
+        text = card.text if mutant is None or card.line != mutant.line else mutant.text
+        if card is cards[0]:
+            text = re.sub(r"^SUBROUTINE[A-Z0-9]+", f"SUBROUTINE {name}", text)
+        lines += lines_of(card.label, with_calls(text) if card is not cards[0] else text)
+    return lines
+
+
+def refusals(said: str, sources: Sequence[Sequence[str]]) -> dict[int, str]:
+    """What gfortran says against the units of a file: a message by the place of the unit."""
+    ends = [sum(map(len, sources[: place + 1])) for place in range(len(sources))]
+    line: int | None = None
+    found: dict[int, str] = {}
+    for text in said.split("\n"):
+        where = re.match(r"units\.f:(\d+):", text)
+        line = int(where[1]) if where else line
+        if text.startswith("Error: ") and line:
+            place = next(place for place, end in enumerate(ends) if line <= end)
+            found.setdefault(place, re.sub(r" at \(\d\)", "", text.removeprefix("Error: ")))
+    return found
+
+
+def compile_units(folder: Path, sources: Sequence[list[str]]) -> dict[int, str]:
+    """Compiles units for each such value. One that gfortran refuses is left empty: the answer tells what it says."""
+    refused: dict[int, str] = {}
+    while True:
+        empty = [lines[:1] + ["      END"] if place in refused else lines for place, lines in enumerate(sources)]
+        (folder / "units.f").write_text("".join(f"{line}\n" for lines in empty for line in lines))
+        words = ["gfortran", "-std=legacy", "-w", "-O0", *CHECKS, "-c", "units.f"]
+        said = subprocess.run(words, cwd=folder, capture_output=True, text=True, timeout=LONGEST)
+        if said.returncode == SUCCESS:
+            break
+        found = refusals(said.stderr, empty)
+        if not found:
+            raise ValueError(f"gfortran: {said.stderr}")
+        refused |= found
+    # A trace of the calls would take the time that a run has.
+    compile_in(folder, "-fno-backtrace", "-fno-range-check", "-ffree-line-length-none", "-c", "driver.f90")
+    for number, value in enumerate(WITHOUT_A_VALUE):
+        compile_in(folder, *CHECKS, *value, "-c", "units.f")
+        compile_in(folder, "-o", f"program_{number}", "driver.o", "units.o")
+    return refused
+
+
+def ending_of(program: Path, unit: int, test: int) -> Outcome:
+    """What comes of one run."""
+    ended = subprocess.run([program, str(unit), str(test)], capture_output=True, text=True, timeout=LONGEST)
+    fault = re.search("Fortran runtime error: (.*)", ended.stderr)
+    if ended.returncode == SUCCESS:
+        return Outcome(ended.stdout.removesuffix("\n"), None)
+    if ended.returncode == TRAPPED:
+        return Outcome("TRAPPED", None)
+    if ended.returncode == -signal.SIGVTALRM:
+        return Outcome("NO END", None)
+    if fault:
+        return Outcome(None, re.sub("'.*?'|[0-9-]+", "..", fault[1]))
+    if ended.returncode in OUTSIDE:
+        return Outcome(None, OUTSIDE[ended.returncode])
+    return Outcome(f"status {ended.returncode}", None)
+
+
+def outcome_of(folder: Path, unit: int, test: int) -> Outcome:
+    """What comes of a unit on a test."""
+    outcomes = [ending_of(folder / f"program_{number}", unit, test) for number in range(len(WITHOUT_A_VALUE))]
+    if len(set(outcomes)) == 1:
+        return outcomes[0]
+    return Outcome(None, "a variable without a value")
+
+
+def mothra_word(compared: Compared, mutant: Mutant, test: int) -> str:
+    """What `mothra exec` says of a mutant on a test, with e in the place of ZPUSH(e); of TRAP it knows no text."""
+    if with_calls(mutant.text).endswith(TRAP):
+        return "TRAPPED"
+    text = mutant.text.replace("ZPUSH(", "(")
+    kept = [(card.label, text if card.line == mutant.line else card.text) for card in compared.cards]
+    lines = [line for label, statement in kept for line in lines_of(label, statement)]
+    changed = json.dumps({**json.loads(compared.job), "source": "\n".join(lines) + "\n"}).encode()
+    return written_by([compared.mothra, "exec", "--test", str(test), "--steps", compared.steps], given=changed)
+
+
+def judged(original: Outcome, outcome: Outcome, bit: str, ask: Callable[[], str]) -> str:
+    """How one run compares: "agree", "differ", or why it is not counted."""
+    killed = bit == "1"
+    if outcome.outside:
+        return f"outside the standard: {outcome.outside}" if killed else "differ"
+    if (outcome != original) == killed:
+        return "agree"
+    word = ask()
+    if word == "STEPLIMIT":
+        return "beyond the limit on steps, by mothra's word alone"
+    return f"outside the standard by mothra's word alone: {word}" if word in BY_MOTHRA else "differ"
+
+
+def judged_program(compared: Compared, test: int, outcome: Outcome) -> Judged:
+    """How a run of the program itself compares with the line of `mothra exec`."""
+    ours = written_by([compared.mothra, "exec", "--test", str(test), "--steps", compared.steps], given=compared.job)
+    if ours in BY_MOTHRA:
+        return f"outside the standard by mothra's word alone: {ours}", None
+    theirs = outcome.text or outcome.outside
+    return ("agree", None) if ours == theirs else ("differ", f"test {test}: mothra {ours}, gfortran {theirs}")
+
+
+def judged_run(compared: Compared, mutant: Mutant, test: int, original: Outcome, outcome: Outcome) -> Judged:
+    """How one run of a mutant compares, and the line that tells it where it differs."""
+    bit = mutant.bits[test - 1]
+    judgement = judged(original, outcome, bit, lambda: mothra_word(compared, mutant, test))
+    if judgement != "differ":
+        return judgement, None
+    told = outcome.text or outcome.outside
+    return judgement, f"{mutant.name} LINE {mutant.line} {mutant.text}: test {test} has bit {bit}, gfortran: {told}"
+
+
+def compare_batch(compared: Compared, mutants: Sequence[Mutant], folder: Path, pool: ThreadPoolExecutor) -> list[Judged]:
+    """How each run of some mutants compares, in one program; or of the program, where there are none."""
+    dummies = read_unit(json.loads(compared.job)["source"])[1]
+    units = [f"unit_{number}" for number in range(len(mutants) + 1)]
+    sources = [source_of(compared.cards, unit, mutant) for unit, mutant in zip(units, [None, *mutants])]
+    (folder / "driver.f90").write_text(driver_of(units, dummies, compared.tests, ["call limit_time"], ROUTINES))
+    refused = compile_units(folder, sources)
+    if 0 in refused:
+        raise ValueError(f"gfortran: {refused[0]}")
+    numbers = range(1, len(compared.tests) + 1)
+    originals = [outcome_of(folder, 1, test) for test in numbers]
+
+    def judge(place: int, test: int) -> Judged:
+        if place in refused:
+            return f"not compiled: {refused[place]}", None
+        if place == 0:
+            return judged_program(compared, test, originals[test - 1])
+        outcome = outcome_of(folder, place + 1, test)
+        return judged_run(compared, mutants[place - 1], test, originals[test - 1], outcome)
+
+    pairs = [(place, test) for place in range(min(len(mutants), 1), len(units)) for test in numbers]
+    return list(pool.map(judge, *zip(*pairs))) if pairs else []
+
+
+def compared_runs(mothra: str, job: bytes, folder: Path, with_mutants: bool) -> tuple[int, Counter[str], list[str]]:
+    """The number of mutants, how often each judgement came, and the differences."""
+    given = json.loads(job)
+    cards = cards_of(given["source"])
+    if any("ZPUSH" in card.text for card in cards):
+        raise ValueError("the program has a name ZPUSH of its own")
+    mutants, steps = mutants_of(mothra, job) if with_mutants else ([], STEPS)
+    compared = Compared(mothra, job, cards, given.get("suite", []), steps)
+    found: list[Judged] = []
+    with ThreadPoolExecutor(max(len(os.sched_getaffinity(0)) // 2, 1)) as pool:
+        for at in range(0, max(len(mutants), 1), TOGETHER):
+            found += compare_batch(compared, mutants[at : at + TOGETHER], folder, pool)
+    return len(mutants), Counter(judgement for judgement, _ in found), [line for _, line in found if line]

@@ -1,18 +1,8 @@
-"""Jobs from statements, and jobs that are cut or damaged."""
+"""Jobs from statements."""
 
 import json
-from collections.abc import Iterable, Iterator
-from typing import Any, NamedTuple
-
-
-class Case(NamedTuple):
-    """A call: its name, its words, the bytes of its job, and the line of its answer:
-    `report`, a fault, or None for either."""
-
-    name: str
-    words: str
-    job: bytes
-    wanted: str | None
+from collections.abc import Iterable
+from typing import Any
 
 
 SUM = ["SUBROUTINE ADD(I,J,K)", "K=I+J", "END"]
@@ -26,6 +16,11 @@ def source_of(statements: Iterable[str]) -> str:
     return "".join(line_of(statement) for statement in statements)
 
 
+def continued(text: str) -> str:
+    """A statement on as many lines as it needs."""
+    return "\n     +".join(text[first : first + 66] for first in range(0, len(text), 66))
+
+
 def line_of(statement: str) -> str:
     label, _, rest = statement.partition(" ")
     return f"{label:>5} {rest}\n" if label.isdigit() else f"      {statement}\n"
@@ -33,22 +28,5 @@ def line_of(statement: str) -> str:
 
 def job_of(statements: Iterable[str], suite: list[Any] | None = None) -> bytes:
     """The bytes of a job, without an end of line behind them."""
-    return job_with(source_of(statements), suite)
-
-
-def job_with(source: str, suite: list[Any] | None = None) -> bytes:
     tests = {} if suite is None else {"suite": suite}
-    return json.dumps({"source": source, **tests}, separators=(",", ":")).encode()
-
-
-def fronts(job: bytes) -> Iterator[Case]:
-    """The fronts of a job, which are all none."""
-    for length in range(len(job)):
-        yield Case(f"{length} bytes", "run", job[:length], "FAULT J2")
-
-
-def damaged(job: bytes) -> Iterator[Case]:
-    """A job with one byte replaced: it may be another job, or none."""
-    for place in range(len(job)):
-        for byte in (0, 10, 34, 92, 128, 255):
-            yield Case(f"byte {place} is {byte}", "run", job[:place] + bytes([byte]) + job[place + 1 :], None)
+    return json.dumps({"source": source_of(statements), **tests}, separators=(",", ":")).encode()

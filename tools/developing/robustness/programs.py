@@ -7,8 +7,7 @@ on, and most variables have a value before they are read, so that most runs end.
 from collections.abc import Callable, Sequence
 from random import Random
 
-from developing.robustness.jobs import source_of
-from developing.robustness.sources import continued
+from developing.robustness.jobs import continued, source_of
 
 ARGUMENTS, LOCALS = ("I", "J", "K", "N"), ("L", "M1")
 # The elements of arrays: a dummy argument and a local one.

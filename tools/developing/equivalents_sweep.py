@@ -1,0 +1,234 @@
+"""Try to kill mutants that are proved equivalent: none may be.
+
+    tools/equivalents-sweep [--programs N] [--seed S] [--tests N] [--jobs N] MOTHRA EQUIVALENTS [PROGRAM.f]..
+
+The programs are those that are named, else the examples, and behind them N (500) small ones made by chance, the same
+for the same seed. For each the program equivalents is asked which of all mutants are equivalent, and MOTHRA is asked
+which of these are killed by up to 256 tests: arguments at the ends of INTEGER, at 0, 1 and -1, at constants of the
+program and beside them, small ones, and any. Tests on which the program itself fails are left out, as no suite may have
+them. All tests are run with the limit of 10000 steps, and some again with small limits, on which the program ends too.
+A mutant with steps to spare has to live on the tests alone that leave it that room.
+
+There is a line for each program that is named, one for all that were made, and one for each mutant that is killed, with
+the source of a made program below it. The exit status is 1 where there is one.
+"""
+
+import argparse
+import json
+from collections import Counter
+from collections.abc import Iterable, Iterator, Sequence
+from concurrent.futures import ThreadPoolExecutor
+from functools import partial
+from pathlib import Path
+from random import Random
+from typing import NamedTuple
+
+from developing.robustness.edges import rows_for
+from developing.robustness.programs import program_of
+from mutants.checks.checking import STEPS, Checked
+from mutants.checks.running import Means
+from mutants.declarations.proofs import assert_listed
+from mutants.declarations.proving import asked_proofs
+from mutants.jobs.sources import decoded
+from mutants.pages.frame import plural
+from mutants.program.asking import asked_list, asked_print
+from mutants.program.calling import Fault
+from mutants.program.many import processors
+from mutants.program.roots import ROOT
+from mutants.progress import Paced
+from mutants.statuses import FAULT, SUCCESS
+from mutants.suggestions.asking import Asker
+from mutants.suggestions.clock import Clock
+from mutants.suggestions.shapes import Row, test_of
+from mutants.suggestions.values import constants_of
+from mutants.texts.dummies import read_unit
+from mutants.texts.jobs import Job
+from mutants.texts.proofs import Proof, spare_of
+from mutants.texts.reports import Report
+from mutants.words import number_from_1, read_by, whole_path
+
+PROGRAMS, TESTS, SEED = 500, 256, 1
+# So many rounds of rows are made at most, and so many rows are tried with a small limit on steps.
+ROUNDS, FEW = 6, 48
+SMALL = (2, 4, 7, 12, 20, 40)
+# The operator that is run where the program alone is asked about: few programs have a mutant of it.
+FEW_MUTANTS = "DSA"
+
+
+class Case(NamedTuple):
+    """A program: its name, its source, and whether it was made."""
+
+    name: str
+    source: str
+    is_made: bool = False
+
+
+class Killed(NamedTuple):
+    """A proof, and the test and the limit on steps with which its mutant is killed."""
+
+    proof: Proof
+    test: Row
+    steps: int
+
+    def told(self) -> str:
+        mutant = self.proof.mutant
+        named = f"{mutant.op} {mutant.number} {mutant.place} {self.proof.why} LINE {mutant.line} {mutant.text}"
+        return f"{named}: killed by {json.dumps(test_of(self.test))} with --steps {self.steps}"
+
+
+class Tried(NamedTuple):
+    """What came of a program: how many mutants it has, the proofs, how many tests were run, and what is wrong."""
+
+    case: Case
+    mutants: int
+    proofs: Sequence[Proof]
+    tests: int
+    killed: Sequence[Killed] = ()
+    refused: str = ""
+
+    @property
+    def whys(self) -> Counter[str]:
+        return Counter(proof.why for proof in self.proofs)
+
+
+class Programs(NamedTuple):
+    """The two programs, and how many tests are run."""
+
+    mothra: str
+    equivalents: str
+    tests: int
+    seed: int
+
+
+def asker_of(case: Case, printed: list[str], proofs: Sequence[Proof], mothra: str) -> Asker:
+    """What asks which of the mutants that are proved are killed."""
+    report = Report("", 0, STEPS, 1, dict.fromkeys(sorted({proof.mutant.op for proof in proofs})), [], [])
+    checked = Checked(Job(case.source, []), printed, {}, [], report, report, [], [], [])
+    return Asker(checked, [proof.mutant for proof in proofs], Means(mothra, workers="1"), Clock(None))
+
+
+def fitting_rows(case: Case, asker: Asker, printed: Sequence[str], tests: int, chance: Random) -> list[Row]:
+    """Rows on which the program ends, about so many."""
+    found: dict[Row, None] = {}
+    make = rows_for(read_unit(case.source)[1], constants_of(printed), chance)
+    for _ in range(ROUNDS):
+        rows = list(dict.fromkeys(row for row in (next(make) for _ in range(tests)) if row not in found))
+        found.update(dict.fromkeys(asker.ending(rows, STEPS)))
+        if len(found) >= tests:
+            break
+    return list(found)[:tests]
+
+
+def within(asker: Asker, rows: Sequence[Row], steps: int) -> set[Row]:
+    """The rows on which the program ends within a limit."""
+    return set(asker.kills(rows, [FEW_MUTANTS], steps)) if steps > 0 else set()
+
+
+def killed_in(asker: Asker, proofs: Sequence[Proof], rows: Sequence[Row], steps: int) -> tuple[int, list[Killed]]:
+    """How many rows were run, and the mutants that one of them kills, each once. A row that leaves a mutant not the
+    steps that its proof needs may kill it."""
+    kills = asker.kills(rows, asker.ops_of(asker.whole), steps)
+    spares = {spare_of(proof.why) for proof in proofs} - {0}
+    fits = {0: set(kills), **{spare: within(asker, list(kills), steps - spare) for spare in spares}}
+    found: dict[int, Killed] = {}
+    for row, mask in kills.items():
+        for number, proof in enumerate(proofs):
+            if mask >> number & 1 and row in fits[spare_of(proof.why)]:
+                found.setdefault(number, Killed(proof, row, steps))
+    return len(kills), list(found.values())
+
+
+def tried(programs: Programs, case: Case) -> Tried:
+    """Asks both programs."""
+    job = json.dumps({"source": case.source}).encode()
+    try:
+        listed = asked_list(programs.mothra, [], job)[1]
+        proofs = asked_proofs(programs.equivalents, [], Job(case.source, []))
+    except Fault as fault:
+        return Tried(case, 0, [], 0, refused=str(fault))
+    assert_listed(proofs, listed)
+    if not proofs or not read_unit(case.source)[1]:
+        return Tried(case, len(listed), proofs, 0)
+    printed, chance = asked_print(programs.mothra, job), Random(f"{programs.seed} {case.name}")
+    asker = asker_of(case, printed, proofs, programs.mothra)
+    rows = fitting_rows(case, asker, printed, programs.tests, chance)
+    tests, killed = killed_in(asker, proofs, rows, STEPS) if rows else (0, [])
+    more = killed_in(asker, proofs, rows[:FEW], chance.choice(SMALL))[1] if rows else []
+    known = {each.proof for each in killed}
+    return Tried(case, len(listed), proofs, tests, [*killed, *(each for each in more if each.proof not in known)])
+
+
+def whys_text(whys: Counter[str]) -> str:
+    return ", ".join(f"{why} {count}" for why, count in sorted(whys.items())) or "none"
+
+
+def told_of(what: str, every: Sequence[Tried]) -> str:
+    """A line on some programs."""
+    mutants, tests = sum(each.mutants for each in every), sum(each.tests for each in every)
+    whys: Counter[str] = sum((each.whys for each in every), Counter())
+    killed = sum(len(each.killed) for each in every)
+    proved = f"{sum(whys.values())} proved ({whys_text(whys)})"
+    return f"{what}: {mutants} mutants, {proved}, {plural(tests, 'test')}, {killed} killed"
+
+
+def faults_of(found: Tried) -> Iterator[str]:
+    """What is wrong with a program, and its source where it was made."""
+    if found.refused:
+        yield f"{found.case.name}: {found.refused}"
+    for each in found.killed:
+        yield f"{found.case.name}: {each.told()}"
+    if found.case.is_made and (found.killed or found.refused):
+        yield found.case.source.rstrip("\n")
+
+
+def examples() -> list[Path]:
+    """The programs of the examples that are in the subset."""
+    return sorted(path for path in (ROOT / "examples").glob("*.f") if path.with_suffix(".report").exists())
+
+
+def number_from_0(word: str) -> int:
+    """A number from 0, as an option takes it."""
+    return 0 if word == "0" else number_from_1(word)
+
+
+def add_words(parser: argparse.ArgumentParser) -> None:
+    parser.add_argument("mothra", metavar="MOTHRA", type=whole_path)
+    parser.add_argument("equivalents", metavar="EQUIVALENTS", type=whole_path)
+    parser.add_argument("files", metavar="PROGRAM.f", nargs="*", type=Path, help="programs, else the examples")
+    number, told = read_by(number_from_0), f"how many programs are made ({PROGRAMS})"
+    parser.add_argument("--programs", metavar="N", type=number, default=PROGRAMS, help=told)
+    parser.add_argument("--seed", metavar="S", type=number_from_1, default=SEED, help=f"where chance begins ({SEED})")
+    told = f"how many tests of each are run at most ({TESTS})"
+    parser.add_argument("--tests", metavar="N", type=number_from_1, default=TESTS, help=told)
+    parser.add_argument("--jobs", metavar="N", type=number_from_1, default=processors(), help="how many at a time")
+
+
+def tried_all(programs: Programs, made: Sequence[Case], pool: ThreadPoolExecutor, name: str) -> list[Tried]:
+    """What came of the programs that were made; how far it is is told now and then."""
+    found: list[Tried] = []
+    paced = Paced(name)
+    try:
+        for each in pool.map(partial(tried, programs), made):
+            found.append(each)
+            paced.tell(f"{len(found)} of {plural(len(made), 'made program')}")
+    finally:
+        paced.progress.end()
+    return found
+
+
+def run(given: argparse.Namespace, name: str) -> int:
+    programs = Programs(given.mothra, given.equivalents, min(given.tests, TESTS), given.seed)
+    files = [Case(path.name, decoded(path.read_bytes())) for path in given.files or examples()]
+    made = [Case(f"program {number}", program_of(number, given.seed), True) for number in range(1, given.programs + 1)]
+    faults: list[str] = []
+    with ThreadPoolExecutor(given.jobs) as pool:
+        for found in pool.map(partial(tried, programs), files):
+            print(told_of(found.case.name, [found]), flush=True)
+            faults += faults_of(found)
+        results = tried_all(programs, made, pool, name)
+    if results:
+        without = sum(not each.tests for each in results if each.proofs)
+        print(f"{told_of(plural(len(results), 'made program'), results)}, {without} without a test")
+    faults += [line for found in results for line in faults_of(found)]
+    print("\n".join(faults) or "no mutant is killed that is proved equivalent")
+    return FAULT if faults else SUCCESS

@@ -1,1 +1,0 @@
-"""What the gate tries beside the proofs: theorems by name, wrong bodies, stored examples."""
