@@ -13,7 +13,9 @@ looked at before the row is taken, and the survivors that it kills, by line; and
 how many of the rows that were tried came to their lines. A column `expect` of the table stays empty in new rows.
 
 An array of numbers that is in order in all tests stays so in all rows, and this is told; --free lifts it. Nothing else
-is known of what the arguments have to be: --ranges says it. A mutant that the program equivalents proves equivalent is
+is known of what the arguments have to be: --ranges says it. --within I=-8:8,J=0:9 tries all rows of a box, in order, a
+million at most, and says of each survivor whether a row of the box kills it; an argument that is only set is 0 there,
+and a LOGICAL one has both values. A mutant that the program equivalents proves equivalent is
 no survivor, and is not searched for. Where a row kills one that is proved with steps to spare, this is told.
 
 With --rounds the same seed gives the same text; with --seconds it depends on the machine. Ctrl-C ends the search, and
@@ -24,18 +26,20 @@ import argparse
 import sys
 from pathlib import Path
 
-from mutants.checks.checking import dummies_of
+from mutants.checks.checking import Checked, dummies_of
 from mutants.checks.outputs import Output, assert_free
 from mutants.checks.settings import assert_tests, with_settings
 from mutants.checks.starting import start_of
 from mutants.declarations.proving import add_proof_options
 from mutants.files import written
 from mutants.jobs.tables import Table
+from mutants.pages.frame import plural
 from mutants.program.finding import add_mothra_option
 from mutants.program.unproved import remark_on
 from mutants.statuses import INTERRUPTED, SUCCESS
 from mutants.subcommands import check as checks
 from mutants.suggestions.aims import SECONDS, Aim, read_ranges
+from mutants.suggestions.box import box_of
 from mutants.suggestions.clock import Clock
 from mutants.suggestions.suggesting import Suggested, suggested
 from mutants.suggestions.tables import Layout, layout_of, table_with
@@ -66,6 +70,10 @@ def add_search(parser: argparse.ArgumentParser) -> None:
     parser.add_argument(
         "--ranges", metavar="ARG=A:B", type=read_by(read_ranges), action="append", default=[], help=told
     )
+    told = "try all rows of a box, in order, a million at most: the least and greatest values of arguments, as --ranges"
+    parser.add_argument(
+        "--within", metavar="ARG=A:B", type=read_by(read_ranges), action="append", default=[], help=told
+    )
     told = "an array, by number or name, that need not stay in order; may be given again"
     parser.add_argument("--free", metavar="ARG", action="append", default=[], help=told)
     parser.add_argument("--nice", action="store_true", help="no value far from those of the tests")
@@ -90,9 +98,19 @@ def add_words(parser: argparse.ArgumentParser) -> None:
 
 def aim_of(given: argparse.Namespace) -> Aim:
     """How is searched. With a number of rounds nothing goes by the clock."""
-    seconds = None if given.rounds else given.seconds or SECONDS
+    if given.rounds and given.within:
+        raise ValueError("--within tries all rows of a box, and --rounds says nothing then")
+    seconds = given.seconds if given.rounds or given.within else given.seconds or SECONDS
     ranges = [each for ranges in given.ranges for each in ranges]
-    return Aim(seconds, given.rounds, given.seed, given.nice, ranges, given.free, given.drop)
+    within = [each for ranges in given.within for each in ranges]
+    return Aim(seconds, given.rounds, given.seed, given.nice, ranges, given.free, given.drop, within)
+
+
+def tell_box(aim: Aim, start: Checked, name: str) -> None:
+    """How many rows of the box will be tried, before they are."""
+    if aim.within and start.report.survivors:
+        box = box_of(aim.within, start.job.source, dummies_of(start.printed))
+        sys.stderr.write(f"{name}: {plural(box.count, 'row')} of the box {box.told} are tried, in order\n")
 
 
 def assert_table_free(given: argparse.Namespace) -> None:
@@ -118,6 +136,7 @@ def run(given: argparse.Namespace, name: str) -> int:
     table = begun.made.table
     start = begun.checked(name)
     assert table
+    tell_box(aim, start, name)
     # What comes before, such as proofs, takes nothing of the time of the search.
     found = suggested(start, aim, begun.means, Clock(aim.seconds), name)
     layout = layout_of(given.tests, table, dummies_of(start.printed))

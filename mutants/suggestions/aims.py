@@ -13,7 +13,8 @@ SECONDS = 30.0
 
 
 class Aim(NamedTuple):
-    """How long is searched, by which chance, and what rows keep; arguments are named as the words name them."""
+    """How long is searched, by which chance, what rows keep, and the box whose rows are all tried, where one is asked
+    for; arguments are named as the words name them."""
 
     seconds: float | None = SECONDS
     rounds: int | None = None
@@ -22,6 +23,7 @@ class Aim(NamedTuple):
     ranges: Sequence[tuple[str, Range]] = ()
     free: Sequence[str] = ()
     drops: bool = False
+    within: Sequence[tuple[str, Range]] = ()
 
 
 def read_ranges(word: str) -> list[tuple[str, Range]]:

@@ -38,7 +38,7 @@ class Search:
         self.asker, self.shape, self.chance, self.most = asker, shape, chance, rounds
         self.rows, self.experience = Rows(shape, chance), Experience(shape)
         self.borders = Borders(shape, chance, asker.lines())
-        self.suite, self.elite = list(suite), list(suite)
+        self.suite, self.elite = list(suite), list(map(shape.simple, suite))
         self.alive = asker.whole
         # What each row kills: within the limit of the search, and as it is.
         self.seen: dict[Row, int] = {}

@@ -3,7 +3,7 @@
 from random import Random
 
 from mutants.suggestions.arrays import changed_numbers, changed_truths
-from mutants.suggestions.shapes import Row, Shape, Value
+from mutants.suggestions.shapes import Row, Shape, Value, items_of
 from mutants.suggestions.values import Values, clamped
 
 # The ways to change a row, with how often each is taken, and how many INTEGER variables it needs.
@@ -16,11 +16,14 @@ class Rows:
 
     def __init__(self, shape: Shape, chance: Random) -> None:
         self.shape, self.chance, self.values = shape, chance, Values(shape, chance)
-        self.scalars = shape.places(is_array=False)
+        self.scalars = [place for place in shape.places(is_array=False) if place not in shape.only_set]
 
     def other(self, place: int, row: Row, is_far: bool) -> Value:
         """Another value for the argument at this place, which may be the same by chance."""
         argument, value = self.shape.arguments[place], row[place]
+        if place in self.shape.only_set:
+            items = tuple(type(item)(self.chance.randrange(2)) for item in items_of(value))
+            return items if isinstance(value, tuple) else items[0]
         if isinstance(value, tuple):
             if not argument.is_integer:
                 return changed_truths(value, self.chance)
@@ -76,7 +79,9 @@ class Rows:
         """A row in which each argument has another value."""
         values = list(row)
         for place, argument in enumerate(self.shape.arguments):
-            if argument.is_array:
+            if place in self.shape.only_set:
+                values[place] = self.other(place, tuple(values), is_far)
+            elif argument.is_array:
                 values[place] = self.array_anew(place, row, is_far)
             elif argument.is_integer:
                 values[place] = self.other(place, tuple(values), is_far)

@@ -1,6 +1,6 @@
 """What the tests of a table tell of the arguments: kinds, ranges, values, and the order that an array is in."""
 
-from collections.abc import Iterable, Mapping, Sequence
+from collections.abc import Collection, Iterable, Mapping, Sequence
 from typing import Any, NamedTuple
 
 # A value of a row is a number or a truth value, or of an array all of them. A row has one for each argument.
@@ -91,13 +91,22 @@ class Kept(NamedTuple):
 
 
 class Shape:
-    """The arguments as the tests have them, and what rows have to keep."""
+    """The arguments as the tests have them, which of them are only set, and what rows have to keep."""
 
-    def __init__(self, suite: Sequence[Row], constants: Sequence[int], kept: Kept) -> None:
+    def __init__(
+        self, suite: Sequence[Row], constants: Sequence[int], kept: Kept, only_set: Collection[int] = ()
+    ) -> None:
+        self.only_set = frozenset(only_set)
         self.arguments = [argument_of(values) for values in zip(*suite)]
         self.constants, self.keeps = list(constants), kept
         self.known = [frozenset(argument.values) for argument in self.arguments]
         self.costs: dict[Row, int] = {}
+
+    def simple(self, row: Row) -> Row:
+        """The row with 0 or .FALSE. for what is only set."""
+        zeros = [tuple(type(item)() for item in items_of(value)) for value in row]
+        simple = [zero if isinstance(value, tuple) else zero[0] for zero, value in zip(zeros, row)]
+        return tuple(simple[at] if at in self.only_set else value for at, value in enumerate(row))
 
     def places(self, is_array: bool) -> list[int]:
         """The places of the INTEGER arguments that are arrays, or are none."""

@@ -7,12 +7,14 @@ from mutants.checks.checking import Checked, dummies_of
 from mutants.checks.choice import restricted
 from mutants.checks.outcomes import asked_outcomes
 from mutants.checks.running import Means, asked_in_parts
+from mutants.jobs.setting import only_set
 from mutants.pages.cover import smallest_set
 from mutants.pages.suite import killers_of
 from mutants.program.calling import OutOfTime
 from mutants.progress import Paced
 from mutants.suggestions.aims import Aim, kept_of
 from mutants.suggestions.asking import Asker
+from mutants.suggestions.box import BoxSearch, box_of
 from mutants.suggestions.choosing import Choice
 from mutants.suggestions.clock import Clock
 from mutants.suggestions.covering import BRANCHES
@@ -74,10 +76,14 @@ class Suggesting:
         self.start, self.aim, self.means, self.paced = start, aim, means, paced
         self.tests = [row_of(test) for test in start.job.suite]
         suite = self.tests or [first_row(start)]
-        kept = kept_of(aim, dummies_of(start.printed), self.tests)
-        shape = Shape(suite, constants_of(start.printed), kept)
+        names = dummies_of(start.printed)
+        only = [names.index(name) for name in only_set(start.job.source, names)]
+        shape = Shape(suite, constants_of(start.printed), kept_of(aim, names, self.tests), only)
         asker = Asker(start, start.report.survivors, means, clock)
-        self.search = Search(asker, shape, suite, Random(aim.seed), aim.rounds)
+        kind = BoxSearch if aim.within else Search
+        self.search = kind(asker, shape, suite, Random(aim.seed), aim.rounds)
+        if isinstance(self.search, BoxSearch):
+            self.search.put(box_of(aim.within, start.job.source, dummies_of(start.printed)))
         self.reached, self.is_cut = Reached(), False
 
     def tell(self, text: str) -> None:
@@ -113,8 +119,9 @@ class Suggesting:
 
     def better(self, choice: Choice) -> None:
         """Chooses among more rows, makes these simpler, and asks which rows come to the survivors that are left."""
-        choice.widen()
-        choice.simplify(self.tell)
+        if not self.aim.within:
+            choice.widen()
+            choice.simplify(self.tell)
         left = self.search.asker.of_mask(~choice.wanted)
         self.reached = reached_of(self.search, {mutant.line for mutant in left}, self.means, self.paced.progress.name)
 

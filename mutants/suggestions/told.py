@@ -7,10 +7,11 @@ from textwrap import wrap
 
 from mutants.checks.checking import dummies_of
 from mutants.checks.summary import WIDTH, difference_lines, line_lines, ranges_text, score_line, wrong_lines
-from mutants.declarations.proofs import killed_later
+from mutants.declarations.proofs import count_of_proved, killed_later
 from mutants.pages.frame import joined_words, plural
 from mutants.pages.report import by_line
 from mutants.suggestions.aims import Aim, kept_lines
+from mutants.suggestions.box import BoxSearch
 from mutants.suggestions.shapes import Row
 from mutants.suggestions.suggesting import Suggested
 from mutants.suggestions.tables import Layout
@@ -18,6 +19,7 @@ from mutants.texts.lines import Mutant
 from mutants.texts.twins import names_text, twins_in
 
 LOOK = "What the program does on a row is its own outcome, right or wrong: look at it before you take the row."
+BOX = "That is more than a hint at equivalence and less than a proof: a row outside of the box may kill it."
 HINT = "That is a hint at equivalence, and no more than that."
 UNTRIED = "No row was tried, so this says nothing of them."
 
@@ -79,12 +81,32 @@ def suggestion_lines(found: Suggested, layout: Layout, tests: Path) -> Iterator[
         yield from row_lines(found, row, place, layout)
 
 
+def box_text(search: BoxSearch) -> str:
+    """How many rows of the box were tried, and on how many the program fails."""
+    whole = "all" if search.count == search.box.count else f"{search.count:,} of the"
+    fails = f"; on {search.failed:,} of them the program fails, or takes over {search.steps} steps"
+    told = f"Tried: {whole} {search.box.count:,} rows of the box {search.box.told}{fails if search.failed else ''}."
+    return told if search.is_whole else f"{told} The search was cut, so nothing is said of the others."
+
+
 def tried_line(found: Suggested, seed: int) -> str:
     """How much was searched."""
     search = found.search
+    if isinstance(search, BoxSearch):
+        return box_text(search)
     tried = f"{plural(len(search.tried), 'row')}, {plural(search.round_number, 'round')}, seed {seed}"
     left_out = f" On {search.failed} more the program fails, or takes over {search.steps} steps: they were left out."
     return f"Tried: {tried}.{left_out if search.failed else ''}"
+
+
+def which_lines(found: Suggested) -> Iterator[str]:
+    """Of all rows of a box: which of three each mutant is that the tests leave alive."""
+    if not isinstance(found.search, BoxSearch) or not found.search.is_whole:
+        return
+    start, left = len(found.start.report.survivors), len(found.final.report.survivors)
+    proved = count_of_proved(found.start.report.rows, found.start.said.proofs)
+    told = f"{start - left} killed by a row, {proved} proved equivalent, {left} that no row of this box kills"
+    yield f"Of the {plural(start + proved, 'mutant')} that the tests do not kill: {told}."
 
 
 def reached_text(found: Suggested, line: int) -> str:
@@ -104,8 +126,9 @@ def left_lines(found: Suggested) -> Iterator[str]:
         yield "No mutant survives that is not declared equivalent."
         return
     verb = "is one survivor" if len(survivors) == 1 else f"are {len(survivors)} survivors"
-    told = HINT if found.search.tried else UNTRIED
-    yield f"There {verb} on {plural(len(lines), 'line')} that no row killed. {told}"
+    is_box = isinstance(found.search, BoxSearch) and found.search.is_whole
+    told = f"no row of this box kills. {BOX}" if is_box else f"no row killed. {HINT if found.search.tried else UNTRIED}"
+    yield f"There {verb} on {plural(len(lines), 'line')} that {told}"
     for line in sorted(lines):
         statement = found.final.statements[line]
         yield f"line {line}: {statement} ({len(lines[line])} left{reached_text(found, line)})"
@@ -152,7 +175,7 @@ def summary(found: Suggested, program: Path, tests: Path, layout: Layout, aim: A
         return "\n".join(lines) + "\n"
     if found.is_cut:
         lines += ["Cut short by Ctrl-C: what follows was found until then."]
-    lines += [tried_line(found, aim.seed)]
+    lines += [tried_line(found, aim.seed), *which_lines(found)]
     lines += kept_lines(found.search.shape.keeps, dummies_of(found.start.printed))
     none = ["No row was found that kills a survivor."]
     lines += ["", *(suggestion_lines(found, layout, tests) if found.rows else none)]

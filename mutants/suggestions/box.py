@@ -1,0 +1,104 @@
+"""All rows of a box, in order: each argument from its least value to its greatest, and each element of an array.
+
+What no row of the box kills may still be killed by one outside. So it is more than a hint at equivalence, and less than
+a proof.
+"""
+
+import math
+from collections.abc import Iterator, Mapping, Sequence
+from itertools import islice, product
+from typing import Any, NamedTuple
+
+from mutants.jobs.setting import zeros_of
+from mutants.pages.frame import joined_words
+from mutants.suggestions.aims import place_of
+from mutants.suggestions.rounds import SIZE, Search, Tell
+from mutants.suggestions.shapes import Range, Row, Scalar, Value
+from mutants.texts.dummies import Dummy, read_unit
+
+# A box has so many rows at most; of so many rows it is asked to which lines they come.
+MOST, ASKED = 1_000_000, 8 * SIZE
+
+
+class Side(NamedTuple):
+    """What an argument may be: the values of it, or of each of its elements where it is an array."""
+
+    values: Sequence[Scalar]
+    elements: int | None
+
+    @property
+    def count(self) -> int:
+        return len(self.values) ** (self.elements or 1)
+
+    def all(self) -> Iterator[Value]:
+        return iter(self.values) if self.elements is None else product(self.values, repeat=self.elements)
+
+
+class Box(NamedTuple):
+    """The sides, in the order of the arguments, and in words those that were asked for."""
+
+    sides: Sequence[Side]
+    told: str
+
+    @property
+    def count(self) -> int:
+        return math.prod(side.count for side in self.sides)
+
+    def rows(self) -> Iterator[Row]:
+        return product(*(side.all() for side in self.sides))
+
+
+def side_of(name: str, dummy: Dummy, ranges: Mapping[str, Range], zeros: Mapping[str, Any]) -> Side:
+    """The values of an argument: those that were asked for, both truth values, or 0 where it is only set."""
+    kind, elements = dummy
+    if name in ranges and kind == "logical":
+        raise ValueError(f"{name} is LOGICAL, and has both truth values without a word in --within")
+    if name in ranges:
+        low, high = ranges[name]
+        return Side(range(low, high + 1), elements)
+    if name in zeros:
+        return Side((False,) if kind == "logical" else (0,), elements)
+    if kind == "logical":
+        return Side((False, True), elements)
+    raise ValueError(f"--within says nothing of {name}, which the program reads")
+
+
+def box_of(asked: Sequence[tuple[str, Range]], source: str, names: Sequence[str]) -> Box:
+    """The box of these ranges; ValueError tells what it leaves open, and that it has too many rows."""
+    ranges = {names[place_of(word, names)]: limits for word, limits in asked}
+    zeros = zeros_of(source, names)
+    sides = [side_of(name, dummy, ranges, zeros) for name, dummy in zip(names, read_unit(source)[1])]
+    found = Box(sides, joined_words(f"{name} from {low} to {high}" for name, (low, high) in ranges.items()))
+    if found.count > MOST:
+        raise ValueError(f"the box has {found.count:,} rows, and {MOST:,} are tried at most")
+    return found
+
+
+class BoxSearch(Search):
+    """A search that tries the rows of a box, in order and under the limit on steps that is asked for."""
+
+    def put(self, box: Box) -> None:
+        self.box, self.count, self.is_whole = box, 0, False
+
+    def begin(self, tests: Sequence[Row], cost_of_row: float) -> None:
+        pass
+
+    def go(self, tell: Tell) -> None:
+        """Tries rows until nothing survives, or none is left."""
+        rows = self.box.rows()
+        while self.alive and (part := list(islice(rows, SIZE))):
+            self.try_rows(part)
+            left = self.alive.bit_count()
+            tell(f"{self.count} of {self.box.count} rows: {left} of {len(self.asker.mutants)} survivors are left")
+        self.is_whole = True
+
+    def try_rows(self, rows: list[Row]) -> None:
+        self.round_number += 1
+        found = self.asker.kills(self.asker.ending(rows, self.steps), self.asker.ops_of(self.alive), self.steps)
+        self.count += len(rows)
+        self.failed += len(rows) - len(found)
+        self.tried += list(found)[: ASKED - len(self.tried)]
+        for row, mask in found.items():
+            if mask & self.alive:
+                self.exact[row] = mask
+                self.alive &= ~mask
