@@ -10,6 +10,7 @@ from typing import ContextManager
 from unittest import mock
 
 import running
+from mutants import progress
 from mutants.checks import batches, parts
 from mutants.program import calling, many
 from mutants.subcommands import check  # noqa: F401  read once, for all copies of this process
@@ -90,6 +91,7 @@ class Examples(unittest.TestCase):
         for owner, attribute, value in (
             (batches, "MOST_TESTS", 3),
             (parts, "SHARE", 1),
+            (progress, "QUIET", 1e9),
             (calling, "call", lambda program, words, job, seconds=None: (replay.answer(words, job), 0)),
             (many.Calls, "answer", lambda calls, words, job: replay.answer(words, job)),
         ):
