@@ -1,9 +1,22 @@
 """The user's folder for caches: what can be made anew, and is kept so that it need not be."""
 
+import hashlib
 import os
+from functools import cache
 from pathlib import Path
 
 from mutants.files import written
+
+PACKAGE = Path(__file__).resolve().parent
+
+
+@cache
+def tool_digest() -> str:
+    """The digest of this package: what an earlier one has made is made anew."""
+    found = hashlib.sha256()
+    for path in sorted(PACKAGE.rglob("*.py")):
+        found.update(path.read_bytes() + b"\0")
+    return found.hexdigest()
 
 
 def caches_folder(kind: str) -> Path | None:

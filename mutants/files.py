@@ -6,6 +6,9 @@ import sys
 import tempfile
 from pathlib import Path
 
+# No file that is read as a whole has more bytes.
+LARGEST = 1 << 26
+
 
 def is_standard_output(path: Path) -> bool:
     """Whether a path names what standard output is, whatever that is."""
@@ -13,6 +16,15 @@ def is_standard_output(path: Path) -> bool:
         return os.path.samestat(path.stat(), os.fstat(sys.stdout.fileno()))
     except (OSError, ValueError):
         return False
+
+
+def bytes_of(path: Path) -> bytes:
+    """The bytes of a file that is read as a whole."""
+    with open(path, "rb") as file:
+        data = file.read(LARGEST + 1)
+    if len(data) > LARGEST:
+        raise ValueError(f"the file has more than {LARGEST:,} bytes")
+    return data
 
 
 def takes_bytes(path: Path) -> bool:

@@ -46,8 +46,11 @@ class Class(unittest.TestCase):
         self.folder.mkdir()
 
     def put(self, files: Mapping[str, str]) -> None:
+        """Puts programs and what is declared of them into the folder, and suites into that of the suites."""
+        (self.folder / "suites").mkdir(exist_ok=True)
         for name, text in files.items():
-            (self.folder / name).write_text(text)
+            is_suite = name.endswith((".csv", ".json")) and "equivalent" not in name
+            (self.folder / ("suites" if is_suite else "") / name).write_text(text)
 
     def course(self, *words: object) -> running.Ended:
         with running.without_processes():
@@ -86,12 +89,12 @@ class OneProgram(Class):
         status, out, errors = self.ended
         self.assertEqual(status, 1)
         self.assertIn("3 of 5 with a report", out)
-        self.assertEqual(errors.splitlines()[0], "mutants course: 1 of 5")
+        self.assertEqual(errors.splitlines()[0], "mutants course: 2 of 5")
         self.assertEqual(errors.splitlines()[-2:], ["mutants course: 5 of 5", FAILED])
         rows = self.table()
         self.assertEqual(list(rows["anna"]), COLUMNS)
         self.assertEqual([rows[name]["score"] for name in ("anna", "bert", "emil")], ["93.75", "50.00", "75.00"])
-        self.assertEqual((rows["carl"]["fault"], rows["carl"]["told"]), ("B3", "FAULT B3 1"))
+        self.assertEqual(rows["carl"]["told"], "carl.json: row 1 has 2 cells, and 3 are wanted: I, J, K")
         self.assertEqual(rows["dora"]["fault"], "-")
         self.assertIn("dora.json", rows["dora"]["told"])
         self.assert_page_says()
@@ -121,7 +124,7 @@ class OneProgram(Class):
         self.assertEqual(self.course()[2].splitlines(), ["mutants course: 4 of 5", "mutants course: 5 of 5", FAILED])
         self.assertEqual(self.table()["bert"]["tests"], "1")
         self.assertEqual((self.folder / "out" / "jobs" / "bert.outcomes").read_text(), "RETURNED 1 2 1\n")
-        self.assertEqual(self.course("--ops", "ROR")[2].splitlines()[0], "mutants course: 1 of 5")
+        self.assertEqual(self.course("--ops", "ROR")[2].splitlines()[0], "mutants course: 2 of 5")
 
     def test_a_result_without_its_key_is_made_again(self) -> None:
         report = self.folder / "out" / "jobs" / "anna.report"
@@ -226,9 +229,7 @@ class Refusals(Class):
         refuses(self, self.course(), "there is no program")
         self.put({"least.f": LEAST})
         refuses(self, self.course(), "there is no table of tests")
-        self.put({"a.json": "[]", "a.csv": ""})
-        refuses(self, self.course(), "a.csv and a.json are tables of one name")
-        (self.folder / "a.csv").unlink()
+        self.put({"a.json": "[]"})
         self.assertEqual(self.course("--ops", "XYZ")[0], statuses.WORDS)
         self.folder = self.folder / "none"
         refuses(self, self.course(), "no such folder")

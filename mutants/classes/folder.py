@@ -1,43 +1,70 @@
 """The folder of a class: which jobs it asks for, where their results are kept, and which of these are still missing.
 
+Programs, declarations and options lie in FOLDER, and the tables that are handed in in FOLDER/suites. Without such a
+folder the tables lie beside the programs: then nobody knows who wrote a declaration or an option there, and none is
+read.
+
 A result is kept as three files in FOLDER/out/jobs: NAME.json, the job; NAME.report, what `mothra run` wrote of it; and
 NAME.key, the digest of the job and the words of that run. Each is written to another name and then renamed, the key
 last; so where the key is that of the job of now, the result is whole and of that job. NAME.outcomes, what the program
-itself does on each test, is written after these, and taken away before them.
+itself does on each test, is written after these, and taken away before them. So is the page, NAME.html, whose digest
+becomes the second line of the key.
 """
 
 import hashlib
-from collections.abc import Callable, Collection, Sequence
+from collections import Counter
+from collections.abc import Callable, Collection, Mapping, Sequence
 from pathlib import Path
 from typing import NamedTuple
 
+from mutants.checks.sections import INI, TOML
 from mutants.declarations.files import NONE_MEANT, Meant, found_beside
 from mutants.declarations.proofs import NO_PROOFS, Proofs
 from mutants.files import written
-from mutants.jobs.making import Made, made_of, meant_for
+from mutants.jobs.expecting import COLUMN
+from mutants.jobs.making import Made, made_of, meant_for, with_table
 from mutants.jobs.sources import Wish, is_program
 from mutants.program.calling import Fault
 
 
 class Task(NamedTuple):
-    """A job of the class: its name, the program's file, its text, or why there is none; the source as it is shown, what
-    is declared, what is told of program and table, and what is proved."""
+    """A job of the class: its name, the program's file, its text, or why there is none; what was made of its program
+    and its table, what is declared, and what is proved."""
 
     name: str
     program: Path | None
     text: bytes | None
-    refusal: str | None
-    shown: str = ""
+    refusal: str | None = None
+    made: Made | None = None
     meant: Meant = NONE_MEANT
-    remarks: Sequence[str] = ()
     proofs: Proofs = NO_PROOFS
 
     @property
     def program_name(self) -> str:
         return self.program.stem if self.program else ""
 
+    @property
+    def shown(self) -> str:
+        """The source as it is shown."""
+        return self.made.source.shown if self.made else ""
 
-TABLES = (".json", ".csv")
+    @property
+    def remarks(self) -> list[str]:
+        return self.made.remarks + self.meant.remarks if self.made else []
+
+    @property
+    def expected(self) -> dict[int, str]:
+        """What the table expects of the program, by test, from 1."""
+        column = self.made.table.others.get(COLUMN.upper(), []) if self.made and self.made.table else []
+        return {number: "" if text is None else str(text) for number, text in enumerate(column, 1)}
+
+    @property
+    def rows(self) -> Sequence[int]:
+        """The row of each test in its table."""
+        return self.made.table.rows if self.made and self.made.table else []
+
+
+TABLES, SUITES = (".json", ".csv"), "suites"
 # What came for a reason that is not the job's own, and may be another one the next time.
 PASSING = "J1 F1 S1 C1 N1 O1 B1 B2".split()
 
@@ -47,20 +74,37 @@ def name_of(path: Path) -> str:
     return path.stem.removesuffix(".suite")
 
 
+def suites_folder(folder: Path) -> Path:
+    """Where the tables lie that are handed in."""
+    return folder / SUITES if (folder / SUITES).is_dir() else folder
+
+
+def is_declaring(path: Path) -> bool:
+    """Whether the name of a file is that of declarations."""
+    return path.suffix.lower() in TABLES and path.stem.endswith("equivalent")
+
+
 def programs_in(folder: Path) -> list[Path]:
     return sorted(path for path in folder.iterdir() if is_program(path) and path.is_file())
 
 
 def tables_in(folder: Path) -> dict[str, Path]:
-    """The tables of tests, by name."""
-    tables: dict[str, Path] = {}
-    for path in sorted(folder.iterdir()):
-        if path.suffix.lower() not in TABLES or not path.is_file() or path.stem.endswith("equivalent"):
-            continue
-        if name_of(path) in tables:
-            raise ValueError(f"{folder}: {tables[name_of(path)].name} and {path.name} are tables of one name")
-        tables[name_of(path)] = path
-    return tables
+    """The tables of tests, by name. Where one name is that of two, both have their endings."""
+    paths = [path for path in sorted(folder.iterdir()) if path.suffix.lower() in TABLES and not is_declaring(path)]
+    names = {path: name_of(path) for path in paths if path.is_file() or path.is_symlink()}
+    while twice := [path for path in names if Counter(names.values())[names[path]] > 1 and names[path] != path.name]:
+        names.update((path, path.name) for path in twice)
+    return {name: path for path, name in names.items()}
+
+
+def unread_remarks(folder: Path) -> list[str]:
+    """What is told of files that would declare something or set options where everybody may write."""
+    found = [path for path in sorted(suites_folder(folder).iterdir()) if is_declaring(path) or path.name in (INI, TOML)]
+    return [f"{path} is not read, since suites are handed in there: {advice_on(path, folder)}" for path in found]
+
+
+def advice_on(path: Path, folder: Path) -> str:
+    return f"put it into {folder}" if path.parent != folder else f"put the suites into {folder / SUITES}"
 
 
 def program_of(name: str, programs: Sequence[Path]) -> Path | None:
@@ -73,6 +117,8 @@ def program_of(name: str, programs: Sequence[Path]) -> Path | None:
 
 def declared_for(program: Path, unit: str, programs: Sequence[Path]) -> Path | None:
     """The file of the mutants of a program that are declared equivalent, or None."""
+    if suites_folder(program.parent) == program.parent:
+        return None
     common = [program.with_name(f"equivalent{ending}") for ending in (".csv", ".json")] if len(programs) == 1 else []
     return found_beside(program, unit) or next((path for path in common if path.exists()), None)
 
@@ -85,16 +131,23 @@ def prove_nothing(source: str, declared: Collection[str]) -> Proofs:
     return NO_PROOFS
 
 
-class Declaring:
-    """What is declared and proved for the programs of a folder: it is asked once for each."""
+class Programs:
+    """The programs of a folder: what is made, declared and proved of each is asked once."""
 
-    def __init__(self, programs: Sequence[Path], mothra: str, prove: Prove = prove_nothing) -> None:
-        self.programs, self.mothra, self.prove = programs, mothra, prove
+    def __init__(self, paths: Sequence[Path], mothra: str, wish: Wish, prove: Prove = prove_nothing) -> None:
+        self.paths, self.mothra, self.wish, self.prove = paths, mothra, wish, prove
+        self.made: dict[Path, Made] = {}
         self.known: dict[Path, tuple[Meant, Proofs]] = {}
 
-    def meant(self, program: Path, made: Made) -> tuple[Meant, Proofs]:
+    def made_of(self, program: Path) -> Made:
+        if program not in self.made:
+            self.made[program] = made_of(program, None, self.wish)
+        return self.made[program]
+
+    def meant(self, program: Path) -> tuple[Meant, Proofs]:
         if program not in self.known:
-            file = declared_for(program, made.source.unit, self.programs)
+            made = self.made_of(program)
+            file = declared_for(program, made.source.unit, self.paths)
             try:
                 meant = meant_for(made, program, file, lambda: self.mothra, looks_beside=False)
                 self.known[program] = meant, self.prove(made.source.text, meant.names)
@@ -104,37 +157,47 @@ class Declaring:
         return self.known[program]
 
 
-def task_of(name: str, program: Path | None, table: Path, wish: Wish, declaring: Declaring) -> Task:
-    """The job of a table. What does not fit is left to the program to tell."""
+def task_of(name: str, program: Path | None, table: Path, programs: Programs) -> Task:
+    """The job of a table. What the program has to tell is left to it."""
     try:
         if program is None:
             raise ValueError(f"{table}: there is no program of this name")
-        made = made_of(program, table, wish, is_strict=False)
-        meant, proofs = declaring.meant(program, made)
+        if table.is_symlink():
+            raise ValueError(f"{table}: it is a link, and a suite is a file of its own")
+        made = with_table(programs.made_of(program), table, programs.wish)
+        meant, proofs = programs.meant(program)
         names = [*meant.names, *proofs.names]
         text = made.text(names if meant.is_of_file or names else None)
-        remarks = made.remarks + meant.remarks
-        return Task(name, program, text.encode(), None, made.source.shown, meant, remarks, proofs)
-    except ValueError as fault:
+        return Task(name, program, text.encode(), None, made, meant, proofs)
+    except (ValueError, MemoryError) as fault:
         return Task(name, program, None, " ".join(str(fault).split()).replace(f"{table.parent}/", ""))
 
 
+def wanted_in(folder: Path, programs: Sequence[Path]) -> Mapping[str, tuple[Path | None, Path]]:
+    """Of each job its program and its table, by name: one for each table, and for each program without one of its
+    own."""
+    tables = tables_in(suites_folder(folder))
+    common = tables.pop("suite", None) if len(programs) > 1 else None
+    wanted = {name: (program_of(name, programs), table) for name, table in tables.items()}
+    having = {program for program, _ in wanted.values()}
+    more: dict[str, tuple[Path | None, Path]] = {
+        path.stem: (path, common) for path in programs if common and path not in having
+    }
+    return {**wanted, **more}
+
+
 def tasks_in(folder: Path, mothra: str, wish: Wish, prove: Prove = prove_nothing) -> list[Task]:
-    """The jobs that a folder asks for, by name: one for each table, and for each program without one of its own."""
+    """The jobs that a folder asks for, by name."""
     if not folder.is_dir():
         raise ValueError(f"{folder}: there is no such folder")
-    programs, tables = programs_in(folder), tables_in(folder)
+    programs = programs_in(folder)
     if not programs:
         raise ValueError(f"{folder}: there is no program, a file that ends in .f")
-    common = tables.pop("suite", None) if len(programs) > 1 else None
-    wanted: dict[str, tuple[Path | None, Path]] = {}
-    wanted |= {name: (program_of(name, programs), table) for name, table in tables.items()}
-    having = {program for program, _ in wanted.values()}
-    wanted |= {path.stem: (path, common) for path in programs if common and path not in having}
+    wanted = wanted_in(folder, programs)
     if not wanted:
-        raise ValueError(f"{folder}: there is no table of tests, a file that ends in .json or .csv")
-    declaring = Declaring(programs, mothra, prove)
-    return [task_of(name, *wanted[name], wish, declaring) for name in sorted(wanted)]
+        raise ValueError(f"{suites_folder(folder)}: there is no table of tests, a file that ends in .json or .csv")
+    known = Programs(programs, mothra, wish._replace(shares_sizes=wish.shares_sizes or len(programs) > 1), prove)
+    return [task_of(name, *wanted[name], known) for name in sorted(wanted)]
 
 
 class Results:
@@ -153,11 +216,24 @@ class Results:
     def text(self, task: Task) -> str | None:
         """What `mothra run` wrote of a job; None where that is not there, or was of another job."""
         try:
-            if self.path(task.name, ".key").read_text() == self.key(task):
+            if self.kept_keys(task)[0] == self.key(task):
                 return self.path(task.name, ".report").read_bytes().decode("utf-8", "replace")
         except OSError:
             pass
         return None
+
+    def kept_keys(self, task: Task) -> list[str]:
+        """The digests of the job and of the page that are kept."""
+        path = self.path(task.name, ".key")
+        return [*(path.read_text().split("\n") if path.exists() else []), "", ""][:2]
+
+    def has_page(self, task: Task, digest: str) -> bool:
+        """Whether the page is there that has this digest."""
+        return self.kept_keys(task)[1] == digest and self.path(task.name, ".html").exists()
+
+    def keep_page(self, task: Task, digest: str, text: str) -> None:
+        written(self.path(task.name, ".html"), text.encode("utf-8", "replace"))
+        written(self.path(task.name, ".key"), f"{self.key(task)}\n{digest}".encode())
 
     def keep(self, task: Task, text: str) -> None:
         """Keeps a result."""

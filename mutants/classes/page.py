@@ -47,7 +47,7 @@ def names_text(names: list[str]) -> str:
 
 
 def linked(name: str) -> str:
-    return f'<a href="jobs/{quote(name)}.html">{text(name)}</a>'
+    return f'<a href="jobs/{quote(name, errors="surrogateescape")}.html">{text(name)}</a>'
 
 
 def score_row(result: Reported, only: Mapping[str, int]) -> list[Cell]:
@@ -85,11 +85,16 @@ def scores_part(results: Sequence[Reported]) -> str:
 def refused_part(results: Sequence[Result]) -> str:
     if not results:
         return ""
-    rows: list[list[Cell]] = [
-        [("", text(result.name)), ("", f"<code>{text(result.refusal)}</code>")] for result in results
-    ]
-    told = "<p><code>mutants explain</code> with the job in <code>out/jobs</code> says what a fault means.</p>\n"
-    return f"<h3>Without a report</h3>\n{table([('', 'Name'), ('', 'Why')], rows)}{told}"
+    rows: list[list[Cell]] = [[("", text(result.name)), ("", text(result.refusal))] for result in results]
+    return f"<h3>Without a report</h3>\n{table([('', 'Name'), ('', 'Why')], rows)}"
+
+
+def unexpected_part(results: Sequence[Result]) -> str:
+    """The suites that expect something else of the program than it does, or whose expectations cannot be read."""
+    told = [f"{each.name} ({plural(each.unexpected, 'test')})" for each in results if each.unexpected]
+    more = [f"{each.name}: {each.refusal}" for each in results if each.report and each.refusal]
+    which = f"The program does not do what is expected of it by {joined_words(told)}." if told else ""
+    return "".join(f'<p class="warn">{text(each)}</p>\n' for each in [which, *more] if each)
 
 
 def test_row(test: ClassTest) -> list[Cell]:
@@ -174,7 +179,7 @@ def program_section(place: int, name: str, results: Sequence[Result], whole: Cla
     count, proved = class_count(whole), count_of_proved(rows_of_all(whole), proofs)
     parts = [
         (f"Together: {plural(len(reported), 'suite')}", score_part(count, proved) + proofs_part(count, proved)),
-        ("Scores", scores_part(reported) + refused),
+        ("Scores", unexpected_part(results) + scores_part(reported) + refused),
         ("Survivors in common", listing_part(whole, reported, known)),
         ("Tests that kill most", best_tests_part(whole)),
         ("The smallest set of tests", least_part(whole)),

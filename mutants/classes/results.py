@@ -12,6 +12,8 @@ from mutants.texts.reports import Count, Report, Row, score_of, summed
 
 # So many names of jobs that failed are told.
 MOST = 5
+# What stands in the place of the code of a fault where there is none.
+NO_CODE = "-"
 
 
 class Reported(NamedTuple):
@@ -23,13 +25,16 @@ class Reported(NamedTuple):
 
 
 class Result(NamedTuple):
-    """What came of a job: a report, or the line that says why there is none."""
+    """What came of a job: a report, or in words why there is none, with the code of its fault; and on how many tests
+    the program does not do what its table expects."""
 
     name: str
     program: str
     suite: list[Any]
     report: Report | None
     refusal: str = ""
+    code: str = NO_CODE
+    unexpected: int = 0
 
 
 class ClassTest(NamedTuple):
@@ -132,17 +137,26 @@ def only_here(results: Sequence[Reported]) -> dict[str, int]:
     return {result.name: sum(names == [result.name] for names in killing) for result in results}
 
 
-COLUMNS = "name program unit tests mutants killed equivalent survived score only_here wrong fault told".split()
+COLUMNS = (
+    "name program unit tests mutants killed equivalent survived score only_here wrong unexpected fault told".split()
+)
+# What a spreadsheet takes for the beginning of a formula.
+FORMULA = ("=", "+", "-", "@", "\t", "\r")
+
+
+def plain_cell(word: str) -> str:
+    """A text that no spreadsheet computes, and that is UTF-8."""
+    shown = word.encode("utf-8", "replace").decode()
+    return f"'{shown}" if shown.startswith(FORMULA) and shown != NO_CODE else shown
 
 
 def csv_row(result: Result, only: Mapping[str, int]) -> list[object]:
     """The row of a job in the table: what its columns are, the help of course says."""
+    names = [plain_cell(result.name), plain_cell(result.program)]
     if result.report is None:
-        kind, _, rest = result.refusal.partition(" ")
-        code, told = (rest.split(" ")[0], result.refusal) if kind == "FAULT" else ("-", result.refusal)
-        return [result.name, result.program, *[""] * 9, code, told]
+        return [*names, *[""] * 10, result.code, plain_cell(result.refusal)]
     count, report = summed(result.report.counts.values()), result.report
     wrong = sum(row.status == "W" for row in report.rows)
     survived = count.total - count.killed - count.equivalent
-    numbers = [report.tests, *count, survived, score_of(count), only.get(result.name, 0), wrong]
-    return [result.name, result.program, report.unit, *numbers, "", ""]
+    numbers = [report.tests, *count, survived, score_of(count), only.get(result.name, 0), wrong, result.unexpected]
+    return [*names, report.unit, *numbers, "", plain_cell(result.refusal)]

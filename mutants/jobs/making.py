@@ -8,6 +8,7 @@ from pathlib import Path
 from typing import Any, NamedTuple, TypeVar
 
 from mutants.declarations.files import NONE_MEANT, Meant, found_beside, meant_by, read_declarations
+from mutants.files import bytes_of
 from mutants.jobs.fitting import fit, ones_told
 from mutants.jobs.setting import zeros_of
 from mutants.jobs.sizes import read_sizes
@@ -70,14 +71,20 @@ def made_of(program: Path, tests: Path | None = None, wish: Wish = Wish(), is_st
     Where it is not strict, tests may have other numbers of values than there are dummy arguments: the program tells.
     Of what does not begin with SUBROUTINE the program tells too, so no table is read for it.
     """
-    source = told_of(program, lambda: source_of(program.read_bytes(), wish))
-    remarks = [f"{program}: {remark}" for remark in source.remarks]
-    path, dummies = tests, dummies_of(source.text)
-    if path is None or dummies is None:
-        return Made(source, None, remarks)
+    source = told_of(program, lambda: source_of(bytes_of(program), wish))
+    made = Made(source, None, [f"{program}: {remark}" for remark in source.remarks])
+    return made if tests is None else with_table(made, tests, wish, is_strict)
+
+
+def with_table(made: Made, path: Path, wish: Wish = Wish(), is_strict: bool = True) -> Made:
+    """The job of a program with the table of a file."""
+    source, dummies = made.source, dummies_of(made.source.text)
+    if dummies is None:
+        return made
     table = told_of(path, lambda: read_table(path, dummies, is_strict, zeros_of(source.text, dummies)))
     told = table.remarks + told_of(path, lambda: fit(source, table, dummies, wish.sizes)) if wish.sizes else table.remarks
-    return Made(source, table, remarks + [f"{path}: {each}" for each in told + ones_told(source, table, dummies)])
+    more = [f"{path}: {each}" for each in told + ones_told(source, table, dummies)]
+    return Made(source, table, made.remarks + more)
 
 
 def meant_for(

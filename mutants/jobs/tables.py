@@ -10,6 +10,7 @@ from pathlib import Path
 from typing import Any, NamedTuple
 
 from mutants.jobs.cells import LONGEST, TRUTHS, checked_value, is_blank, read_cell
+from mutants.files import bytes_of
 from mutants.jobs.sources import decoded
 from mutants.pages.frame import joined_words, plural
 
@@ -172,7 +173,7 @@ def read_table(
 ) -> Table:
     """The table of a file for these dummy arguments; None where they are not known. Some of them have values for blank
     cells. What is not strict may be ragged."""
-    text = decoded(path.read_bytes())
+    text = decoded(bytes_of(path))
     reading = Reading(dummies, blanks, is_strict)
     if path.suffix.lower() == ".csv":
         return reading.take(rows_of_csv(text), read_cell, True)

@@ -14,7 +14,9 @@ Cell = tuple[str, object]
 
 def text(value: object) -> str:
     """A value as text in HTML, safe between tags and in attributes; what cannot be seen is shown as U+FFFD."""
-    shown = "".join(c if c.isprintable() or c in "\t\n" else "\ufffd" for c in str(value))
+    shown = str(value)
+    if not shown.isprintable():
+        shown = "".join(c if c.isprintable() or c in "\t\n" else "\ufffd" for c in shown)
     return escape(shown, quote=True)
 
 

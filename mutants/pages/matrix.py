@@ -7,6 +7,7 @@ a small picture: so a matrix of thousands of mutants takes little room.
 """
 
 from collections.abc import Mapping, Sequence
+from functools import lru_cache
 from itertools import groupby
 from typing import NamedTuple
 
@@ -51,13 +52,20 @@ def shortened(piece: str) -> str:
     return piece if len(piece) <= PIECE else piece[: PIECE - 2] + ".."
 
 
+# A class shows the same mutants on many pages.
+@lru_cache(maxsize=65_536)
+def change_text(statement: str, mutant: str) -> str:
+    """What a mutant changes, as HTML."""
+    change = change_of(statement, mutant)
+    return text(f"{shortened(change.old)} \u2192 {shortened(change.new)}")
+
+
 def title_of(column: Column) -> str:
-    """What a mutant changes, and the first tests that kill it."""
-    change = change_of(column.statement, column.mutant.text)
+    """What a mutant changes, and the first tests that kill it, as HTML."""
+    change = change_text(column.statement, column.mutant.text)
     numbers = numbers_of(column.row.bits)
     tests = ranges_of(numbers[:NAMED]) + (f" +{len(numbers) - NAMED}" if numbers[NAMED:] else "")
-    told = f"{column.row.op} {column.row.place}: {shortened(change.old)} \u2192 {shortened(change.new)}"
-    return text(f"{told}; {tests or 'no test'}")
+    return f"{column.row.op} {column.row.place}: {change}; {tests or 'no test'}"
 
 
 def column_part(column: Column, is_titled: bool) -> str:

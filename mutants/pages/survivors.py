@@ -5,6 +5,7 @@ leave it out, and what is very far is left out everywhere.
 """
 
 from collections.abc import Iterable, Mapping, Sequence
+from functools import lru_cache
 from types import MappingProxyType
 
 from mutants.operators import NAMES
@@ -53,6 +54,8 @@ def far_part(far: str) -> str:
     return f"<i>{text(far)}</i>" if len(far) > FAR else text(far)
 
 
+# A class shows the same survivors on many pages.
+@lru_cache(maxsize=65_536)
 def with_context(old: str, new: str) -> str:
     """The two statements as one text in which what is gone and what is new are marked, and what is far from both."""
     found = pieces(old, new)

@@ -2,14 +2,18 @@
 
     mutants course [OPTION..] FOLDER
 
-The folder has programs in fixed form, NAME.f (or .for, .ftn, .f77), and tables of tests as mutants job takes them,
-NAME.json or NAME.csv (or NAME.suite.json). With one program each table is a suite of it: a file for each student. With
-several a table is of the program whose name it has, or has before a hyphen (sort-anna.csv is of sort.f); a table named
-suite is of each program without a table of its own. NAME.equivalent.csv, or equivalent.csv with one program, has the
-mutants that are declared equivalent, as mutants declare writes them; a bare list in .json is read too. Those that the
-program equivalents proves equivalent are declared by themselves; it is asked here, once for each program. Those with
-steps to spare are not: such a proof is of one suite alone. --unit, --size and --expand-tabs are those of mutants job,
-for each program of the folder.
+The folder has programs in fixed form, NAME.f (or .for, .ftn, .f77), and in FOLDER/suites lie the tables of tests that
+are handed in, as mutants check takes them, NAME.json or NAME.csv (or NAME.suite.json), of any length. With one program
+each table is a suite of it: a file for each student. With several a table is of the program whose name it has, or has
+before a hyphen (sort-anna.csv is of sort.f); a table named suite is of each program without a table of its own. Beside
+the programs NAME.equivalent.csv, or equivalent.csv with one program, has the mutants that are declared equivalent, as
+mutants declare writes them (a bare list in .json is read too), and mutants.ini options, as for mutants job. Where there
+is no folder suites the tables lie beside the programs; then neither of these is read, since anybody may have handed it
+in. A table that is a link is refused.
+
+Those mutants that the program equivalents proves equivalent are declared by themselves; it is asked here, once for each
+program. Those with steps to spare are not: such a proof is of one suite alone. --unit, --size and --expand-tabs are
+those of mutants job, for each program of the folder.
 
 Each table becomes a job. The jobs are run side by side, N at once (else one for each processor), each as a process with
 one thread. With --sshlogin GNU parallel spreads them over machines, and MOTHRA is then the name of the program on all
@@ -20,8 +24,9 @@ Written are, in FOLDER/out: jobs/NAME.json, .report and .outcomes (the job, what
 program itself does on each test), jobs/NAME.html (its page), course.html (the page of the class), and course.csv with
 these columns: name (of the table), program, unit, tests, mutants, killed, equivalent (declared or proved, and not
 killed), survived, score (in percent, rounded down, or NONE), only_here (mutants that no other suite of the program
-kills), wrong (declared, but killed), fault (its code; - where there was no job or no answer) and told (the line of the
-fault).
+kills), wrong (declared, but killed), unexpected (tests on which the program does not do what their column expect
+says), fault (its code; - where there was no job or no answer) and told (what it is, in words). A name that a
+spreadsheet would compute has an apostrophe in front. What has not changed is not made again.
 A job without a report is a row with its fault, and stops no other one. Where there are such jobs, it is told how many
 and which, and the exit status is 1. Those that have no answer are asked for again by the next call.
 """
@@ -31,39 +36,36 @@ import csv
 import io
 import json
 import sys
-from collections.abc import Collection, Sequence
+from collections.abc import Collection, Mapping, Sequence
 from pathlib import Path
 
-from mutants.checks.outcomes import asked_outcomes
 from mutants.checks.running import Means
-from mutants.classes.folder import Prove, Results, Task, tasks_in
+from mutants.checks.settings import READING, with_settings
+from mutants.classes.batched import Batched
+from mutants.classes.folder import SUITES, Prove, Results, Task, suites_folder, tasks_in, unread_remarks
+from mutants.classes.kept import KeptClass, Told, digest_of_class
 from mutants.classes.page import View, course_page
-from mutants.classes.results import COLUMNS, Result, csv_row, failed_told, only_here, reported_of
 from mutants.classes.processes import run_here
+from mutants.classes.results import COLUMNS, Result, csv_row, failed_told, only_here, reported_of
 from mutants.classes.running import find_parallel, run_all
+from mutants.classes.suites import Asked, Known, Suite, suite_of, write_pages
 from mutants.declarations.proofs import NO_PROOFS, Proofs
 from mutants.declarations.proving import add_proof_options, prover_of
 from mutants.files import written
 from mutants.jobs.making import add_reading_options, wish_of
-from mutants.pages.declared import Said
 from mutants.pages.program import statements_by_line
-from mutants.pages.report import Outcomes, report_page
 from mutants.program.asking import asked_list, asked_print
 from mutants.program.calling import Fault
 from mutants.program.finding import add_mothra_option, find_program
 from mutants.program.unproved import remark_on
 from mutants.progress import Progress
 from mutants.statuses import FAULT, SUCCESS
+from mutants.subcommands.check import add_options
 from mutants.texts.jobs import Job, read_job
-from mutants.texts.lines import Mutant
-from mutants.texts.reports import read_report
 from mutants.words import add_mothra_options, asked_words, number_from_1, tell_remarks
 
 # So much of what parallel says of a failure is told.
 LONGEST = 200
-NO_ANSWER = "no answer"
-# What the program says of the source of a job: its printed text and its mutants.
-Known = tuple[list[str], list[Mutant]]
 
 
 def add_words(parser: argparse.ArgumentParser) -> None:
@@ -77,11 +79,11 @@ def add_words(parser: argparse.ArgumentParser) -> None:
     add_mothra_options(parser, "ops", "every", "steps")
 
 
-def run_missing(given: argparse.Namespace, program: str, tasks: list[Task], results: Results, name: str) -> None:
-    """Runs the jobs that have no result yet."""
+def run_missing(given: argparse.Namespace, program: str, tasks: list[Task], results: Results, name: str) -> bool:
+    """Runs the jobs that have no result yet; whether there were some."""
     missing = [task for task in tasks if results.is_missing(task)]
     if not missing:
-        return
+        return False
     if given.sshlogin:
         find_parallel()
     progress, done = Progress(name), [len(tasks) - len(missing)]
@@ -93,34 +95,25 @@ def run_missing(given: argparse.Namespace, program: str, tasks: list[Task], resu
         progress.tell(f"{done[0]} of {len(tasks)}")
 
     words, told = [*results.words, "--workers", "1"], ""
-    texts = [task.text for task in missing if task.text is not None]
+    batched = Batched([task.text for task in missing if task.text is not None], keep)
     try:
         if given.sshlogin:
             # On other machines the word is one that each of them knows.
-            told = run_all(given.mothra or program, words, texts, given.jobs, given.sshlogin, keep)
+            called = given.mothra or program
+            told = run_all(called, words, batched.texts, given.jobs, given.sshlogin, batched.take)
         else:
-            run_here(program, words, texts, given.jobs, keep)
+            run_here(program, words, batched.texts, given.jobs, batched.take)
     finally:
         progress.end()
     if done[0] < len(tasks):
         sys.stderr.write(f"{name}: {len(tasks) - done[0]} jobs have no answer{': ' if told else ''}{told[:LONGEST]}\n")
-
-
-def result_of(task: Task, results: Results) -> Result:
-    text = None if task.text is None else results.text(task)
-    suite = read_job(task.text).suite if task.text else []
-    program = task.program_name
-    if text is None:
-        return Result(task.name, program, suite, None, task.refusal or NO_ANSWER)
-    if not text.startswith("REPORT "):
-        return Result(task.name, program, suite, None, text.splitlines()[0] if text.strip() else NO_ANSWER)
-    return Result(task.name, program, suite, read_report(text))
+    return True
 
 
 def known_of(program: str, text: bytes, words: list[str]) -> Known | None:
-    """What the program says of the source of a job: its printed text and its list; None where it has a fault."""
+    """What the program says of the source of a job; None where it has a fault."""
     try:
-        return asked_print(program, text), asked_list(program, words, text)[1]
+        return Known(asked_print(program, text), asked_list(program, words, text)[1])
     except Fault as fault:
         if not fault.line.startswith("FAULT "):
             raise
@@ -130,10 +123,7 @@ def known_of(program: str, text: bytes, words: list[str]) -> Known | None:
 def known_programs(given: argparse.Namespace, program: str, tasks: list[Task]) -> dict[str, Known]:
     """Of each program of the folder that has no fault: its printed text and its mutants."""
     words = asked_words(given, "ops", "every")
-    first: dict[str, bytes] = {}
-    for task in tasks:
-        if task.text is not None:
-            first.setdefault(task.program_name, task.text)
+    first = {task.program_name: task.made.text(suite=[]).encode() for task in reversed(tasks) if task.made}
     found = {name: known_of(program, text, words) for name, text in first.items()}
     return {name: known for name, known in found.items() if known}
 
@@ -164,33 +154,6 @@ def proof_remarks(tasks: Sequence[Task]) -> list[str]:
     return list(dict.fromkeys(told))
 
 
-def outcomes_of(task: Task, means: Means, results: Results) -> Outcomes:
-    """What the program itself does on each test of a job that has a report; it is asked once, and kept."""
-    lines = results.outcomes(task)
-    if lines is None:
-        lines = asked_outcomes(read_job(task.text or b""), means, None)
-        results.keep_outcomes(task, lines)
-    return Outcomes(lines)
-
-
-def write_pages(
-    out: Path, means: Means, tasks: list[Task], found: list[Result], known: dict[str, Known], results: Results
-) -> None:
-    """The page of each job that has a report, and that of the class, whose title is the name of its folder."""
-    remark = remark_on(means.program)
-    views = {}
-    for task, result in zip(tasks, found):
-        if task.text is None or task.program_name not in known:
-            continue
-        views[task.program_name] = view_of(task, known[task.program_name])
-        if result.report is not None:
-            said = Said(task.shown, task.meant.reasons, task.remarks, task.proofs)
-            outcomes = outcomes_of(task, means, results)
-            text = report_page(read_job(task.text), *known[task.program_name], result.report, remark, outcomes, said)
-            written(results.path(task.name, ".html"), text.encode())
-    written(out / "course.html", course_page(out.resolve().parent.name, found, views, remark).encode())
-
-
 def write_table(out: Path, found: list[Result]) -> None:
     """The table of the class, a row for each job."""
     kept = io.StringIO()
@@ -204,19 +167,51 @@ def write_table(out: Path, found: list[Result]) -> None:
     written(out / "course.csv", kept.getvalue().encode())
 
 
+def write_class(out: Path, suites: Sequence[Suite], known: Mapping[str, Known], remark: str) -> None:
+    """The table and the page of the class, whose title is the name of its folder."""
+    found = [suite.result for suite in suites]
+    write_table(out, found)
+    views = {
+        suite.task.program_name: view_of(suite.task, known[suite.task.program_name])
+        for suite in suites
+        if suite.task.text is not None and suite.task.program_name in known
+    }
+    text = course_page(out.resolve().parent.name, found, views, remark)
+    written(out / "course.html", text.encode("utf-8", "replace"))
+
+
+def told_of(suites: Sequence[Suite], out: Path, remark: str) -> Told:
+    """What is told of the class."""
+    found = [suite.result for suite in suites]
+    names = [each.name for each in reported_of(found)]
+    lines = [f"{len(names)} of {len(found)} with a report: {out / 'course.html'}"]
+    lines += [*proof_remarks([suite.task for suite in suites]), *([remark] if remark else [])]
+    return Told(lines, failed_told(found), names)
+
+
+def made_anew(given: argparse.Namespace, means: Means, tasks: list[Task], results: Results, remark: str) -> Told:
+    """All files of the class but for those that are there as they have to be, and what is told of them."""
+    known, out, asked = known_programs(given, means.program, tasks), given.folder / "out", Asked(means)
+    suites = [suite_of(task, known.get(task.program_name), asked, results) for task in tasks]
+    write_class(out, suites, known, remark)
+    write_pages(suites, known, remark, results)
+    return told_of(suites, out, remark)
+
+
 def run(given: argparse.Namespace, name: str) -> int:
     program = find_program(given.mothra)
+    if suites_folder(given.folder) != given.folder:
+        with_settings(given, given.folder / SUITES, add_options, READING)
     tasks = tasks_in(given.folder, program, wish_of(given), prove_with(given, program))
-    tell_remarks(name, dict.fromkeys(remark for task in tasks for remark in task.remarks))
-    known = known_programs(given, program, tasks)
-    out = given.folder / "out"
-    results = Results(out / "jobs", asked_words(given, "ops", "every", "steps"))
-    run_missing(given, program, tasks, results, name)
-    found = [result_of(task, results) for task in tasks]
-    write_table(out, found)
-    write_pages(out, Means(program, given.steps), tasks, found, known, results)
-    print(f"{len(reported_of(found))} of {len(found)} with a report: {out / 'course.html'}")
-    print("".join(f"{line}\n" for line in [*proof_remarks(tasks), remark_on(program)] if line), end="")
-    failed = failed_told(found)
-    sys.stderr.write(f"{name}: {failed}\n" if failed else "")
-    return FAULT if failed else SUCCESS
+    remarks = [*unread_remarks(given.folder), *(remark for task in tasks for remark in task.remarks)]
+    tell_remarks(name, dict.fromkeys(remarks))
+    results = Results(given.folder / "out" / "jobs", asked_words(given, "ops", "every", "steps"))
+    has_run, remark = run_missing(given, program, tasks, results, name), remark_on(program)
+    kept, digest = KeptClass(given.folder / "out"), digest_of_class(tasks, results, remark)
+    told = None if has_run else kept.told(digest, results)
+    if told is None:
+        told = made_anew(given, Means(program, given.steps), tasks, results, remark)
+        kept.keep(digest, told)
+    sys.stdout.write("".join(f"{line}\n" for line in told.lines))
+    sys.stderr.write(f"{name}: {told.failed}\n" if told.failed else "")
+    return FAULT if told.failed else SUCCESS

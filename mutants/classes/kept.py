@@ -1,0 +1,49 @@
+"""What a call made of a class, kept: where nothing has changed the next call has nothing to make."""
+
+import hashlib
+import json
+from collections.abc import Sequence
+from pathlib import Path
+from typing import NamedTuple
+
+from mutants.caches import tool_digest
+from mutants.classes.folder import Results, Task
+from mutants.files import written
+
+
+class Told(NamedTuple):
+    """What is told of a class: lines, which jobs failed, and the names of those with a page."""
+
+    lines: list[str]
+    failed: str
+    names: list[str]
+
+
+def digest_of_class(tasks: Sequence[Task], results: Results, remark: str) -> str:
+    """The digest of all that the files of a class are made of, beside the answers that are kept."""
+    found = hashlib.sha256(f"{tool_digest()}{remark}".encode())
+    for task in tasks:
+        proofs = sorted(task.proofs.whys.items()), task.proofs.told(), task.proofs.remark
+        said = task.name, task.refusal, task.shown, task.meant, task.remarks, task.expected, proofs
+        found.update(f"{results.key(task)}{said!r}".encode("utf-8", "replace"))
+    return found.hexdigest()
+
+
+class KeptClass:
+    """The table and the page of a class, and beside them the digest of what they were made of and what was told."""
+
+    def __init__(self, out: Path) -> None:
+        self.out, self.path = out, out / "course.key"
+
+    def told(self, digest: str, results: Results) -> Told | None:
+        """What was told of a class with this digest, where all its files are there."""
+        try:
+            kept = json.loads(self.path.read_bytes())
+            told = Told(kept["lines"], kept["failed"], kept["names"])
+        except (OSError, ValueError, KeyError, TypeError):
+            return None
+        files = [self.out / "course.html", self.out / "course.csv", *(results.path(n, ".html") for n in told.names)]
+        return told if kept["digest"] == digest and all(path.exists() for path in files) else None
+
+    def keep(self, digest: str, told: Told) -> None:
+        written(self.path, json.dumps({"digest": digest, **told._asdict()}).encode())
