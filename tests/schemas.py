@@ -8,7 +8,13 @@ from typing import Any
 
 TYPES: dict[str, type] = {"object": dict, "array": list, "string": str, "integer": int}
 WORDS = "type required properties additionalProperties items enum pattern minLength minimum maximum".split()
-SCHEMA = json.loads(Path(__file__).with_name("mutation_report.schema.json").read_text())
+
+
+def schema_of(name: str) -> Any:
+    return json.loads(Path(__file__).with_name(f"{name}.schema.json").read_text())
+
+
+SCHEMA = schema_of("mutation_report")
 
 
 def of_object(value: Mapping[str, Any], schema: Mapping[str, Any], at: str) -> Iterator[str]:

@@ -50,7 +50,7 @@ class Short(Room):
         for tests, words, told in (
             (TWO, [], ""),
             (TWO, [], ""),
-            ("1,2,0\n", [], "Since the last check (93.75 %): 7 mutants newly surviving, 1 test gone.\nNEWLY SURVIVING: "),
+            ("1,2,0\n", [], "(93.75 %): 7 mutants newly surviving, 1 test gone.\nNEWLY SURVIVING: "),
             (TWO, ["--ops", "ROR"], ""),
             (TWO, [], "Since the last check (50.00 %): 7 mutants newly killed, 1 test new.\n"),
         ):

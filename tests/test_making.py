@@ -238,7 +238,7 @@ class Sizes(Room):
         self.assertEqual(made.suite[1], [3, [1, 2, 3], [1, 2, 3, 4], [1, 2], 0])
         self.assertEqual(made.source.shown, SUM)
         for table, told in (
-            (row.replace("1 2 3,", "1 2 3 4,", 1), "tests.csv: row 1: X has 4 elements, and its bounds with --size take 3"),
+            (row.replace("1 2 3,", "4*1,", 1), "tests.csv: row 1: X has 4 elements, and its bounds with --size take 3"),
             (row + row.replace("1 2,0", "3*1,0"), "row 2: LAST has 3 elements, and its bounds with --size take 2"),
             (row.replace("3", "4", 1), "row 1: N is 4, above the 3 of --size"),
         ):
@@ -265,9 +265,10 @@ class Sizes(Room):
         source = "      SUBROUTINE A(X,K,P,Y)\n      INTEGER X(*),Y(N,2)\n      LOGICAL P(N)\n      END\n"
         wish = Wish(sizes={"X": 4, "N": 2})
         made = self.made(source, "1 2,1,T,4*5\n3*7,1,F T,4*5\n", wish)
-        self.assertEqual(made.suite, [[[1, 2, 0, 0], 1, [True, False], [5] * 4], [[7, 7, 7, 0], 1, [False, True], [5] * 4]])
-        told = f"{self.room}/tests.csv: rows with fewer elements than --size gives have 0 or F for those behind: P and X"
-        self.assertEqual(made.remarks, [told])
+        self.assertEqual(made.suite[0], [[1, 2, 0, 0], 1, [True, False], [5] * 4])
+        self.assertEqual(made.suite[1], [[7, 7, 7, 0], 1, [False, True], [5] * 4])
+        told = "rows with fewer elements than --size gives have 0 or F for those behind: P and X"
+        self.assertEqual(made.remarks, [f"{self.room}/tests.csv: {told}"])
         with self.assertRaisesRegex(ValueError, "row 1: Y has 3 elements, and its bounds with --size take 4"):
             self.made(source, "1 2,1,T,3*5\n", wish)
 
@@ -312,8 +313,8 @@ class Tables(Room):
             ("K=I", "I"), ("K=K+I", "IK"), ("IF (I.GT.0) K=1", "I"), ("IF (K.GT.0) K=1", "K"), ("K=1|I=K", ""),
             ("IF (I.GT.0) K=1|I=K", "IK"), ("IF (I.GT.0) THEN|K=1|END IF|I=K", "IK"), ("DO 10 K=1,I|10 CONTINUE", "I"),
             ("DO 10 J=1,I|10 K=1|I=K", "IK"), ("DO 10 J=1,I|10 CONTINUE|K=1|I=K", "I"), ("GO TO 10|K=1|10 I=K", "K"),
-            ("A(I)=K", "IK"), ("A(1)=A(2)", "A"), ("IF (I) 10,10,20|10 K=1|20 I=K", "IK"), ("GO TO (10,10),K|10 K=1", "K"),
-            ("IF (I.GT.0) RETURN|K=1|A(1)=K", "I"),
+            ("A(I)=K", "IK"), ("A(1)=A(2)", "A"), ("IF (I) 10,10,20|10 K=1|20 I=K", "IK"),
+            ("GO TO (10,10),K|10 K=1", "K"), ("IF (I.GT.0) RETURN|K=1|A(1)=K", "I"),
         ):  # fmt: skip
             laid = [f" {each[:2]}   {each[3:]}" if each[0].isdigit() else f"      {each}" for each in body.split("|")]
             source = "\n".join(["      SUBROUTINE S(I,K,A)", "      INTEGER A(2)", *laid, "      END", ""])

@@ -29,7 +29,7 @@ class Refused(Room):
 
     def test_each_option_is_in_the_list_or_refused(self) -> None:
         options = {option[2:] for action in parser_of(check.add_options)._actions for option in action.option_strings}
-        self.assertEqual(options - KEYS, {"sshlogin"})
+        self.assertEqual(options - KEYS, {"sshlogin", "since"})
         self.assertEqual(KEYS - options, set())
 
     def test_files_are_written_in_its_folder_alone(self) -> None:

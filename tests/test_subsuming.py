@@ -44,7 +44,8 @@ class Told(Room):
         out = self.check()[1]
         told = "Where each mutant is left out that is killed whenever another is, it is 66.66 %: 2 of 3 mutants killed."
         has(self, out, told)
-        has(self, (self.folder / "least.html").read_text(), f"<summary>{told}</summary>", "1 survivor, each program once")
+        page = (self.folder / "least.html").read_text()
+        has(self, page, f"<summary>{told}</summary>", "1 survivor, each program once")
 
     def test_sufficient_operators(self) -> None:
         self.assertEqual(codes_in("sufficient"), ["ABS", "AOR", "LCR", "ROR", "UOI"])

@@ -50,7 +50,7 @@ class Within(Room):
         self.assertIn("12 rows of the box I from -1 to 2 and J from 0 to 2 are tried, in order\n", errors)
         has(self, out, "Tried: all 12 rows of the box I from -1 to 2 and J from 0 to 2.\n")
         has(self, out, "that the tests do not kill: 7 killed by a row, 0 proved equivalent, 1 that no row of this box")
-        has(self, out, "There is one survivor on 1 line that no row of this box kills. That is more than a hint", "ROR 1 ")
+        has(self, out, "one survivor on 1 line that no row of this box kills. That is more than a hint", "ROR 1 ")
         self.assertNotIn("no more than that", out)
 
     def test_a_box_that_kills_nothing(self) -> None:
@@ -61,7 +61,7 @@ class Within(Room):
         with mock.patch.object(box.BoxSearch, "try_rows", side_effect=KeyboardInterrupt):
             status, out, _ = self.within("--within", "I=0:1,J=0:1")
         self.assertEqual(status, statuses.INTERRUPTED)
-        has(self, out, "Tried: 0 of the 4 rows", "nothing is said of the others", "that no row killed. No row was tried")
+        has(self, out, "Tried: 0 of the 4 rows", "nothing is said of the others", "no row killed. No row was tried")
 
     def test_words_that_do_not_serve(self) -> None:
         refuses(self, self.within("--within", "I=0:1"), "--within says nothing of J")

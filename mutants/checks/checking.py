@@ -9,11 +9,12 @@ from mutants.checks.batches import batch_text
 from mutants.checks.choice import Choice, choose, lines_changed, lines_within, restricted, totals_of
 from mutants.checks.faults import program_told
 from mutants.checks.outcomes import Difference, asked_outcomes, differences
+from mutants.checks.revisions import bytes_at
 from mutants.checks.running import Means, asked_in_parts
 from mutants.declarations.proving import NO_PROVER, Prover
 from mutants.jobs.expecting import Expected, assert_header
 from mutants.jobs.making import made_of
-from mutants.jobs.sources import Wish
+from mutants.jobs.sources import Wish, source_of
 from mutants.operators import NAMES
 from mutants.pages.declared import NOTHING, Said
 from mutants.pages.frame import joined_words
@@ -41,6 +42,8 @@ class Asked(NamedTuple):
     ranges: list[tuple[int, int]] | None
     old: Path | None
     wish: Wish = Wish()
+    # A revision of git, in the place of the older version.
+    since: str | None = None
 
 
 class Checked(NamedTuple):
@@ -106,11 +109,15 @@ def words_of_ops(asked: Asked) -> list[str]:
 
 def changed_of(program: str, asked: Asked, job: Job, printed: Sequence[str]) -> tuple[set[int], str]:
     """The lines that the older version has not, and why the others are left out."""
-    assert asked.old
-    source = made_of(asked.old, None, asked.wish).source
-    old = printed_of(program, asked.old, Job(source.text, []), source.shown)
+    path = asked.old or asked.program
+    if asked.since is not None:
+        source = source_of(bytes_at(path, asked.since), asked.wish)
+    else:
+        source = made_of(path, None, asked.wish).source
+    old = printed_of(program, path, Job(source.text, []), source.shown)
     lines = lines_changed(job.source, printed, source.text, old)
-    return lines, f"of statements that are the same in {asked.old}"
+    where = str(path) if asked.since is None else f"{path} at {asked.since}"
+    return lines, f"of statements that are the same in {where}"
 
 
 def chosen(program: str, asked: Asked, job: Job, printed: Sequence[str], listed: Sequence[Mutant]) -> Choice:
@@ -118,7 +125,7 @@ def chosen(program: str, asked: Asked, job: Job, printed: Sequence[str], listed:
     choice = choose(listed, None, "")
     if asked.ranges is not None:
         choice = choose(listed, lines_within(job.source, asked.ranges), "of other lines than those of --lines")
-    if asked.old is not None:
+    if asked.old is not None or asked.since is not None:
         more = choose(choice.listed, *changed_of(program, asked, job, printed))
         choice = Choice(more.listed, choice.left_out + more.left_out)
     return choice

@@ -23,7 +23,7 @@ WORST = (SUCCESS, BELOW, UNEXPECTED, FAULT)
 SAID = {BELOW: "BELOW", UNEXPECTED: "NOT AS EXPECTED", FAULT: "FAULT"}
 INDEX = "mutants.html"
 # Options that are of one program.
-OF_ONE = "report json csv junit expect baseline lines changed unit size equivalent".split()
+OF_ONE = "report json csv junit markdown sarif expect baseline lines changed since unit size equivalent".split()
 
 
 class Done(NamedTuple):

@@ -8,8 +8,10 @@ from typing import NamedTuple
 
 from mutants.checks.checking import Checked
 from mutants.exports.junit import junit_text
+from mutants.exports.markdown import markdown_text
 from mutants.exports.mutation_report import mutation_report_text
 from mutants.exports.rows import table_text
+from mutants.exports.sarif import sarif_text
 from mutants.files import written
 from mutants.pages.report import KIND, Outcomes, report_page
 from mutants.texts.report_lines import report_text
@@ -19,13 +21,15 @@ TITLE, TOP = f": {KIND}</title>", 1000
 
 
 class Shown(NamedTuple):
-    """What files are written of: a check, its files, a remark for them, and for each line the tests that come to it."""
+    """What files are written of: a check, its files, a remark for them, for each line the tests that come to it, and
+    what changed, in lines."""
 
     checked: Checked
     program: Path
     tests: Path
     remark: str
     covered: dict[int, str]
+    changes: Sequence[str] = ()
 
 
 class Output(NamedTuple):
@@ -47,6 +51,11 @@ def page_text(shown: Shown) -> str:
 
 def json_text(shown: Shown) -> str:
     return mutation_report_text(shown.checked, shown.covered, shown.program, shown.tests, shown.remark)
+
+
+def markdown_of(shown: Shown) -> str:
+    told = [*shown.changes, *([shown.remark] if shown.remark else [])]
+    return markdown_text(shown.checked, shown.program, told)
 
 
 def read_files(given: argparse.Namespace) -> list[Path]:
@@ -95,6 +104,8 @@ def outputs_of(given: argparse.Namespace) -> list[Output]:
         ("mutants in JSON", given.json, json_text, True),
         ("table of mutants", given.csv, lambda shown: table_text(shown.checked, shown.covered), True),
         ("report of tests", given.junit, lambda s: junit_text(s.checked, s.program, s.remark), False),
+        ("summary in Markdown", given.markdown, markdown_of, False),
+        ("survivors in SARIF", given.sarif, lambda s: sarif_text(s.checked, s.program, s.remark), False),
     ]
     found = [Output(what, path, text, needs) for what, path, text, needs in asked if path]
     assert_free(found, read_files(given))

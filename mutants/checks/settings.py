@@ -17,7 +17,7 @@ from mutants.program.programs import PROGRAMS
 
 AddOptions = Callable[[argparse.ArgumentParser], None]
 # What a file may set, and which of that are files that are written.
-OUTPUTS = ("page", "report", "json", "csv", "junit")
+OUTPUTS = ("page", "report", "json", "csv", "junit", "markdown", "sarif")
 KEYS = frozenset(
     "ops except lines changed unit size expand-tabs equivalent undeclared steps workers jobs no-proofs fail-under"
     " expect show-proved no-page top all baseline".split()

@@ -68,7 +68,8 @@ def start_of(given: argparse.Namespace, name: str) -> Start:
     meant = declared_of(given, made, means)
     remarks = made.remarks + meant.remarks
     tell_remarks(name, remarks)
-    asked = Asked(given.program, given.tests, given.ops, given.without or [], given.lines, given.changed, wish)
+    chosen = given.ops, given.without or [], given.lines, given.changed
+    asked = Asked(given.program, given.tests, *chosen, wish, given.since)
     job = Job(made.source.text, made.suite, meant.names)
     said = Said(made.source.shown, meant.reasons, remarks, titles=made.titles)
     return Start(made, asked, job, said, expected, means, prover)

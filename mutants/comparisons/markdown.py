@@ -17,27 +17,10 @@ from mutants.comparisons.telling import (
     verdicts_text,
 )
 from mutants.pages.frame import plural
+from mutants.texts.markdown import cell, code, table
 
 # So many rows stand unfolded.
 UNFOLDED = 10
-CHARACTERS = str.maketrans({"|": "\\|", "<": "&lt;", "`": "'", "\n": " "})
-
-
-def cell(value: object) -> str:
-    return str(value).translate(CHARACTERS)
-
-
-def code(value: str) -> str:
-    """A text in code; < stays as it is there."""
-    return f"`{value.replace('`', chr(39)).replace('|', chr(92) + '|')}`" if value else ""
-
-
-def row(cells: Iterable[object]) -> str:
-    return f"| {' | '.join(map(str, cells))} |"
-
-
-def table(head: Sequence[str], rows: Iterable[Sequence[object]]) -> list[str]:
-    return [row(head), row("---" for _ in head), *map(row, rows)]
 
 
 def folded(title: str, lines: Sequence[str], rows: int) -> list[str]:

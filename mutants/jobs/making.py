@@ -82,9 +82,9 @@ def with_table(made: Made, path: Path, wish: Wish = Wish(), is_strict: bool = Tr
     if dummies is None:
         return made
     table = told_of(path, lambda: read_table(path, dummies, is_strict, zeros_of(source.text, dummies)))
-    told = table.remarks + told_of(path, lambda: fit(source, table, dummies, wish.sizes)) if wish.sizes else table.remarks
-    more = [f"{path}: {each}" for each in told + ones_told(source, table, dummies)]
-    return Made(source, table, made.remarks + more)
+    fitted = told_of(path, lambda: fit(source, table, dummies, wish.sizes)) if wish.sizes else []
+    told = [*table.remarks, *fitted, *ones_told(source, table, dummies)]
+    return Made(source, table, made.remarks + [f"{path}: {each}" for each in told])
 
 
 def meant_for(

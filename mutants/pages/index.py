@@ -9,7 +9,7 @@ from mutants.texts.reports import Count, score_of
 
 
 class Entry(NamedTuple):
-    """A program: its file, the page of it (no text where there is none), what its mutants come to, and what is wrong."""
+    """A program: its file, its page (no text where there is none), what its mutants come to, and what is wrong."""
 
     program: str
     link: str = ""

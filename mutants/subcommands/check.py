@@ -10,8 +10,9 @@ lines of the program with most survivors; and where the page lies, which is that
 the program, or FILE of --page. --all tells all survivors, with what each changes, what the program itself does on each
 test, and the tests that kill nothing which no other kills.
 
---json, --csv and --junit write the mutants for other programs: in the JSON that Stryker, Infection and PIT share for
-mutation reports, as a table, and as test cases by line.
+--json, --csv, --junit and --sarif write the mutants for other programs: in the JSON that Stryker, Infection and PIT
+share for mutation reports, as a table, as test cases by line, and for the annotations of forges. --markdown writes a
+summary.
 
 A table in CSV may have a column `expect`, with a header that names the other columns. It says what the program has to
 do on the test: the outcome as `mothra exec` writes it, the word RETURNED left out at will and * for any value, such as
@@ -63,12 +64,15 @@ from mutants.words import add_mothra_options, number_from_1, percent, percent_te
 def add_choices(parser: argparse.ArgumentParser) -> None:
     """The options that say which mutants are asked about."""
     ops = read_by(codes_in)
-    parser.add_argument("--ops", metavar="A,B", type=ops, help="these operators alone, in any case; sufficient is a set of five")
+    told = "these operators alone, in any case; sufficient is a set of five"
+    parser.add_argument("--ops", metavar="A,B", type=ops, help=told)
     parser.add_argument("--except", metavar="A,B", type=ops, dest="without", help="all operators but these")
     told = "mutants of the statements on these lines alone, as 10-20,25"
     parser.add_argument("--lines", metavar="A-B", type=read_by(ranges_in), help=told)
     told = "mutants of the statements alone that another version of the program has not"
-    parser.add_argument("--changed", metavar="OLD.f", type=Path, help=told)
+    older = parser.add_mutually_exclusive_group()
+    older.add_argument("--changed", metavar="OLD.f", type=Path, help=told)
+    older.add_argument("--since", metavar="REV", help="the same of the program at a revision of git")
     add_making_options(parser)
 
 
@@ -98,6 +102,8 @@ def add_results(parser: argparse.ArgumentParser) -> None:
         ("json", "all mutants, in the JSON that tools of mutation testing share"),
         ("csv", "a table of all mutants"),
         ("junit", "a report of tests, with a test case for each line that has mutants"),
+        ("markdown", "a summary in Markdown, for a build or a review"),
+        ("sarif", "the survivors in SARIF, which forges show beside the lines"),
     ):
         parser.add_argument(f"--{option}", metavar="FILE", type=Path, help=f"write {told}")
 
@@ -159,7 +165,7 @@ def last_check(start: Start, checked: Checked) -> list[Since]:
     if folder is None or not asked.tests.is_file():
         return []
     files = [asked.program.resolve(), asked.tests.resolve(), checked.report.unit]
-    path = kept_path(folder, [*files, ops_of(asked), asked.ranges, asked.old])
+    path = kept_path(folder, [*files, ops_of(asked), asked.ranges, asked.old, asked.since])
     old = kept_state(path)
     keep(path, bytes_of(state_of(checked)), KEPT)
     found = [since("the last check", old, checked)] if old else []
@@ -182,11 +188,12 @@ def done_of(given: argparse.Namespace, name: str) -> Done:
     changes = changes_of(start, given.baseline, baseline, checked)
     remark = remark_on(start.means.program)
     covered = covering(checked, start.means, name) if any(output.needs_cover for output in outputs) else {}
-    shown = Shown(checked, given.program, given.tests, remark, covered)
+    changed = [line for each in changes for line in each.lines()]
+    shown = Shown(checked, given.program, given.tests, remark, covered, changed)
     more = [*write_outputs(outputs, shown), *status_lines(given, checked)]
     more += end_lines(checked.said.proofs, settings, remark)
     telling = Telling(given.top or TOP, given.all, given.show_proved)
-    told = summary(checked, given.program, more, telling, [line for each in changes for line in each.lines()])
+    told = summary(checked, given.program, more, telling, changed)
     is_lost = baseline is not None and any(each.lost for each in changes)
     status = status_of(given, checked) or (NEWLY_SURVIVING if is_lost else SUCCESS)
     return Done(checked, told, status, None if given.no_page else page_of(given), remark)
