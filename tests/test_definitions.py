@@ -169,7 +169,7 @@ class Texts(unittest.TestCase):
         names = ["IsSum", "HasSum", "is_small", "Place", "small_sum", "Adding", "Law", "unused"]
         self.assertEqual([unit.names for unit in units], [[name] for name in names])
         self.assertEqual(units[0].lines[0], "-- the sum")
-        self.assertEqual([units[0].count(), units[1].count()], [4, 4])
+        self.assertEqual([unit.lines_of_text() for unit in units[:2]], [4, 4])
         self.assertEqual(units[1].start, 10)
 
     def test_reads_families_and_blocks(self) -> None:

@@ -7,6 +7,7 @@ import sys
 from pathlib import Path
 
 from mutants.program.programs import EQUIVALENTS, MOTHRA, Program
+from mutants.program.released import released_path
 from mutants.program.roots import ROOT
 from mutants.program.unproved import find_unproved, is_unproved, said
 
@@ -36,7 +37,8 @@ def named_program(word: str, where: str) -> str:
 
 
 def searched_program(kind: Program, word: str | None, built: Path) -> str | None:
-    """The program of the option's word, of the environment, of the repository, of the path, or an unproved build.
+    """The program of the option's word, of the environment, of the repository, of a release that has one beside the
+    package, of the path, or an unproved build.
 
     That it is an unproved build is told on standard error.
     """
@@ -47,7 +49,7 @@ def searched_program(kind: Program, word: str | None, built: Path) -> str | None
     elif os.access(built, os.X_OK):
         found = str(built)
     else:
-        found = shutil.which(kind.name) or find_unproved(kind.name)
+        found = released_path(kind.name) or shutil.which(kind.name) or find_unproved(kind.name)
     if found and is_unproved(found, kind.name):
         sys.stderr.write(f"{os.path.abspath(found)}: {said(kind.name)}\n")
     return os.path.abspath(found) if found else None

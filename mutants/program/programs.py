@@ -22,7 +22,7 @@ class Program(NamedTuple):
     def help(self) -> str:
         return (
             f"the program {self.name}; else that of the environment's {self.variable}, the one built in the"
-            " repository, or that of the path"
+            " repository or installed with this command, or that of the path"
         )
 
 

@@ -12,6 +12,7 @@ import shlex
 from pathlib import Path
 
 from mutants.program.programs import EQUIVALENTS, MOTHRA, PROGRAMS
+from mutants.program.released import remark_on_release
 from mutants.program.roots import ROOT
 from mutants.program.trying import build
 
@@ -88,8 +89,8 @@ def said(name: str = MOTHRA.name) -> str:
 
 
 def remark_on(program: str) -> str:
-    """One sentence for all that is written with a program: where it is an unproved build. Else no text."""
-    return f"This is of {said()}." if is_unproved(program) else ""
+    """One sentence for all that is written with an unproved build, or with a program of a release. Else no text."""
+    return f"This is of {said()}." if is_unproved(program) else remark_on_release(program)
 
 
 def remark_on_proofs(program: str) -> str:

@@ -7,8 +7,8 @@ exec` writes. STOP, TRAP and ZPUSH are calls of routines of the driver: of STOP 
 the run with a status of its own. A run that takes more than a tenth of a second of the processor has no end, which is a
 line of its own.
 
-With --mutants each mutant of `MOTHRA list` is made too: the statement of its line is replaced by the text of the list. A
-test kills it where its run and that of the program write other lines, and that is compared with the bit of the report.
+With --mutants each mutant of `MOTHRA list` is made too: the statement of its line is replaced by the text of the list.
+A test kills it where its run and that of the program write other lines, which is compared with the bit of the report.
 
 gfortran checks subscripts, the steps of DO, divisors, powers, and sums, differences, products and signs against the
 range of INTEGER. Each unit is compiled three times, with other values for variables that have none, so that a run that

@@ -47,7 +47,7 @@ def table_of(reached: Reached) -> Iterator[str]:
     """The lines of each crate by classes."""
     counts: dict[str, Counter[str]] = {}
     for definition in reached.definitions():
-        count = definition.unit.count()
+        count = definition.unit.lines_of_text()
         for crate in (definition.node.crate, "all"):
             counts.setdefault(crate, Counter()).update({reached.class_of(definition): count})
     yield row(["lines of", *CLASSES, "all"])

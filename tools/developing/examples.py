@@ -121,6 +121,7 @@ def is_shown(text: str, told: str) -> bool:
 def compare_pages(mothra: str) -> Iterator[tuple[str, bool]]:
     with tempfile.TemporaryDirectory() as folder:
         Path(folder, "mothra").symlink_to(Path(mothra).resolve())
+        Path(folder, "mutants").symlink_to(ROOT / "bin" / "mutants")
         path = {**environ, "PATH": f"{folder}:{environ['PATH']}"}
         for page, (command, text) in ((page, pair) for page in PAGES for pair in shown(page)):
             if not command.startswith("tools/against-gfortran"):

@@ -51,7 +51,7 @@ addEventListener("load", () => {
 </script>
 """
 # The pictures: of which page each is, how wide and how high, and the part that is shown.
-SHOTS = {
+SHOTS: dict[str, tuple[str, int, int, str]] = {
     "terminal.png": ("terminal.html", 1000, 620, "body"), "page.png": ("date.html", 1000, 1200, "body"),
     "page-narrow.png": ("date.html", 400, 1500, "body"), "course.png": ("class/out/course.html", 1200, 1100, "body"),
     "matrix.png": ("triangle.html", 1200, 1300, "section[aria-labelledby=matrix]"),
@@ -103,7 +103,7 @@ def faults_of(page: Path, width: int, told: str) -> Iterator[str]:
 
 def output_of(mothra: str, *words: str) -> str:
     """What a subcommand writes, from the top of the repository. One suite of the class cannot be run, and is told."""
-    call = [sys.executable, "-B", str(ROOT / "bin" / "mutants"), words[0], "--mothra", mothra, "--no-proofs", *words[1:]]
+    call = [sys.executable, "-B", str(ROOT / "bin" / "mutants"), *words, "--mothra", mothra, "--no-proofs"]
     ended = subprocess.run(call, cwd=ROOT, capture_output=True, text=True)
     if ended.returncode != SUCCESS and words[0] != "course":
         raise ValueError(f"mutants {' '.join(words)}: {ended.stderr.strip()}")

@@ -167,6 +167,7 @@ def run(given: argparse.Namespace, name: str) -> int:
     with tempfile.TemporaryDirectory() as folder:
         where = (given.keep or Path(folder)).resolve()
         where.mkdir(parents=True, exist_ok=True)
-        is_right = all([try_crate(crate, where, given.jobs, progress) for crate in given.crates or ["mothra", *with_such_tests()]])
+        crates = given.crates or ["mothra", *with_such_tests()]
+        is_right = all([try_crate(crate, where, given.jobs, progress) for crate in crates])
     progress.end()
     return SUCCESS if is_right else FAULT

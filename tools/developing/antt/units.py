@@ -26,7 +26,7 @@ class Unit(NamedTuple):
     start: int
     lines: list[str]
 
-    def count(self) -> int:
+    def lines_of_text(self) -> int:
         """Its lines without the empty ones."""
         return sum(1 for line in self.lines if line.strip())
 
