@@ -296,6 +296,7 @@ def try_crate(crates: Crates, name: str, edits: Sequence[Path], jobs: int) -> li
 def add_words(parser: argparse.ArgumentParser) -> None:
     parser.add_argument("names", metavar="NAME", nargs="*", help="a crate, or an edit as NAME/EDIT; none: all crates")
     parser.add_argument("--gate", action="store_true", help="try the edits of must-fail/ too")
+    parser.add_argument("--all", action="store_true", help="try all edits of all crates, those of must-fail/ too")
     half = len(os.sched_getaffinity(0)) // 2
     parser.add_argument("--jobs", metavar="N", type=int, default=half, help="how many copies side by side")
 
@@ -303,7 +304,7 @@ def add_words(parser: argparse.ArgumentParser) -> None:
 def run(given: argparse.Namespace, name: str) -> int:
     crates = read_crates(ROOT)
     refused: list[bool] = []
-    for crate, edits in wanted_edits(crates, given.names, given.gate).items():
+    for crate, edits in wanted_edits(crates, [] if given.all else given.names, given.gate or given.all).items():
         refused += try_crate(crates, crate, edits, max(given.jobs, 1)) if edits else []
     print(f"{sum(refused)} refused, {len(refused) - sum(refused)} not")
     return SUCCESS if all(refused) else FAULT

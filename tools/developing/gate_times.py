@@ -29,7 +29,7 @@ def task_in(words: list[str], folder: str) -> Task | None:
 
 
 def look(spent: dict[tuple[str, str], tuple[Task, float]], family: set[int]) -> None:
-    """Keeps what each check of a family of processes has taken by itself up to now; children join the family."""
+    """Keeps what each check of a family of processes has taken up to now; children join the family."""
     for pid in sorted(filter(str.isdigit, os.listdir("/proc")), key=int):
         try:
             stat = Path("/proc", pid, "stat").read_text(errors="replace").rpartition(") ")[2].split()
@@ -40,8 +40,9 @@ def look(spent: dict[tuple[str, str], tuple[Task, float]], family: set[int]) -> 
             continue
         if int(stat[1]) in family:
             family.add(int(pid))
-            if task:
-                spent[pid, stat[19]] = task, sum(map(int, stat[11:13])) / TICKS
+            # What a check starts is a part of it, and is in its times once it has ended.
+            if task and stat[1] not in {check for check, _ in spent}:
+                spent[pid, stat[19]] = task, sum(map(int, stat[11:15])) / TICKS
 
 
 def told(spent: dict[tuple[str, str], tuple[Task, float]], clock: float) -> str:
