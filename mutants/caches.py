@@ -3,6 +3,7 @@
 import hashlib
 import os
 from functools import cache
+from itertools import accumulate
 from pathlib import Path
 
 from mutants.files import written
@@ -28,13 +29,16 @@ def caches_folder(kind: str) -> Path | None:
     return Path(caches, "mutants", kind).absolute()
 
 
-def keep(path: Path, data: bytes, most: int) -> None:
-    """Keeps a file, and of its folder so many as are newest. What cannot be kept is made anew another time."""
+def keep(path: Path, data: bytes, most: int, most_bytes: int = 1 << 30) -> None:
+    """Keeps a file, and of its folder so many files and bytes as are newest. What cannot be kept is made anew another
+    time."""
     try:
         path.parent.mkdir(parents=True, exist_ok=True)
         written(path, data)
-        every = sorted(path.parent.iterdir(), key=lambda each: each.stat().st_mtime, reverse=True)
-        for old in every[most:]:
-            old.unlink(missing_ok=True)
+        every = [(each.stat().st_mtime, each.stat().st_size, each) for each in path.parent.iterdir()]
+        ends = accumulate(size for _, size, _ in sorted(every, reverse=True))
+        for place, ((_, _, old), end) in enumerate(zip(sorted(every, reverse=True), ends)):
+            if place >= most or end > most_bytes:
+                old.unlink(missing_ok=True)
     except OSError:
         pass

@@ -2,7 +2,10 @@
 
 import math
 import sys
+import threading
 import time
+from collections.abc import Iterator
+from contextlib import contextmanager
 
 
 class Progress:
@@ -28,6 +31,20 @@ class Progress:
 
 # What takes no longer than so many seconds is not told on the way, but on a terminal; and then so often.
 QUIET, OFTEN = 1.0, 2.0
+
+
+@contextmanager
+def telling(progress: Progress, text: str) -> Iterator[None]:
+    """While it holds, what is done is told: on a terminal at once, else where it takes long."""
+    timer = threading.Timer(0 if progress.is_terminal else QUIET, progress.tell, [text])
+    timer.daemon = True
+    try:
+        if text:
+            timer.start()
+        yield
+    finally:
+        timer.cancel()
+        progress.end()
 
 
 def seconds_text(seconds: float) -> str:

@@ -15,7 +15,7 @@ from mutants.comparisons.comparing import compared
 from mutants.comparisons.reading import read_state
 from mutants.comparisons.summary import comparison_text
 from mutants.declarations.proofs import NO_PROOFS, Proofs, assert_listed, killed_later, proofs_of, wrongly_proved
-from mutants.declarations.proving import NO_PROVER, NOT_FOUND, Prover, asked_proofs
+from mutants.declarations.proving import NO_PROVER, NOT_FOUND, Prover
 from mutants.pages.declared import Said, proved_part
 from mutants.program import finding, unproved
 from mutants.texts.jobs import Job, declared_text
@@ -89,7 +89,7 @@ class Reading(unittest.TestCase):
 
     def test_a_list_that_is_thinned(self) -> None:
         with proving("ROR 1=SAME,ROR 4=SAME,ROR 5=SAME"), running.without_processes():
-            found = asked_proofs(str(PROVER), ["--ops", "ROR", "--every", "3"], Job(LEAST, []))
+            found = Prover(str(PROVER)).found(["--ops", "ROR", "--every", "3"], Job(LEAST, []))
         self.assertEqual([proof.mutant[:3] for proof in found], [("ROR", 1, 1), ("ROR", 2, 4)])
         # A job names a mutant by its number in the whole list.
         self.assertEqual(proofs_of(found).names, ["ROR 1", "ROR 4"])
@@ -290,7 +290,7 @@ class StepsToSpare(Room):
             ([[1, 2, 9999], *long.suite], ["ROR 1"]),
         ):
             with proving(BOTH), running.without_processes():
-                found = asked_proofs(str(PROVER), ["--ops", "ROR"], long._replace(suite=suite))
+                found = Prover(str(PROVER)).found(["--ops", "ROR"], long._replace(suite=suite))
             self.assertEqual(proofs_of(found).names, names)
 
     def test_other_batches_are_asked_only_where_it_matters(self) -> None:
@@ -302,10 +302,10 @@ class StepsToSpare(Room):
             return str(told), int(status)
 
         with mock.patch.object(running.module_of(PROVER), "answer", counted), running.without_processes():
-            for proved, wanted in ((ONE, 1), (BOTH, 3)):
+            for proved, wanted in ((ONE, 1), (BOTH, 4)):
                 calls[0] = 0
                 with proving(proved):
-                    asked_proofs(str(PROVER), [], Job(LEAST, [[1, 2, 40]] * 600))
+                    Prover(str(PROVER)).found([], Job(LEAST, [[1, 2, 40]] * 600))
                 self.assertEqual(calls, [wanted])
 
     def test_a_declared_one_is_not_called_needless(self) -> None:

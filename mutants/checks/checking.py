@@ -21,7 +21,7 @@ from mutants.pages.frame import joined_words
 from mutants.pages.program import statements_by_line
 from mutants.program.asking import asked_list, asked_print
 from mutants.program.calling import Fault
-from mutants.progress import Progress
+from mutants.progress import Progress, telling
 from mutants.texts.jobs import Job
 from mutants.texts.lines import Mutant
 from mutants.texts.reports import Report
@@ -170,12 +170,8 @@ def with_proofs(
     """The job with the mutants declared that are proved equivalent, asked for by these words; and what is said of
     it."""
     progress = Progress(name)
-    if prover.program and progress.is_terminal:
-        progress.tell(f"asking which of {len(listed)} mutants are proved equivalent")
-    try:
+    with telling(progress, f"asking which of {len(listed)} mutants are proved equivalent" if prover.program else ""):
         proofs = prover.proofs(words, job, listed)
-    finally:
-        progress.end()
     declared = [*job.equivalent, *proofs.names]
     return job._replace(equivalent=declared), said._replace(proofs=proofs)
 

@@ -19,8 +19,8 @@ AddOptions = Callable[[argparse.ArgumentParser], None]
 # What a file may set, and which of that are files that are written.
 OUTPUTS = ("page", "report", "json", "csv", "junit", "markdown", "sarif")
 KEYS = frozenset(
-    "ops except lines changed unit size expand-tabs equivalent undeclared steps workers jobs no-proofs fail-under"
-    " expect show-proved no-page top all baseline".split()
+    "ops except lines changed unit size expand-tabs equivalent undeclared steps workers jobs no-proofs anew"
+    " fail-under expect show-proved no-page top all baseline".split()
 ).union(OUTPUTS)
 # What other subcommands than those that check take of it: how a program is read, and what is declared and proved.
 READING = ("tests", "unit", "size", "expand_tabs", "equivalent", "undeclared", "no_proofs", "steps", "workers")

@@ -5,6 +5,7 @@ from collections.abc import Iterable, Sequence
 from typing import NamedTuple
 
 from mutants.checks.batches import batch_text, batches
+from mutants.declarations.kept import answered
 from mutants.declarations.proofs import Proofs, assert_listed, proofs_of
 from mutants.program.calling import Fault, plain_answer, read_as
 from mutants.program.finding import add_equivalents_option, find_equivalents
@@ -22,6 +23,7 @@ NOT_WANTED = "--no-proofs was given"
 
 def add_proofs_switch(parser: argparse.ArgumentParser) -> None:
     parser.add_argument("--no-proofs", action="store_true", help=f"do not ask {NAME} which mutants are equivalent")
+    parser.add_argument("--anew", action="store_true", help=f"ask {NAME} also what it has answered before")
 
 
 def add_proof_options(parser: argparse.ArgumentParser) -> None:
@@ -30,24 +32,10 @@ def add_proof_options(parser: argparse.ArgumentParser) -> None:
     add_proofs_switch(parser)
 
 
-def asked_proofs(program: str, words: Sequence[str], job: Job) -> list[Proof]:
-    """What the program says of a source and its tests, of any number; the words are its options.
-
-    Proofs with steps to spare alone look at the tests. Where these are more than a job takes, each batch of them has to
-    leave the room.
-    """
-    plain = Job(job.source, job.suite)
-    texts = [batch_text(plain, *ends) for ends in batches(plain)]
-    found = asked_of_batch(program, words, texts[0])
-    for text in texts[1:]:
-        if any(proof.has_spare for proof in found):
-            others = set(asked_of_batch(program, words, text))
-            found = [proof for proof in found if proof in others]
-    return found
-
-
-def asked_of_batch(program: str, words: Sequence[str], text: bytes) -> list[Proof]:
-    return read_as(NAME, read_proofs, plain_answer(NAME, program, words, text))[0]
+def with_ops(words: Sequence[str], ops: Iterable[str]) -> list[str]:
+    """The words with these operators in the place of those that they have."""
+    at = words.index("--ops") if "--ops" in words else len(words)
+    return [*words[:at], *words[at + 2 :], "--ops", ",".join(ops)]
 
 
 class Prover(NamedTuple):
@@ -55,6 +43,29 @@ class Prover(NamedTuple):
 
     program: str = ""
     not_asked: str = ""
+    anew: bool = False
+
+    def asked(self, words: Sequence[str], job: bytes) -> list[Proof]:
+        """What the program says of a job; the words are its options."""
+        text = answered(
+            self.program, words, job, lambda: plain_answer(NAME, self.program, words, job), self.anew
+        )
+        return read_as(NAME, read_proofs, text)[0]
+
+    def found(self, words: Sequence[str], job: Job) -> list[Proof]:
+        """What the program says of a source and its tests, of any number.
+
+        Proofs with steps to spare alone look at the tests: so the source is asked about, and then for the tests the
+        operators that have such proofs. Where the tests are more than a job takes, each batch has to leave the room.
+        """
+        every = self.asked(words, batch_text(Job(job.source, [])))
+        ops = list(dict.fromkeys(proof.mutant.op for proof in every if proof.has_spare))
+        if not ops or not job.suite:
+            return every
+        plain = Job(job.source, job.suite)
+        answers = [self.asked(with_ops(words, ops), batch_text(plain, *ends)) for ends in batches(plain)]
+        kept = set(answers[0]).intersection(*answers[1:])
+        return [proof for proof in every if proof.mutant.op not in ops or proof in kept]
 
     def proofs(self, words: Sequence[str], job: Job, listed: Iterable[Mutant]) -> Proofs:
         """What is proved of the mutants of a job, which are those that mothra lists for the same words, but for the
@@ -63,7 +74,7 @@ class Prover(NamedTuple):
         if not self.program:
             return Proofs(declared=declared, not_asked=self.not_asked)
         try:
-            found = asked_proofs(self.program, words, job)
+            found = self.found(words, job)
         except Fault as fault:
             if fault.status == WORDS:
                 raise
@@ -80,4 +91,4 @@ def prover_of(given: argparse.Namespace) -> Prover:
     if given.no_proofs:
         return Prover(not_asked=NOT_WANTED)
     found = find_equivalents(given.equivalents)
-    return Prover(found) if found else Prover(not_asked=NOT_FOUND)
+    return Prover(found, anew=given.anew) if found else Prover(not_asked=NOT_FOUND)

@@ -28,7 +28,7 @@ from developing.robustness.programs import program_of
 from mutants.checks.checking import STEPS, Checked
 from mutants.checks.running import Means
 from mutants.declarations.proofs import assert_listed
-from mutants.declarations.proving import asked_proofs
+from mutants.declarations.proving import Prover
 from mutants.jobs.sources import decoded
 from mutants.pages.frame import plural
 from mutants.program.asking import asked_list, asked_print
@@ -143,7 +143,7 @@ def tried(programs: Programs, case: Case) -> Tried:
     job = json.dumps({"source": case.source}).encode()
     try:
         listed = asked_list(programs.mothra, [], job)[1]
-        proofs = asked_proofs(programs.equivalents, [], Job(case.source, []))
+        proofs = Prover(programs.equivalents, anew=True).found([], Job(case.source, []))
     except Fault as fault:
         return Tried(case, 0, [], 0, refused=str(fault))
     assert_listed(proofs, listed)
