@@ -2,12 +2,18 @@
 
 import io
 import os
+import signal
 import sys
-from collections.abc import Callable
+import threading
+from collections.abc import Callable, Iterator
+from contextlib import contextmanager
+from typing import NoReturn
 
 from mutants.program.calling import Fault
 from mutants.program.finding import NoProgram
-from mutants.statuses import FAULT, INTERRUPTED, SUCCESS
+from mutants.statuses import BY_SIGNAL, FAULT, INTERRUPTED, SUCCESS
+
+SIGNALS = (signal.SIGTERM, signal.SIGHUP)
 
 
 def one_line(fault: BaseException) -> str:
@@ -45,12 +51,33 @@ def leave_closed_pipes() -> None:
             os.dup2(os.open(os.devnull, os.O_WRONLY), stream.fileno())
 
 
+def end_by_signal(number: int, _: object) -> NoReturn:
+    raise SystemExit(BY_SIGNAL + number)
+
+
+@contextmanager
+def ended_by_signals() -> Iterator[None]:
+    """While it holds, what would end this process at once ends it with all that it has begun."""
+    kept: dict[int, object] = {}
+    if threading.current_thread() is threading.main_thread():
+        # What is ignored, as by nohup, stays so.
+        kept = {each: signal.getsignal(each) for each in SIGNALS if signal.getsignal(each) == signal.SIG_DFL}
+    for each in kept:
+        signal.signal(each, end_by_signal)
+    try:
+        yield
+    finally:
+        for each in kept:
+            signal.signal(each, signal.SIG_DFL)
+
+
 def run_tool(name: str, main: Callable[[], int]) -> int:
     """Does it, and gives its exit status. A fault is told on standard error;
-    Ctrl-C and a closed pipe end it without more."""
+    Ctrl-C, SIGTERM, SIGHUP and a closed pipe end it without more."""
     takes_any_text()
     try:
-        return told_status(name, main)
+        with ended_by_signals():
+            return told_status(name, main)
     except BrokenPipeError:
         leave_closed_pipes()
         return FAULT

@@ -1,9 +1,12 @@
 """Files that are written as a whole or not at all."""
 
+import fcntl
 import os
 import stat
 import sys
 import tempfile
+from collections.abc import Iterator
+from contextlib import contextmanager
 from pathlib import Path
 
 # No file that is read as a whole has more bytes.
@@ -45,6 +48,24 @@ def written(path: Path, data: bytes) -> None:
         path.write_bytes(data)
     else:
         replaced(path, data)
+
+
+@contextmanager
+def locked(path: Path) -> Iterator[None]:
+    """Holds a lock beside a file that is read and then written: another call waits for it."""
+    lock = path.with_name(f".{path.name}.lock")
+    while True:
+        handle = os.open(lock, os.O_CREAT | os.O_RDWR | os.O_NOFOLLOW, 0o666)
+        fcntl.flock(handle, fcntl.LOCK_EX)
+        # Who held it before has taken the file away.
+        if lock.exists() and os.path.samestat(lock.stat(), os.fstat(handle)):
+            break
+        os.close(handle)
+    try:
+        yield
+    finally:
+        lock.unlink(missing_ok=True)
+        os.close(handle)
 
 
 def mode_for(path: Path) -> int:

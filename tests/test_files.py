@@ -82,6 +82,16 @@ class Written(Room):
 
 
 class Declared(Room):
+    def test_those_who_declare_at_once_lose_no_entry(self) -> None:
+        words = ["--mothra", STAND_IN, "--reason", "so", self.program]
+        with running.without_processes():
+            copies = [running.Copy("declare", [*words, "ROR", number]) for number in range(1, 8)]
+            ended = [copy.ended() for copy in copies]
+        self.assertEqual([(status, errors) for status, _, errors in ended], [(0, "")] * 7)
+        entries = read_entries((self.folder / "least.equivalent.csv").read_text())
+        self.assertEqual(sorted(entry.name for entry in entries), [f"ROR {number}" for number in range(1, 8)])
+        self.assertEqual(self.names(), ["least.equivalent.csv", "least.f", "tests.csv"])
+
     def test_a_file_of_a_spreadsheet_is_read_and_written(self) -> None:
         path = self.folder / "least.equivalent.csv"
         path.write_bytes(DECLARED.replace("a mistake", "f\u00fcr nichts").replace("\n", "\r\n").encode("latin-1"))

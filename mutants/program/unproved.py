@@ -11,6 +11,7 @@ import os
 import shlex
 from pathlib import Path
 
+from mutants.caches import caches_folder
 from mutants.program.programs import EQUIVALENTS, MOTHRA, PROGRAMS
 from mutants.program.released import remark_on_release
 from mutants.program.roots import ROOT
@@ -37,8 +38,8 @@ exec {program} "$@"
 
 def kept_path(name: str = MOTHRA.name) -> Path:
     """Where the build of a program is called, whether it is there or not: the script that marks it."""
-    caches = os.environ.get("XDG_CACHE_HOME") or Path.home() / ".cache"
-    return Path(caches, "mutants", f"unproved-{name}").absolute()
+    # Below the null device there is nothing.
+    return caches_folder(f"unproved-{name}") or Path(os.devnull, f"unproved-{name}")
 
 
 def binary_path(name: str = MOTHRA.name) -> Path:
@@ -121,6 +122,8 @@ def make(name: str = MOTHRA.name) -> Path:
         raise ValueError("there are no crates beside the package: an unproved build is made in the repository")
     if not (CRATES / name).is_dir():
         raise ValueError(f"{CRATES} has no program {name}")
+    if not caches_folder(name):
+        raise ValueError("this user has no folder for caches: XDG_CACHE_HOME names one")
     kept_path(name).parent.mkdir(parents=True, exist_ok=True)
     remove(name)
     words, wanted = TRIALS[name]

@@ -29,9 +29,9 @@ from mutants.declarations.files import asked_present, path_beside
 from mutants.declarations.proofs import Proofs
 from mutants.declarations.proving import add_proof_options, prover_of
 from mutants.declarations.settling import Present, Settled, entry_for, settled
-from mutants.files import written
+from mutants.files import locked, written
 from mutants.jobs.making import add_reading_options, made_of, told_of, wish_of
-from mutants.jobs.sources import decoded
+from mutants.jobs.sources import Source, decoded
 from mutants.operators import NAMES
 from mutants.pages.frame import joined_words, plural
 from mutants.program.finding import add_mothra_option, find_program
@@ -121,6 +121,26 @@ def told_of_new(new: Sequence[Entry], names: Sequence[Name], found: Settled) -> 
     return f"{plural(len(new), 'mutant')} declared{same}, and {len(found.declared)} before"
 
 
+def renewed_told(path: Path, entries: Sequence[Entry], found: Settled, present: Present) -> str:
+    """Writes the numbers of now; what is told of it."""
+    written(path, entries_text(renewed(entries, found, present)).encode())
+    return f"{len(found.moved)} of {len(entries)} entries with a new number"
+
+
+def declared_told(
+    given: argparse.Namespace, names: Sequence[Name], path: Path, source: Source, found: Settled, present: Present
+) -> str:
+    """Writes the entries of these mutants behind those of the file; what is told of it."""
+    wanted = new_entries(given, names, found, present)
+    proofs = prover_of(given).proofs([], Job(source.text, []), present.listed)
+    new = [entry for entry in wanted if entry.name not in proofs.whys]
+    if new:
+        text = decoded(path.read_bytes()) if path.exists() else ""
+        written(path, appended(text, new).encode())
+    left = told_of_proved([entry for entry in wanted if entry.name in proofs.whys], proofs)
+    return "; ".join(each for each in (told_of_new(new, names, found), left) if each)
+
+
 def run(given: argparse.Namespace, name: str) -> int:
     names = names_in(given.mutants) if given.mutants else []
     if bool(names) == given.renew or names and not (given.reason or "").strip():
@@ -128,24 +148,17 @@ def run(given: argparse.Namespace, name: str) -> int:
     with_settings(given, given.program, add_options, READING)
     made = made_of(given.program, None, wish_of(given))
     path = given.equivalent or path_beside(given.program, made.source.unit)
-    entries = told_of(path, lambda: written_entries(path))
-    # Twins may be of any operator.
-    ops = list(NAMES) if names else sorted({entry.op for entry in entries})
-    with program_told(given.program, made.source.text, made.source.shown):
-        present = asked_present(find_program(given.mothra), ops, made.text().encode())
-    found = settled(entries, present)
-    if given.renew:
-        written(path, entries_text(renewed(entries, found, present)).encode())
-        told = f"{len(found.moved)} of {len(entries)} entries with a new number"
-    else:
-        wanted = new_entries(given, names, found, present)
-        proofs = prover_of(given).proofs([], Job(made.source.text, []), present.listed)
-        new = [entry for entry in wanted if entry.name not in proofs.whys]
-        if new:
-            text = decoded(path.read_bytes()) if path.exists() else ""
-            written(path, appended(text, new).encode())
-        left = told_of_proved([entry for entry in wanted if entry.name in proofs.whys], proofs)
-        told = "; ".join(each for each in (told_of_new(new, names, found), left) if each)
+    program = find_program(given.mothra)
+    with locked(path), program_told(given.program, made.source.text, made.source.shown):
+        entries = told_of(path, lambda: written_entries(path))
+        # Twins may be of any operator.
+        ops = list(NAMES) if names else sorted({entry.op for entry in entries})
+        present = asked_present(program, ops, made.text().encode())
+        found = settled(entries, present)
+        if given.renew:
+            told = renewed_told(path, entries, found, present)
+        else:
+            told = declared_told(given, names, path, made.source, found, present)
     for remark in found.remarks() if not given.renew else [f"{entry.name}: {why}" for entry, why in found.refused]:
         sys.stderr.write(f"{name}: {path}: {remark}\n")
     sys.stdout.write(f"{path}: {told}\n")
