@@ -1,13 +1,16 @@
 """The tool rows: which answers of a table differ. A program that the test writes stands in place of the real one."""
 
-import shutil
-import subprocess
+import argparse
+import contextlib
+import io
 import sys
 import tempfile
 import unittest
 from pathlib import Path
+from unittest.mock import patch
 
-from running import TOOLS
+import running  # noqa: F401
+from developing import rows
 
 TABLE = """\
 # Sums.
@@ -43,25 +46,33 @@ class Rows(unittest.TestCase):
         folder = tempfile.TemporaryDirectory()
         self.addCleanup(folder.cleanup)
         self.top = Path(folder.name)
-        crate = self.top / "crates" / "rows"
-        crate.mkdir(parents=True)
-        (self.top / "tools").mkdir()
-        shutil.copy(TOOLS / "rows", self.top / "tools")
-        (crate / "stdin").write_text(TABLE)
-        self.wanted = crate / "stdout"
+        table, self.wanted = self.top / "stdin", self.top / "stdout"
+        table.write_text(TABLE)
         self.wanted.write_text(ANSWERS)
+        for name, path in ("TABLE", table), ("WANTED", self.wanted):
+            patched = patch.object(rows, name, path)
+            patched.start()
+            self.addCleanup(patched.stop)
 
-    def ended(self, answers: str, *words: str, status: int = 0) -> tuple[int, str]:
-        """The exit status and the output of the tool, where the program writes these answers of the table."""
+    def told(self, program: Path, accept: bool = False) -> tuple[int, str]:
+        """The exit status and the output of the tool with this program; status 2 where it ends with a fault."""
+        given = argparse.Namespace(program=program, unproved=False, accept=accept)
+        with contextlib.redirect_stdout(io.StringIO()) as out:
+            try:
+                status = rows.run(given, "tools/rows")
+            except ValueError as fault:
+                return 2, str(fault)
+        return status, out.getvalue()
+
+    def ended(self, answers: str, accept: bool = False, status: int = 0) -> tuple[int, str]:
+        """The same, where the program writes these answers of the table."""
         program = self.top / "program"
         program.write_text(
             f"#!{sys.executable}\nimport sys\nassert sys.stdin.read() == {TABLE!r}\n"
             f"sys.stdout.write({answers!r})\nsys.exit({status})\n"
         )
         program.chmod(0o755)
-        call = [sys.executable, self.top / "tools" / "rows", "--program", program, *words]
-        done = subprocess.run(call, capture_output=True, text=True)
-        return done.returncode, done.stdout + done.stderr
+        return self.told(program, accept)
 
     def test_the_wanted_answers(self) -> None:
         self.assertEqual(self.ended(ANSWERS), (0, "3 rows, 0 differ\n"))
@@ -82,19 +93,19 @@ class Rows(unittest.TestCase):
 
     def test_answers_are_accepted_once_they_were_told(self) -> None:
         other = ANSWERS.replace("J2", "J3")
-        status, told = self.ended(other, "--accept")
+        status, told = self.ended(other, accept=True)
         self.assertEqual((status, self.wanted.read_text()), (0, other))
         self.assertIn("(line 11)\n-1: FAULT J2\n+1: FAULT J3\n\n3 rows, 1 accepted\n", told)
 
     def test_a_program_that_fails(self) -> None:
-        status, told = self.ended(ANSWERS, "--accept", status=1)
+        status, told = self.ended(ANSWERS, accept=True, status=1)
         self.assertEqual((status, self.wanted.read_text()), (2, ANSWERS))
         self.assertIn("ended with 1", told)
 
     def test_no_program(self) -> None:
-        done = subprocess.run([self.top / "tools" / "rows"], capture_output=True, text=True)
-        self.assertEqual(done.returncode, 2)
-        self.assertIn("rows is not built", done.stderr)
+        status, told = self.told(rows.BUILT.with_name("none"))
+        self.assertEqual(status, 2)
+        self.assertIn("none", told)
 
 
 if __name__ == "__main__":
