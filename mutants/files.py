@@ -88,12 +88,3 @@ def replaced(path: Path, data: bytes) -> None:
     except BaseException:
         os.unlink(part)
         raise
-
-
-def put_between(path: Path, begin: str, end: str, text: str) -> None:
-    """Puts a text between the two lines of a page that stand there for it."""
-    front, begun, rest = path.read_bytes().decode().partition(begin)
-    _, ended, back = rest.partition(end)
-    if not begun or not ended:
-        raise ValueError(f"{path}: it has not the two lines {begin} and {end}")
-    written(path, f"{front}{begin}\n\n{text}\n{end}{back}".encode())

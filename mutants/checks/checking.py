@@ -12,7 +12,7 @@ from mutants.checks.outcomes import Difference, asked_outcomes, differences
 from mutants.checks.revisions import bytes_at
 from mutants.checks.running import Means, asked_in_parts
 from mutants.declarations.proving import NO_PROVER, Prover
-from mutants.jobs.expecting import Expected, assert_header
+from mutants.jobs.expecting import Expected
 from mutants.jobs.making import made_of
 from mutants.jobs.sources import Wish, source_of
 from mutants.operators import NAMES
@@ -184,7 +184,6 @@ def check(
     program, shown = means.program, shown_of(job, said)
     printed = printed_of(program, asked.program, job, shown)
     names = dummies_of(printed)
-    assert_header(expected.header, names, asked.tests)
     totals, listed = listed_of(program, asked, job, shown)
     choice = chosen(program, asked, job, printed, listed)
     outcomes = named(asked.tests, lambda: asked_outcomes(job, means, name))

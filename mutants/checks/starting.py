@@ -37,10 +37,10 @@ class Start(NamedTuple):
 def expected_of(given: argparse.Namespace, made: Made) -> Expected:
     """What is expected of each test: what a file says comes before the column of the table."""
     if not made.table:
-        return Expected(given.tests, [], {})
+        return Expected(given.tests, {})
     column = made.table.others.get(COLUMN.upper(), [])
     texts = {number: "" if text is None else str(text) for number, text in enumerate(column, 1)}
-    table = Expected(given.tests, [], texts)
+    table = Expected(given.tests, texts)
     return expected_in_file(given.expect, len(made.suite)) if given.expect else table
 
 

@@ -4,7 +4,6 @@ A table with such a column has a header, whose other names are those of the dumm
 """
 
 import json
-from collections.abc import Sequence
 from pathlib import Path
 from typing import NamedTuple
 
@@ -14,11 +13,9 @@ COLUMN = "expect"
 
 
 class Expected(NamedTuple):
-    """Where it is from, the header of the table without the column, if it has one,
-    and what is expected by test, from 1."""
+    """Where it is from, and what is expected by test, from 1."""
 
     path: Path
-    header: list[str]
     texts: dict[int, str]
 
 
@@ -41,12 +38,4 @@ def expected_in_file(path: Path, tests: int) -> Expected:
         raise ValueError(f'{path}: it is no list of texts, as ["RETURNED 1 2 1"]')
     if len(texts) != tests:
         raise ValueError(f"{path}: it has {len(texts)} outcomes for {tests} tests")
-    return Expected(path, [], dict(enumerate(texts, 1)))
-
-
-def assert_header(header: Sequence[str], names: Sequence[str], path: Path) -> None:
-    """The columns of a table with a header are the dummy arguments, in order."""
-    if header and list(header) != list(names):
-        raise ValueError(
-            f"{path}: its columns are {','.join(header)}, and the dummy arguments {','.join(names) or 'none'}"
-        )
+    return Expected(path, dict(enumerate(texts, 1)))
