@@ -11,7 +11,8 @@ from unittest import mock
 
 import running
 from mutants import progress
-from mutants.checks import batches, parts
+from mutants.checks import parts
+from mutants.texts import batches
 from mutants.program import calling, many
 from mutants.subcommands import check  # noqa: F401  read once, for all copies of this process
 from mutants.texts.cards import cards_of

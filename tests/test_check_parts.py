@@ -8,9 +8,10 @@ from unittest import mock
 
 import running
 from mutants import progress
-from mutants.checks import batches, parts, running as checks_running
-from mutants.checks.batches import MOST_BYTES, batch_text
+from mutants.checks import parts, running as checks_running
+from mutants.texts import batches
 from mutants.checks.running import Means
+from mutants.texts.batches import MOST_BYTES, batch_text
 from mutants.texts.jobs import Job
 from room import DECLARED, Room
 from running import LEAST, TESTS

@@ -15,9 +15,9 @@ import running
 from mutants import statuses
 from mutants.classes import processes
 from mutants.classes.results import COLUMNS, Result, failed_told
-from mutants.classes.running import answers_in, text_of_answer
 from mutants.program import many
 from mutants.program.calling import Fault
+from mutants.program.parallel import answers_in, text_of_answer
 from running import LEAST, STAND_IN, TESTS, has, refuses, run
 
 GREAT = LEAST.replace("LEAST", "GREAT").replace(".LT.", ".GT.")

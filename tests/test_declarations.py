@@ -11,9 +11,10 @@ from pathlib import Path
 import running
 from mutants.declarations.entries import COLUMNS, Entry, appended, entries_text, read_entries
 from mutants.declarations.files import read_declarations
+from mutants.declarations.said import Said
 from mutants.declarations.settling import Present, entry_for, settled
 from mutants.jobs.making import made_of, meant_for
-from mutants.pages.declared import Said, declared_part
+from mutants.pages.declared import declared_part
 from mutants.pages.report import report_page
 from mutants.subcommands.declare import names_in
 from mutants.texts.jobs import read_job

@@ -80,7 +80,7 @@ class Repository(unittest.TestCase):
     def run_tool(self, *names: str, gate: bool = False) -> tuple[int, list[str]]:
         out = io.StringIO()
         with redirect_stdout(out):
-            status = edits.run(Namespace(names=list(names), gate=gate, jobs=2), "tools/edits")
+            status = edits.run(Namespace(names=list(names), gate=gate, all=False, jobs=2), "tools/edits")
         return status, out.getvalue().splitlines()
 
 

@@ -6,7 +6,7 @@ from unittest import mock
 
 import running
 from mutants.checks import summary
-from mutants.checks.batches import batch_text
+from mutants.texts.batches import batch_text
 from mutants.texts.jobs import Job
 from room import Room
 from running import LEAST, STAND_IN, has, refuses

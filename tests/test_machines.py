@@ -9,10 +9,10 @@ from unittest import mock
 
 import running
 from mutants import statuses
-from mutants.checks import batches
-from mutants.checks.batches import batch_text
+from mutants.texts import batches
 from mutants.checks.machines import parallel_words
 from mutants.program.unproved import MARK
+from mutants.texts.batches import batch_text
 from mutants.texts.jobs import Job
 from room import Room, without_progress
 from running import LEAST, STAND_IN, TESTS, refuses

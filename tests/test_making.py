@@ -9,12 +9,13 @@ from pathlib import Path
 import running
 from mutants.jobs.cells import read_cell
 from mutants.jobs.making import Made, made_of, whole_text
-from mutants.jobs.remarks import hidden_statement, is_statement, remarks_on_text
+from mutants.jobs.remarks import hidden_statement, remarks_on_text
 from mutants.jobs.setting import only_set, zeros_of
 from mutants.jobs.sizes import bounds_of, read_sizes, sized, unsized
-from mutants.jobs.sources import LARGEST, Wish, decoded, is_program
+from mutants.jobs.sources import LARGEST, Wish, is_program
 from mutants.jobs.tables import Table, read_table, titles_of
 from mutants.jobs.units import units_of
+from mutants.texts.decoding import decoded
 from mutants.texts.tabs import without_tabs
 from running import LEAST, STAND_IN, refuses, run
 

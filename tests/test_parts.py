@@ -7,10 +7,10 @@ import unittest
 from collections.abc import Iterable
 
 import running
-from mutants.pages.cover import smallest_set
-from mutants.pages.differences import pieces
-from mutants.texts.cards import cards_of, last_lines
 from mutants.operators import NAMES
+from mutants.pages.cover import smallest_set
+from mutants.texts.cards import cards_of, last_lines
+from mutants.texts.differences import pieces
 from mutants.texts.reports import read_report
 
 

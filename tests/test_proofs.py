@@ -15,8 +15,9 @@ from mutants.comparisons.comparing import compared
 from mutants.comparisons.reading import read_state
 from mutants.comparisons.summary import comparison_text
 from mutants.declarations.proofs import NO_PROOFS, Proofs, assert_listed, killed_later, proofs_of, wrongly_proved
-from mutants.declarations.proving import NO_PROVER, NOT_FOUND, Prover
-from mutants.pages.declared import Said, proved_part
+from mutants.declarations.proving import NOT_FOUND, NO_PROVER, Prover
+from mutants.declarations.said import Said
+from mutants.pages.declared import proved_part
 from mutants.program import finding, unproved
 from mutants.texts.jobs import Job, declared_text
 from mutants.texts.lines import Mutant

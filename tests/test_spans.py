@@ -3,9 +3,9 @@
 import unittest
 
 import running
-from mutants.pages.spans import Places, Span, change_of, placed, squeezed
 from mutants.texts.cards import Card, cards_of
 from mutants.texts.reports import read_report
+from mutants.texts.spans import Places, Span, change_of, placed, squeezed
 
 
 def spliced(card: Card, span: Span, new: str) -> str:

@@ -5,25 +5,25 @@ from collections.abc import Callable, Sequence
 from pathlib import Path
 from typing import NamedTuple, TypeVar
 
-from mutants.checks.batches import batch_text
 from mutants.checks.choice import Choice, choose, lines_changed, lines_within, restricted, totals_of
 from mutants.checks.faults import program_told
 from mutants.checks.outcomes import Difference, asked_outcomes, differences
 from mutants.checks.revisions import bytes_at
 from mutants.checks.running import Means, asked_in_parts
 from mutants.declarations.proving import NO_PROVER, Prover
+from mutants.declarations.said import NOTHING, Said
+from mutants.english import joined_words
 from mutants.jobs.expecting import Expected
 from mutants.jobs.making import made_of
 from mutants.jobs.sources import Wish, source_of
 from mutants.operators import NAMES
-from mutants.pages.declared import NOTHING, Said
-from mutants.pages.frame import joined_words
-from mutants.pages.program import statements_by_line
 from mutants.program.asking import asked_list, asked_print
 from mutants.program.calling import Fault
 from mutants.progress import Progress, telling
+from mutants.texts.batches import batch_text
 from mutants.texts.jobs import Job
 from mutants.texts.lines import Mutant
+from mutants.texts.prints import statements_by_line
 from mutants.texts.reports import Report
 
 # The limit on steps where none is given.

@@ -9,14 +9,15 @@ import re
 from collections.abc import Iterable, Sequence
 from typing import NamedTuple
 
-from mutants.checks.batches import batch_text
 from mutants.checks.checking import Checked
 from mutants.checks.running import Means, asked_in_parts
 from mutants.program.asking import asked_list
 from mutants.program.calling import Fault
+from mutants.texts.batches import batch_text
 from mutants.texts.cards import cards_of
 from mutants.texts.jobs import Job
 from mutants.texts.lines import Mutant
+from mutants.texts.parentheses import commas
 from mutants.texts.reports import Row
 
 TRAP, SAN, AOR = "TRAP", "SAN", "AOR"
@@ -61,12 +62,7 @@ def kill_bits(listed: Iterable[Mutant], rows: Iterable[Row], tests: int) -> dict
 
 def first_parameter(text: str) -> int:
     """How long the first of some expressions is that are joined by commas."""
-    depth = 0
-    for place, character in enumerate(text):
-        depth += {"(": 1, ")": -1}.get(character, 0)
-        if character == "," and depth == 0:
-            return place
-    return len(text)
+    return next(iter(commas(text)), len(text))
 
 
 def watched(told: str) -> Watched | None:

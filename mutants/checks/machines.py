@@ -10,7 +10,10 @@ import tempfile
 import threading
 from collections.abc import Callable, Iterable, Sequence
 
-from mutants.classes.running import (
+from mutants.english import plural
+from mutants.program.calling import Fault, failure_of
+from mutants.program.many import Call, Keep
+from mutants.program.parallel import (
     BEGIN,
     BLOCK,
     END,
@@ -21,9 +24,6 @@ from mutants.classes.running import (
     on_one_line,
     stop,
 )
-from mutants.pages.frame import plural
-from mutants.program.calling import Fault, failure_of
-from mutants.program.many import Call, Keep
 from mutants.statuses import SUCCESS
 
 # So much of what parallel says of a failure is told.

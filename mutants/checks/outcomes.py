@@ -4,13 +4,13 @@ import re
 from collections.abc import Mapping, Sequence
 from typing import NamedTuple
 
-from mutants.checks.batches import batch_text
 from mutants.checks.faults import said_of
 from mutants.checks.running import Means, calls_at_once
 from mutants.pages.suite import values_of
 from mutants.program.calling import Fault
 from mutants.program.many import Call, ask_many
 from mutants.progress import Estimate, Progress
+from mutants.texts.batches import batch_text
 from mutants.texts.jobs import Job
 
 # The outcomes on which a test can be run at all: others are faults of the program itself.

@@ -3,13 +3,13 @@
 from collections.abc import Mapping, Sequence
 from typing import NamedTuple
 
-from mutants.checks.batches import batch_text, batches
 from mutants.checks.faults import told_of_run
 from mutants.checks.machines import ask_machines
 from mutants.checks.parts import Part, group_size, groups_of, parts_of, whole_report
 from mutants.program.calling import Fault, read_as
 from mutants.program.many import Call, ask_many, processors
 from mutants.progress import Estimate, Progress
+from mutants.texts.batches import batch_text, batches
 from mutants.texts.jobs import Job
 from mutants.texts.reports import Report, read_report
 

@@ -7,9 +7,9 @@ from mutants.checks.checking import Asked, Checked, check
 from mutants.checks.running import Means
 from mutants.declarations.files import NONE_MEANT, Meant
 from mutants.declarations.proving import Prover, prover_of
+from mutants.declarations.said import Said
 from mutants.jobs.expecting import COLUMN, Expected, expected_in_file
 from mutants.jobs.making import Made, made_of, meant_for, wish_of
-from mutants.pages.declared import Said
 from mutants.program.calling import Fault
 from mutants.program.finding import find_program
 from mutants.texts.jobs import Job

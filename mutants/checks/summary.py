@@ -7,21 +7,15 @@ from textwrap import wrap
 from typing import NamedTuple
 
 from mutants.checks.checking import Checked
-from mutants.declarations.proofs import (
-    count_of_proved,
-    left_out_text,
-    score_without,
-    wrongly_declared,
-    wrongly_proved,
-)
-from mutants.pages.declared import NO_REASON, Group, groups_of_person, groups_of_proofs, proved_text
-from mutants.pages.frame import joined_words, plural
+from mutants.declarations.proofs import count_of_proved, left_out_text, score_without, wrongly_declared, wrongly_proved
+from mutants.declarations.said import NO_REASON, Group, groups_of_person, groups_of_proofs, proved_text
+from mutants.english import joined_words, plural
 from mutants.pages.report import DISAGREE, by_line, counts_by_line, no_survivor_text
 from mutants.pages.suite import NUMBERS, alone_of, needless_text, titled
-from mutants.pages.spans import change_of
 from mutants.texts.lines import Mutant
 from mutants.texts.ranges import rows_of
 from mutants.texts.reports import score_of, summed
+from mutants.texts.spans import change_of
 from mutants.texts.subsuming import subsuming
 from mutants.texts.twins import count_of_programs, name_of, names_text, twins_in
 

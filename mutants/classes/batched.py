@@ -3,7 +3,7 @@
 import re
 from collections.abc import Callable, Sequence
 
-from mutants.checks.batches import batch_text, batches
+from mutants.texts.batches import batch_text, batches
 from mutants.texts.jobs import read_job
 from mutants.texts.joining import joined_batches
 from mutants.texts.report_lines import report_text

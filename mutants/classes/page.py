@@ -16,7 +16,8 @@ from mutants.classes.results import (
     survivors_in_common,
 )
 from mutants.declarations.proofs import NO_PROOFS, Proofs, count_of_proved
-from mutants.pages.frame import Cell, bar, joined_words, page, plural, remark_part, table, text
+from mutants.english import joined_words, plural
+from mutants.pages.frame import Cell, bar, page, remark_part, table, text
 from mutants.pages.program import program_part
 from mutants.pages.report import by_line, counts_by_line, proofs_part, score_part
 from mutants.pages.suite import least_set_text, values_of

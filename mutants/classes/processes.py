@@ -2,9 +2,9 @@
 
 from collections.abc import Callable, Sequence
 
-from mutants.classes.running import text_of_answer
 from mutants.program.calling import Fault
 from mutants.program.many import Calls, ask_many, processors
+from mutants.program.parallel import text_of_answer
 from mutants.statuses import SUCCESS
 
 

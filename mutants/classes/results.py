@@ -4,8 +4,8 @@ import json
 from collections.abc import Iterable, Mapping, Sequence
 from typing import Any, NamedTuple
 
+from mutants.english import joined_words, plural
 from mutants.pages.cover import smallest_set
-from mutants.pages.frame import joined_words, plural
 from mutants.texts.lines import Mutant
 from mutants.texts.reports import Count, Report, Row, score_of, summed
 

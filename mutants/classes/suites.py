@@ -13,7 +13,7 @@ from mutants.checks.running import Means
 from mutants.classes.batched import OF_TEST
 from mutants.classes.folder import Results, Task
 from mutants.classes.results import NO_CODE, Result
-from mutants.pages.declared import Said
+from mutants.declarations.said import Said
 from mutants.pages.report import Outcomes, report_page
 from mutants.program.calling import Fault
 from mutants.texts.jobs import Job, read_job

@@ -1,6 +1,6 @@
 """A comparison in Markdown, for a review."""
 
-from collections.abc import Iterable, Iterator, Sequence
+from collections.abc import Iterator, Sequence
 
 from mutants.comparisons.comparing import Comparison
 from mutants.comparisons.states import State, Verdict, count_of
@@ -16,7 +16,7 @@ from mutants.comparisons.telling import (
     value_text,
     verdicts_text,
 )
-from mutants.pages.frame import plural
+from mutants.english import plural
 from mutants.texts.markdown import cell, code, table
 
 # So many rows stand unfolded.

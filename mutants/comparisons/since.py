@@ -17,7 +17,7 @@ from mutants.comparisons.comparing import newly_killed, newly_surviving, with_op
 from mutants.comparisons.matching import Matched, matched, tests_matched
 from mutants.comparisons.states import State, Verdict, count_of
 from mutants.comparisons.telling import mutants_text, score_text
-from mutants.pages.frame import plural
+from mutants.english import plural
 from mutants.texts.lines import Mutant
 from mutants.texts.twins import name_of
 

@@ -17,7 +17,7 @@ from mutants.comparisons.telling import (
     value_text,
     verdicts_text,
 )
-from mutants.pages.frame import plural
+from mutants.english import plural
 
 # So many mutants of a line are shown, and so wide is a name at least.
 SHOWN, NAME = 8, 8

@@ -6,7 +6,7 @@ from typing import NamedTuple
 from mutants.checks.summary import changed_text
 from mutants.comparisons.comparing import Change, Comparison, TestChange
 from mutants.comparisons.states import State, Verdict, count_of
-from mutants.pages.frame import joined_words, plural
+from mutants.english import joined_words, plural
 from mutants.pages.suite import shortened
 from mutants.texts.lines import Mutant
 from mutants.texts.reports import score_of

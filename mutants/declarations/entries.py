@@ -12,8 +12,8 @@ from collections.abc import Iterable, Mapping, Sequence
 from pathlib import Path
 from typing import NamedTuple
 
-from mutants.jobs.sources import decoded
 from mutants.operators import NAMES
+from mutants.texts.decoding import decoded
 
 COLUMNS = ["mutant", "before", "after", "reason", "where"]
 # Columns that a file has to have.

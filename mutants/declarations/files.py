@@ -11,10 +11,10 @@ from typing import NamedTuple
 
 from mutants.declarations.entries import Entry, read_entries
 from mutants.declarations.settling import Present, Settled, settled
-from mutants.jobs.sources import decoded
-from mutants.pages.program import statements_by_line
 from mutants.program.asking import asked_list, asked_print
+from mutants.texts.decoding import decoded
 from mutants.texts.jobs import read_job
+from mutants.texts.prints import statements_by_line
 
 BARE = (
     "the bare numbers of {} are not tied to the program: once it changes they mean other mutants"

@@ -4,7 +4,6 @@ import argparse
 from collections.abc import Iterable, Sequence
 from typing import NamedTuple
 
-from mutants.checks.batches import batch_text, batches
 from mutants.declarations.kept import answered
 from mutants.declarations.proofs import Proofs, assert_listed, proofs_of
 from mutants.program.calling import Fault, plain_answer, read_as
@@ -12,6 +11,7 @@ from mutants.program.finding import add_equivalents_option, find_equivalents
 from mutants.program.programs import EQUIVALENTS
 from mutants.program.unproved import remark_on_proofs
 from mutants.statuses import WORDS
+from mutants.texts.batches import batch_text, batches
 from mutants.texts.jobs import Job
 from mutants.texts.lines import Mutant
 from mutants.texts.proofs import Proof, read_proofs

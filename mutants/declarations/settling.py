@@ -8,11 +8,11 @@ on; and the texts stand on as many lines as before. Else the entry is refused.
 
 import hashlib
 from collections import defaultdict
-from collections.abc import Iterable, Mapping, Sequence
+from collections.abc import Mapping, Sequence
 from typing import NamedTuple
 
 from mutants.declarations.entries import Entry
-from mutants.pages.frame import joined_words, plural
+from mutants.english import joined_words, plural
 from mutants.texts.lines import Mutant
 
 # So many moved entries are named, and so many digits stand for the statements on a side.

@@ -5,11 +5,11 @@ import re
 import textwrap
 from collections.abc import Sequence
 
+from mutants.english import joined_words
 from mutants.explanations.marks import places
 from mutants.explanations.meanings import MEANINGS
 from mutants.explanations.spans import Marked
 from mutants.explanations.sweep import Found, all_faults
-from mutants.pages.frame import joined_words
 from mutants.program.calling import call, failure_of
 from mutants.statuses import SUCCESS
 from mutants.texts.cards import source_lines

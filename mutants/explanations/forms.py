@@ -4,8 +4,8 @@ import re
 from collections.abc import Iterator, Sequence
 
 from mutants.explanations.habits import Seen
-from mutants.jobs.sizes import closing
 from mutants.texts.cards import Card, action_at
+from mutants.texts.parentheses import closing
 
 DECLARATION = re.compile(r"(INTEGER|LOGICAL|DIMENSION|DATA)(?=[A-Z])")
 FIRST = re.compile(r"(SUBROUTINE|INTEGER|LOGICAL|DIMENSION)(?=[A-Z])")

@@ -5,10 +5,10 @@ import re
 from collections.abc import Mapping, Sequence
 from typing import Any
 
+from mutants.english import plural
 from mutants.explanations.ends import DEFAULT, end_notes
 from mutants.jobs.cells import is_value
 from mutants.operators import NAMES
-from mutants.pages.frame import plural
 from mutants.program.calling import Fault, answer
 from mutants.texts.cards import cards_of
 from mutants.texts.dummies import Dummy, read_head, read_unit

@@ -3,10 +3,10 @@
 import re
 from collections.abc import Callable, Sequence
 
+from mutants.english import joined_words
 from mutants.explanations.names import called_names, declared_arrays
 from mutants.explanations.spans import (
     KEYWORDS,
-    Mark,
     Marked,
     label_marks,
     label_value,
@@ -16,8 +16,8 @@ from mutants.explanations.spans import (
     whole,
     without_operators,
 )
-from mutants.pages.frame import joined_words
 from mutants.texts.cards import Card, action_at
+from mutants.texts.parentheses import depths
 
 
 def long_name_in(whole_text: str) -> tuple[int, int] | None:
@@ -52,9 +52,7 @@ def large_number(card: Card) -> Marked:
 
 
 def deep_parenthesis(card: Card) -> Marked:
-    depth = 0
-    for at, character in enumerate(card.text):
-        depth += {"(": 1, ")": -1}.get(character, 0)
+    for at, depth in enumerate(depths(card.text)):
         if depth > 40:
             return span(card, at, at + 1), ["Here the 41st parenthesis is opened."]
     return whole(card), []

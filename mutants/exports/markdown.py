@@ -4,7 +4,7 @@ from collections.abc import Iterable, Sequence
 
 from mutants.checks.checking import Checked
 from mutants.checks.summary import changed_text, difference_lines, score_line, score_lines
-from mutants.pages.frame import plural
+from mutants.english import plural
 from mutants.pages.report import by_line, counts_by_line, no_survivor_text
 from mutants.texts.lines import Mutant
 from mutants.texts.markdown import cell, code, table

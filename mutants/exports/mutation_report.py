@@ -10,9 +10,9 @@ from mutants import __version__
 from mutants.checks.checking import Checked
 from mutants.exports.rows import Told, told_of
 from mutants.operators import NAMES
-from mutants.pages.spans import Places, Span, placed
 from mutants.pages.suite import values_of
 from mutants.texts.cards import Place, cards_of, source_lines
+from mutants.texts.spans import Places, Span, placed
 from mutants.texts.tabs import written_column
 from mutants.texts.twins import name_of
 

@@ -13,9 +13,9 @@ from mutants.checks.checking import Checked
 from mutants.checks.summary import changed_text
 from mutants.exports.mutation_report import in_file
 from mutants.operators import NAMES
-from mutants.pages.spans import Places, Span, placed
 from mutants.texts.cards import cards_of, source_lines
 from mutants.texts.lines import Mutant
+from mutants.texts.spans import Places, Span, placed
 from mutants.texts.twins import names_text, twins_in
 
 VERSION, SCHEMA = "2.1.0", "https://json.schemastore.org/sarif-2.1.0.json"

@@ -7,7 +7,7 @@ import json
 from pathlib import Path
 from typing import NamedTuple
 
-from mutants.jobs.sources import decoded
+from mutants.texts.decoding import decoded
 
 COLUMN = "expect"
 

@@ -3,10 +3,10 @@
 from collections.abc import Mapping, Sequence
 from typing import Any
 
+from mutants.english import joined_words
 from mutants.jobs.sizes import Bound, bounds_of
 from mutants.jobs.sources import Source
 from mutants.jobs.tables import Table
-from mutants.pages.frame import joined_words
 from mutants.texts.cards import cards_of
 from mutants.texts.dummies import read_unit
 

@@ -6,9 +6,9 @@ from pathlib import Path
 from typing import NamedTuple
 
 from mutants.declarations.files import NONE_MEANT, Meant, meant_by, read_declarations
+from mutants.declarations.said import Said
 from mutants.jobs.making import made_of, meant_for, whole_text, wish_of
 from mutants.jobs.sources import FREE, SUFFIXES, is_program
-from mutants.pages.declared import Said
 from mutants.program.calling import Fault
 
 MORE = "of a program that is read with options, or with declarations, take PROGRAM.f in place of a job"

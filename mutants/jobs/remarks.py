@@ -3,7 +3,7 @@
 import re
 from collections.abc import Iterator, Sequence
 
-from mutants.pages.frame import joined_words, plural
+from mutants.english import joined_words, plural
 from mutants.texts.cards import is_comment, source_lines
 
 # So many lines are told each by itself, and so many characters of one.

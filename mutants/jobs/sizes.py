@@ -10,6 +10,7 @@ from collections.abc import Iterator, Mapping, Sequence
 from typing import NamedTuple
 
 from mutants.texts.cards import Card, cards_of, is_comment, is_continuation
+from mutants.texts.parentheses import closing, commas
 
 DECLARATION = re.compile(r"(INTEGER|LOGICAL|DIMENSION)(?=[A-Z])(?!FUNCTION[A-Z])")
 ITEM = re.compile(r"([A-Z][A-Z0-9]*)(\()?")
@@ -44,23 +45,9 @@ def read_sizes(word: str) -> dict[str, int]:
     return sizes
 
 
-def closing(text: str, begin: int) -> int:
-    """The place of the parenthesis that closes the one at a place; the end of the text where none does."""
-    depth = 0
-    for at in range(begin, len(text)):
-        depth += {"(": 1, ")": -1}.get(text[at], 0)
-        if depth == 0:
-            return at
-    return len(text)
-
-
 def parts_between(text: str, begin: int, end: int) -> list[tuple[int, int]]:
     """The parts of a list between two places, cut at its commas."""
-    cuts, depth = [begin - 1], 0
-    for at in range(begin, end):
-        depth += {"(": 1, ")": -1}.get(text[at], 0)
-        if depth == 0 and text[at] == ",":
-            cuts.append(at)
+    cuts = [begin - 1, *(begin + at for at in commas(text[begin:end]))]
     return [(front + 1, back) for front, back in zip(cuts, [*cuts[1:], end])]
 
 

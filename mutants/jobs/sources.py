@@ -6,16 +6,16 @@ from pathlib import Path
 from types import MappingProxyType
 from typing import NamedTuple
 
+from mutants.english import joined_words
 from mutants.jobs.remarks import remarks_on_text
 from mutants.jobs.sizes import Bound, names_for, sized, unsized
 from mutants.jobs.units import picked, units_of, with_lines
-from mutants.pages.frame import joined_words
+from mutants.texts.decoding import decoded
 from mutants.texts.tabs import has_tab, without_tabs
 
 # What a source may have, in bytes.
 LARGEST = 65_536
 SUFFIXES = (".f", ".for", ".ftn", ".f77")
-UTF_16 = (b"\xff\xfe", b"\xfe\xff")
 FREE = (".f90", ".f95", ".f03", ".f08")
 
 
@@ -48,18 +48,6 @@ class Source(NamedTuple):
 def is_program(path: Path) -> bool:
     """Whether the name of a file is that of a program in fixed form."""
     return path.suffix.lower() in SUFFIXES
-
-
-def decoded(data: bytes) -> str:
-    """The text of a file. What is no UTF-8 is Latin-1, as comments of old programs are;
-    an end of file of DOS is left out."""
-    if data.startswith(UTF_16):
-        raise ValueError("it is a text in UTF-16: save it in UTF-8")
-    try:
-        text = data.decode("utf-8-sig")
-    except UnicodeDecodeError:
-        text = data.decode("latin-1")
-    return text.rstrip("\x1a") if text.endswith("\x1a") else text
 
 
 def tabs_told(source: str) -> str:

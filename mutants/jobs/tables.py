@@ -9,10 +9,10 @@ from collections.abc import Callable, Iterator, Mapping, Sequence
 from pathlib import Path
 from typing import Any, NamedTuple
 
-from mutants.jobs.cells import LONGEST, TRUTHS, checked_value, is_blank, read_cell
+from mutants.english import joined_words, plural
 from mutants.files import bytes_of
-from mutants.jobs.sources import decoded
-from mutants.pages.frame import joined_words, plural
+from mutants.jobs.cells import LONGEST, TRUTHS, checked_value, is_blank, read_cell
+from mutants.texts.decoding import decoded
 
 NAME = re.compile(r"[A-Za-z][A-Za-z0-9]*")
 # A column that means something beside those of the dummy arguments; and those that name the tests, where one is there.

@@ -3,20 +3,19 @@
 Those that are declared by a proof alone stand apart from those of a person, and are folded.
 """
 
-from collections.abc import Callable, Iterable, Mapping, Sequence
-from types import MappingProxyType
-from typing import NamedTuple
+from collections.abc import Iterable, Mapping, Sequence
 
 from mutants.declarations.proofs import NO_PROOFS, Proofs, wrongly_declared
-from mutants.pages.frame import Cell, joined_words, plural, table, text
+from mutants.declarations.said import NO_REASON, Group, Said, groups_of_person, groups_of_proofs, proved_text
+from mutants.english import joined_words, plural
+from mutants.pages.frame import Cell, table, text
 from mutants.pages.program import difference
 from mutants.texts.lines import Mutant
 from mutants.texts.reports import Row
-from mutants.texts.twins import name_of, names_text, twins_in
+from mutants.texts.twins import name_of, names_text
 
 # So many tests that kill a mutant are named.
 NAMED = 5
-NO_REASON = "no reason is given"
 # What proofs promise, and what those with steps to spare do.
 ALL_TESTS = (
     "No test that a suite may have kills these, and nobody has to think about them: of each it is proved that it"
@@ -28,73 +27,11 @@ STEPS_TO_SPARE = (
 )
 
 
-class Said(NamedTuple):
-    """What is known of a job beside its texts: the source as its file has it, reasons by mutant, what is told, what is
-    proved of its mutants, and the names of its tests, where they have some."""
-
-    shown: str | None = None
-    reasons: Mapping[str, str] = MappingProxyType({})
-    remarks: Sequence[str] = ()
-    proofs: Proofs = NO_PROOFS
-    titles: Sequence[str] = ()
-
-    @property
-    def all_reasons(self) -> dict[str, str]:
-        """The reasons of a person, and of what nobody declares that of its proof."""
-        return {**{name: self.proofs.reason(name) for name in self.proofs.names}, **self.reasons}
-
-
-NOTHING = Said()
-
-
 def killers_text(bits: str) -> str:
     """The tests that kill a mutant, the first few by number."""
     numbers = [number for number, bit in enumerate(bits, 1) if bit == "1"]
     rest = [f"{len(numbers) - NAMED} more"] if len(numbers) > NAMED else []
     return f"test{'s' if len(numbers) > 1 else ''} {joined_words([*numbers[:NAMED], *rest])}"
-
-
-class Group(NamedTuple):
-    """Declared mutants that are one program and have one reason: all of them, and the row of the first."""
-
-    mutants: list[Mutant]
-    row: Row
-    reason: str
-
-
-def declared_groups(
-    listed: Iterable[Mutant], rows: Iterable[Row], reasons: Mapping[str, str], is_meant: Callable[[str], bool]
-) -> list[Group]:
-    """The declared mutants that are meant, in their order, but those first that a test kills; twins of one reason
-    together."""
-    found = {name_of(row): row for row in rows if row.status in "WE" and is_meant(name_of(row))}
-    groups: list[Group] = []
-    for twins in twins_in(mutant for mutant in listed if name_of(mutant) in found):
-        by_reason: dict[str, list[Mutant]] = {}
-        for mutant in twins:
-            by_reason.setdefault(reasons.get(name_of(mutant), ""), []).append(mutant)
-        groups += [Group(alike, found[name_of(alike[0])], reason) for reason, alike in by_reason.items()]
-    return sorted(groups, key=lambda group: group.row.status != "W")
-
-
-def groups_of_person(
-    listed: Iterable[Mutant], rows: Iterable[Row], reasons: Mapping[str, str], proofs: Proofs
-) -> list[Group]:
-    """The mutants that a person declares."""
-    return declared_groups(listed, rows, reasons, lambda name: not proofs.is_alone(name))
-
-
-def groups_of_proofs(listed: Iterable[Mutant], rows: Iterable[Row], said: Said) -> list[Group]:
-    """The mutants that are declared by a proof alone."""
-    return declared_groups(listed, rows, said.all_reasons, said.proofs.is_alone)
-
-
-def proved_text(groups: Iterable[Group], proofs: Proofs) -> str:
-    """How many mutants are proved equivalent, and how many of them with steps to spare."""
-    names = [name_of(mutant) for group in groups for mutant in group.mutants]
-    spare = sum(map(proofs.has_spare, names))
-    some = "" if spare == len(names) else f"{spare} of them "
-    return f"{plural(len(names), 'mutant')} proved equivalent" + (f", {some}with steps to spare" if spare else "")
 
 
 def declared_row(group: Group, statement: str) -> list[Cell]:

@@ -20,16 +20,6 @@ def text(value: object) -> str:
     return escape(shown, quote=True)
 
 
-def plural(count: int, noun: str) -> str:
-    return f"{count} {noun}" if count == 1 else f"{count} {noun}s"
-
-
-def joined_words(words: Iterable[object]) -> str:
-    """Words joined by commas, and "and" before the last."""
-    texts = list(map(str, words))
-    return " and ".join([", ".join(texts[:-1]), texts[-1]] if len(texts) > 1 else texts)
-
-
 def bar(part: int, whole: int, said: str = "") -> str:
     """A bar of which a part is full. What it says is not said again where that stands beside it."""
     share = 100 * part / whole if whole else 0

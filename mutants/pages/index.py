@@ -3,7 +3,8 @@
 from collections.abc import Sequence
 from typing import NamedTuple
 
-from mutants.pages.frame import Cell, bar, page, plural, table, text
+from mutants.english import plural
+from mutants.pages.frame import Cell, bar, page, table, text
 from mutants.pages.report import KIND
 from mutants.texts.reports import Count, score_of
 

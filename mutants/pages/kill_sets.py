@@ -3,7 +3,8 @@
 from collections.abc import Iterable, Sequence
 from itertools import groupby
 
-from mutants.pages.frame import Cell, plural, table
+from mutants.english import plural
+from mutants.pages.frame import Cell, table
 from mutants.texts.ranges import rows_of
 from mutants.texts.reports import Row
 

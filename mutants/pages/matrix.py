@@ -15,9 +15,9 @@ from mutants.operators import NAMES
 from mutants.pages.frame import text
 from mutants.pages.kill_sets import kill_sets_part, numbers_of, ranges_of
 from mutants.pages.pixels import source_of
-from mutants.pages.spans import change_of
 from mutants.texts.lines import Mutant
 from mutants.texts.reports import Row
+from mutants.texts.spans import change_of
 
 # A cell is so wide; so many mutants stand in a panel, and have a number each tenth; so many cells stand in a matrix.
 WIDE, TOGETHER, TENTH, MOST = 4, 80, 10, 400_000

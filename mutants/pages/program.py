@@ -1,28 +1,14 @@
 """The program on a page: each line with its marks, and under each statement its survivors with what they change."""
 
-import re
 from collections.abc import Mapping, Sequence
 from types import MappingProxyType
 
-from mutants.pages.differences import pieces
 from mutants.pages.frame import bar, text
 from mutants.pages.survivors import MARKS, NO_REASONS, declared_part, survivors_part
-from mutants.texts.cards import cards_of, is_comment, last_lines, source_lines
+from mutants.texts.cards import is_comment, last_lines, source_lines
+from mutants.texts.differences import pieces
 from mutants.texts.lines import Mutant
 from mutants.texts.reports import Count
-
-
-def letters(statement: str) -> str:
-    return re.sub("[^A-Z]", "", statement)
-
-
-def statements_by_line(source: str, printed: Sequence[str]) -> dict[int, str]:
-    """The printed text of each statement, by the number of its initial line."""
-    cards = cards_of(source)
-    # Printing changes blanks, parentheses, commas and numbers, and no letter.
-    if [letters(card.text) for card in cards] != [letters(told) for told in printed]:
-        raise ValueError("the printed program and the source of the job have not the same statements")
-    return {card.line: told for card, told in zip(cards, printed)}
 
 
 def difference(old: str, new: str) -> str:

@@ -12,14 +12,17 @@ from mutants.declarations.proofs import (
     wrongly_declared,
     wrongly_proved,
 )
+from mutants.declarations.said import NOTHING, Said
+from mutants.english import joined_words, plural
 from mutants.operators import NAMES
-from mutants.pages.declared import NOTHING, Said, declared_part, proved_part, remarks_part
-from mutants.pages.frame import Cell, bar, joined_words, page, plural, remark_part, sections, table, text
+from mutants.pages.declared import declared_part, proved_part, remarks_part
+from mutants.pages.frame import Cell, bar, page, remark_part, sections, table, text
 from mutants.pages.matrix import matrix_part
-from mutants.pages.program import program_part, statements_by_line
+from mutants.pages.program import program_part
 from mutants.pages.suite import tests_part
 from mutants.texts.jobs import Job
 from mutants.texts.lines import Mutant
+from mutants.texts.prints import statements_by_line
 from mutants.texts.reports import Count, Report, Row, assert_same_mutants, score_of, summed, with_status
 from mutants.texts.subsuming import subsuming
 from mutants.texts.twins import name_of, twins_in

@@ -3,8 +3,9 @@
 import json
 from collections.abc import Iterable, Mapping, Sequence
 
+from mutants.english import joined_words, plural
 from mutants.pages.cover import smallest_set
-from mutants.pages.frame import Cell, bar, joined_words, plural, table, text
+from mutants.pages.frame import Cell, bar, table, text
 from mutants.texts.reports import Row
 from mutants.texts.twins import names_text
 

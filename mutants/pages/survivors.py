@@ -8,9 +8,10 @@ from collections.abc import Iterable, Mapping, Sequence
 from functools import lru_cache
 from types import MappingProxyType
 
+from mutants.english import joined_words, plural
 from mutants.operators import NAMES
-from mutants.pages.differences import WORD, pieces
-from mutants.pages.frame import joined_words, plural, text
+from mutants.pages.frame import text
+from mutants.texts.differences import WORD, pieces
 from mutants.texts.lines import Mutant
 from mutants.texts.twins import name_of, names_text, twins_in
 

@@ -18,16 +18,16 @@ from mutants.checks.checking import dummies_of, printed_of
 from mutants.checks.outcomes import asked_outcomes, differences
 from mutants.checks.running import Means
 from mutants.checks.settings import READING, assert_tests, with_settings
+from mutants.english import plural
 from mutants.files import written
 from mutants.jobs.approving import filled
 from mutants.jobs.making import Made, add_reading_options, made_of, wish_of
-from mutants.jobs.sources import decoded
 from mutants.jobs.tables import EXPECT
-from mutants.pages.frame import plural
 from mutants.pages.suite import titled
 from mutants.program.finding import add_mothra_option, find_program
 from mutants.statuses import SUCCESS, UNEXPECTED
 from mutants.subcommands.check import add_options
+from mutants.texts.decoding import decoded
 from mutants.texts.jobs import Job
 from mutants.words import add_mothra_options, tell_remarks
 

@@ -41,8 +41,6 @@ from mutants.caches import caches_folder, keep
 from mutants.checks.checking import Checked, ops_of
 from mutants.checks.choice import ranges_in
 from mutants.checks.coverage import covering
-from mutants.checks.folder import Done, Folder, assert_for_many
-from mutants.checks.outputs import Shown, outputs_of, page_of, write_outputs
 from mutants.checks.settings import assert_tests, with_settings
 from mutants.checks.starting import Start, start_of
 from mutants.checks.summary import TOP, Telling, summary
@@ -52,6 +50,8 @@ from mutants.comparisons.since import KEPT, Since, bytes_of, kept_path, kept_sta
 from mutants.comparisons.states import State
 from mutants.declarations.proofs import Proofs
 from mutants.declarations.proving import add_proofs_switch
+from mutants.exports.folder import Done, Folder, assert_for_many
+from mutants.exports.outputs import Shown, outputs_of, page_of, write_outputs
 from mutants.jobs.making import add_making_options
 from mutants.operators import codes_in
 from mutants.program.finding import add_equivalents_option, add_mothra_option

@@ -47,21 +47,21 @@ from mutants.classes.kept import KeptClass, Told, digest_of_class
 from mutants.classes.page import View, course_page
 from mutants.classes.processes import run_here
 from mutants.classes.results import COLUMNS, Result, csv_row, failed_told, only_here, reported_of
-from mutants.classes.running import find_parallel, run_all
 from mutants.classes.suites import Asked, Known, Suite, suite_of, write_pages
 from mutants.declarations.proofs import NO_PROOFS, Proofs
 from mutants.declarations.proving import add_proof_options, prover_of
 from mutants.files import written
 from mutants.jobs.making import add_reading_options, wish_of
-from mutants.pages.program import statements_by_line
 from mutants.program.asking import asked_list, asked_print
 from mutants.program.calling import Fault
 from mutants.program.finding import add_mothra_option, find_program
+from mutants.program.parallel import find_parallel, run_all
 from mutants.program.unproved import remark_on
 from mutants.progress import Progress
 from mutants.statuses import FAULT, SUCCESS
 from mutants.subcommands.check import add_options
 from mutants.texts.jobs import Job, read_job
+from mutants.texts.prints import statements_by_line
 from mutants.words import add_mothra_options, asked_words, number_from_1, tell_remarks
 
 # So much of what parallel says of a failure is told.

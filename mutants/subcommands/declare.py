@@ -29,14 +29,15 @@ from mutants.declarations.files import asked_present, path_beside
 from mutants.declarations.proofs import Proofs
 from mutants.declarations.proving import add_proof_options, prover_of
 from mutants.declarations.settling import Present, Settled, entry_for, settled
+from mutants.english import joined_words, plural
 from mutants.files import locked, written
 from mutants.jobs.making import add_reading_options, made_of, told_of, wish_of
-from mutants.jobs.sources import Source, decoded
+from mutants.jobs.sources import Source
 from mutants.operators import NAMES
-from mutants.pages.frame import joined_words, plural
 from mutants.program.finding import add_mothra_option, find_program
 from mutants.statuses import SUCCESS
 from mutants.subcommands.check import add_options
+from mutants.texts.decoding import decoded
 from mutants.texts.jobs import Job
 from mutants.texts.lines import Mutant
 from mutants.texts.twins import name_of, others_by_name

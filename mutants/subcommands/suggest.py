@@ -27,13 +27,13 @@ import sys
 from pathlib import Path
 
 from mutants.checks.checking import Checked, dummies_of
-from mutants.checks.outputs import Output, assert_free
 from mutants.checks.settings import assert_tests, with_settings
 from mutants.checks.starting import start_of
 from mutants.declarations.proving import add_proof_options
+from mutants.english import plural
+from mutants.exports.outputs import Output, assert_free
 from mutants.files import written
 from mutants.jobs.tables import Table
-from mutants.pages.frame import plural
 from mutants.program.finding import add_mothra_option
 from mutants.program.unproved import remark_on
 from mutants.statuses import INTERRUPTED, SUCCESS

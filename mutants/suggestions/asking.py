@@ -3,7 +3,6 @@
 import re
 from collections.abc import Mapping, Sequence
 
-from mutants.checks.batches import batch_text, batches
 from mutants.checks.checking import STEPS, Checked
 from mutants.checks.running import Means, words_of
 from mutants.program.calling import Fault, answer, read_as
@@ -11,6 +10,7 @@ from mutants.program.many import processors
 from mutants.suggestions.clock import Clock
 from mutants.suggestions.failing import guarded, more_steps
 from mutants.suggestions.shapes import Row, test_of
+from mutants.texts.batches import batch_text, batches
 from mutants.texts.jobs import Job
 from mutants.texts.lines import Mutant
 from mutants.texts.reports import Report, read_report

@@ -9,8 +9,8 @@ from collections.abc import Iterator, Mapping, Sequence
 from itertools import islice, product
 from typing import Any, NamedTuple
 
+from mutants.english import joined_words
 from mutants.jobs.setting import zeros_of
-from mutants.pages.frame import joined_words
 from mutants.suggestions.aims import place_of
 from mutants.suggestions.rounds import SIZE, Search, Tell
 from mutants.suggestions.shapes import Range, Row, Scalar, Value

@@ -7,9 +7,9 @@ from collections.abc import Collection, Sequence
 from pathlib import Path
 from typing import NamedTuple
 
-from mutants.jobs.sources import decoded
 from mutants.jobs.tables import Table
 from mutants.suggestions.shapes import Row, Scalar, Value, items_of, test_of
+from mutants.texts.decoding import decoded
 
 
 class Layout(NamedTuple):

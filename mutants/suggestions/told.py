@@ -8,7 +8,7 @@ from textwrap import wrap
 from mutants.checks.checking import dummies_of
 from mutants.checks.summary import WIDTH, difference_lines, line_lines, ranges_text, score_line, wrong_lines
 from mutants.declarations.proofs import count_of_proved, killed_later
-from mutants.pages.frame import joined_words, plural
+from mutants.english import joined_words, plural
 from mutants.pages.report import by_line
 from mutants.suggestions.aims import Aim, kept_lines
 from mutants.suggestions.box import BoxSearch

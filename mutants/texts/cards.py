@@ -2,6 +2,8 @@
 
 from typing import NamedTuple
 
+from mutants.texts.parentheses import closing
+
 # The line and the column of a character, both from 1.
 Place = tuple[int, int]
 
@@ -74,12 +76,8 @@ def action_at(text: str) -> int:
     """Where the statement in a logical IF begins, and 0 of another statement."""
     if not text.startswith("IF("):
         return 0
-    depth = 0
-    for at, character in enumerate(text):
-        depth += {"(": 1, ")": -1}.get(character, 0)
-        if depth == 0 and character == ")":
-            return 0 if text[at + 1 : at + 2] in ("", "=") else at + 1
-    return 0
+    end = closing(text, len("IF"))
+    return 0 if text[end + 1 : end + 2] in ("", "=") else end + 1
 
 
 def lines_of(label: str, text: str) -> list[str]:

@@ -1,5 +1,9 @@
 """Printed programs: what `mothra print` writes."""
 
+import re
+from collections.abc import Sequence
+
+from mutants.texts.cards import cards_of
 from mutants.texts.lines import lines_of_text
 
 
@@ -14,3 +18,16 @@ def read_print(text: str) -> list[str]:
     if statements[-1] != "END":
         raise ValueError("the printed program is cut short: its last line is not END")
     return statements
+
+
+def letters(statement: str) -> str:
+    return re.sub("[^A-Z]", "", statement)
+
+
+def statements_by_line(source: str, printed: Sequence[str]) -> dict[int, str]:
+    """The printed text of each statement, by the number of its initial line."""
+    cards = cards_of(source)
+    # Printing changes blanks, parentheses, commas and numbers, and no letter.
+    if [letters(card.text) for card in cards] != [letters(told) for told in printed]:
+        raise ValueError("the printed program and the source of the job have not the same statements")
+    return {card.line: told for card, told in zip(cards, printed)}

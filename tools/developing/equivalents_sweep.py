@@ -16,7 +16,7 @@ the source of a made program below it. The exit status is 1 where there is one.
 import argparse
 import json
 from collections import Counter
-from collections.abc import Iterable, Iterator, Sequence
+from collections.abc import Iterator, Sequence
 from concurrent.futures import ThreadPoolExecutor
 from functools import partial
 from pathlib import Path
@@ -29,8 +29,7 @@ from mutants.checks.checking import STEPS, Checked
 from mutants.checks.running import Means
 from mutants.declarations.proofs import assert_listed
 from mutants.declarations.proving import Prover
-from mutants.jobs.sources import decoded
-from mutants.pages.frame import plural
+from mutants.english import plural
 from mutants.program.asking import asked_list, asked_print
 from mutants.program.calling import Fault
 from mutants.program.many import processors
@@ -41,6 +40,7 @@ from mutants.suggestions.asking import Asker
 from mutants.suggestions.clock import Clock
 from mutants.suggestions.shapes import Row, test_of
 from mutants.suggestions.values import constants_of
+from mutants.texts.decoding import decoded
 from mutants.texts.dummies import read_unit
 from mutants.texts.jobs import Job
 from mutants.texts.proofs import Proof, spare_of

@@ -4,8 +4,9 @@ from collections.abc import Sequence
 from difflib import SequenceMatcher
 from typing import NamedTuple
 
-from mutants.pages.differences import WORD, common_front
 from mutants.texts.cards import Card, Place
+from mutants.texts.differences import WORD, common_front
+from mutants.texts.parentheses import depths
 
 
 class Change(NamedTuple):
@@ -26,15 +27,14 @@ class Span(NamedTuple):
 
 def operand_before(words: Sequence[str]) -> int:
     """How many words at the end of these are an operand: a name, a number, or what is in parentheses and its name."""
-    depth = count = 0
-    for word in reversed(words):
-        depth += {")": 1, "(": -1}.get(word, 0)
-        if depth < 0 or depth == 0 and not (word.isalnum() or word == "("):
+    backwards = words[::-1]
+    for count, (word, depth) in enumerate(zip(backwards, depths(backwards))):
+        # Read backwards a parenthesis that closes comes first, so what is open is counted below 0.
+        if depth > 0 or depth == 0 and not (word.isalnum() or word == "("):
             return count
-        count += 1
         if depth == 0 and word.isalnum():
-            return count
-    return count
+            return count + 1
+    return len(words)
 
 
 def widened(olds: Sequence[str], front: int, back: int) -> tuple[int, int]:
@@ -47,12 +47,9 @@ def widened(olds: Sequence[str], front: int, back: int) -> tuple[int, int]:
 
 def depths_of(words: Sequence[str]) -> tuple[int, int]:
     """How many parentheses words leave open, and how many they close that they have not opened."""
-    open_now = closed = 0
-    for word in words:
-        open_now += {"(": 1, ")": -1}.get(word, 0)
-        if open_now < 0:
-            open_now, closed = 0, closed + 1
-    return open_now, closed
+    behind = [0, *depths(words)]
+    closed = -min(behind)
+    return behind[-1] + closed, closed
 
 
 def balanced(olds: Sequence[str], front: int, back: int) -> tuple[int, int]:

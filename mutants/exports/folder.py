@@ -9,10 +9,10 @@ from typing import NamedTuple
 from urllib.parse import quote
 
 from mutants.checks.checking import Checked
-from mutants.checks.outputs import assert_made_here
 from mutants.checks.sections import INI, TOML, Sections, file_in, read_sections
 from mutants.checks.summary import score_line
 from mutants.ending import one_line
+from mutants.exports.outputs import assert_made_here
 from mutants.files import written
 from mutants.pages.index import Entry, index_page
 from mutants.statuses import BELOW, FAULT, MEANINGS, SUCCESS, UNEXPECTED

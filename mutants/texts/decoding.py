@@ -1,0 +1,15 @@
+"""The text of a source or a table, of the bytes of its file."""
+
+UTF_16 = (b"\xff\xfe", b"\xfe\xff")
+
+
+def decoded(data: bytes) -> str:
+    """The text of a file. What is no UTF-8 is Latin-1, as comments of old programs are;
+    an end of file of DOS is left out."""
+    if data.startswith(UTF_16):
+        raise ValueError("it is a text in UTF-16: save it in UTF-8")
+    try:
+        text = data.decode("utf-8-sig")
+    except UnicodeDecodeError:
+        text = data.decode("latin-1")
+    return text.rstrip("\x1a") if text.endswith("\x1a") else text
