@@ -3,7 +3,7 @@
 import argparse
 import copy
 import os
-from collections.abc import Callable, Iterator
+from collections.abc import Callable, Iterator, Sequence
 from pathlib import Path
 from typing import NamedTuple
 from urllib.parse import quote
@@ -27,13 +27,15 @@ OF_ONE = "report json csv junit markdown sarif expect baseline lines changed sin
 
 
 class Done(NamedTuple):
-    """What came of the check of a program: its text, its status, where its page lies, and a remark on the build."""
+    """What came of the check of a program: its text, its status, where its page lies, a remark on the build, and what
+    changed, in lines."""
 
     checked: Checked
     text: str
     status: int
     page: Path | None
     remark: str
+    changes: Sequence[str]
 
 
 Check = Callable[[argparse.Namespace, str], Done]
@@ -96,6 +98,7 @@ class Folder:
             self.note(entry_of(shown, self.folder, done), done.status)
             self.remark = done.remark
             yield f"{shown}: {score_line(done.checked)}{f' {SAID[done.status]}.' if done.status else ''}"
+            yield from (f"  {line}" for line in done.changes)
 
     def write_page(self) -> None:
         written(self.page, index_page(self.entries, self.remark).encode())

@@ -196,7 +196,7 @@ def done_of(given: argparse.Namespace, name: str) -> Done:
     told = summary(checked, given.program, more, telling, changed)
     is_lost = baseline is not None and any(each.lost for each in changes)
     status = status_of(given, checked) or (NEWLY_SURVIVING if is_lost else SUCCESS)
-    return Done(checked, told, status, None if given.no_page else page_of(given), remark)
+    return Done(checked, told, status, None if given.no_page else page_of(given), remark, changed)
 
 
 def check_folder(given: argparse.Namespace, name: str) -> int:

@@ -94,10 +94,10 @@ def explanation(line: str, words: list[str], asked: Given, program: str | None, 
 
 def run(given: argparse.Namespace, name: str) -> int:
     find = cache(lambda: find_program(given.mothra))
-    tests, rest = given_words(given)
+    given.tests, rest = given_words(given)
     if is_program(given.job):
         with_settings(given, given.job, add_options, READING)
-    asked = job_to_tell(given, given.job, tests, find)
+    asked = job_to_tell(given, given.job, given.tests, find)
     tell_remarks(name, asked.warnings)
     line, words = told_line(rest), rest or ["run"]
     is_asked = line is None
