@@ -3,13 +3,6 @@
 use f77_check::{Action, Condition, Element, Jump, Number, Resolved};
 use std::test::Fail;
 
-#[cycle(shown)]
-fn show_pair(text: &mut String, left: &Number, right: &Number) -> Result<(), Fail> {
-    show_number(text, left)?;
-    text.push(',')?;
-    show_number(text, right)
-}
-
 /// A variable as its slot, an array element as its first slot, its bounds and its subscripts.
 #[cycle(shown)]
 fn show_element(text: &mut String, element: &Element) -> Result<(), Fail> {
@@ -31,7 +24,9 @@ fn show_element(text: &mut String, element: &Element) -> Result<(), Fail> {
             column,
         } => {
             write!(text, "@{first}:{rows}x{columns}[")?;
-            show_pair(text, row, column)?;
+            show_number(text, row)?;
+            text.push(',')?;
+            show_number(text, column)?;
         }
     }
     Ok(text.push(']')?)
@@ -55,7 +50,9 @@ fn show_number(text: &mut String, number: &Number) -> Result<(), Fail> {
         Number::ZeroPush(inner) => show_of(text, "ZeroPush(", inner),
         Number::Binary(operation, left, right) => {
             write!(text, "{operation:?}(")?;
-            show_pair(text, left, right)?;
+            show_number(text, left)?;
+            text.push(',')?;
+            show_number(text, right)?;
             Ok(text.push(')')?)
         }
     }
@@ -71,7 +68,9 @@ fn show_condition(text: &mut String, condition: &Condition) -> Result<(), Fail> 
         }
         Condition::Related(relation, left, right) => {
             write!(text, "{relation:?}(")?;
-            show_pair(text, left, right)?;
+            show_number(text, left)?;
+            text.push(',')?;
+            show_number(text, right)?;
         }
         Condition::Connected(connective, left, right) => {
             write!(text, "{connective:?}(")?;
