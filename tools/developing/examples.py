@@ -3,22 +3,24 @@
     tools/examples MOTHRA
 
 A suite examples/NAME.suite.json or examples/NAME.csv is of the program examples/NAME.f, or of that whose name stands
-before a hyphen. Five things are compared:
+before a hyphen. Six things are compared:
 
 - examples/NAME.json with the job that `mutants job` makes of program and suite, and of the mutants that
   examples/NAME.equivalent.csv declares, where that is there;
 - examples/NAME.report with what `MOTHRA run` writes for that job, with no option;
 - the same report, and its score, with what `mutants check` joins and tells of program and suite;
+- the programs, suites and reports of examples in the rows of crates/rows with the files;
 - what README.md and the pages for users show behind each line `$ COMMAND` of a block ```console with what the command
   writes, run from the top of the repository with MOTHRA as `mothra`. A line `...` stands for any lines.
   tools/against-gfortran is not run;
 - the fault of each example of a habit, in mutants/explanations/habits.txt, with the one that MOTHRA tells.
 
 There is one line for each thing that is not the same. The last line counts both, and the exit status is 1 where there
-is one. It tests what the tests of the crates cannot, since those read no files.
+is one. It tests what the tests and the rows of the crates cannot, since those read no files.
 """
 
 import argparse
+import json
 import re
 import subprocess
 import sys
@@ -37,7 +39,9 @@ from mutants.statuses import FAULT, SUCCESS
 from mutants.texts.reports import read_report, score_of, summed
 from mutants.words import whole_path
 
+ROWS = [ROOT / "crates" / "rows" / name for name in ("stdin", "stdout")]
 PAGES = ["README.md", "docs/GUIDE.md", "docs/HANDOUT.md", "docs/REFERENCE.md", "docs/RESULTS.md"]
+IN_ROWS = "triangle.f triangle.suite.json triangle-more.suite.json euclid.f euclid.suite.json euclid.report".split()
 # The desk calculator takes minutes of a processor, and others may use it too.
 SECONDS = 1800
 
@@ -104,6 +108,20 @@ def compare_habits(mothra: str) -> Iterator[tuple[str, bool]]:
             yield f"{name}: {' | '.join(example.lines)}", told == example.fault
 
 
+def as_in_rows(path: Path) -> str:
+    """A file as the rows have it: a suite in one line, and an answer with its status before its lines."""
+    text = path.read_text().rstrip("\n")
+    if path.suffix == ".json":
+        return json.dumps(json.loads(text), separators=(",", ":"))
+    return "0: " + text.replace("\n", "\n   ") if path.suffix == ".report" else text
+
+
+def compare_rows() -> Iterator[tuple[str, bool]]:
+    rows = "".join(path.read_text() for path in ROWS)
+    for name in IN_ROWS:
+        yield f"examples/{name} in crates/rows", as_in_rows(ROOT / "examples" / name) in rows
+
+
 def shown(page: str) -> Iterator[tuple[str, str]]:
     """The commands that a page shows, each with the text behind it."""
     for block in re.findall(r"^```console\n(.*?)^```", (ROOT / page).read_text(), re.M | re.S):
@@ -135,7 +153,7 @@ def add_words(parser: argparse.ArgumentParser) -> None:
 def run(given: argparse.Namespace, name: str) -> int:
     same = differ = 0
     mothra = given.mothra
-    stored = (compare_habits(mothra), compare_files(mothra), compare_checks(mothra))
+    stored = (compare_habits(mothra), compare_files(mothra), compare_checks(mothra), compare_rows())
     for compare in (*stored, compare_pages(mothra)):
         for what, is_same in compare:
             same += is_same

@@ -1,58 +1,7 @@
-//! Readers and writers that move one byte a call, and fail or end.
+//! Streams that move one byte a call and may fail at one call.
 
 use std::io;
 use std::io::{Read, Write};
-
-/// Gives its bytes one by one, and then fails or ends.
-#[derive(Drop)]
-pub(crate) struct Trickle<'a> {
-    pub(crate) bytes: &'a [u8],
-    pub(crate) given: usize,
-    pub(crate) fails: bool,
-}
-
-impl Read for Trickle<'_> {
-    fn read(&mut self, buf: &mut [u8]) -> io::Result<usize> {
-        if self.given >= self.bytes.len() {
-            if self.fails {
-                return Err(io::ErrorKind::Interrupted.into());
-            }
-            return Ok(0);
-        }
-        if buf.is_empty() {
-            return Ok(0);
-        }
-        buf[0] = self.bytes[self.given];
-        self.given += 1;
-        Ok(1)
-    }
-}
-
-/// Takes its bytes one by one, and then fails or takes none.
-#[derive(Drop)]
-pub(crate) struct Narrow<'a> {
-    pub(crate) taken: &'a mut Vec<u8>,
-    pub(crate) room: usize,
-    pub(crate) fails: bool,
-}
-
-impl Write for Narrow<'_> {
-    fn write(&mut self, buf: &[u8]) -> io::Result<usize> {
-        if self.room == 0 && self.fails {
-            return Err(io::ErrorKind::Interrupted.into());
-        }
-        if self.room == 0 || buf.is_empty() {
-            return Ok(0);
-        }
-        self.taken.push(buf[0])?;
-        self.room -= 1;
-        Ok(1)
-    }
-
-    fn flush(&mut self) -> io::Result<()> {
-        Ok(())
-    }
-}
 
 /// Gives its bytes one by one, and fails at one call: behind so many good ones. Then it goes on.
 #[derive(Drop)]
@@ -61,6 +10,18 @@ pub(crate) struct Stumbling<'a> {
     pub(crate) given: usize,
     pub(crate) good: usize,
     pub(crate) stumbled: bool,
+}
+
+impl Stumbling<'_> {
+    /// A reader whose call behind so many good ones fails.
+    pub(crate) fn new(bytes: &[u8], good: usize) -> Stumbling<'_> {
+        Stumbling {
+            bytes,
+            given: 0,
+            good,
+            stumbled: false,
+        }
+    }
 }
 
 impl Read for Stumbling<'_> {
@@ -85,6 +46,18 @@ pub(crate) struct Faltering<'a> {
     pub(crate) good: usize,
     pub(crate) fails: bool,
     pub(crate) faltered: bool,
+}
+
+impl<'a> Faltering<'a> {
+    /// A writer whose call behind so many good ones fails or takes none.
+    pub(crate) fn new(taken: &'a mut Vec<u8>, good: usize, fails: bool) -> Faltering<'a> {
+        Faltering {
+            taken,
+            good,
+            fails,
+            faltered: false,
+        }
+    }
 }
 
 impl Write for Faltering<'_> {

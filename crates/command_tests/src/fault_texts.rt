@@ -19,13 +19,13 @@ fn assert_text(
 #[test]
 fn faults_of_jobs_have_texts(rt: HostRuntime) -> Result<(), Fail> {
     let key = Key::new(String::from_str(rt.alloc(), "source")?);
-    assert_text(&rt, &JobFault::Memory, "memory ran out")?;
-    assert_text(&rt, &JobFault::NotJson, "the job is no JSON object")?;
     assert_text(
         &rt,
         &JobFault::Key(key),
         "a key of the job is absent, unknown or of the wrong kind",
     )?;
+    assert_text(&rt, &JobFault::Memory, "memory ran out")?;
+    assert_text(&rt, &JobFault::NotJson, "the job is no JSON object")?;
     assert_text(
         &rt,
         &JobFault::TooLarge,

@@ -1,15 +1,13 @@
 //! Each allocation can be refused: the answer is then A1 or a fault line of want of memory, for `run` also that of a
 //! thread that can not begin, and else the undisturbed one.
 
-use crate::jobs::{LOOP, LOWER_CASE, NEGATED, SUM, SUM_TESTED};
-use crate::whole_reports::REPORT;
 use mothra_app::{AppFault, Status, Watched, serve};
 use std::process::Abort;
 use std::sync::Wait;
 use std::thread::Threads;
 
 /// Each text is shorter.
-const ROOM: usize = 2048;
+const ROOM: usize = 1024;
 
 /// The line of a fault of want of memory, with one of these letters, or of a thread that can not begin.
 fn assert_fault(rt: &impl Abort, line: &[u8; ROOM], letters: &[u8]) {
@@ -47,8 +45,8 @@ fn assert_undisturbed(
 }
 
 #[test]
-fn refused_memory_changes_no_report(rt: HostRuntime) {
-    assert_undisturbed(&rt, &["mothra", "print"], LOWER_CASE, SUM, b"JFS");
+fn refused_memory_changes_no_program(rt: HostRuntime) {
+    assert_undisturbed(&rt, &["mothra", "print"], NEGATED, PRINTED, b"JFS");
 }
 
 #[test]
@@ -59,15 +57,31 @@ fn refused_memory_changes_no_outcome(rt: HostRuntime) {
 }
 
 #[test]
-fn refused_memory_changes_no_run(rt: HostRuntime) {
-    assert_undisturbed(&rt, &["mothra", "run"], SUM_TESTED, REPORT, b"JFSCOB");
-}
-
-#[test]
 fn refused_memory_changes_no_list(rt: HostRuntime) {
     let words = ["mothra", "list", "--ops", "RSR,GLR,DER"];
     assert_undisturbed(&rt, &words, LOOP, LISTED, b"JFSCO");
 }
+
+#[test]
+fn refused_memory_changes_no_run(rt: HostRuntime) {
+    let words = ["mothra", "run", "--ops", "AOR"];
+    assert_undisturbed(&rt, &words, SUM, REPORT, b"JFSCOB");
+}
+
+/// A job with an array and a truth value.
+const NEGATED: &str =
+    r#"{"source":"      SUBROUTINE S(M,P)\n      INTEGER M(2)\n      LOGICAL P\n      DO 10 I=1,2\n   10 M(I)=-M(I)\n      END\n","suite":[[[3,-4],true]]}"#;
+
+const PRINTED: &str = "      SUBROUTINE S(M,P)
+      INTEGER M(2)
+      LOGICAL P
+      DO 10 I=1,2
+   10 M(I)=-M(I)
+      END";
+
+/// A job with a loop, two labels behind it, and a test.
+const LOOP: &str =
+    r#"{"source":"      SUBROUTINE LOOP(N,K)\n      K=0\n      IF (N.LT.0) GO TO 20\n      DO 10 I=1,N\n   10 K=K+I\n   20 K=K+1\n   30 RETURN\n      END\n","suite":[[3,0]]}"#;
 
 const LISTED: &str = "\
 DER 0
@@ -79,3 +93,26 @@ RSR 2 2 LINE 3 RETURN
 RSR 3 3 LINE 3 IF (N.LT.0) RETURN
 RSR 4 4 LINE 6 RETURN
 TOTAL 5";
+
+/// The job of a sum and a test.
+const SUM: &str =
+    r#"{"source":"      SUBROUTINE ADD(I,J,K)\n      K=I+J\n      END\n","suite":[[2,2,0]]}"#;
+
+const REPORT: &str = "\
+REPORT 2
+UNIT ADD
+TESTS 1
+STEPS 10000
+EVERY 1
+AOR 6 4 0
+TOTAL 6 4 0
+SCORE 66.66
+MUTANT AOR 1 1 K 1
+MUTANT AOR 2 2 S 0
+MUTANT AOR 3 3 K 1
+MUTANT AOR 4 4 S 0
+MUTANT AOR 5 5 K 1
+MUTANT AOR 6 6 K 1
+SURVIVOR AOR 2 2 LINE 2 K=I*J
+SURVIVOR AOR 4 4 LINE 2 K=I**J
+END";

@@ -1,6 +1,5 @@
-//! What the program answers.
+//! What `mothra` answers.
 
-use crate::jobs::job;
 use mothra_app::{Status, Watched, serve};
 use std::process::Abort;
 use std::str::from_utf8;
@@ -14,19 +13,16 @@ pub(crate) fn answer(
     words: &str,
     job: &[u8],
 ) -> Result<(Status, Vec<u8>), Fail> {
-    let mut list = Vec::new(rt.alloc());
-    for word in words.split_whitespace() {
-        list.push(word)?;
-    }
+    let words: Vec<&str> = words.split_whitespace().collect(rt.alloc())?;
     let mut out = Vec::new(rt.alloc());
     let mut reader = Watched::new(job);
     let mut writer = Watched::new(&mut out);
-    let status = serve(rt, &list, &mut reader, &mut writer)?;
+    let status = serve(rt, &words, &mut reader, &mut writer)?;
     Ok((status, out))
 }
 
-/// Compares a text with the lines that are wanted. The case is named where they differ.
-fn assert_lines(rt: &impl Abort, bytes: &[u8], want: &str, case: &str) {
+/// Compares a text with the line that is wanted. The case is named where they differ.
+fn assert_line(rt: &impl Abort, bytes: &[u8], want: &str, case: &str) {
     let Ok(text) = from_utf8(bytes) else {
         panic!(rt; "{case}: the answer is no text")
     };
@@ -42,7 +38,7 @@ fn status_of(want: &str) -> Status {
     }
 }
 
-/// Compares the answer to words and a job with the lines that are wanted.
+/// Compares the answer to words and a job with the line that is wanted.
 pub(crate) fn assert_answer(
     rt: &(impl AllocGlobal + Abort + Threads + Wait + Sync),
     words: &str,
@@ -51,20 +47,7 @@ pub(crate) fn assert_answer(
     case: &str,
 ) -> Result<(), Fail> {
     let (status, bytes) = answer(rt, words, job)?;
-    assert_lines(rt, &bytes, want, case);
+    assert_line(rt, &bytes, want, case);
     assert!(rt; status == status_of(want), "{case}");
     Ok(())
-}
-
-/// Compares the answer to words, a program and a suite. With no suite the job has no such key.
-pub(crate) fn assert_served(
-    rt: &(impl AllocGlobal + Abort + Threads + Wait + Sync),
-    words: &str,
-    program: &str,
-    suite: &str,
-    want: &str,
-    case: &str,
-) -> Result<(), Fail> {
-    let job = job(rt.alloc(), program, suite)?;
-    assert_answer(rt, words, job.as_bytes(), want, case)
 }
