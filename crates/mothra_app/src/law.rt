@@ -24,8 +24,9 @@ ghost use Rattle.mothra_ops.specs.Plan.{PlanFields};
 use f77_meaning::law::one_outcome;
 use f77_source::law::one_reading;
 use f77_syntax::law::one_program;
-use mothra_bench::law::{handed_out_are_first, one_report, verdict_of_the_item};
+use mothra_bench::law::{handed_out_are_first, one_report};
 use mothra_ops::law::{one_list, too_long};
+use mothra_verdicts::law::verdict_of_the_item;
 
 /// Words and bytes are served with one status and one text at most.
 pub fn one_answer()

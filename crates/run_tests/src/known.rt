@@ -108,9 +108,9 @@ fn outcomes_are_those_of_the_language(rt: HostRuntime) -> Result<(), Fail> {
     Ok(())
 }
 
-// Of the programs behind the first four, one has a variable with a value in some runs alone, and one a value of DATA
-// that is changed. In the next a DO is active at the end of a run: an inner one that were still active would make
-// passes where the outer one makes none. The last come back to where they were, in some runs.
+// In the fifth a variable has a value in some runs alone, and in the next an element with a value of DATA is changed.
+// In the seventh DOs are active at the end of a run: an inner one that were still active would make passes where the
+// outer one makes none. Of the last runs some have no end, and some come to states to which other runs came.
 const CASES: &str = "
 SUBROUTINE ADD(I,J,K); K=I+J; END
 2 3 0 within 2 => Returned 2 3 5
@@ -165,4 +165,13 @@ SUBROUTINE S(K); 10 K=1-K; IF (K.LT.2) GO TO 10; END
 0 within 0 => StepLimit
 0 within 1000000 => StepLimit
 -5 within 1000000 => Returned 6
+
+SUBROUTINE S(K); 10 K=1-K; GO TO 10; END
+0 within 0 => StepLimit
+0 within 4294967295 => StepLimit
+
+SUBROUTINE LOOP(N,K); K=0; IF (N.LT.0) GO TO 20; DO 10 I=1,N; 10 K=K+I; 20 K=K+1; 30 RETURN; END
+3 0 within 11 => Returned 3 7
+3 0 within 0 => StepLimit
+0 0 within 0 => StepLimit
 ";
