@@ -11,7 +11,7 @@ from types import ModuleType
 from unittest import mock
 
 import running  # noqa: F401
-from developing import failing_streams, little_memory, refused_memory
+from developing import failing_streams, refused_memory
 from developing.robustness import calls
 from developing.robustness.calls import Ended, answer_of, called
 from developing.robustness.refusing import FROM_THEN_ON, MARK, STOPS, Refusing, places_in
@@ -32,17 +32,6 @@ exit 1
 """
 PLACE = b"\x48\x3d" + MARK.to_bytes(4, "little") + b"\x75\x00\x31\xc0"
 COMPARES = b"\x48\x3d" + struct.pack("<i", MARK) + b"\x75\x0c\x31\xc0"
-# It answers by the limit that it is called with.
-LITTLE = """\
-#!/bin/sh
-case $(ulimit -v) in
-    unlimited | 900000) echo REPORT ;;
-    800000) echo FAULT B2; exit 1 ;;
-    700000) exit 1 ;;
-    600000) exit 127 ;;
-    500000) printf REP ;;
-esac
-"""
 
 
 class Answers(unittest.TestCase):
@@ -92,7 +81,6 @@ class FailingStreams(Tool):
             [
                 f"mothra print: reads that fail: 4 calls: {told} 4",
                 f"mothra print: writes that fail: 6 calls: {told} 6",
-                f"mothra print: other streams: 5 calls: {told} 5",
             ],
         )
         self.assertEqual(status, SUCCESS)
@@ -109,7 +97,7 @@ class RefusedMemory(Tool):
             kept.write_bytes(ASKS.replace("CODE", code).encode() + 2 * PLACE)
 
         with mock.patch.object(refused_memory, "build_refusing", build):
-            return self.call(refused_memory, crates=["mothra"], keep=None)
+            return self.call(refused_memory, crates=["mothra"])
 
     def test_tells_each_call_and_round(self) -> None:
         status, lines = self.sweep("J1")
@@ -144,28 +132,6 @@ class Refused(unittest.TestCase):
             self.assertEqual(copy.read_bytes(), COMPARES.replace(struct.pack("<i", MARK), b"\7\0\0\0") * 2)
             program.refuse(8, FROM_THEN_ON, STOPS)
             self.assertEqual(copy.read_bytes(), b"\x48\x3d\x08\0\0\0\x72\x0c\xcc\xcc" * 2)
-
-
-class LittleMemory(Tool):
-    def call_text(self, text: str) -> tuple[int, list[str]]:
-        with tempfile.TemporaryDirectory() as folder:
-            program = Path(folder, "program")
-            program.write_text(text)
-            program.chmod(0o755)
-            return self.call(little_memory, mothra=str(program))
-
-    def test_counts_the_answers_by_limits(self) -> None:
-        with mock.patch.object(little_memory, "LIMITS", [600_000, 700_000, 800_000, 900_000]):
-            status, lines = self.call_text(LITTLE)
-        self.assertEqual(status, SUCCESS)
-        told = "3 limits: B2 1, nothing 1, undisturbed 1"
-        self.assertEqual(lines, [f"{workers} workers, {told}" for workers in (1, 2, 8, 32)])
-
-    def test_a_part_of_a_report_is_no_answer(self) -> None:
-        with mock.patch.object(little_memory, "LIMITS", [500_000, 900_000]):
-            status, lines = self.call_text(LITTLE)
-        self.assertEqual(status, FAULT)
-        self.assertIn("BROKEN: status 0, 3 bytes 1", lines[0])
 
 
 if __name__ == "__main__":

@@ -34,7 +34,6 @@ from mutants.program.asking import asked_list, asked_print
 from mutants.program.calling import Fault
 from mutants.program.many import processors
 from mutants.program.roots import ROOT
-from mutants.progress import Paced
 from mutants.statuses import FAULT, SUCCESS
 from mutants.suggestions.asking import Asker
 from mutants.suggestions.clock import Clock
@@ -44,8 +43,8 @@ from mutants.texts.decoding import decoded
 from mutants.texts.dummies import read_unit
 from mutants.texts.jobs import Job
 from mutants.texts.proofs import Proof, spare_of
-from mutants.texts.reports import Report
-from mutants.words import number_from_1, read_by, whole_path
+from mutants.texts.reports import Count, Report
+from mutants.words import number_from_1, whole_path
 
 PROGRAMS, TESTS, SEED = 500, 256, 1
 # So many rounds of rows are made at most, and so many rows are tried with a small limit on steps.
@@ -102,7 +101,7 @@ class Programs(NamedTuple):
 
 def asker_of(case: Case, printed: list[str], proofs: Sequence[Proof], mothra: str) -> Asker:
     """What asks which of the mutants that are proved are killed."""
-    report = Report("", 0, STEPS, 1, dict.fromkeys(sorted({proof.mutant.op for proof in proofs})), [], [])
+    report = Report("", 0, STEPS, 1, dict.fromkeys(sorted({proof.mutant.op for proof in proofs}), Count(0, 0, 0)), [], [])
     checked = Checked(Job(case.source, []), printed, {}, [], report, report, [], [], [])
     return Asker(checked, [proof.mutant for proof in proofs], Means(mothra, workers="1"), Clock(None))
 
@@ -158,16 +157,13 @@ def tried(programs: Programs, case: Case) -> Tried:
     return Tried(case, len(listed), proofs, tests, [*killed, *(each for each in more if each.proof not in known)])
 
 
-def whys_text(whys: Counter[str]) -> str:
-    return ", ".join(f"{why} {count}" for why, count in sorted(whys.items())) or "none"
-
-
 def told_of(what: str, every: Sequence[Tried]) -> str:
     """A line on some programs."""
     mutants, tests = sum(each.mutants for each in every), sum(each.tests for each in every)
     whys: Counter[str] = sum((each.whys for each in every), Counter())
     killed = sum(len(each.killed) for each in every)
-    proved = f"{sum(whys.values())} proved ({whys_text(whys)})"
+    each_why = ", ".join(f"{why} {count}" for why, count in sorted(whys.items())) or "none"
+    proved = f"{sum(whys.values())} proved ({each_why})"
     return f"{what}: {mutants} mutants, {proved}, {plural(tests, 'test')}, {killed} killed"
 
 
@@ -186,34 +182,16 @@ def examples() -> list[Path]:
     return sorted(path for path in (ROOT / "examples").glob("*.f") if path.with_suffix(".report").exists())
 
 
-def number_from_0(word: str) -> int:
-    """A number from 0, as an option takes it."""
-    return 0 if word == "0" else number_from_1(word)
-
-
 def add_words(parser: argparse.ArgumentParser) -> None:
     parser.add_argument("mothra", metavar="MOTHRA", type=whole_path)
     parser.add_argument("equivalents", metavar="EQUIVALENTS", type=whole_path)
     parser.add_argument("files", metavar="PROGRAM.f", nargs="*", type=Path, help="programs, else the examples")
-    number, told = read_by(number_from_0), f"how many programs are made ({PROGRAMS})"
-    parser.add_argument("--programs", metavar="N", type=number, default=PROGRAMS, help=told)
+    told = f"how many programs are made ({PROGRAMS})"
+    parser.add_argument("--programs", metavar="N", type=int, default=PROGRAMS, help=told)
     parser.add_argument("--seed", metavar="S", type=number_from_1, default=SEED, help=f"where chance begins ({SEED})")
     told = f"how many tests of each are run at most ({TESTS})"
     parser.add_argument("--tests", metavar="N", type=number_from_1, default=TESTS, help=told)
     parser.add_argument("--jobs", metavar="N", type=number_from_1, default=processors(), help="how many at a time")
-
-
-def tried_all(programs: Programs, made: Sequence[Case], pool: ThreadPoolExecutor, name: str) -> list[Tried]:
-    """What came of the programs that were made; how far it is is told now and then."""
-    found: list[Tried] = []
-    paced = Paced(name)
-    try:
-        for each in pool.map(partial(tried, programs), made):
-            found.append(each)
-            paced.tell(f"{len(found)} of {plural(len(made), 'made program')}")
-    finally:
-        paced.progress.end()
-    return found
 
 
 def run(given: argparse.Namespace, name: str) -> int:
@@ -225,7 +203,7 @@ def run(given: argparse.Namespace, name: str) -> int:
         for found in pool.map(partial(tried, programs), files):
             print(told_of(found.case.name, [found]), flush=True)
             faults += faults_of(found)
-        results = tried_all(programs, made, pool, name)
+        results = list(pool.map(partial(tried, programs), made))
     if results:
         without = sum(not each.tests for each in results if each.proofs)
         print(f"{told_of(plural(len(results), 'made program'), results)}, {without} without a test")

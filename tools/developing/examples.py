@@ -3,13 +3,20 @@
     tools/examples MOTHRA
 
 A suite examples/NAME.suite.json or examples/NAME.csv is of the program examples/NAME.f, or of that whose name stands
+<<<<<<< HEAD
 before a hyphen. Six things are compared:
+=======
+before a hyphen. Four things are compared:
+>>>>>>> 305fa573 (Tests: the package runs with the programs that were proved, and these hold the small one to what they answer)
 
 - examples/NAME.json with the job that `mutants job` makes of program and suite, and of the mutants that
   examples/NAME.equivalent.csv declares, where that is there;
 - examples/NAME.report with what `MOTHRA run` writes for that job, with no option;
+<<<<<<< HEAD
 - the same report, and its score, with what `mutants check` joins and tells of program and suite;
 - the programs, suites and reports of examples in the rows of crates/rows with the files;
+=======
+>>>>>>> 305fa573 (Tests: the package runs with the programs that were proved, and these hold the small one to what they answer)
 - what README.md and the pages for users show behind each line `$ COMMAND` of a block ```console with what the command
   writes, run from the top of the repository with MOTHRA as `mothra`. A line `...` stands for any lines.
   tools/against-gfortran is not run;
@@ -84,22 +91,6 @@ def compare_files(mothra: str) -> Iterator[tuple[str, bool]]:
         yield f"examples/{report.name}", written([mothra, "run"], job.read_bytes()) == report.read_text()
 
 
-def compare_checks(mothra: str) -> Iterator[tuple[str, bool]]:
-    """Whether `mutants check` joins the stored report of each example, and tells its numbers."""
-    with tempfile.TemporaryDirectory() as folder:
-        for each in examples():
-            report = Path(folder, f"{each.name}.report")
-            words = [sys.executable, "-B", str(ROOT / "bin" / "mutants"), "check", "--mothra", mothra, "--no-page"]
-            # The stored reports have no mutants that are declared by a proof alone.
-            words += ["--no-proofs", *(["--equivalent", str(each.declared)] if each.declared else [])]
-            told = written([*words, "--report", str(report), str(each.program), str(each.suite)])
-            stored = each.stored(".report").read_text()
-            count = summed(read_report(stored).counts.values())
-            numbers = f"Score {score_of(count)} %: {count.killed} of {count.total - count.equivalent} mutants killed"
-            is_same = report.exists() and report.read_text() == stored and numbers in told
-            yield f"mutants check of examples/{each.name}", is_same
-
-
 def compare_habits(mothra: str) -> Iterator[tuple[str, bool]]:
     """Each example of each habit: its name and its lines, and whether its fault is the one that mothra tells."""
     for name, habit in HABITS.items():
@@ -153,7 +144,11 @@ def add_words(parser: argparse.ArgumentParser) -> None:
 def run(given: argparse.Namespace, name: str) -> int:
     same = differ = 0
     mothra = given.mothra
+<<<<<<< HEAD
     stored = (compare_habits(mothra), compare_files(mothra), compare_checks(mothra), compare_rows())
+=======
+    stored = (compare_habits(mothra), compare_files(mothra))
+>>>>>>> 305fa573 (Tests: the package runs with the programs that were proved, and these hold the small one to what they answer)
     for compare in (*stored, compare_pages(mothra)):
         for what, is_same in compare:
             same += is_same

@@ -6,8 +6,7 @@ The commands print, exec, list and run (two workers) are called on a small job e
 byte a read, and the read behind each number of bytes fails; nothing may be written then, with status 1. Where none
 fails the text is the undisturbed one. Of the writes: the text goes into a file that may have so many bytes and no more,
 for each number below its length. So one write is short, and the next one fails; that front of the text has to stand
-there, with status 1. And there are streams that fail at once: a directory, a device that is full, a pipe that nobody
-reads, none at all.
+there, with status 1.
 
 There is a line for each call and kind: how many calls gave which answer. The exit status is 1 where one gave another.
 It uses sockets and limits of Linux, and works with any build of the program.
@@ -33,8 +32,6 @@ from mutants.words import whole_path
 
 # A call that is still to be made, and gives what came of it.
 Call = Callable[[], str]
-# In the place of a status that was not told.
-NO_STATUS = b"-1"
 CALLS = {
     "print": job_of(SUM),
     "exec --test 1": job_of(LOOP, [[3, 0]]),
@@ -98,24 +95,9 @@ def failing_writes(words: Sequence[str], job: bytes, text: bytes) -> Iterator[Ca
     yield lambda: told(call_limited(words, job, len(text)), text, SUCCESS)
 
 
-def other_streams(words: Sequence[str], job: bytes, _: bytes) -> Iterator[Call]:
-    for how in ("<&-", "</", ">&-", ">/dev/full"):
-        shell = ["sh", "-c", f'exec "$@" {how}', "sh", *words]
-        yield partial(lambda shell: told(called(shell, job), b"", FAULT), shell)
-    yield lambda: told(call_unread(words, job), b"", FAULT)
-
-
-def call_unread(words: Sequence[str], job: bytes) -> Ended:
-    """Calls a command whose output goes into a pipe that nobody reads any more."""
-    shell = '{ { sleep 0.2; "$@"; echo $? >&3; } | true; } 3>&1'
-    ended = called(["sh", "-c", shell, "sh", *words], job)
-    return ended._replace(text=b"", status=int(ended.text or NO_STATUS))
-
-
 KINDS: dict[str, Callable[[Sequence[str], bytes, bytes], Iterator[Call]]] = {
     "reads that fail": failing_reads,
     "writes that fail": failing_writes,
-    "other streams": other_streams,
 }
 
 

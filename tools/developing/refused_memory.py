@@ -1,6 +1,6 @@
 """Refuse each allocation in turn, and count what comes of it.
 
-    tools/refused-memory [--jobs N] [--keep FOLDER] [CRATE..]
+    tools/refused-memory [--jobs N] [CRATE..]
 
 Of the crate `mothra` the commands print, exec, list and run (two workers) are called on a small job each, once for each
 allocation of the undisturbed call: that one is refused, alone, and in a second round with all behind it. Each call has
@@ -8,8 +8,7 @@ to give the undisturbed answer, or a fault of want of memory that this command m
 with status 1. Of a crate of tests the tests that are about refused memory are run so, and have to pass, but where there
 was none for what the test itself is made of. Without a name it is mothra, and each crate that has such tests.
 
-Programs are built by `rt try --fail-alloc`, which proves nothing and takes a minute or two a crate; with --keep they
-stay in a folder, and one that is there is not built again. How many allocations a call makes is found by programs that
+Programs are built by `rt try --fail-alloc`, which proves nothing and takes a minute or two a crate. How many allocations a call makes is found by programs that
 stop at one. With threads that differs from call to call, so a few more are refused than were found.
 
 There is a line for each call and round: how many calls gave which answer. The exit status is 1 where one gave another.
@@ -30,7 +29,6 @@ from developing.robustness.calls import Ended, answer_of, called
 from developing.robustness.jobs import LOOP, SUM, job_of
 from developing.robustness.refusing import FROM_THEN_ON, ONLY, STOPS, Refusing, build_refusing
 from mutants.program.roots import ROOT
-from mutants.progress import Progress
 from mutants.statuses import FAULT, SUCCESS
 
 CRATES = ROOT / "crates"
@@ -124,16 +122,14 @@ def sweep(subject: Subject, copies: list[Refusing], last: int, jump: bytes, undi
         return list(pool.map(answer, range(1, last + 1)))
 
 
-def tell(subject: Subject, copies: list[Refusing], progress: Progress) -> bool:
+def tell(subject: Subject, copies: list[Refusing]) -> bool:
     """Sweeps a call in both rounds, and prints what came of it. Whether each answer may be."""
     copies[0].refuse(2**31 - 1)
     undisturbed = subject.call(copies[0])
-    progress.tell(f"{subject.name}: counts the allocations")
     has_threads = any(word in subject.name for word in ("run", "workers"))
     last = last_of(subject, copies[0]) + SPARE * has_threads
     is_right = True
     for name, jump in ROUNDS.items():
-        progress.tell(f"{subject.name}: refuses {last} allocations, each {name}")
         answers = sweep(subject, copies, last, jump, undisturbed)
         counts = ", ".join(f"{answer} {count}" for answer, count in sorted(Counter(answers).items()))
         print(f"{subject.name}: {last} allocations, each refused {name}: {counts}", flush=True)
@@ -144,30 +140,23 @@ def tell(subject: Subject, copies: list[Refusing], progress: Progress) -> bool:
     return is_right
 
 
-def try_crate(crate: str, folder: Path, jobs: int, progress: Progress) -> bool:
-    kept = Path(folder) / f"{crate}.refusing"
+def try_crate(crate: str, folder: Path, jobs: int) -> bool:
+    kept = folder / f"{crate}.refusing"
     is_program = (CRATES / crate / "src" / "main.rt").exists()
-    if not kept.exists():
-        progress.tell(f"{crate}: builds")
-        build_refusing(CRATES / crate, kept, ["--", "print"] if is_program else ["--test"], job_of(SUM))
+    build_refusing(CRATES / crate, kept, ["--", "print"] if is_program else ["--test"], job_of(SUM))
     with tempfile.TemporaryDirectory() as work:
         copies = [Refusing(kept, Path(work) / f"{crate}.{number}") for number in range(jobs)]
         subjects = commands() if is_program else tests_of(crate, copies[0])
-        return all([tell(subject, copies, progress) for subject in subjects])
+        return all([tell(subject, copies) for subject in subjects])
 
 
 def add_words(parser: argparse.ArgumentParser) -> None:
     parser.add_argument("crates", metavar="CRATE", nargs="*")
     parser.add_argument("--jobs", type=int, default=2, help="how many calls run at a time (2)")
-    parser.add_argument("--keep", metavar="FOLDER", type=Path, help="where built programs are kept")
 
 
 def run(given: argparse.Namespace, name: str) -> int:
-    progress = Progress(name)
     with tempfile.TemporaryDirectory() as folder:
-        where = (given.keep or Path(folder)).resolve()
-        where.mkdir(parents=True, exist_ok=True)
         crates = given.crates or ["mothra", *with_such_tests()]
-        is_right = all([try_crate(crate, where, given.jobs, progress) for crate in crates])
-    progress.end()
+        is_right = all([try_crate(crate, Path(folder), given.jobs) for crate in crates])
     return SUCCESS if is_right else FAULT
