@@ -3,20 +3,12 @@
     tools/examples MOTHRA
 
 A suite examples/NAME.suite.json or examples/NAME.csv is of the program examples/NAME.f, or of that whose name stands
-<<<<<<< HEAD
-before a hyphen. Six things are compared:
-=======
-before a hyphen. Four things are compared:
->>>>>>> 305fa573 (Tests: the package runs with the programs that were proved, and these hold the small one to what they answer)
+before a hyphen. Five things are compared:
 
 - examples/NAME.json with the job that `mutants job` makes of program and suite, and of the mutants that
   examples/NAME.equivalent.csv declares, where that is there;
 - examples/NAME.report with what `MOTHRA run` writes for that job, with no option;
-<<<<<<< HEAD
-- the same report, and its score, with what `mutants check` joins and tells of program and suite;
 - the programs, suites and reports of examples in the rows of crates/rows with the files;
-=======
->>>>>>> 305fa573 (Tests: the package runs with the programs that were proved, and these hold the small one to what they answer)
 - what README.md and the pages for users show behind each line `$ COMMAND` of a block ```console with what the command
   writes, run from the top of the repository with MOTHRA as `mothra`. A line `...` stands for any lines.
   tools/against-gfortran is not run;
@@ -144,11 +136,7 @@ def add_words(parser: argparse.ArgumentParser) -> None:
 def run(given: argparse.Namespace, name: str) -> int:
     same = differ = 0
     mothra = given.mothra
-<<<<<<< HEAD
-    stored = (compare_habits(mothra), compare_files(mothra), compare_checks(mothra), compare_rows())
-=======
-    stored = (compare_habits(mothra), compare_files(mothra))
->>>>>>> 305fa573 (Tests: the package runs with the programs that were proved, and these hold the small one to what they answer)
+    stored = (compare_habits(mothra), compare_files(mothra), compare_rows())
     for compare in (*stored, compare_pages(mothra)):
         for what, is_same in compare:
             same += is_same
