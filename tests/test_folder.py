@@ -89,6 +89,7 @@ class Folder(Room):
             ("[a]\ntests = x\n", [], "[a] has tests, and no source"),
             ("[a]\nx = y\n", [], "it has neither a section [mutants] nor one with a source"),
             (PROGRAMS, ["--json", "x.json"], "--json is of one program"),
+            (PROGRAMS, [self.folder], "it is a folder, whose file of options names the tests"),
         ):
             if text is not None:
                 self.put("mutants.ini", text)

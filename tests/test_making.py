@@ -299,6 +299,7 @@ class Tables(Room):
         found = self.table("Test,I,P,M,seen by (who)\nborder,7,T,1 2, ada\n,8,F,1 2,\n")
         self.assertEqual((found.tests[0], found.others["SEEN BY (WHO)"]), ([7, True, [1, 2]], [" ada", ""]))
         self.assertEqual(titles_of(found), ["border", ""])
+        self.assertEqual(self.table("I,P,M,,\n7,T,1 2,see below,x\n").tests, [[7, True, [1, 2]]])
         self.assertEqual(titles_of(self.table("7,T,1 2\n")), [])
 
     def test_blank_cells_of_arguments_that_are_only_set(self) -> None:

@@ -139,7 +139,7 @@ class Reading:
         named = [*columns, *[""] * (len(cells) - len(columns))]
         values = {}
         for place, given in enumerate(cells):
-            if named[place] and named[place] not in self.names:
+            if named[place] not in self.names and (named[place] or self.columns):
                 self.table.others.setdefault(named[place], []).append(given)
             else:
                 values[place] = self.value(Cell(row, place + 1, named[place]), given, read)

@@ -201,6 +201,8 @@ def done_of(given: argparse.Namespace, name: str) -> Done:
 
 def check_folder(given: argparse.Namespace, name: str) -> int:
     """Checks all programs of a folder; the status is the worst."""
+    if given.tests:
+        raise ValueError(f"{given.program}: it is a folder, whose file of options names the tests")
     assert_for_many(given)
     folder = Folder(given, given.program or Path(), name)
     for line in folder.lines(done_of):
