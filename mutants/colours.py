@@ -4,6 +4,8 @@ import os
 import re
 import sys
 
+from mutants.words import visible
+
 RED, GREEN, BOLD, END = "\x1b[31m", "\x1b[32m", "\x1b[1m", "\x1b[0m"
 # What is wrong, the score, and what a mutant changes.
 WRONG = re.compile(r"^(?:NOT AS EXPECTED|WRONGLY DECLARED|PROVED, AND YET|BELOW|NEWLY SURVIVING).*", re.M)
@@ -23,5 +25,5 @@ def coloured(told: str) -> str:
 
 
 def painted(told: str) -> str:
-    """A text as standard output takes it."""
-    return coloured(told) if has_colours() else told
+    """A text as standard output takes it: what else a terminal would obey is gone."""
+    return coloured(visible(told)) if has_colours() else visible(told)

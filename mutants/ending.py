@@ -11,6 +11,7 @@ from typing import NoReturn
 
 from mutants.program.calling import Fault
 from mutants.program.finding import NoProgram
+from mutants.words import visible
 from mutants.statuses import BY_SIGNAL, FAULT, INTERRUPTED, SUCCESS
 
 SIGNALS = (signal.SIGTERM, signal.SIGHUP)
@@ -93,8 +94,8 @@ def told_status(name: str, main: Callable[[], int]) -> int:
     except BrokenPipeError:
         raise
     except NoProgram as fault:
-        sys.stderr.write(f"{name}: {fault}\n")
+        sys.stderr.write(f"{name}: {visible(fault)}\n")
         return FAULT
     except (OSError, ValueError, RecursionError, MemoryError) as fault:
-        sys.stderr.write(f"{name}: {one_line(fault)}\n")
+        sys.stderr.write(f"{name}: {visible(one_line(fault))}\n")
         return fault.status if isinstance(fault, Fault) else FAULT

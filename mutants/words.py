@@ -18,6 +18,11 @@ ITEM = r"(?:[A-Za-z]{3}|\d+(?:-\d+)?|[A-Za-z]\w*=\d+)"
 FURTHER = re.compile(rf",?{ITEM}(?:,{ITEM})*,?|,")
 
 
+def visible(value: object) -> str:
+    """A text in which what a terminal would obey, and what XML has no character for, is shown as U+FFFD."""
+    return "".join(c if c.isprintable() or c in "\t\n" else "\ufffd" for c in str(value))
+
+
 def text_of_help(told: str | None) -> str:
     return (told or "").strip()
 
@@ -107,4 +112,4 @@ def asked_words(given: argparse.Namespace, *names: str) -> list[str]:
 def tell_remarks(name: str, remarks: Iterable[str]) -> None:
     """Warnings, a line each on standard error: what is done is done all the same."""
     for remark in remarks:
-        sys.stderr.write(f"{name}: warning: {remark}\n")
+        sys.stderr.write(f"{name}: warning: {visible(remark)}\n")

@@ -11,8 +11,8 @@ from mutants.explanations.habits import Seen
 from mutants.explanations.meanings import MEANINGS
 from mutants.explanations.seeing import habits_seen
 
-# So many faults are looked for.
-MOST = 200
+# So many faults are looked for, and in a long source so many that this many bytes are read for them.
+MOST, MOST_BYTES = 200, 2_000_000
 # What the program says against a source: the code and the detail of its fault, or None.
 Ask = Callable[[str], tuple[str, str] | None]
 
@@ -35,7 +35,7 @@ def is_of_source(copy: Copy, code: str, detail: str) -> bool:
 def all_faults(source: str, ask: Ask) -> tuple[list[Found], bool]:
     """The faults of a source in the order in which they are told, and whether these are all that can be found."""
     copy, found = Copy(source), dict[tuple[str, str], Found]()
-    for _ in range(MOST):
+    for _ in range(min(MOST, MOST_BYTES // max(len(source), 1))):
         fault = ask(copy.text())
         if fault is None:
             return list(found.values()), True

@@ -11,22 +11,18 @@ from mutants.pages.report import by_line, counts_by_line
 from mutants.texts.lines import Mutant
 from mutants.texts.reports import Count
 from mutants.texts.twins import names_text, twins_in
-
-
-def safe(value: object) -> str:
-    """A value as text that XML can have: it knows no other characters of control than those of white space."""
-    return "".join(each if each.isprintable() or each in "\t\n" else "\ufffd" for each in str(value))
+from mutants.words import visible
 
 
 def add(parent: Element, tag: str, **values: object) -> Element:
-    return SubElement(parent, tag, {key: safe(value) for key, value in values.items()})
+    return SubElement(parent, tag, {key: visible(value) for key, value in values.items()})
 
 
 def add_failure(case: Element, survivors: Sequence[Mutant], count: Count) -> None:
     verb = "survives" if len(survivors) == 1 else "survive"
     told = f"{len(survivors)} of {plural(count.total, 'mutant')} {verb}"
     lines = [f"{names_text(twins)}: {twins[0].text}" for twins in twins_in(survivors)]
-    add(case, "failure", message=told, type="survivors").text = safe("\n".join(lines))
+    add(case, "failure", message=told, type="survivors").text = visible("\n".join(lines))
 
 
 def junit_text(checked: Checked, program: Path, remark: str = "") -> str:

@@ -118,5 +118,6 @@ def write_outputs(outputs: Sequence[Output], shown: Shown) -> list[str]:
     """Writes them; a line on each."""
     texts = [output.text(shown) for output in outputs]
     for output, text in zip(outputs, texts):
-        written(output.path, text.encode())
+        # A name that is no UTF-8 fails behind no work.
+        written(output.path, text.encode("utf-8", "replace"))
     return [f"The {output.what}: {output.path}" for output in outputs]

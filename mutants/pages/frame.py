@@ -8,6 +8,7 @@ from collections.abc import Iterable
 from html import escape
 
 from mutants.pages.style import SCRIPT, STYLE
+from mutants.words import visible
 
 # A cell of a table: its class, and what stands in it.
 Cell = tuple[str, object]
@@ -15,9 +16,7 @@ Cell = tuple[str, object]
 def text(value: object) -> str:
     """A value as text in HTML, safe between tags and in attributes; what cannot be seen is shown as U+FFFD."""
     shown = str(value)
-    if not shown.isprintable():
-        shown = "".join(c if c.isprintable() or c in "\t\n" else "\ufffd" for c in shown)
-    return escape(shown, quote=True)
+    return escape(shown if shown.isprintable() else visible(shown), quote=True)
 
 
 def bar(part: int, whole: int, said: str = "") -> str:

@@ -64,6 +64,7 @@ td.bar svg, .marks svg { width: 100%; height: .8rem }
 summary { cursor: pointer; font-size: .85rem }
 del { color: var(--live); text-decoration: line-through; text-decoration-thickness: 1.5px }
 ins { font-weight: bold; text-decoration: underline; text-decoration-thickness: 2px; text-underline-offset: 2px }
+del + ins { margin-left: .4em }
 .matrix { display: flex; flex-wrap: wrap; align-items: flex-start; column-gap: 2rem }
 .matrix details { max-width: 100% }
 .matrix details:last-child { flex: 0 0 100% }

@@ -29,7 +29,7 @@ from mutants.statuses import SUCCESS, UNEXPECTED
 from mutants.subcommands.check import add_options
 from mutants.texts.decoding import decoded
 from mutants.texts.jobs import Job
-from mutants.words import add_mothra_options, tell_remarks
+from mutants.words import add_mothra_options, tell_remarks, visible
 
 LOOK = "What a program does is its own outcome, right or wrong: read each before you keep it."
 
@@ -68,5 +68,5 @@ def run(given: argparse.Namespace, name: str) -> int:
     lines += [f"  test {at}  {titled(job.suite[at - 1], at, made.titles)}: {told}" for at, told in new.items()]
     found = differences(cells, outcomes, names)
     lines += [f"NOT AS EXPECTED: test {each.test}: {each.outcome}, expected {each.expected}" for each in found]
-    sys.stdout.write("\n".join(lines) + "\n")
+    sys.stdout.write(visible("\n".join(lines) + "\n"))
     return UNEXPECTED if found else SUCCESS

@@ -32,6 +32,7 @@ from mutants.comparisons.summary import comparison_text
 from mutants.program.calling import text_of
 from mutants.program.finding import add_mothra_option, find_program
 from mutants.statuses import NEWLY_SURVIVING, SUCCESS
+from mutants.words import visible
 
 
 def add_words(parser: argparse.ArgumentParser) -> None:
@@ -65,5 +66,5 @@ def run(given: argparse.Namespace, name: str) -> int:
     if given.markdown:
         sys.stdout.write(comparison_markdown(comparison))
     else:
-        sys.stdout.write(comparison_text(comparison, given.old, given.new))
+        sys.stdout.write(visible(comparison_text(comparison, given.old, given.new)))
     return NEWLY_SURVIVING if comparison.newly_surviving else SUCCESS

@@ -62,7 +62,7 @@ from mutants.statuses import FAULT, SUCCESS
 from mutants.subcommands.check import add_options
 from mutants.texts.jobs import Job, read_job
 from mutants.texts.prints import statements_by_line
-from mutants.words import add_mothra_options, asked_words, number_from_1, tell_remarks
+from mutants.words import add_mothra_options, asked_words, number_from_1, tell_remarks, visible
 
 # So much of what parallel says of a failure is told.
 LONGEST = 200
@@ -212,6 +212,6 @@ def run(given: argparse.Namespace, name: str) -> int:
     if told is None:
         told = made_anew(given, Means(program, given.steps), tasks, results, remark)
         kept.keep(digest, told)
-    sys.stdout.write("".join(f"{line}\n" for line in told.lines))
-    sys.stderr.write(f"{name}: {told.failed}\n" if told.failed else "")
+    sys.stdout.write(visible("".join(f"{line}\n" for line in told.lines)))
+    sys.stderr.write(visible(f"{name}: {told.failed}\n" if told.failed else ""))
     return FAULT if told.failed else SUCCESS

@@ -41,6 +41,7 @@ from mutants.texts.decoding import decoded
 from mutants.texts.jobs import Job
 from mutants.texts.lines import Mutant
 from mutants.texts.twins import name_of, others_by_name
+from mutants.words import visible
 
 Name = tuple[str, int]
 # What is said of mutants that are proved with steps to spare alone.
@@ -161,6 +162,6 @@ def run(given: argparse.Namespace, name: str) -> int:
         else:
             told = declared_told(given, names, path, made.source, found, present)
     for remark in found.remarks() if not given.renew else [f"{entry.name}: {why}" for entry, why in found.refused]:
-        sys.stderr.write(f"{name}: {path}: {remark}\n")
-    sys.stdout.write(f"{path}: {told}\n")
+        sys.stderr.write(visible(f"{name}: {path}: {remark}\n"))
+    sys.stdout.write(visible(f"{path}: {told}\n"))
     return SUCCESS

@@ -37,7 +37,7 @@ from mutants.program.unproved import remark_on
 from mutants.statuses import SUCCESS
 from mutants.subcommands.check import add_options
 from mutants.texts.jobs import read_job
-from mutants.words import tell_remarks
+from mutants.words import tell_remarks, visible
 
 
 def add_words(parser: argparse.ArgumentParser) -> None:
@@ -110,7 +110,7 @@ def run(given: argparse.Namespace, name: str) -> int:
     if line is None or line.startswith("REPORT "):
         sys.stdout.write("There is no fault.\n")
     else:
-        sys.stdout.write(explanation(line, words, asked, program, is_asked))
+        sys.stdout.write(visible(explanation(line, words, asked, program, is_asked)))
     if program and remark_on(program):
         sys.stdout.write(f"\n{remark_on(program)}\n")
     return SUCCESS

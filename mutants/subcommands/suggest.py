@@ -44,7 +44,7 @@ from mutants.suggestions.clock import Clock
 from mutants.suggestions.suggesting import Suggested, suggested
 from mutants.suggestions.tables import Layout, layout_of, table_with
 from mutants.suggestions.told import summary
-from mutants.words import add_mothra_options, number_from_1, read_by
+from mutants.words import add_mothra_options, number_from_1, read_by, visible
 
 
 def seconds_word(word: str) -> float:
@@ -143,5 +143,5 @@ def run(given: argparse.Namespace, name: str) -> int:
     more = [write_table(given.table, given, table, found, layout)] if given.table else []
     more += checks.end_lines(start.said.proofs, settings, remark_on(begun.means.program))
     text = summary(found, given.program, given.tests, layout, aim)
-    sys.stdout.write(text + "".join(f"{line}\n" for line in more))
+    sys.stdout.write(visible(text + "".join(f"{line}\n" for line in more)))
     return INTERRUPTED if found.is_cut else SUCCESS

@@ -1,5 +1,7 @@
 """The statements of a source in fixed form, each with the places of its characters in the source."""
 
+from functools import lru_cache
+from itertools import chain
 from typing import NamedTuple
 
 from mutants.texts.parentheses import closing
@@ -43,19 +45,30 @@ def statement_field(number: int, line: str) -> tuple[str, tuple[Place, ...]]:
     return "".join(character for character, _ in kept), tuple(place for _, place in kept)
 
 
-def cards_of(source: str) -> list[Card]:
-    """The statements of a source in fixed form. A continuation line with nothing to continue is left out."""
-    cards: list[Card] = []
+def card_of(lines: list[tuple[int, str]]) -> Card:
+    """The statement of an initial line and those that continue it, each with its number."""
+    fields = [statement_field(number, line) for number, line in lines]
+    number, first = lines[0]
+    places = tuple(chain.from_iterable(places for _, places in fields))
+    return Card(number, first[:5].replace(" ", ""), "".join(text for text, _ in fields), places)
+
+
+@lru_cache(maxsize=8)
+def all_cards(source: str) -> tuple[Card, ...]:
+    groups: list[list[tuple[int, str]]] = []
     for number, line in enumerate(source_lines(source.translate(LETTERS)), 1):
         if is_comment(line):
             continue
-        text, places = statement_field(number, line)
         if not is_continuation(line):
-            cards.append(Card(number, line[:5].replace(" ", ""), text, places))
-        elif cards:
-            last = cards[-1]
-            cards[-1] = last._replace(text=last.text + text, places=last.places + places)
-    return cards
+            groups.append([(number, line)])
+        elif groups:
+            groups[-1].append((number, line))
+    return tuple(map(card_of, groups))
+
+
+def cards_of(source: str) -> list[Card]:
+    """The statements of a source in fixed form. A continuation line with nothing to continue is left out."""
+    return list(all_cards(source))
 
 
 def last_lines(source: str) -> dict[int, int]:
