@@ -15,7 +15,7 @@ from mutants.declarations.said import Said
 from mutants.declarations.settling import Present, entry_for, settled
 from mutants.jobs.making import made_of, meant_for
 from mutants.pages.declared import declared_part
-from mutants.pages.report import report_page
+from mutants.pages.report import Analysed, report_page
 from mutants.subcommands.declare import names_in
 from mutants.texts.jobs import read_job
 from mutants.texts.lines import Mutant
@@ -254,7 +254,8 @@ class Pages(unittest.TestCase):
         job = json.dumps({"source": LEAST, "suite": [[1, 2, 0]], "equivalent": ["ROR 1"]}).encode()
         printed, listed, told = (running.call_stand_in(command, job).decode() for command in ("print", "list", "run"))
         said = Said(LEAST.replace("      K=I", "      k  = i"), {"ROR 1": "the same"}, ["not <declared>"])
-        page = report_page(read_job(job), read_print(printed), read_list(listed)[1], read_report(told), said=said)
+        analysed = Analysed(read_job(job), read_print(printed), read_list(listed)[1], read_report(told))
+        page = report_page(analysed, said=said)
         has(self, page, "k  = i</span>", '<p class="warn">not &lt;declared&gt;</p>', "the same</span>")
         self.assertLess(page.index("not &lt;declared"), page.index('<h2 id="program">'))
         self.assertNotIn("      K=I</span>", page)

@@ -176,11 +176,18 @@ def with_proofs(
     return job._replace(equivalent=declared), said._replace(proofs=proofs)
 
 
-def check(
-    asked: Asked, job: Job, said: Said, expected: Expected, means: Means, name: str, prover: Prover = NO_PROVER
-) -> Checked:
+class Given(NamedTuple):
+    """A job, what is known beside it, and what is expected of its program."""
+
+    job: Job
+    said: Said
+    expected: Expected
+
+
+def check(asked: Asked, given: Given, means: Means, name: str, prover: Prover = NO_PROVER) -> Checked:
     """Asks the program for all of it. What keeps the program or a test from being run is told before mutants are
     run."""
+    job, said, expected = given
     program, shown = means.program, shown_of(job, said)
     printed = printed_of(program, asked.program, job, shown)
     names = dummies_of(printed)

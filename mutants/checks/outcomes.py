@@ -8,7 +8,7 @@ from mutants.checks.faults import said_of
 from mutants.checks.running import Means, calls_at_once
 from mutants.pages.suite import values_of
 from mutants.program.calling import Fault
-from mutants.program.many import Call, ask_many
+from mutants.program.many import Call, Handling, ask_many
 from mutants.progress import Estimate, Progress
 from mutants.texts.batches import batch_text
 from mutants.texts.jobs import Job
@@ -55,7 +55,7 @@ def asked_outcomes(job: Job, means: Means, name: str | None) -> list[str]:
         return told_of_test(place + 1, fault)
 
     try:
-        ask_many(means.program, calls, calls_at_once(means), keep, estimate.tick if name else untold, refuse)
+        ask_many(means.program, calls, calls_at_once(means), Handling(keep, estimate.tick if name else untold, refuse))
     finally:
         progress.end()
     for number, outcome in enumerate(found, 1):

@@ -7,7 +7,7 @@ from mutants.checks.faults import told_of_run
 from mutants.checks.machines import ask_machines
 from mutants.checks.parts import Part, group_size, groups_of, parts_of, whole_report
 from mutants.program.calling import Fault, read_as
-from mutants.program.many import Call, ask_many, processors
+from mutants.program.many import Call, Handling, ask_many, processors
 from mutants.progress import Estimate, Progress
 from mutants.texts.batches import batch_text, batches
 from mutants.texts.jobs import Job
@@ -74,7 +74,7 @@ def asked_in_parts(job: Job, totals: Mapping[str, int], means: Means, name: str)
         if means.logins:
             ask_machines(means.remote, calls, means.jobs, means.logins, keep, estimate.tick)
         else:
-            ask_many(means.program, calls, at_once, keep, estimate.tick)
+            ask_many(means.program, calls, at_once, Handling(keep, estimate.tick))
     except Fault as fault:
         raise told_of_run(job.equivalent, fault) from None
     finally:

@@ -3,7 +3,7 @@
 import argparse
 from typing import NamedTuple
 
-from mutants.checks.checking import Asked, Checked, check
+from mutants.checks.checking import Asked, Checked, Given, check
 from mutants.checks.running import Means
 from mutants.declarations.files import NONE_MEANT, Meant
 from mutants.declarations.proving import Prover, prover_of
@@ -30,7 +30,7 @@ class Start(NamedTuple):
 
     def checked(self, name: str) -> Checked:
         """The check."""
-        found = check(self.asked, self.job, self.said, self.expected, self.means, name, self.prover)
+        found = check(self.asked, Given(self.job, self.said, self.expected), self.means, name, self.prover)
         return found._replace(file=self.made.source.file)
 
 

@@ -19,7 +19,7 @@ from mutants.declarations.proofs import NO_PROOFS, Proofs, count_of_proved
 from mutants.english import joined_words, plural
 from mutants.pages.frame import Cell, bar, page, remark_part, table, text
 from mutants.pages.program import program_part
-from mutants.pages.report import by_line, counts_by_line, proofs_part, score_part
+from mutants.pages.report import at_lines, proofs_part, score_part
 from mutants.pages.suite import least_set_text, values_of
 from mutants.texts.lines import Mutant
 from mutants.texts.reports import Count, Row, score_of, summed, with_status
@@ -133,10 +133,7 @@ def listing_part(whole: Class, results: Sequence[Reported], known: View | None) 
     rows = rows_of_all(whole)
     told = f"<p>{plural(len(common), 'mutant')} that no suite of the class kills. The counts are of all suites.</p>\n"
     source, statements, listed, proofs = known
-    counts, every = counts_by_line(listed, rows), with_status(listed, rows, "E")
-    proved = [mutant for mutant in every if proofs.is_alone(name_of(mutant))]
-    declared = by_line(mutant for mutant in every if not proofs.is_alone(name_of(mutant)))
-    return told + program_part(source, statements, counts, by_line(common), declared, proved=by_line(proved))
+    return told + program_part(source, statements, at_lines(listed, rows, common, proofs))
 
 
 def rows_of_all(whole: Class) -> list[Row]:

@@ -3,7 +3,7 @@
 from collections.abc import Callable, Sequence
 
 from mutants.program.calling import Fault
-from mutants.program.many import Calls, ask_many, processors
+from mutants.program.many import Calls, Handling, ask_many, processors
 from mutants.program.parallel import text_of_answer
 from mutants.statuses import SUCCESS
 
@@ -25,4 +25,4 @@ def run_here(
 ) -> None:
     """Runs the jobs; `keep` is called with the place and the text of each as it ends."""
     calls = [(["run", *words], job) for job in jobs]
-    ask_many(program, calls, count or processors(), keep, untold, ask=text_of_call)
+    ask_many(program, calls, count or processors(), Handling(keep, untold, ask=text_of_call))

@@ -14,7 +14,7 @@ from mutants.classes.batched import OF_TEST
 from mutants.classes.folder import Results, Task
 from mutants.classes.results import NO_CODE, Result
 from mutants.declarations.said import Said
-from mutants.pages.report import Outcomes, report_page
+from mutants.pages.report import Analysed, Outcomes, report_page
 from mutants.program.calling import Fault
 from mutants.texts.jobs import Job, read_job
 from mutants.texts.lines import Mutant
@@ -124,7 +124,7 @@ def page_of(suite: Suite, known: Known, report: Report, remark: str) -> str:
     task = suite.task
     said = Said(task.shown, task.meant.reasons, task.remarks, task.proofs, task.made.titles if task.made else ())
     outcomes = Outcomes(suite.outcomes, {each.test: each.expected for each in suite.unexpected})
-    return report_page(read_job(task.text or b""), *known, report, remark, outcomes, said)
+    return report_page(Analysed(read_job(task.text or b""), *known, report), remark, outcomes, said)
 
 
 def write_pages(suites: Sequence[Suite], known: Mapping[str, Known], remark: str, results: Results) -> None:

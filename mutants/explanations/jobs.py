@@ -170,15 +170,15 @@ def notes_on(code: str, kind: str, detail: str, text: bytes, program: str | None
         return [f"{detail} is {NAMES[detail]}."] if detail in NAMES else []
     if code == "J8":
         return [f"The suite has {plural(len(items_of(job, 'suite')), 'test')}."]
-    return notes_by_number(code, kind, detail, text, job, program, words)
+    if kind == "entry":
+        return entry_notes(program, text, job, int(detail))
+    return notes_by_number(code, detail, job, program, words)
 
 
 def notes_by_number(
-    code: str, kind: str, detail: str, text: bytes, job: Mapping[str, Any], program: str | None, words: list[str]
+    code: str, detail: str, job: Mapping[str, Any], program: str | None, words: list[str]
 ) -> list[str]:
-    """The notes on a test, a value of a test or an entry, told by its number."""
-    if kind == "entry":
-        return entry_notes(program, text, job, int(detail))
+    """The notes on a test or a value of a test, told by its number."""
     if code == "J4":
         return value_notes(item_of(job, "suite", int(detail)), int(detail))
     if code == "B3":

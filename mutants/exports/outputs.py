@@ -13,7 +13,7 @@ from mutants.exports.mutation_report import mutation_report_text
 from mutants.exports.rows import table_text
 from mutants.exports.sarif import sarif_text
 from mutants.files import written
-from mutants.pages.report import KIND, Outcomes, report_page
+from mutants.pages.report import KIND, Analysed, Outcomes, report_page
 from mutants.texts.report_lines import report_text
 
 # How the title of a page ends, and within how many bytes.
@@ -46,7 +46,8 @@ def page_text(shown: Shown) -> str:
     remarks = [shown.remark, *(f"Left out: {each}." for each in checked.left_out)]
     told = " ".join(each for each in remarks if each)
     outcomes = Outcomes(checked.outcomes, {each.test: each.expected for each in checked.unexpected})
-    return report_page(checked.job, checked.printed, checked.listed, checked.report, told, outcomes, checked.said)
+    analysed = Analysed(checked.job, checked.printed, checked.listed, checked.report)
+    return report_page(analysed, told, outcomes, checked.said)
 
 
 def json_text(shown: Shown) -> str:

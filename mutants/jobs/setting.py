@@ -8,7 +8,8 @@ import re
 from collections.abc import Iterable, Sequence
 from typing import Any
 
-from mutants.jobs.sizes import DECLARATION, closing
+from mutants.jobs.sizes import DECLARATION
+from mutants.texts.parentheses import closing
 from mutants.texts.cards import Card, cards_of
 from mutants.texts.dummies import read_unit
 

@@ -1,7 +1,7 @@
 """The program on a page: each line with its marks, and under each statement its survivors with what they change."""
 
 from collections.abc import Mapping, Sequence
-from types import MappingProxyType
+from typing import NamedTuple
 
 from mutants.pages.frame import bar, text
 from mutants.pages.survivors import MARKS, NO_REASONS, declared_part, survivors_part
@@ -42,29 +42,35 @@ def numbered_lines(source: str) -> list[tuple[int, str]]:
     return lines[max(kept[0] - 1, 0) : kept[-1]]
 
 
+class AtLines(NamedTuple):
+    """By the initial line of a statement: counts of its mutants, and those that survive, are declared, or proved."""
+
+    counts: Mapping[int, Count]
+    survivors: Mapping[int, Sequence[Mutant]]
+    declared: Mapping[int, Sequence[Mutant]]
+    proved: Mapping[int, Sequence[Mutant]]
+
+
 def program_part(
     source: str,
     statements: Mapping[int, str],
-    counts: Mapping[int, Count],
-    survivors: Mapping[int, Sequence[Mutant]],
-    declared: Mapping[int, Sequence[Mutant]],
-    has_links: bool = False,
+    found: AtLines,
     reasons: Mapping[str, str] = NO_REASONS,
-    proved: Mapping[int, Sequence[Mutant]] = MappingProxyType({}),
+    has_links: bool = False,
 ) -> str:
-    """The whole program: counts of mutants, and survivors, declared and proved mutants are by the statement's initial
-    line.
+    """The whole program with its mutants.
 
     The mutants of a statement stand behind its last line, so that its lines stay together.
     """
     ends, parts = last_lines(source), []
-    initial = {ends.get(line, line): line for line in {*survivors, *declared, *proved}}
+    initial = {ends.get(line, line): line for line in {*found.survivors, *found.declared, *found.proved}}
     for number, line in numbered_lines(source):
-        parts.append(line_part(number, line, counts.get(number), len(survivors.get(number, [])), has_links))
+        alive = len(found.survivors.get(number, []))
+        parts.append(line_part(number, line, found.counts.get(number), alive, has_links))
         if number in initial:
             first = initial[number]
-            found, others, sure = (each.get(first, []) for each in (survivors, declared, proved))
-            parts += [survivors_part(found, statements[first])] if found else []
+            living, others, sure = (each.get(first, []) for each in (found.survivors, found.declared, found.proved))
+            parts += [survivors_part(living, statements[first])] if living else []
             parts += [declared_part(others, statements[first], reasons)] if others else []
             parts += [declared_part(sure, statements[first], reasons, "proved")] if sure else []
     return '<div class="program">\n' + "".join(parts) + "</div>\n"

@@ -18,7 +18,7 @@ from mutants.operators import NAMES
 from mutants.pages.declared import declared_part, proved_part, remarks_part
 from mutants.pages.frame import Cell, bar, page, remark_part, sections, table, text
 from mutants.pages.matrix import matrix_part
-from mutants.pages.program import program_part
+from mutants.pages.program import AtLines, program_part
 from mutants.pages.suite import tests_part
 from mutants.texts.jobs import Job
 from mutants.texts.lines import Mutant
@@ -46,6 +46,16 @@ def by_line(mutants: Iterable[Mutant]) -> dict[int, list[Mutant]]:
     for mutant in mutants:
         found[mutant.line].append(mutant)
     return found
+
+
+def at_lines(
+    listed: Sequence[Mutant], rows: Sequence[Row], survivors: Iterable[Mutant], proofs: Proofs
+) -> AtLines:
+    """What stands at each line of the program: the declared and proved mutants are those that survive."""
+    every = with_status(listed, rows, "E")
+    proved = by_line(mutant for mutant in every if proofs.is_alone(name_of(mutant)))
+    declared = by_line(mutant for mutant in every if not proofs.is_alone(name_of(mutant)))
+    return AtLines(counts_by_line(listed, rows), by_line(survivors), declared, proved)
 
 
 def score_part(count: Count, proved: int = 0) -> str:
@@ -152,16 +162,20 @@ def unexpected_part(unexpected: Mapping[int, str]) -> str:
     return f'<p class="warn">{told}</p>\n'
 
 
+class Analysed(NamedTuple):
+    """A job, its printed program, its list of mutants, and its report."""
+
+    job: Job
+    printed: Sequence[str]
+    listed: Sequence[Mutant]
+    report: Report
+
+
 def report_page(
-    job: Job,
-    printed: Sequence[str],
-    listed: Sequence[Mutant],
-    report: Report,
-    remark: str = "",
-    outcomes: Outcomes = Outcomes(),
-    said: Said = NOTHING,
+    analysed: Analysed, remark: str = "", outcomes: Outcomes = Outcomes(), said: Said = NOTHING
 ) -> str:
-    """The page of a job, of its printed program, its list of mutants and its report, and what else is said of it."""
+    """The page of a job that was analysed, with what else is said of it."""
+    job, printed, listed, report = analysed
     assert_same_mutants(listed, report)
     if len(job.suite) != report.tests:
         raise ValueError("the report and the job have not the same number of tests")
@@ -194,12 +208,9 @@ def listing_part(
     job: Job, statements: Mapping[int, str], listed: Sequence[Mutant], report: Report, said: Said
 ) -> str:
     """The program with its survivors, and the declared and proved mutants that survived."""
-    counts, every = counts_by_line(listed, report.rows), with_status(listed, report.rows, "E")
-    proved = [mutant for mutant in every if said.proofs.is_alone(name_of(mutant))]
-    declared = by_line(mutant for mutant in every if not said.proofs.is_alone(name_of(mutant)))
     source = job.source if said.shown is None else said.shown
-    survivors = by_line(report.survivors)
-    return program_part(source, statements, counts, survivors, declared, True, said.all_reasons, by_line(proved))
+    found = at_lines(listed, report.rows, report.survivors, said.proofs)
+    return program_part(source, statements, found, said.all_reasons, has_links=True)
 
 
 def filter_part(survivors: Iterable[Mutant]) -> str:

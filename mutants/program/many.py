@@ -8,6 +8,7 @@ import threading
 from collections.abc import Callable, Sequence
 from concurrent.futures import Future, ThreadPoolExecutor, wait
 from functools import partial
+from typing import NamedTuple
 
 from mutants.program.calling import Fault, failure_of
 from mutants.statuses import SUCCESS
@@ -89,14 +90,14 @@ def put_place(ended: "queue.SimpleQueue[int]", place: int, _: "Future[str]") -> 
     ended.put(place)
 
 
-def keep_each(calls: "Sequence[Future[str]]", keep: Keep, tick: Callable[[], None], refuse: Refuse) -> None:
+def keep_each(calls: "Sequence[Future[str]]", handling: "Handling") -> None:
     """Keeps what comes of each call as it ends."""
     ended: queue.SimpleQueue[int] = queue.SimpleQueue()
     for place, each in enumerate(calls):
         each.add_done_callback(partial(put_place, ended, place))
     left = len(calls)
     while left:
-        tick()
+        handling.tick()
         try:
             place = ended.get(timeout=TICK)
         except queue.Empty:
@@ -104,29 +105,28 @@ def keep_each(calls: "Sequence[Future[str]]", keep: Keep, tick: Callable[[], Non
         if calls[place].exception():
             place = first_failed(calls, place)
             fault = calls[place].exception()
-            raise refuse(place, fault) if isinstance(fault, Fault) else fault or ValueError("it was stopped")
-        keep(place, calls[place].result())
+            raise handling.refuse(place, fault) if isinstance(fault, Fault) else fault or ValueError("it was stopped")
+        handling.keep(place, calls[place].result())
         left -= 1
 
 
-def ask_many(
-    program: str,
-    calls: Sequence[Call],
-    at_once: int,
-    keep: Keep,
-    tick: Callable[[], None],
-    refuse: Refuse = as_it_is,
-    ask: Ask = answer_of,
-) -> None:
-    """Makes these calls. `keep` is called with the place and the text of each as it ends, `tick` now and then.
+class Handling(NamedTuple):
+    """What is done with calls: `keep` with the place and the text of each as it ends, `tick` now and then, `refuse`
+    with the place of one that fails; and how one is made."""
 
-    The first fault that `ask` raises ends all of them; so does Ctrl-C.
-    """
+    keep: Keep
+    tick: Callable[[], None]
+    refuse: Refuse = as_it_is
+    ask: Ask = answer_of
+
+
+def ask_many(program: str, calls: Sequence[Call], at_once: int, handling: Handling) -> None:
+    """Makes these calls. The first fault ends all of them; so does Ctrl-C."""
     running = Calls(program)
     with ThreadPoolExecutor(at_once) as pool:
-        begun = [pool.submit(ask, running, *call) for call in calls]
+        begun = [pool.submit(handling.ask, running, *call) for call in calls]
         try:
-            keep_each(begun, keep, tick, refuse)
+            keep_each(begun, handling)
         finally:
             running.stop()
             pool.shutdown(cancel_futures=True)

@@ -33,7 +33,7 @@ from mutants.declarations.proving import add_proof_options, prover_of
 from mutants.jobs.given import job_to_tell
 from mutants.jobs.making import add_making_options
 from mutants.jobs.sources import is_program
-from mutants.pages.report import Outcomes, report_page
+from mutants.pages.report import Analysed, Outcomes, report_page
 from mutants.program.asking import asked_report
 from mutants.program.calling import Fault, answer, read_as, text_of
 from mutants.program.finding import add_mothra_option, find_program
@@ -113,6 +113,6 @@ def run(given: argparse.Namespace, name: str) -> int:
     outcomes = outcomes_of(given, program, job, command)
     # A page is UTF-8 whatever the terminal takes.
     said = asked.said._replace(proofs=proofs)
-    told = report_page(job, printed, listed, report, remark_on(program), outcomes, said)
+    told = report_page(Analysed(job, printed, listed, report), remark_on(program), outcomes, said)
     sys.stdout.buffer.write(told.encode())
     return SUCCESS

@@ -3,12 +3,13 @@
     tools/slips [--count N] [--seed S] [--jobs N]
 
 A slip is what a tired hand does: another comparison, sum or connective, True for False, a number larger by one, a `not`
-more. Each is made in a copy of the repository, and the tests that need no program are run there until one fails. There
-is a line for each that none catches; the last line counts both.
+more. Each is made in a copy of the repository, and the tests that need no program are run there until one fails. A line
+tells each, with the test that catches it; the last line counts both.
 """
 
 import argparse
 import ast
+import re
 import shutil
 import subprocess
 import sys
@@ -46,8 +47,8 @@ def slipped(node: ast.AST) -> bool:
     return True
 
 
-def tried(seed: str) -> str:
-    """The slip of this seed where the tests do not catch it; else no text."""
+def tried(seed: str) -> tuple[str, str]:
+    """The slip of this seed, and the first test that catches it; no text where none does."""
     chance = Random(seed)
     with tempfile.TemporaryDirectory() as folder:
         copy = Path(folder, "copy")
@@ -61,11 +62,12 @@ def tried(seed: str) -> str:
         path.write_text(ast.unparse(tree), encoding="utf-8")
         call = [sys.executable, "-B", "-m", "unittest", "discover", "-f", "-s", "tests"]
         try:
-            status = subprocess.run(call, cwd=copy, capture_output=True, timeout=SLOW).returncode
+            said = subprocess.run(call, cwd=copy, capture_output=True, text=True, timeout=SLOW).stderr
         except subprocess.TimeoutExpired:
-            return ""
+            said = "ERROR: no end"
+    failed = re.search(r"^(?:FAIL|ERROR): (\w+|no end)", said, re.M)
     after = ast.unparse(node).partition("\n")[0]
-    return f"{path.relative_to(copy)}:{node.lineno}: {before[node]} -> {after}" if status == SUCCESS else ""
+    return f"{path.relative_to(copy)}:{node.lineno}: {before[node]} -> {after}", failed[1] if failed else ""
 
 
 def add_words(parser: argparse.ArgumentParser) -> None:
@@ -75,8 +77,10 @@ def add_words(parser: argparse.ArgumentParser) -> None:
 
 
 def run(given: argparse.Namespace, name: str) -> int:
+    caught = 0
     with ThreadPoolExecutor(given.jobs) as pool:
-        found = list(pool.map(tried, [f"{given.seed} {number}" for number in range(given.count)]))
-    print("\n".join(f"not caught: {told}" for told in found if told))
-    print(f"{found.count('')} of {len(found)} are caught")
+        for slip, test in pool.map(tried, [f"{given.seed} {number}" for number in range(given.count)]):
+            caught += bool(test)
+            print(f"{test or 'NOT CAUGHT'}: {slip}", flush=True)
+    print(f"{caught} of {given.count} are caught")
     return SUCCESS
