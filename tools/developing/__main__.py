@@ -1,5 +1,5 @@
 #!/usr/bin/env python3
-"""The tools of developers: a link to this file in tools/ has the name of a tool, and a module beside it all else."""
+"""The tools of developers: a file of tools/ has the name of a tool, and a module beside this one has all else."""
 
 import argparse
 import sys
@@ -30,5 +30,4 @@ def main() -> int:
     return run_tool(name, lambda: module.run(parser.parse_args(), name))
 
 
-if __name__ == "__main__":
-    sys.exit(main())
+sys.exit(main())
