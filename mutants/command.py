@@ -10,7 +10,7 @@ import sys
 from collections.abc import Callable, Sequence
 from typing import Any
 
-from mutants import __version__, statuses
+from mutants import statuses
 from mutants.ending import run_tool
 from mutants.subcommands.registry import SUBCOMMANDS, Subcommand
 from mutants.words import add_version, text_of_help, with_whole_lists

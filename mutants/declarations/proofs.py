@@ -1,6 +1,6 @@
 """Mutants that are proved equivalent: they are declared by themselves, and kept apart from what a person declares."""
 
-from collections.abc import Collection, Iterable, Mapping, Sequence
+from collections.abc import Collection, Iterable, Mapping
 from types import MappingProxyType
 from typing import NamedTuple
 

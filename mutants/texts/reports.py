@@ -2,7 +2,7 @@
 
 import re
 from collections import Counter
-from collections.abc import Iterable, Mapping, Sequence
+from collections.abc import Iterable, Sequence
 from typing import NamedTuple
 
 from mutants.texts.lines import NUMBER, Mutant, Named, assert_numbered, lines_of_text, mutant_of
