@@ -257,10 +257,13 @@ class Sizes(Room):
     def test_arrays_of_one_element_are_told_with_the_size_that_the_tests_have(self) -> None:
         source = "      SUBROUTINE A(X,K,Y)\n      INTEGER X(1),Y(1)\n      END\n"
         told = self.made(source, "1 2 3,1,4 5\n1 2 3,2,4 5\n").remarks
-        self.assertEqual(told, [f"{self.room}/tests.csv: X and Y have one element, and the tests more: --size X=3,Y=2"])
+        more = "the tests have more elements than the bounds of X and Y say: --size X=3,Y=2 follows them"
+        self.assertEqual(told, [f"{self.room}/tests.csv: {more}"])
         self.assertEqual(self.made(source, "1 2 3,1,4 5\n", Wish(sizes={"X": 3, "Y": 2})).remarks, [])
         told = self.made(source, "[[[1],1,[2]],[[1,2],1,[2]]]", ending=".json").remarks
-        self.assertEqual(told, [f"{self.room}/tests.json: X has one element, and the tests more: --size X=2"])
+        self.assertIn("the bounds of X say: --size X=2 follows them", told[0])
+        told = self.made(source.replace("X(1),Y(1)", "X(*),Y(2,*)"), "1 2 3,1,4 5\n1 2,1,4 5\n").remarks
+        self.assertIn("the bounds of X say: --size X=3 follows them", told[-1])
 
     def test_shorter_arrays_are_filled_where_the_last_bound_alone_has_a_size(self) -> None:
         source = "      SUBROUTINE A(X,K,P,Y)\n      INTEGER X(*),Y(N,2)\n      LOGICAL P(N)\n      END\n"

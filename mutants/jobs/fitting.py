@@ -46,16 +46,17 @@ def fit(source: Source, table: Table, names: Sequence[str], sizes: Mapping[str, 
     return [f"{told}: {joined_words(sorted(short))}"] if short else []
 
 
-def ones_told(source: Source, table: Table, names: Sequence[str]) -> list[str]:
-    """A sentence on dummy arrays of one element for which the tests have more: a bound (1) once meant any size."""
+def sizes_told(source: Source, table: Table, names: Sequence[str]) -> list[str]:
+    """A sentence on dummy arrays whose size the tests tell: their one bound is no number, or 1, which once meant any."""
+    bounds = [bound for card in cards_of(source.text) for bound in bounds_of(card.text)]
+    is_open = {bound.array for bound in bounds if bound.is_last and not bound.text.isdecimal()}
+    is_open -= {bound.array for bound in bounds if not bound.is_last}
     sizes: dict[str, int] = {}
     for place, (name, (_, elements)) in enumerate(zip(names, read_unit(source.text)[1])):
         values = [test[place] for test in table.tests if place < len(test)]
         lengths = {len(value) for value in values if isinstance(value, list)}
-        if elements == 1 and lengths and lengths != {1}:
+        if (elements == 1 or name in is_open) and lengths and lengths != {1}:
             sizes[name] = max(lengths)
-    if not sizes:
-        return []
     words = ",".join(f"{name}={size}" for name, size in sizes.items())
-    verb = "has" if len(sizes) == 1 else "have"
-    return [f"{joined_words(sizes)} {verb} one element, and the tests more: --size {words}"]
+    told = f"the tests have more elements than the bounds of {joined_words(sizes)} say: --size {words} follows them"
+    return [told] if sizes else []

@@ -9,7 +9,7 @@ from typing import Any, NamedTuple, TypeVar
 
 from mutants.declarations.files import NONE_MEANT, Meant, found_beside, meant_by, read_declarations
 from mutants.files import bytes_of
-from mutants.jobs.fitting import fit, ones_told
+from mutants.jobs.fitting import fit, sizes_told
 from mutants.jobs.setting import zeros_of
 from mutants.jobs.sizes import read_sizes
 from mutants.jobs.sources import Source, Wish, source_of
@@ -83,7 +83,7 @@ def with_table(made: Made, path: Path, wish: Wish = Wish(), is_strict: bool = Tr
         return made
     table = told_of(path, lambda: read_table(path, dummies, is_strict, zeros_of(source.text, dummies)))
     fitted = told_of(path, lambda: fit(source, table, dummies, wish.sizes)) if wish.sizes else []
-    told = [*table.remarks, *fitted, *ones_told(source, table, dummies)]
+    told = [*table.remarks, *fitted, *sizes_told(source, table, dummies)]
     return Made(source, table, made.remarks + [f"{path}: {each}" for each in told])
 
 
