@@ -1,6 +1,7 @@
 """What each test of a suite adds: how many mutants it kills, how many it alone, and the smallest set of tests."""
 
 import json
+from collections import Counter
 from collections.abc import Iterable, Mapping, Sequence
 
 from mutants.english import joined_words, plural
@@ -20,13 +21,13 @@ def killers_of(bits: str) -> int:
 
 def kills_of(rows: Sequence[Row], tests: int) -> list[int]:
     """How many mutants each test kills."""
-    return [sum(row.bits[test] == "1" for row in rows) for test in range(tests)]
+    return [column.count("1") for column in zip(*(row.bits for row in rows))] or [0] * tests
 
 
 def alone_of(rows: Iterable[Row], tests: int) -> list[int]:
     """How many mutants each test kills that no other test kills."""
-    single = [row.bits.index("1") for row in rows if row.bits.count("1") == 1]
-    return [single.count(test) for test in range(tests)]
+    single = Counter(row.bits.index("1") for row in rows if row.bits.count("1") == 1)
+    return [single[test] for test in range(tests)]
 
 
 def shortened(told: str) -> str:
