@@ -1,6 +1,5 @@
 """The sweep of searches for tests: its programs, its table, and what has to be met."""
 
-import re
 import unittest
 from unittest import mock
 

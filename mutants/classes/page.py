@@ -22,8 +22,7 @@ from mutants.pages.program import program_part
 from mutants.pages.report import at_lines, proofs_part, score_part
 from mutants.pages.suite import least_set_text, values_of
 from mutants.texts.lines import Mutant
-from mutants.texts.reports import Count, Row, score_of, summed, with_status
-from mutants.texts.twins import name_of
+from mutants.texts.reports import Count, Row, score_of, summed
 
 
 class View(NamedTuple):

@@ -22,7 +22,6 @@ import argparse
 import json
 import re
 import subprocess
-import sys
 import tempfile
 from collections.abc import Iterator, Sequence
 from os import environ
@@ -35,7 +34,6 @@ from mutants.jobs.making import job_text
 from mutants.program.roots import ROOT
 from mutants.program.unproved import MARK
 from mutants.statuses import FAULT, SUCCESS
-from mutants.texts.reports import read_report, score_of, summed
 from mutants.words import whole_path
 
 ROWS = [ROOT / "crates" / "rows" / name for name in ("stdin", "stdout")]

@@ -113,7 +113,7 @@ def run(given: argparse.Namespace, name: str) -> int:
             words = [given.mothra, *command.split()]
             text = called(words, job).text
             for kind, calls in KINDS.items():
-                answers = list(pool.map(lambda call: call(), calls(words, job, text)))
+                answers = list(pool.map(lambda call: str(call()), calls(words, job, text)))
                 counts = ", ".join(f"{answer} {count}" for answer, count in sorted(Counter(answers).items()))
                 print(f"mothra {command}: {kind}: {len(answers)} calls: {counts}", flush=True)
                 is_right = is_right and all(not answer.startswith("BROKEN") for answer in answers)

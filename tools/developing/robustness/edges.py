@@ -52,16 +52,6 @@ class Edges:
 def rows_for(dummies: Sequence[Dummy], constants: Sequence[int], chance: Random) -> Iterator[Row]:
     """Rows for these dummy arguments, without an end."""
     edges = Edges(constants, chance)
-    first = (*ENDS, *NEAR)
-    # First each argument has the same value, where it can.
-    for each in first:
-        yield tuple(same_value(dummy, each) for dummy in dummies)
     while True:
         kind = chance.choice(KINDS)
         yield tuple(edges.value(dummy, kind) for dummy in dummies)
-
-
-def same_value(dummy: Dummy, number: int) -> Value:
-    """The argument that has this number, or whether it is above 0, in all of its elements."""
-    item = number > 0 if dummy[0] == "logical" else number
-    return item if dummy[1] is None else (item,) * dummy[1]
