@@ -47,7 +47,7 @@ def fit(source: Source, table: Table, names: Sequence[str], sizes: Mapping[str, 
 
 
 def sizes_told(source: Source, table: Table, names: Sequence[str]) -> list[str]:
-    """A sentence on dummy arrays whose size the tests tell: their one bound is no number, or 1, which once meant any."""
+    """A sentence on dummy arrays whose size the tests tell: the one bound is no number, or 1, which once meant any."""
     bounds = [bound for card in cards_of(source.text) for bound in bounds_of(card.text)]
     is_open = {bound.array for bound in bounds if bound.is_last and not bound.text.isdecimal()}
     is_open -= {bound.array for bound in bounds if not bound.is_last}
