@@ -35,7 +35,7 @@ class HandedIn(Class):
         rows = self.assert_anna_stands()
         self.assertEqual([rows[name]["unexpected"] for name in ("anna", "bert", "carl")], ["0", "1", "0"])
         self.assertIn("X is no dummy argument", rows["carl"]["told"])
-        has(self, self.page(), "does not do what is expected of it by bert (1 test).", "carl: what is expected of test 1")
+        has(self, self.page(), "what is expected of it by bert (1 test).", "carl: what is expected of test 1")
         has(self, (self.folder / "out" / "jobs" / "bert.html").read_text(), "expected K=2", "Test 2: the program does")
 
     def test_a_suite_of_any_length(self) -> None:

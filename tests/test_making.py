@@ -377,10 +377,6 @@ class Tables(Room):
             ([[[3, 4, 5]], [[6, 7, 8]]], ["row 1: '3 4 5' is one array of 3 elements, for M"]),
         )
 
-    def test_what_is_not_strict_may_be_ragged(self) -> None:
-        path = self.put("tests.csv", "1,2\n1,2,3,4\n")
-        self.assertEqual(read_table(path, ["I", "J", "K"], is_strict=False).tests, [[1, 2], [1, 2, 3, 4]])
-
     def test_cells(self) -> None:
         for cell, value in (
             (" +7 ", 7),

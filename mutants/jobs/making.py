@@ -65,23 +65,22 @@ def dummies_of(source: str) -> list[str] | None:
         return None
 
 
-def made_of(program: Path, tests: Path | None = None, wish: Wish = Wish(), is_strict: bool = True) -> Made:
+def made_of(program: Path, tests: Path | None = None, wish: Wish = Wish()) -> Made:
     """The job of these files; ValueError names the file that does not serve, and why.
 
-    Where it is not strict, tests may have other numbers of values than there are dummy arguments: the program tells.
     Of what does not begin with SUBROUTINE the program tells too, so no table is read for it.
     """
     source = told_of(program, lambda: source_of(bytes_of(program), wish))
     made = Made(source, None, [f"{program}: {remark}" for remark in source.remarks])
-    return made if tests is None else with_table(made, tests, wish, is_strict)
+    return made if tests is None else with_table(made, tests, wish)
 
 
-def with_table(made: Made, path: Path, wish: Wish = Wish(), is_strict: bool = True) -> Made:
+def with_table(made: Made, path: Path, wish: Wish = Wish()) -> Made:
     """The job of a program with the table of a file."""
     source, dummies = made.source, dummies_of(made.source.text)
     if dummies is None:
         return made
-    table = told_of(path, lambda: read_table(path, dummies, is_strict, zeros_of(source.text, dummies)))
+    table = told_of(path, lambda: read_table(path, dummies, zeros_of(source.text, dummies)))
     fitted = told_of(path, lambda: fit(source, table, dummies, wish.sizes)) if wish.sizes else []
     told = [*table.remarks, *fitted, *sizes_told(source, table, dummies)]
     return Made(source, table, made.remarks + [f"{path}: {each}" for each in told])
@@ -110,15 +109,6 @@ def whole_text(made: Made, equivalent: Sequence[str] | None = None) -> str:
             f"the job has {len(text.encode()):,} bytes, and {BYTES:,} are the limit: leave out tests or comments"
         )
     return text
-
-
-def job_text(
-    program: Path, tests: Path | None = None, equivalent: Path | None = None, mothra: str | None = None
-) -> str:
-    """The job of these files as it comes, for a folder of many: what does not fit is left to the program to tell."""
-    made = made_of(program, tests, is_strict=False)
-    meant = meant_for(made, program, equivalent, lambda: mothra, looks_beside=False)
-    return made.text(meant.names if meant.is_of_file else None)
 
 
 def sizes_word(word: str) -> dict[str, int]:

@@ -111,8 +111,8 @@ def shape_fault(row: int, cells: Cells, columns: Sequence[str], is_text: bool) -
 class Reading:
     """Reads the rows of a table, one after the other."""
 
-    def __init__(self, dummies: Sequence[str] | None, blanks: Mapping[str, Any], is_strict: bool) -> None:
-        self.dummies, self.names, self.is_strict = dummies, dummies or [], is_strict
+    def __init__(self, dummies: Sequence[str] | None, blanks: Mapping[str, Any]) -> None:
+        self.dummies, self.names = dummies, dummies or []
         self.blanks, self.left_blank = blanks, dict[str, str]()
         self.columns: list[str] = []
         self.table = Table([], [], {}, [])
@@ -133,7 +133,7 @@ class Reading:
     def add(self, row: int, cells: Cells, read: Callable[[Any], Any], is_text: bool) -> None:
         """Adds the test of a row."""
         columns = self.columns or list(self.names)
-        wanted = self.columns or self.dummies is not None and self.is_strict
+        wanted = self.columns or self.dummies is not None
         if wanted and len(cells) != len(columns):
             raise ValueError(shape_fault(row, cells, columns, is_text))
         named = [*columns, *[""] * (len(cells) - len(columns))]
@@ -168,13 +168,11 @@ def titles_of(table: Table) -> list[str]:
     return ["" if is_blank(cell) else " ".join(str(cell).split()) for cell in column]
 
 
-def read_table(
-    path: Path, dummies: Sequence[str] | None = None, is_strict: bool = True, blanks: Mapping[str, Any] = {}
-) -> Table:
+def read_table(path: Path, dummies: Sequence[str] | None = None, blanks: Mapping[str, Any] = {}) -> Table:
     """The table of a file for these dummy arguments; None where they are not known. Some of them have values for blank
-    cells. What is not strict may be ragged."""
+    cells."""
     text = decoded(bytes_of(path))
-    reading = Reading(dummies, blanks, is_strict)
+    reading = Reading(dummies, blanks)
     if path.suffix.lower() == ".csv":
         return reading.take(rows_of_csv(text), read_cell, True)
     return reading.take(rows_of_json(text), checked_value, False)

@@ -30,7 +30,7 @@ from typing import NamedTuple
 
 from mutants.explanations.also import asked_fault
 from mutants.explanations.habits import HABITS
-from mutants.jobs.making import job_text
+from mutants.jobs.making import made_of, meant_for
 from mutants.program.roots import ROOT
 from mutants.program.unproved import MARK
 from mutants.statuses import FAULT, SUCCESS
@@ -73,11 +73,18 @@ def examples() -> Iterator[Example]:
         yield Example(name, suite.with_name(f"{name.split('-')[0]}.f"), suite, names if names.exists() else None)
 
 
+def job_text(each: Example, mothra: str) -> str:
+    """The job of a program and its suite."""
+    made = made_of(each.program, each.suite)
+    meant = meant_for(made, each.program, each.declared, lambda: mothra, looks_beside=False)
+    return made.text(meant.names if meant.is_of_file else None)
+
+
 def compare_files(mothra: str) -> Iterator[tuple[str, bool]]:
     """Each stored job and report: its name, and whether it is the same."""
     for each in examples():
         job, report = each.stored(".json"), each.stored(".report")
-        yield f"examples/{job.name}", job_text(each.program, each.suite, each.declared, mothra) == job.read_text()
+        yield f"examples/{job.name}", job_text(each, mothra) == job.read_text()
         yield f"examples/{report.name}", written([mothra, "run"], job.read_bytes()) == report.read_text()
 
 
