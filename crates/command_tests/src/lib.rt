@@ -1,4 +1,4 @@
-//! Tests of the commands where rows of `rows` do not come: streams that fail, memory that is refused, words with blanks,
+//! Tests of the commands where no row of `rows` comes: streams that fail, memory that is refused, words with blanks,
 //! bytes that are no text, and jobs that are long.
 #![tactic(auto)]
 
