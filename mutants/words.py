@@ -99,7 +99,8 @@ def add_mothra_options(parser: argparse.ArgumentParser, *names: str) -> None:
         ("workers", "N", "how many threads run mutants"),
     ):
         if option in names:
-            read = read_by(lambda word: ",".join(codes_in(word))) if option == "ops" else str
+            read: Callable[[str], str] = read_by(lambda word: ",".join(codes_in(word)))
+            read = read if option == "ops" else str
             parser.add_argument(f"--{option}", metavar=value, type=read, help=told)
 
 

@@ -36,7 +36,7 @@ class Sets(unittest.TestCase):
     def test_survivors_that_are_one_program_are_one(self) -> None:
         listed, rows = mutants_of("10", "00", "00")
         alike = [mutant._replace(text="K=0") for mutant in listed]
-        self.assertEqual(subsuming(alike, rows).count, (2, 1, 0))
+        self.assertEqual(subsuming(alike, rows).counted, (2, 1, 0))
 
 
 class Told(Room):

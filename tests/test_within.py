@@ -24,7 +24,7 @@ class Rows(unittest.TestCase):
         found = box_of([("n", (1, 2)), ("2", (0, 1))], ARRAYS, ["N", "A", "P", "K"])
         arrays = itertools.product((0, 1), repeat=2)
         wanted = [(n, a, p, 0) for n in (1, 2) for a in arrays for p in (False, True)]
-        self.assertEqual((list(found.rows())[:8], found.count), (wanted[:8], 2 * 4 * 2))
+        self.assertEqual((list(found.rows())[:8], found.size), (wanted[:8], 2 * 4 * 2))
         self.assertEqual(found.told, "N from 1 to 2 and A from 0 to 1")
 
     def test_what_does_not_serve(self) -> None:

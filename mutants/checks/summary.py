@@ -84,7 +84,7 @@ def proof_lines(checked: Checked) -> Iterator[str]:
 def subsuming_lines(checked: Checked) -> Iterator[str]:
     """The score over the mutants that subsume all others, where it tells something else."""
     found = subsuming(checked.listed, checked.report.rows)
-    if found.count.total < sum(row.status != "E" for row in checked.report.rows):
+    if found.counted.total < sum(row.status != "E" for row in checked.report.rows):
         yield found.told()
 
 

@@ -63,7 +63,7 @@ def results(checked: Checked, uri: str, ops: Sequence[str]) -> list[dict[str, An
 def sarif_text(checked: Checked, program: Path, remark: str = "") -> str:
     """The whole log, of one run."""
     ops = sorted({mutant.op for mutant in checked.report.survivors})
-    driver = {"name": "mutants", "version": __version__, "rules": list(map(rule, ops))}
+    driver: dict[str, object] = {"name": "mutants", "version": __version__, "rules": list(map(rule, ops))}
     driver |= {"fullDescription": {"text": remark}} if remark else {}
     run = {
         "tool": {"driver": driver},

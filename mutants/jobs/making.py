@@ -77,9 +77,10 @@ def made_of(program: Path, tests: Path | None = None, wish: Wish = Wish()) -> Ma
 
 def with_table(made: Made, path: Path, wish: Wish = Wish()) -> Made:
     """The job of a program with the table of a file."""
-    source, dummies = made.source, dummies_of(made.source.text)
-    if dummies is None:
+    source, known = made.source, dummies_of(made.source.text)
+    if known is None:
         return made
+    dummies: Sequence[str] = known
     table = told_of(path, lambda: read_table(path, dummies, zeros_of(source.text, dummies)))
     fitted = told_of(path, lambda: fit(source, table, dummies, wish.sizes)) if wish.sizes else []
     told = [*table.remarks, *fitted, *sizes_told(source, table, dummies)]

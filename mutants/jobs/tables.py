@@ -164,7 +164,8 @@ class Reading:
 
 def titles_of(table: Table) -> list[str]:
     """The names of the tests, where a column has them."""
-    column = next((table.others[name] for name in TITLES if name in table.others), [])
+    found = [table.others[name] for name in TITLES if name in table.others]
+    column = found[0] if found else []
     return ["" if is_blank(cell) else " ".join(str(cell).split()) for cell in column]
 
 

@@ -16,7 +16,7 @@ class Entry(NamedTuple):
     link: str = ""
     unit: str = ""
     tests: int = 0
-    count: Count = Count(0, 0, 0)
+    counted: Count = Count(0, 0, 0)
     wrong: str = ""
 
 
@@ -27,7 +27,7 @@ HEAD: list[Cell] = [
 
 
 def cells_of(entry: Entry) -> list[Cell]:
-    name, count = text(entry.program), entry.count
+    name, count = text(entry.program), entry.counted
     wanted = count.total - count.equivalent
     score = score_of(count) if entry.unit else ""
     return [

@@ -75,7 +75,7 @@ def proofs_part(count: Count, proved: int) -> str:
 def subsuming_part(listed: Sequence[Mutant], rows: Sequence[Row]) -> str:
     """The score over the mutants that subsume all others, and those of them that are killed, folded."""
     found = subsuming(listed, rows)
-    if found.count.total == sum(row.status != "E" for row in rows):
+    if found.counted.total == sum(row.status != "E" for row in rows):
         return ""
     links = [f'<a href="#L{mutant.line}">{text(name_of(mutant))}</a>' for mutant in found.killed]
     whose = f"Killed: {joined_words(links) or 'none'}. {plural(found.survivors, 'survivor')}, each program once."

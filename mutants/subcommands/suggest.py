@@ -110,7 +110,7 @@ def tell_box(aim: Aim, start: Checked, name: str) -> None:
     """How many rows of the box will be tried, before they are."""
     if aim.within and start.report.survivors:
         box = box_of(aim.within, start.job.source, dummies_of(start.printed))
-        sys.stderr.write(f"{name}: {plural(box.count, 'row')} of the box {box.told} are tried, in order\n")
+        sys.stderr.write(f"{name}: {plural(box.size, 'row')} of the box {box.told} are tried, in order\n")
 
 
 def assert_table_free(given: argparse.Namespace) -> None:

@@ -27,8 +27,8 @@ class Side(NamedTuple):
     elements: int | None
 
     @property
-    def count(self) -> int:
-        return len(self.values) ** (self.elements or 1)
+    def ways(self) -> int:
+        return int(len(self.values) ** (self.elements or 1))
 
     def all(self) -> Iterator[Value]:
         return iter(self.values) if self.elements is None else product(self.values, repeat=self.elements)
@@ -41,8 +41,8 @@ class Box(NamedTuple):
     told: str
 
     @property
-    def count(self) -> int:
-        return math.prod(side.count for side in self.sides)
+    def size(self) -> int:
+        return math.prod(side.ways for side in self.sides)
 
     def rows(self) -> Iterator[Row]:
         return product(*(side.all() for side in self.sides))
@@ -69,8 +69,8 @@ def box_of(asked: Sequence[tuple[str, Range]], source: str, names: Sequence[str]
     zeros = zeros_of(source, names)
     sides = [side_of(name, dummy, ranges, zeros) for name, dummy in zip(names, read_unit(source)[1])]
     found = Box(sides, joined_words(f"{name} from {low} to {high}" for name, (low, high) in ranges.items()))
-    if found.count > MOST:
-        raise ValueError(f"the box has {found.count:,} rows, and {MOST:,} are tried at most")
+    if found.size > MOST:
+        raise ValueError(f"the box has {found.size:,} rows, and {MOST:,} are tried at most")
     return found
 
 
@@ -89,7 +89,7 @@ class BoxSearch(Search):
         while self.alive and (part := list(islice(rows, SIZE))):
             self.try_rows(part)
             left = self.alive.bit_count()
-            tell(f"{self.count} of {self.box.count} rows: {left} of {len(self.asker.mutants)} survivors are left")
+            tell(f"{self.count} of {self.box.size} rows: {left} of {len(self.asker.mutants)} survivors are left")
         self.is_whole = True
 
     def try_rows(self, rows: list[Row]) -> None:

@@ -83,9 +83,9 @@ def suggestion_lines(found: Suggested, layout: Layout, tests: Path) -> Iterator[
 
 def box_text(search: BoxSearch) -> str:
     """How many rows of the box were tried, and on how many the program fails."""
-    whole = "all" if search.count == search.box.count else f"{search.count:,} of the"
+    whole = "all" if search.count == search.box.size else f"{search.count:,} of the"
     fails = f"; on {search.failed:,} of them the program fails, or takes over {search.steps} steps"
-    told = f"Tried: {whole} {search.box.count:,} rows of the box {search.box.told}{fails if search.failed else ''}."
+    told = f"Tried: {whole} {search.box.size:,} rows of the box {search.box.told}{fails if search.failed else ''}."
     return told if search.is_whole else f"{told} The search was cut, so nothing is said of the others."
 
 

@@ -19,12 +19,12 @@ class Subsuming(NamedTuple):
     survivors: int
 
     @property
-    def count(self) -> Count:
+    def counted(self) -> Count:
         return Count(len(self.killed) + self.survivors, len(self.killed), 0)
 
     def told(self) -> str:
         """The score over the set."""
-        count = self.count
+        count = self.counted
         score = f"{score_of(count)} %: {count.killed} of {count.total} mutants killed"
         return f"Where each mutant is left out that is killed whenever another is, it is {score}."
 

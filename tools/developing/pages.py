@@ -128,8 +128,8 @@ def add_words(parser: argparse.ArgumentParser) -> None:
 
 
 def run(given: argparse.Namespace, name: str) -> int:
-    chromium = next(filter(None, map(shutil.which, NAMES)), None)
-    if chromium is None:
+    paths = [str(path) for path in map(shutil.which, NAMES) if path]
+    if not paths:
         print("Skipped: there is no headless Chromium (Debian's package chromium-headless-shell).")
         return SUCCESS
     mothra = find_program(given.mothra)
@@ -139,12 +139,12 @@ def run(given: argparse.Namespace, name: str) -> int:
     with tempfile.TemporaryDirectory(ignore_cleanup_errors=True) as room:
         pages = made_pages(mothra, Path(room))
         for page, width in ((page, width) for page in pages for width in WIDTHS):
-            for fault in faults_of(page, width, shown(chromium, page, LOOK, (width, HEIGHT), "--dump-dom")):
+            for fault in faults_of(page, width, shown(paths[0], page, LOOK, (width, HEIGHT), "--dump-dom")):
                 print(f"{page.name}: {fault}", flush=True)
                 count += 1
         for picture, (of_page, width, height, part) in SHOTS.items() if given.into else ():
             script = PART.format(json.dumps(part)) if part != "body" else ""
             where = f"--screenshot={given.into / picture}"
-            shown(chromium, Path(room, of_page), script, (width, height), where)
+            shown(paths[0], Path(room, of_page), script, (width, height), where)
     print(f"{len(pages)} pages, {count} faults")
     return FAULT if count else SUCCESS
