@@ -22,6 +22,14 @@ class Reading(Class):
         has(self, page, '<span class="number">9</span>', "the same</span>")
         self.assertNotIn("SUBROUTINE LEAST", page)
 
+    def test_options_lie_beside_the_program(self) -> None:
+        self.put({"two.f": TWO, "anna.json": SUITES["anna.json"]})
+        self.put({"mutants.ini": "[mutants]\nunit = GREAT\nexpand-tabs = yes\nsize = N=3\nreport = x\n"})
+        status, _, errors = self.course()
+        self.assertEqual((status, self.table()["anna"]["unit"]), (0, "GREAT"), errors)
+        self.put({"mutants.ini": "[mutants]\nsshlogin = anna\n"})
+        self.assertIn("sshlogin is for the command line alone", self.course()[2])
+
     def test_what_may_be_meant_otherwise_is_told_once(self) -> None:
         program = LEAST.replace("      K=I\n", "      K=I".ljust(72) + "+J\n")
         self.put({"least.f": program, "anna.json": SUITES["anna.json"], "bert.csv": SUITES["bert.csv"]})

@@ -6,6 +6,7 @@ import signal
 import subprocess
 import unittest
 from contextlib import redirect_stderr
+from functools import partial
 from pathlib import Path
 from unittest import mock
 
@@ -48,9 +49,9 @@ class Signals(Room):
         for number in (signal.SIGTERM, signal.SIGHUP):
             with self.subTest(number.name):
                 (self.folder / "begun").unlink(missing_ok=True)
-                with subprocess.Popen(
-                    words, cwd=self.folder, stderr=subprocess.DEVNULL, preexec_fn=running.take_ctrl_c
-                ) as begun:
+                # These tests may be run where it is ignored, as by nohup.
+                take = partial(signal.signal, number, signal.SIG_DFL)
+                with subprocess.Popen(words, cwd=self.folder, stderr=subprocess.DEVNULL, preexec_fn=take) as begun:
                     self.assertTrue(running.waited_for((self.folder / "begun").exists, 60))
                     begun.send_signal(number)
                     self.assertEqual(begun.wait(60), statuses.BY_SIGNAL + number)
@@ -59,8 +60,8 @@ class Signals(Room):
                 self.assertEqual(self.names(), ["begun", "least.f", "pid", "slow", "tests.csv"])
 
     def test_what_is_ignored_stays_so(self) -> None:
-        kept = signal.signal(signal.SIGHUP, signal.SIG_IGN)
-        self.addCleanup(signal.signal, signal.SIGHUP, kept)
+        for number, how in ((signal.SIGHUP, signal.SIG_IGN), (signal.SIGTERM, signal.SIG_DFL)):
+            self.addCleanup(signal.signal, number, signal.signal(number, how))
         with ended_by_signals():
             self.assertEqual(signal.getsignal(signal.SIGHUP), signal.SIG_IGN)
             self.assertNotEqual(signal.getsignal(signal.SIGTERM), signal.SIG_DFL)
