@@ -72,7 +72,8 @@ class Release(Room):
 
     def test_a_gate_that_failed_and_files_that_changed_make_none(self) -> None:
         refuses(self, self.released(**{"git status": " M mutants/words.py"}), "not committed: mutants/words.py")
-        for text in ("", "12 passed, 1 failed\n", "12 passed, 0 failed (mothra alone: not the gate)\n"):
+        for text in ("", "12 passed, 1 failed\n", "12 passed, 0 failed (mothra alone: not the gate)\n",
+                     "12 passed, 0 failed\nFAILED (failures=1)\n"):  # fmt: skip
             self.gate.write_text(text)
             refuses(self, self.released(), "gate.log: its last line is no gate's that passed")
         self.assertFalse((self.folder / "out").exists())
