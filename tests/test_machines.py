@@ -10,7 +10,7 @@ from unittest import mock
 import running
 from mutants import statuses
 from mutants.texts import batches
-from mutants.checks.machines import parallel_words
+from mutants.program.parallel import parallel_words
 from mutants.program.unproved import MARK
 from mutants.texts.batches import batch_text
 from mutants.texts.jobs import Job

@@ -4,6 +4,7 @@ import re
 from collections.abc import Callable, Sequence
 
 from mutants.texts.batches import batch_text, batches
+from mutants.program.parallel import text_of_answer
 from mutants.texts.jobs import read_job
 from mutants.texts.joining import joined_batches
 from mutants.texts.report_lines import report_text
@@ -43,3 +44,7 @@ class Batched:
         come[batch] = text
         if len(come) == len(ends):
             self.keep(place, whole_text([come[each] for each in range(len(ends))], [first for first, _ in ends]))
+
+    def take_answer(self, part: int, text: str, status: int) -> None:
+        """Takes what came of a batch with its status, as another machine tells them."""
+        self.take(part, text_of_answer(text, status))

@@ -1,8 +1,8 @@
-"""The jobs of a class, run by GNU parallel on several machines.
+"""Calls of the program by GNU parallel on several machines.
 
-Each job is one line of the standard input of one `parallel --pipe`, which hands it to one `mothra run`: so no file has
-to be brought to another machine, and none is left there. What comes of a job is written as a whole when it has ended,
-between a line with its place and a line with its exit status.
+A call is two lines of the standard input of one `parallel --pipe`: its words, and its job. So no file has to be brought
+to another machine, and none is left there. What comes of a call is written as a whole when it has ended, between a line
+with its place and a line with its exit status.
 """
 
 import shlex
@@ -13,6 +13,7 @@ from collections.abc import Callable, Iterable, Iterator, Sequence
 from typing import IO
 
 from mutants.program.calling import failure_of
+from mutants.program.many import Call
 from mutants.program.unproved import MARK
 from mutants.statuses import SUCCESS
 
@@ -20,6 +21,8 @@ BEGIN, END = "JOB ", "STATUS "
 MISSING = "GNU parallel is not found: --sshlogin spreads the jobs by it (Debian's package parallel)"
 # More than a job may have, so that one job is one block.
 BLOCK = "2M"
+# What takes the place, the text and the status of each call as it ends.
+Take = Callable[[int, str, int], None]
 
 
 def find_parallel() -> None:
@@ -37,19 +40,24 @@ def on_one_line(job: bytes) -> bytes:
     return job.replace(b"\r", b" ").replace(b"\n", b" ") + b"\n"
 
 
-def command_of(program: str, words: Sequence[str]) -> str:
-    """What is run for each job, for any shell: {#} is its place."""
-    run = shlex.join([program, "run", *words])
-    inner = f"echo {BEGIN}{{#}}; {run}; status=$?; echo; echo {END}$status"
+def command_of(program: str) -> str:
+    """What is run for each call, for any shell: {#} is its place. The words have no character that a shell reads."""
+    inner = f"echo {BEGIN}{{#}}; read -r words; {shlex.quote(program)} $words; status=$?; echo; echo {END}$status"
     return f"sh -c {shlex.quote(inner)}"
 
 
-def parallel_words(program: str, words: Sequence[str], jobs: int | None, logins: Iterable[str]) -> list[str]:
-    found = ["parallel", "--pipe", "-N1", "--block", BLOCK]
+def parallel_words(program: str, jobs: int | None, logins: Iterable[str]) -> list[str]:
+    found = ["parallel", "--pipe", "-N2", "--block", BLOCK]
     found += ["--jobs", str(jobs)] if jobs else []
     for login in logins:
         found += ["--sshlogin", login]
-    return [*found, command_of(program, words)]
+    return [*found, command_of(program)]
+
+
+def lines_of(calls: Iterable[Call]) -> Iterable[bytes]:
+    for words, job in calls:
+        yield " ".join(words).encode() + b"\n"
+        yield on_one_line(job)
 
 
 def answers_in(lines: Iterable[str]) -> Iterator[tuple[int, str, int]]:
@@ -99,32 +107,19 @@ def last_line(errors: IO[bytes]) -> str:
     return told[-1] if told else ""
 
 
-def collect(running: "subprocess.Popen[bytes]", jobs: Sequence[bytes], keep: Callable[[int, str], None]) -> None:
-    """Hands the jobs to parallel, and keeps what comes of each."""
-    assert running.stdin and running.stdout
-    source, target = running.stdin, running.stdout
-    feeder = threading.Thread(target=feed_lines, args=(source, map(on_one_line, jobs)), daemon=True)
-    feeder.start()
-    try:
-        lines = (line.decode("utf-8", "replace") for line in target)
-        for place, text, status in answers_in(lines):
-            keep(place, text_of_answer(text, status))
-    finally:
-        stop(running)
-        feeder.join()
-
-
-def run_all(
-    program: str,
-    words: Sequence[str],
-    jobs: Sequence[bytes],
-    count: int | None,
-    logins: Iterable[str],
-    keep: Callable[[int, str], None],
-) -> str:
-    """Runs the jobs; `keep` is called with the place and the text of each as it ends. The last line of the errors."""
-    call, pipe = parallel_words(program, words, count, logins), subprocess.PIPE
+def spread(program: str, calls: Sequence[Call], jobs: int | None, logins: Iterable[str], take: Take) -> str:
+    """Makes these calls on the machines; `take` has the place, the text and the status of each as it ends. The last
+    line of the errors."""
+    words, pipe = parallel_words(program, jobs, logins), subprocess.PIPE
     with tempfile.TemporaryFile() as errors:
-        with subprocess.Popen(call, stdin=pipe, stdout=pipe, stderr=errors) as running:
-            collect(running, jobs, keep)
+        with subprocess.Popen(words, stdin=pipe, stdout=pipe, stderr=errors) as running:
+            assert running.stdin and running.stdout
+            feeder = threading.Thread(target=feed_lines, args=(running.stdin, lines_of(calls)), daemon=True)
+            feeder.start()
+            try:
+                for answer in answers_in(line.decode("utf-8", "replace") for line in running.stdout):
+                    take(*answer)
+            finally:
+                stop(running)
+                feeder.join()
         return last_line(errors)

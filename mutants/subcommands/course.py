@@ -55,7 +55,7 @@ from mutants.jobs.making import add_reading_options, wish_of
 from mutants.program.asking import asked_list, asked_print
 from mutants.program.calling import Fault
 from mutants.program.finding import add_mothra_option, find_program
-from mutants.program.parallel import find_parallel, run_all
+from mutants.program.parallel import find_parallel, spread
 from mutants.program.unproved import remark_on
 from mutants.progress import Progress
 from mutants.statuses import FAULT, SUCCESS
@@ -99,8 +99,8 @@ def run_missing(given: argparse.Namespace, program: str, tasks: list[Task], resu
     try:
         if given.sshlogin:
             # On other machines the word is one that each of them knows.
-            called = given.mothra or program
-            told = run_all(called, words, batched.texts, given.jobs, given.sshlogin, batched.take)
+            called, calls = given.mothra or program, [(["run", *words], text) for text in batched.texts]
+            told = spread(called, calls, given.jobs, given.sshlogin, batched.take_answer)
         else:
             run_here(program, words, batched.texts, given.jobs, batched.take)
     finally:
