@@ -58,7 +58,10 @@ def tried(seed: str) -> tuple[str, str]:
         nodes = [node for node in ast.walk(tree) if isinstance(node, (ast.expr, ast.stmt))]
         chance.shuffle(nodes)
         before = {node: ast.unparse(node).partition("\n")[0] for node in nodes}
-        node = next(node for node in nodes if slipped(node))
+        node = next((node for node in nodes if slipped(node)), None)
+        if node is None:
+            # The module has nothing to slip in: another one is taken.
+            return tried(f"{seed}+")
         path.write_text(ast.unparse(tree), encoding="utf-8")
         call = [sys.executable, "-B", "-m", "unittest", "discover", "-f", "-s", "tests"]
         try:
