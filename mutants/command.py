@@ -24,7 +24,7 @@ class Parser(argparse.ArgumentParser):
 
     is_within = False
 
-    def parse_known_args(self, args: Any = None, namespace: Any = None) -> Any:  # type: ignore[override]
+    def parse_known_args(self, args: Any = None, namespace: Any = None) -> Any:
         kinds = {action.nargs for action in self._get_positional_actions()}
         if self.is_within or "?" not in kinds or not kinds <= {None, "?"}:
             return super().parse_known_args(args, namespace)

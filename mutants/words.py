@@ -99,8 +99,9 @@ def add_mothra_options(parser: argparse.ArgumentParser, *names: str) -> None:
         ("workers", "N", "how many threads run mutants"),
     ):
         if option in names:
-            read: Callable[[str], str] = read_by(lambda word: ",".join(codes_in(word)))
-            read = read if option == "ops" else str
+            read: Callable[[str], str] = str
+            if option == "ops":
+                read = read_by(lambda word: ",".join(codes_in(word)))
             parser.add_argument(f"--{option}", metavar=value, type=read, help=told)
 
 

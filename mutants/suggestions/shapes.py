@@ -104,8 +104,8 @@ class Shape:
 
     def simple(self, row: Row) -> Row:
         """The row with 0 or .FALSE. for what is only set."""
-        zeros = [tuple(type(item)() for item in items_of(value)) for value in row]
-        simple = [zero if isinstance(value, tuple) else zero[0] for zero, value in zip(zeros, row)]
+        zeros = [tuple(False if isinstance(item, bool) else 0 for item in items_of(value)) for value in row]
+        simple: list[Value] = [zero if isinstance(value, tuple) else zero[0] for zero, value in zip(zeros, row)]
         return tuple(simple[at] if at in self.only_set else value for at, value in enumerate(row))
 
     def places(self, is_array: bool) -> list[int]:
