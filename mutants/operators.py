@@ -2,6 +2,7 @@
 
 import difflib
 import re
+from collections.abc import Collection
 
 NAMES = {
     "AAR": "array reference for array reference",
@@ -40,6 +41,14 @@ def code_of(word: str) -> str:
     near = difflib.get_close_matches(word.upper(), NAMES, 1, 0.3)
     hint = f"is {near[0]} meant, {NAMES[near[0]]}? The" if near else "the"
     raise ValueError(f"{word!r} is no code of an operator; {hint} codes are {', '.join(NAMES)}")
+
+
+def chosen_codes(ops: Collection[str] | None, without: Collection[str] | None) -> list[str]:
+    """The codes that are asked for: of all, or of these, all but those."""
+    chosen = [code for code in NAMES if (not ops or code in ops) and code not in (without or ())]
+    if not chosen:
+        raise ValueError("no operator is left: --except has all that are asked for")
+    return chosen
 
 
 def codes_in(text: str) -> list[str]:

@@ -90,6 +90,14 @@ def whole_path(word: str) -> str:
     return str(Path(word).resolve())
 
 
+def add_operators(parser: argparse.ArgumentParser) -> None:
+    """The options that say of which operators the mutants are."""
+    ops = read_by(codes_in)
+    told = "these operators alone, in any case; sufficient is a set of five"
+    parser.add_argument("--ops", metavar="A,B", type=ops, help=told)
+    parser.add_argument("--except", metavar="A,B", type=ops, dest="without", help="all operators but these")
+
+
 def add_mothra_options(parser: argparse.ArgumentParser, *names: str) -> None:
     """Those options of mothra that are handed over, the operators by their codes."""
     for option, value, told in (

@@ -71,6 +71,16 @@ class Told(Compare):
         has(self, out, "  SDL 2     [IF (J.LT.I) K=J -> CONTINUE]: test 2\n", "  gone       2  [2, 1, 0]: killed 12\n")
         self.assertNotIn("changed", out)
 
+    def test_the_file_of_options_has_operators_and_a_threshold(self) -> None:
+        old, new = self.saved("old.json", "1,2,0\n"), self.saved("new.json", "1,2,0\n")
+        settings = "[mutants]\nops = ror\n[least]\nsource = least.f\njson = new.json\nfail-under = 60\n"
+        self.put("mutants.ini", settings)
+        status, out, _ = self.compare(old, new)
+        self.assertEqual(status, statuses.BELOW)
+        has(self, out, "LEAST, 1 test, 57.14 %: 4 of 7 mutants", "BELOW --fail-under: the score is below 60 %.\n")
+        self.assertEqual(self.compare("--fail-under", "50", old, new)[0], 0)
+        self.assertEqual(self.compare(new, old)[0], 0)
+
     def test_a_changed_program_has_new_mutants_and_others_are_gone(self) -> None:
         rows = "1,2,0\n2,1,0\n"
         old, new = self.saved("old.json", rows), self.saved("new.json", rows, program=GREAT)

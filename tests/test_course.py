@@ -206,6 +206,23 @@ class Cut(Class):
         self.assertEqual([row["told"] for row in self.table().values()], ["", "", ""])
 
 
+class Settings(Class):
+    def test_the_file_of_options_is_for_the_class_and_for_each_program(self) -> None:
+        self.put({"least.f": LEAST, "great.f": GREAT, "least.json": "[[1, 2, 0]]", "great.json": "[[1, 2, 0]]"})
+        self.put({"own.equivalent.csv": "mutant,before,after\nROR 1,IF (J.LT.I) K=J,IF (J.LE.I) K=J\n"})
+        settings = "[mutants]\nops = ROR\nfail-under = 60\n[first]\nsource = least.f\n"
+        for key, ended, score, told in (
+            ("undeclared = yes", statuses.BELOW, "57.14", "great and least, below 60 %."),
+            ("equivalent = own.equivalent.csv", statuses.BELOW, "66.66", "great, below 60 %."),
+            ("unit = X", statuses.FAULT, "", "great, below 60 %."),
+        ):
+            (self.folder / "mutants.ini").write_text(f"{settings}{key}\n")
+            status, out, _ = self.course()
+            self.assertEqual((status, self.table()["least"]["score"]), (ended, score))
+            has(self, out, f"BELOW --fail-under: {told}\n")
+        self.assertIn("no unit has the name X", self.table()["least"]["told"])
+
+
 class ManyPrograms(Class):
     def test_each_table_is_of_its_program(self) -> None:
         suite = SUITES["anna.json"]

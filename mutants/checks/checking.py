@@ -16,7 +16,7 @@ from mutants.english import joined_words
 from mutants.jobs.expecting import Expected
 from mutants.jobs.making import made_of
 from mutants.jobs.sources import Wish, source_of
-from mutants.operators import NAMES
+from mutants.operators import NAMES, chosen_codes
 from mutants.program.asking import asked_list, asked_print
 from mutants.program.calling import Fault
 from mutants.progress import Progress, telling
@@ -94,16 +94,9 @@ def printed_of(program: str, path: Path, job: Job, shown: str) -> list[str]:
         return asked_print(program, source_alone(job))
 
 
-def ops_of(asked: Asked) -> list[str]:
-    """The operators that are asked for."""
-    return [op for op in asked.ops or NAMES if op not in asked.without]
-
-
 def words_of_ops(asked: Asked) -> list[str]:
     """The words for the operators that are asked for; none where all are."""
-    ops = ops_of(asked)
-    if not ops:
-        raise ValueError("no operator is left: --except has all that are asked for")
+    ops = chosen_codes(asked.ops, asked.without)
     return ["--ops", ",".join(ops)] if len(ops) < len(NAMES) else []
 
 
@@ -138,7 +131,7 @@ def listed_of(program: str, asked: Asked, job: Job, shown: str) -> tuple[dict[st
 
 def ops_left_out(asked: Asked) -> list[str]:
     """Which operators are left out, in as few names as tell it."""
-    kept = ops_of(asked)
+    kept = chosen_codes(asked.ops, asked.without)
     rest = [op for op in NAMES if op not in kept]
     if not rest:
         return []

@@ -10,16 +10,24 @@ from typing import NamedTuple, NoReturn
 SECTION = "mutants"
 INI, TOML = "mutants.ini", "mutants.toml"
 SOURCE, TESTS = "source", "tests"
+RESULTS = ("json", "report")
 Values = dict[str, str]
 
 
 class Program(NamedTuple):
-    """A program that a file names: its section, its files, and its options."""
+    """A program that a file names: its section, its files, the folder that other names are from, and its options."""
 
     name: str
     source: Path
     tests: Path | None
+    folder: Path
     values: Values
+
+    @property
+    def files(self) -> list[Path]:
+        """Its source, and what a check writes of it that can be compared."""
+        results = [self.values[key] for key in RESULTS if key in self.values]
+        return [self.source.resolve(), *((self.folder / name).resolve() for name in results)]
 
 
 class Sections(NamedTuple):
@@ -27,9 +35,9 @@ class Sections(NamedTuple):
     common: Values
     programs: list[Program]
 
-    def of(self, source: Path) -> Program | None:
-        """What is said of a program."""
-        return next((each for each in self.programs if each.source.resolve() == source.resolve()), None)
+    def of(self, path: Path) -> Program | None:
+        """What is said of a program, by its source or by what a check wrote of it."""
+        return next((each for each in self.programs if path.resolve() in each.files), None)
 
 
 def read_ini(path: Path) -> dict[str, Values]:
@@ -72,7 +80,7 @@ def program_of(name: str, section: Mapping[str, str], folder: Path) -> Program:
         raise ValueError(f"[{name}] has {TESTS}, and no {SOURCE}")
     tests = folder / section[TESTS] if TESTS in section else None
     rest = {key: value for key, value in section.items() if key not in (SOURCE, TESTS)}
-    return Program(name, folder / section[SOURCE], tests, rest)
+    return Program(name, folder / section[SOURCE], tests, folder, rest)
 
 
 def read_sections(path: Path) -> Sections:

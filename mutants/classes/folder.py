@@ -27,6 +27,15 @@ from mutants.jobs.sources import Wish, is_program
 from mutants.program.calling import Fault
 
 
+class Reading(NamedTuple):
+    """How a program is read, and what is declared of it: by this file, or, unless it is not wanted, by the one beside
+    it."""
+
+    wish: Wish = Wish()
+    equivalent: Path | None = None
+    looks_beside: bool = True
+
+
 class Task(NamedTuple):
     """A job of the class: its name, the program's file, its text, or why there is none; what was made of its program
     and its table, what is declared, and what is proved."""
@@ -123,31 +132,40 @@ def declared_for(program: Path, unit: str, programs: Sequence[Path]) -> Path | N
     return found_beside(program, unit) or next((path for path in common if path.exists()), None)
 
 
+# How a program is read, by its path.
+Read = Callable[[Path], Reading]
 # What is proved of the mutants of a source, of which some are declared.
 Prove = Callable[[str, Collection[str]], Proofs]
-
-
-def prove_nothing(source: str, declared: Collection[str]) -> Proofs:
-    return NO_PROOFS
 
 
 class Programs:
     """The programs of a folder: what is made, declared and proved of each is asked once."""
 
-    def __init__(self, paths: Sequence[Path], mothra: str, wish: Wish, prove: Prove = prove_nothing) -> None:
-        self.paths, self.mothra, self.wish, self.prove = paths, mothra, wish, prove
+    def __init__(self, paths: Sequence[Path], mothra: str, read: Read, prove: Prove) -> None:
+        self.paths, self.mothra, self.prove = paths, mothra, prove
+        self.readings = {path: read(path) for path in paths}
         self.made: dict[Path, Made] = {}
         self.known: dict[Path, tuple[Meant, Proofs]] = {}
 
+    def wish_of(self, program: Path) -> Wish:
+        """How a program is read: sizes are those of several."""
+        wish = self.readings[program].wish
+        return wish._replace(shares_sizes=wish.shares_sizes or len(self.paths) > 1)
+
+    def declared_of(self, program: Path, unit: str) -> Path | None:
+        """The file of its declared mutants, or None."""
+        reading = self.readings[program]
+        return reading.equivalent or (declared_for(program, unit, self.paths) if reading.looks_beside else None)
+
     def made_of(self, program: Path) -> Made:
         if program not in self.made:
-            self.made[program] = made_of(program, None, self.wish)
+            self.made[program] = made_of(program, None, self.wish_of(program))
         return self.made[program]
 
     def meant(self, program: Path) -> tuple[Meant, Proofs]:
         if program not in self.known:
             made = self.made_of(program)
-            file = declared_for(program, made.source.unit, self.paths)
+            file = self.declared_of(program, made.source.unit)
             try:
                 meant = meant_for(made, program, file, lambda: self.mothra, looks_beside=False)
                 self.known[program] = meant, self.prove(made.source.text, meant.names)
@@ -164,7 +182,7 @@ def task_of(name: str, program: Path | None, table: Path, programs: Programs) ->
             raise ValueError(f"{table}: there is no program of this name")
         if table.is_symlink():
             raise ValueError(f"{table}: it is a link, and a suite is a file of its own")
-        made = with_table(programs.made_of(program), table, programs.wish)
+        made = with_table(programs.made_of(program), table, programs.wish_of(program))
         meant, proofs = programs.meant(program)
         names = [*meant.names, *proofs.names]
         text = made.text(names if meant.is_of_file or names else None)
@@ -186,7 +204,7 @@ def wanted_in(folder: Path, programs: Sequence[Path]) -> Mapping[str, tuple[Path
     return {**wanted, **more}
 
 
-def tasks_in(folder: Path, mothra: str, wish: Wish, prove: Prove = prove_nothing) -> list[Task]:
+def tasks_in(folder: Path, mothra: str, read: Read, prove: Prove) -> list[Task]:
     """The jobs that a folder asks for, by name."""
     if not folder.is_dir():
         raise ValueError(f"{folder}: there is no such folder")
@@ -196,7 +214,7 @@ def tasks_in(folder: Path, mothra: str, wish: Wish, prove: Prove = prove_nothing
     wanted = wanted_in(folder, programs)
     if not wanted:
         raise ValueError(f"{suites_folder(folder)}: there is no table of tests, a file that ends in .json or .csv")
-    known = Programs(programs, mothra, wish._replace(shares_sizes=wish.shares_sizes or len(programs) > 1), prove)
+    known = Programs(programs, mothra, read, prove)
     return [task_of(name, *wanted[name], known) for name in sorted(wanted)]
 
 

@@ -34,14 +34,14 @@ all, checks all of them. The exit status is the worst, and mutants.html in the f
 import argparse
 import sys
 from collections.abc import Iterator
-from fractions import Fraction
 from pathlib import Path
 
 from mutants.caches import caches_folder, keep
-from mutants.checks.checking import Checked, ops_of
+from mutants.checks.checking import Checked
 from mutants.checks.choice import ranges_in
 from mutants.checks.coverage import covering
 from mutants.checks.settings import assert_tests, with_settings
+from mutants.checks.threshold import add_threshold, below_lines, is_below
 from mutants.checks.starting import Start, start_of
 from mutants.checks.summary import TOP, Telling, summary
 from mutants.colours import painted
@@ -53,20 +53,17 @@ from mutants.declarations.proving import add_proofs_switch
 from mutants.exports.folder import Done, Folder, assert_for_many
 from mutants.exports.outputs import Shown, outputs_of, page_of, write_outputs
 from mutants.jobs.making import add_making_options
-from mutants.operators import codes_in
+from mutants.operators import chosen_codes
 from mutants.program.finding import add_equivalents_option, add_mothra_option
 from mutants.program.unproved import remark_on
 from mutants.statuses import BELOW, NEWLY_SURVIVING, SUCCESS, UNEXPECTED
 from mutants.texts.reports import summed
-from mutants.words import add_mothra_options, number_from_1, percent, percent_text, read_by
+from mutants.words import add_mothra_options, add_operators, number_from_1, read_by
 
 
 def add_choices(parser: argparse.ArgumentParser) -> None:
     """The options that say which mutants are asked about."""
-    ops = read_by(codes_in)
-    told = "these operators alone, in any case; sufficient is a set of five"
-    parser.add_argument("--ops", metavar="A,B", type=ops, help=told)
-    parser.add_argument("--except", metavar="A,B", type=ops, dest="without", help="all operators but these")
+    add_operators(parser)
     told = "mutants of the statements on these lines alone, as 10-20,25"
     parser.add_argument("--lines", metavar="A-B", type=read_by(ranges_in), help=told)
     told = "mutants of the statements alone that another version of the program has not"
@@ -85,8 +82,7 @@ def add_means(parser: argparse.ArgumentParser) -> None:
 
 def add_results(parser: argparse.ArgumentParser) -> None:
     """The options that say what is asked of the result, and where it is written."""
-    told = "exit status 3 where the score is below this percentage"
-    parser.add_argument("--fail-under", metavar="PERCENT", type=percent, help=told)
+    add_threshold(parser)
     told = "tell what changed since this file of --json; exit status 3 where a mutant that was killed survives"
     parser.add_argument("--baseline", metavar="OLD.json", type=Path, help=told)
     parser.add_argument("--expect", metavar="FILE", type=Path, help="what the program has to do, a line for each test")
@@ -125,31 +121,12 @@ def add_words(parser: argparse.ArgumentParser) -> None:
     add_options(parser)
 
 
-def share_of(checked: Checked) -> Fraction | None:
-    """The exact score, and None where there is none."""
-    count = summed(checked.report.counts.values())
-    wanted = count.total - count.equivalent
-    return Fraction(100 * count.killed, wanted) if wanted else None
-
-
-def is_below(given: argparse.Namespace, checked: Checked) -> bool:
-    """Whether the score is below what is asked for; where there is none, nothing is."""
-    share = share_of(checked)
-    return given.fail_under is not None and share is not None and share < given.fail_under
-
-
-def status_lines(given: argparse.Namespace, checked: Checked) -> Iterator[str]:
-    if given.fail_under is not None and share_of(checked) is None:
-        yield "There is no score, and --fail-under says nothing."
-    if is_below(given, checked):
-        yield f"BELOW --fail-under: the score is below {percent_text(given.fail_under)} %."
-
-
-def status_of(given: argparse.Namespace, checked: Checked) -> int:
-    """4 where the program does not do what is expected, else 3 where the score is below what is asked for."""
+def status_of(checked: Checked, is_below: bool, is_lost: bool) -> int:
+    """4 where the program does not do what is expected, else 3 where the score is below what is asked for, or where a
+    mutant survives that was killed."""
     if checked.unexpected:
         return UNEXPECTED
-    return BELOW if is_below(given, checked) else SUCCESS
+    return BELOW if is_below else NEWLY_SURVIVING if is_lost else SUCCESS
 
 
 def end_lines(proofs: Proofs, settings: Path | None, remark: str) -> list[str]:
@@ -165,7 +142,7 @@ def last_check(start: Start, checked: Checked) -> list[Since]:
     if folder is None or not asked.tests.is_file():
         return []
     files = [asked.program.resolve(), asked.tests.resolve(), checked.report.unit]
-    path = kept_path(folder, [*files, ops_of(asked), asked.ranges, asked.old, asked.since])
+    path = kept_path(folder, [*files, chosen_codes(asked.ops, asked.without), asked.ranges, asked.old, asked.since])
     old = kept_state(path)
     keep(path, bytes_of(state_of(checked)), KEPT)
     found = [since("the last check", old, checked)] if old else []
@@ -189,13 +166,15 @@ def done_of(given: argparse.Namespace, name: str) -> Done:
     remark = remark_on(start.means.program)
     covered = covering(checked, start.means, name) if any(output.needs_cover for output in outputs) else {}
     changed = [line for each in changes for line in each.lines()]
+    count = summed(checked.report.counts.values())
+    below = below_lines(count, given.fail_under)
     shown = Shown(checked, given.program, given.tests, remark, covered, changed)
-    more = [*write_outputs(outputs, shown), *status_lines(given, checked)]
+    more = [*write_outputs(outputs, shown), *below]
     more += end_lines(checked.said.proofs, settings, remark)
     telling = Telling(given.top or TOP, given.all, given.show_proved)
     told = summary(checked, given.program, more, telling, changed)
     is_lost = baseline is not None and any(each.lost for each in changes)
-    status = status_of(given, checked) or (NEWLY_SURVIVING if is_lost else SUCCESS)
+    status = status_of(checked, is_below(count, given.fail_under), is_lost)
     return Done(checked, told, status, None if given.no_page else page_of(given), remark, changed)
 
 

@@ -15,24 +15,34 @@ Told are: mutants newly surviving and newly killed; those of one state alone, ne
 since then, or no more; and tests that are new, gone, or kill others than before. Where operators are in one file alone,
 their mutants are left out. --markdown writes the same for a review.
 
-The exit status is 3 where a mutant that was killed survives, whether a person declares it equivalent or not. One that
-is proved equivalent now is counted apart: no test can kill it any more, or none of its own tests where the proof is one
-with steps to spare.
+--ops and --except choose the operators that are compared. mutants.ini (or mutants.toml) beside NEW has these and
+fail-under: in [mutants], and in the section of the program whose key json or report names NEW.
+
+The exit status is 3 where the score of NEW is below that of --fail-under, and where a mutant that was killed
+survives, whether a person declares it equivalent or not. One that is proved equivalent now is counted apart: no test
+can kill it any more, or none of its own tests where the proof is one with steps to spare.
 """
 
 import argparse
 import sys
 from pathlib import Path
 
-from mutants.comparisons.comparing import compared
+from mutants.checks.settings import with_settings
+from mutants.checks.threshold import add_threshold, below_lines, is_below
+from mutants.comparisons.comparing import compared, with_ops
 from mutants.comparisons.markdown import comparison_markdown
 from mutants.comparisons.reading import is_mutation_report, read_state, read_state_with_job
-from mutants.comparisons.states import State
+from mutants.comparisons.states import State, count_of
 from mutants.comparisons.summary import comparison_text
+from mutants.operators import chosen_codes
 from mutants.program.calling import text_of
 from mutants.program.finding import add_mothra_option, find_program
-from mutants.statuses import NEWLY_SURVIVING, SUCCESS
-from mutants.words import visible
+from mutants.statuses import BELOW, NEWLY_SURVIVING, SUCCESS
+from mutants.subcommands.check import add_options
+from mutants.words import add_operators, visible
+
+# What a file of options says of a comparison: all else is of the checks that were made.
+TAKEN = ("ops", "without", "fail_under")
 
 
 def add_words(parser: argparse.ArgumentParser) -> None:
@@ -41,7 +51,14 @@ def add_words(parser: argparse.ArgumentParser) -> None:
     told = "the jobs of two reports, for the texts of all mutants"
     parser.add_argument("--jobs", metavar="JOB", type=Path, nargs=2, help=told)
     parser.add_argument("--markdown", action="store_true", help="write Markdown, for a review")
+    add_operators(parser)
+    add_threshold(parser)
     add_mothra_option(parser)
+
+
+def chosen(given: argparse.Namespace, state: State) -> State:
+    """What a state says of the operators that are asked for."""
+    return with_ops(state, [op for op in state.ops if op in chosen_codes(given.ops, given.without)])
 
 
 def states_of(given: argparse.Namespace) -> tuple[State, State]:
@@ -62,9 +79,14 @@ def states_of(given: argparse.Namespace) -> tuple[State, State]:
 
 
 def run(given: argparse.Namespace, name: str) -> int:
-    comparison = compared(*states_of(given))
+    with_settings(given, given.new, add_options, TAKEN)
+    comparison = compared(*(chosen(given, state) for state in states_of(given)))
+    count = count_of(comparison.new.verdicts)
+    below = "".join(f"{line}\n" for line in below_lines(count, given.fail_under))
     if given.markdown:
-        sys.stdout.write(comparison_markdown(comparison))
+        sys.stdout.write(comparison_markdown(comparison) + (f"\n{below}" if below else ""))
     else:
-        sys.stdout.write(visible(comparison_text(comparison, given.old, given.new)))
-    return NEWLY_SURVIVING if comparison.newly_surviving else SUCCESS
+        sys.stdout.write(visible(comparison_text(comparison, given.old, given.new) + below))
+    if comparison.newly_surviving:
+        return NEWLY_SURVIVING
+    return BELOW if is_below(count, given.fail_under) else SUCCESS

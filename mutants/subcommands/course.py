@@ -7,13 +7,16 @@ are handed in, as mutants check takes them, NAME.json or NAME.csv (or NAME.suite
 each table is a suite of it: a file for each student. With several a table is of the program whose name it has, or has
 before a hyphen (sort-anna.csv is of sort.f); a table named suite is of each program without a table of its own. Beside
 the programs NAME.equivalent.csv, or equivalent.csv with one program, has the mutants that are declared equivalent, as
-mutants declare writes them (a bare list in .json is read too), and mutants.ini options, as for mutants job. Where there
-is no folder suites the tables lie beside the programs; then neither of these is read, since anybody may have handed it
-in. A table that is a link is refused.
+mutants declare writes them (a bare list in .json is read too). mutants.ini (or mutants.toml) has options: in [mutants]
+those of the class (ops, except, steps, no-proofs, fail-under), and there or in the section of a program how it is read
+and what is declared of it (unit, size, expand-tabs, equivalent, undeclared). Where there is no folder suites the tables
+lie beside the programs; then neither of these is read, since anybody may have handed it in. A table that is a link is
+refused.
 
 Those mutants that the program equivalents proves equivalent are declared by themselves; it is asked here, once for each
 program. Those with steps to spare are not: such a proof is of one suite alone. --unit, --size and --expand-tabs are
-those of mutants job, for each program of the folder.
+those of mutants job, for each program of the folder. --fail-under tells which suites have a score below it, with status
+3.
 
 Each table becomes a job. The jobs are run side by side, N at once (else one for each processor), each as a process with
 one thread. With --sshlogin GNU parallel spreads them over machines, and MOTHRA is then the name of the program on all
@@ -37,12 +40,14 @@ import io
 import json
 import sys
 from collections.abc import Collection, Mapping, Sequence
+from fractions import Fraction
 from pathlib import Path
 
 from mutants.checks.running import Means
 from mutants.checks.settings import READING, with_settings
+from mutants.checks.threshold import add_threshold, is_below
 from mutants.classes.batched import Batched
-from mutants.classes.folder import SUITES, Prove, Results, Task, suites_folder, tasks_in, unread_remarks
+from mutants.classes.folder import SUITES, Prove, Read, Reading, Results, Task, suites_folder, tasks_in, unread_remarks
 from mutants.classes.kept import KeptClass, Told, digest_of_class
 from mutants.classes.page import View, course_page
 from mutants.classes.processes import run_here
@@ -50,20 +55,33 @@ from mutants.classes.results import COLUMNS, Result, csv_row, failed_told, only_
 from mutants.classes.suites import Asked, Known, Suite, suite_of, write_pages
 from mutants.declarations.proofs import NO_PROOFS, Proofs
 from mutants.declarations.proving import add_proof_options, prover_of
+from mutants.english import joined_words
 from mutants.files import written
 from mutants.jobs.making import add_reading_options, wish_of
+from mutants.operators import chosen_codes
 from mutants.program.asking import asked_list, asked_print
 from mutants.program.calling import Fault
 from mutants.program.finding import add_mothra_option, find_program
 from mutants.program.parallel import find_parallel, spread
 from mutants.program.unproved import remark_on
 from mutants.progress import Progress
-from mutants.statuses import FAULT, SUCCESS
+from mutants.statuses import BELOW, FAULT, SUCCESS
 from mutants.subcommands.check import add_options
 from mutants.texts.jobs import Job, read_job
 from mutants.texts.prints import statements_by_line
-from mutants.words import add_mothra_options, asked_words, number_from_1, tell_remarks, visible
+from mutants.texts.reports import summed
+from mutants.words import (
+    add_mothra_options,
+    add_operators,
+    asked_words,
+    number_from_1,
+    percent_text,
+    tell_remarks,
+    visible,
+)
 
+# What a file of options says of the whole class.
+OF_CLASS = ("ops", "without", "steps", "no_proofs", "fail_under")
 # So much of what parallel says of a failure is told.
 LONGEST = 200
 
@@ -76,7 +94,9 @@ def add_words(parser: argparse.ArgumentParser) -> None:
     told = "a machine, as parallel takes it; may be given again"
     parser.add_argument("--sshlogin", metavar="LOGIN", action="append", default=[], help=told)
     add_reading_options(parser)
-    add_mothra_options(parser, "ops", "every", "steps")
+    add_operators(parser)
+    add_threshold(parser)
+    add_mothra_options(parser, "every", "steps")
 
 
 def run_missing(given: argparse.Namespace, program: str, tasks: list[Task], results: Results, name: str) -> bool:
@@ -180,13 +200,14 @@ def write_class(out: Path, suites: Sequence[Suite], known: Mapping[str, Known], 
     written(out / "course.html", text.encode("utf-8", "replace"))
 
 
-def told_of(suites: Sequence[Suite], out: Path, remark: str) -> Told:
+def told_of(suites: Sequence[Suite], out: Path, remark: str, least: Fraction | None) -> Told:
     """What is told of the class."""
     found = [suite.result for suite in suites]
+    below = [each.name for each in reported_of(found) if is_below(summed(each.report.counts.values()), least)]
     names = [each.name for each in reported_of(found)]
     lines = [f"{len(names)} of {len(found)} with a report: {out / 'course.html'}"]
     lines += [*proof_remarks([suite.task for suite in suites]), *([remark] if remark else [])]
-    return Told(lines, failed_told(found), names)
+    return Told(lines, failed_told(found), names, below)
 
 
 def made_anew(given: argparse.Namespace, means: Means, tasks: list[Task], results: Results, remark: str) -> Told:
@@ -195,23 +216,48 @@ def made_anew(given: argparse.Namespace, means: Means, tasks: list[Task], result
     suites = [suite_of(task, known.get(task.program_name), asked, results) for task in tasks]
     write_class(out, suites, known, remark)
     write_pages(suites, known, remark, results)
-    return told_of(suites, out, remark)
+    return told_of(suites, out, remark, given.fail_under)
+
+
+def read_with(given: argparse.Namespace, has_settings: bool) -> Read:
+    """How each program is read, by the words and by the file of options."""
+
+    def read(program: Path) -> Reading:
+        own = argparse.Namespace(**{**vars(given), "equivalent": None, "undeclared": False})
+        if has_settings:
+            with_settings(own, program, add_options, READING)
+        return Reading(wish_of(own), own.equivalent, not own.undeclared)
+
+    return read
+
+
+def take_settings(given: argparse.Namespace) -> bool:
+    """Fills in what the file of options says of the whole class; whether it is read at all."""
+    has_settings: bool = suites_folder(given.folder) != given.folder
+    if has_settings:
+        with_settings(given, given.folder / SUITES, add_options, OF_CLASS)
+    if given.ops or given.without:
+        given.ops = ",".join(chosen_codes(given.ops, given.without))
+    return has_settings
+
+
+def below_told(given: argparse.Namespace, below: Sequence[str]) -> str:
+    """Which suites are below what is asked for; no text where none is."""
+    return f"BELOW --fail-under: {joined_words(below)}, below {percent_text(given.fail_under)} %.\n" if below else ""
 
 
 def run(given: argparse.Namespace, name: str) -> int:
-    program = find_program(given.mothra)
-    if suites_folder(given.folder) != given.folder:
-        with_settings(given, given.folder / SUITES, add_options, READING)
-    tasks = tasks_in(given.folder, program, wish_of(given), prove_with(given, program))
+    program, read = find_program(given.mothra), read_with(given, take_settings(given))
+    tasks = tasks_in(given.folder, program, read, prove_with(given, program))
     remarks = [*unread_remarks(given.folder), *(remark for task in tasks for remark in task.remarks)]
     tell_remarks(name, dict.fromkeys(remarks))
     results = Results(given.folder / "out" / "jobs", asked_words(given, "ops", "every", "steps"))
     has_run, remark = run_missing(given, program, tasks, results, name), remark_on(program)
-    kept, digest = KeptClass(given.folder / "out"), digest_of_class(tasks, results, remark)
+    kept, digest = KeptClass(given.folder / "out"), digest_of_class(tasks, results, f"{remark}{given.fail_under}")
     told = None if has_run else kept.told(digest, results)
     if told is None:
         told = made_anew(given, Means(program, given.steps), tasks, results, remark)
         kept.keep(digest, told)
-    sys.stdout.write(visible("".join(f"{line}\n" for line in told.lines)))
+    sys.stdout.write(visible("".join(f"{line}\n" for line in told.lines) + below_told(given, told.below)))
     sys.stderr.write(visible(f"{name}: {told.failed}\n" if told.failed else ""))
-    return FAULT if told.failed else SUCCESS
+    return FAULT if told.failed else BELOW if told.below else SUCCESS
