@@ -22,7 +22,7 @@ FILE, PROGRAM = 0o100644 << 16, 0o100755 << 16
 
 def package_files() -> dict[str, bytes]:
     """The modules and the data of the package, by their paths in it."""
-    found = (path for path in sorted((ROOT / NAME).rglob("*")) if path.suffix in (".py", ".txt"))
+    found = (path for path in sorted((ROOT / NAME).rglob("*")) if path.suffix in (".py", ".txt", ".css", ".js"))
     return {path.relative_to(ROOT).as_posix(): path.read_bytes() for path in found}
 
 

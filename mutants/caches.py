@@ -15,7 +15,7 @@ PACKAGE = Path(__file__).resolve().parent
 def tool_digest() -> str:
     """The digest of this package: what an earlier one has made is made anew."""
     found = hashlib.sha256()
-    for path in sorted(PACKAGE.rglob("*.py")):
+    for path in sorted(each for each in PACKAGE.rglob("*.*") if each.suffix in (".py", ".txt", ".css", ".js")):
         found.update(path.read_bytes() + b"\0")
     return found.hexdigest()
 

@@ -67,9 +67,8 @@ def proved_count(checked: Checked) -> int:
 
 def score_line(checked: Checked) -> str:
     count = summed(checked.report.counts.values())
-    wanted = count.total - count.equivalent
-    score = "No score" if wanted == 0 else f"Score {score_of(count)} %"
-    told = f"{score}: {count.killed} of {plural(wanted, 'mutant')} killed"
+    score = f"Score {score_of(count)} %" if count.wanted else "No score"
+    told = f"{score}: {count.killed} of {plural(count.wanted, 'mutant')} killed"
     told += left_out_text(count, proved_count(checked))
     return f"{told}, of those that were asked for." if checked.left_out else f"{told}."
 
@@ -92,7 +91,7 @@ def twin_lines(checked: Checked) -> Iterator[str]:
     """The same of programs, where some mutants are one; the score counts mutants, as the report does."""
     count = count_of_programs(checked.listed, checked.report.rows)
     if count.total < len(checked.listed):
-        told = plural(count.total - count.equivalent, "different program")
+        told = plural(count.wanted, "different program")
         yield f"Some of the mutants are the same program: {count.killed} of {told} killed."
 
 

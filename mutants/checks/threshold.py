@@ -15,12 +15,11 @@ def add_threshold(parser: argparse.ArgumentParser) -> None:
 
 def is_below(count: Count, least: Fraction | None) -> bool:
     """Whether the exact score is below what is asked for; where there is none, nothing is."""
-    wanted = count.total - count.equivalent
-    return least is not None and Fraction(count.killed, wanted or 1) < least / 100 and wanted > 0
+    return least is not None and count.wanted > 0 and Fraction(100 * count.killed, count.wanted) < least
 
 
 def below_lines(count: Count, least: Fraction | None) -> Iterator[str]:
-    if least is not None and count.total == count.equivalent:
+    if least is not None and count.wanted == 0:
         yield "There is no score, and --fail-under says nothing."
     if least is not None and is_below(count, least):
         yield f"BELOW --fail-under: the score is below {percent_text(least)} %."

@@ -5,19 +5,11 @@ from typing import NamedTuple
 from urllib.parse import quote
 
 from mutants.classes.results import (
-    Class,
-    ClassTest,
-    Reported,
-    Result,
-    class_count,
-    class_of,
-    only_here,
-    reported_of,
-    survivors_in_common,
-)
+    Class, ClassTest, Reported, Result, class_count, class_of, only_here, reported_of, survivors_in_common,
+)  # fmt: skip
 from mutants.declarations.proofs import NO_PROOFS, Proofs, count_of_proved
 from mutants.english import joined_words, plural
-from mutants.pages.frame import Cell, bar, page, remark_part, table, text
+from mutants.pages.frame import Cell, bar, numbers, page, remark_part, table, text
 from mutants.pages.program import program_part
 from mutants.pages.report import at_lines, proofs_part, score_part
 from mutants.pages.suite import least_set_text, values_of
@@ -52,17 +44,14 @@ def linked(name: str) -> str:
 
 def score_row(result: Reported, only: Mapping[str, int]) -> list[Cell]:
     count = summed(result.report.counts.values())
+    counts = result.report.tests, count.killed, count.equivalent, count.survived, only[result.name]
+    return [("", linked(result.name)), *numbers(*counts), *score_cells(count)]
+
+
+def score_cells(count: Count) -> list[Cell]:
+    """The score, in figures and as a bar."""
     said = f"{count.killed} of {count.total}"
-    return [
-        ("", linked(result.name)),
-        ("n", result.report.tests),
-        ("n", count.killed),
-        ("n", count.equivalent),
-        ("n", count.total - count.killed - count.equivalent),
-        ("n", only[result.name]),
-        ("n", f"<b>{score_of(count)}</b>"),
-        ("bar", bar(count.killed, count.total - count.equivalent, said)),
-    ]
+    return [("n", f"<b>{score_of(count)}</b>"), ("bar", bar(count.killed, count.wanted, said))]
 
 
 def by_score(results: Sequence[Reported]) -> list[Reported]:
@@ -70,8 +59,7 @@ def by_score(results: Sequence[Reported]) -> list[Reported]:
 
     def order(result: Reported) -> tuple[float, str]:
         count = summed(result.report.counts.values())
-        wanted = count.total - count.equivalent
-        return -count.killed / wanted if wanted else 0, result.name
+        return -count.killed / count.wanted if count.wanted else 0, result.name
 
     return sorted(results, key=order)
 
@@ -98,12 +86,8 @@ def unexpected_part(results: Sequence[Result]) -> str:
 
 
 def test_row(test: ClassTest) -> list[Cell]:
-    return [
-        ("", f"<code>{text(values_of(test.values))}</code>"),
-        ("", names_text(test.names)),
-        ("n", test.kills),
-        ("n", test.alone or "none"),
-    ]
+    values = f"<code>{text(values_of(test.values))}</code>"
+    return [("", values), ("", names_text(test.names)), *numbers(test.kills, test.alone or "none")]
 
 
 TESTS_HEAD: list[Cell] = [("", "Values"), ("", "Of"), ("n", "Kills"), ("n", "It alone")]
@@ -151,16 +135,8 @@ def overview(programs: Mapping[str, Sequence[Result]], classes: Mapping[str, Cla
     for place, (name, results) in enumerate(programs.items(), 1):
         whole = classes[name]
         count = class_count(whole) if whole else Count(0, 0, 0)
-        rows.append(
-            [
-                ("", f'<a href="#program-{place}">{text(name or "-")}</a>'),
-                ("n", len(results)),
-                ("n", count.killed),
-                ("n", count.total - count.equivalent),
-                ("n", f"<b>{score_of(count)}</b>"),
-                ("bar", bar(count.killed, count.total - count.equivalent, f"{count.killed} of {count.total}")),
-            ]
-        )
+        link = f'<a href="#program-{place}">{text(name or "-")}</a>'
+        rows.append([("", link), *numbers(len(results), count.killed, count.wanted), *score_cells(count)])
     head: list[Cell] = [("", "Program"), *[("n", word) for word in ("Jobs", "Killed", "Of", "Score")], ("bar", "")]
     return table(head, rows)
 

@@ -157,6 +157,5 @@ def csv_row(result: Result, only: Mapping[str, int]) -> list[object]:
         return [*names, *[""] * 10, result.code, plain_cell(result.refusal)]
     count, report = summed(result.report.counts.values()), result.report
     wrong = sum(row.status == "W" for row in report.rows)
-    survived = count.total - count.killed - count.equivalent
-    numbers = [report.tests, *count, survived, score_of(count), only.get(result.name, 0), wrong, result.unexpected]
+    numbers = [report.tests, *count, count.survived, score_of(count), only.get(result.name, 0), wrong, result.unexpected]
     return [*names, report.unit, *numbers, "", plain_cell(result.refusal)]

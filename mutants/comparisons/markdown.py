@@ -5,17 +5,9 @@ from collections.abc import Iterator, Sequence
 from mutants.comparisons.comparing import Comparison
 from mutants.comparisons.states import State, Verdict, count_of
 from mutants.comparisons.telling import (
-    Item,
-    items_of,
-    items_of_changes,
-    kills_in,
-    proof_lines,
-    score_text,
-    test_change_text,
-    tests_alone,
-    value_text,
+    Item, items_of, items_of_changes, kills_in, proof_lines, score_text, test_change_text, tests_alone, value_text,
     verdicts_text,
-)
+)  # fmt: skip
 from mutants.english import plural
 from mutants.texts.markdown import cell, code, table
 
@@ -49,7 +41,7 @@ def counts_table(old: State, new: State) -> list[str]:
         ["Mutants", one.total, other.total],
         ["Killed", one.killed, other.killed],
         [f"Declared {'or proved ' * has_proofs}equivalent, not killed", one.equivalent, other.equivalent],
-        ["Survivors", *(count.total - count.killed - count.equivalent for count in (one, other))],
+        ["Survivors", *(count.survived for count in (one, other))],
         ["Score", score_text(old), score_text(new)],
     ]
     return [*table(["", "Before", "Now"], rows), ""]

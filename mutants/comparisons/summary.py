@@ -6,17 +6,9 @@ from itertools import groupby
 from mutants.comparisons.comparing import Comparison
 from mutants.comparisons.states import State, Verdict, count_of
 from mutants.comparisons.telling import (
-    Item,
-    items_of,
-    items_of_changes,
-    kills_in,
-    proof_lines,
-    score_text,
-    test_change_text,
-    tests_alone,
-    value_text,
+    Item, items_of, items_of_changes, kills_in, proof_lines, score_text, test_change_text, tests_alone, value_text,
     verdicts_text,
-)
+)  # fmt: skip
 from mutants.english import plural
 
 # So many mutants of a line are shown, and so wide is a name at least.
@@ -25,7 +17,7 @@ SHOWN, NAME = 8, 8
 
 def state_line(name: str, path: object, state: State) -> str:
     count = count_of(state.verdicts)
-    killed = f"{count.killed} of {plural(count.total - count.equivalent, 'mutant')} killed"
+    killed = f"{count.killed} of {plural(count.wanted, 'mutant')} killed"
     return f"{name}  {path}: {state.unit}, {plural(len(state.tests), 'test')}, {score_text(state)}: {killed}"
 
 

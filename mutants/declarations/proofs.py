@@ -56,9 +56,7 @@ class Proofs(NamedTuple):
 NO_PROOFS = Proofs()
 
 
-def proofs_of(
-    found: Iterable[Proof], declared: Collection[str] = NO_NAMES, remark: str = "", tests: int = 0
-) -> Proofs:
+def proofs_of(found: Iterable[Proof], declared: Collection[str] = NO_NAMES, remark: str = "", tests: int = 0) -> Proofs:
     """The proofs of mutants that a job may declare."""
     whys = {name_of(proof.mutant): proof.why for proof in found if proof.mutant.place <= MOST}
     return Proofs(whys, frozenset(declared), remark=remark, tests=tests)

@@ -47,9 +47,7 @@ class Prover(NamedTuple):
 
     def asked(self, words: Sequence[str], job: bytes) -> list[Proof]:
         """What the program says of a job; the words are its options."""
-        text = answered(
-            self.program, words, job, lambda: plain_answer(NAME, self.program, words, job), self.anew
-        )
+        text = answered(self.program, words, job, lambda: plain_answer(NAME, self.program, words, job), self.anew)
         return read_as(NAME, read_proofs, text)[0]
 
     def found(self, words: Sequence[str], job: Job) -> list[Proof]:

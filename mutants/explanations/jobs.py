@@ -175,9 +175,7 @@ def notes_on(code: str, kind: str, detail: str, text: bytes, program: str | None
     return notes_by_number(code, detail, job, program, words)
 
 
-def notes_by_number(
-    code: str, detail: str, job: Mapping[str, Any], program: str | None, words: list[str]
-) -> list[str]:
+def notes_by_number(code: str, detail: str, job: Mapping[str, Any], program: str | None, words: list[str]) -> list[str]:
     """The notes on a test or a value of a test, told by its number."""
     if code == "J4":
         return value_notes(item_of(job, "suite", int(detail)), int(detail))

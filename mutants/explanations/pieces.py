@@ -11,9 +11,7 @@ OPERATORS = "EQ NE LT LE GT GE AND OR NOT EQV NEQV TRUE FALSE".split()
 QUOTED = re.compile(r"'[^']*'?|\"[^\"]*\"?")
 HOLLERITH = re.compile(r"(?<![A-Z0-9])\d+H(?=[A-Z])")
 # A number with a point that begins no operator, or with an exponent.
-NUMBER = re.compile(
-    r"(?<![A-Z0-9])(?:(?:\d+\.\d*|\.\d+)(?![A-Z]{2,5}\.)(?:[ED][+-]?\d+)?|\d+[ED][+-]?\d+(?![A-Z0-9]))"
-)
+NUMBER = re.compile(r"(?<![A-Z0-9])(?:(?:\d+\.\d*|\.\d+)(?![A-Z]{2,5}\.)(?:[ED][+-]?\d+)?|\d+[ED][+-]?\d+(?![A-Z0-9]))")
 # Pieces, the name of the habit that each is of, and the word that the found text is in what is said.
 PIECES = (
     (r"==|/=|<|>", "relation by signs", ""),

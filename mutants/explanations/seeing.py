@@ -3,27 +3,13 @@
 from collections.abc import Callable, Sequence
 
 from mutants.explanations.forms import (
-    action_of,
-    column_habits,
-    data_habits,
-    if_habits,
-    label_habits,
-    late_habits,
-    line_habits,
-    parenthesis_habits,
-)
+    action_of, column_habits, data_habits, if_habits, label_habits, late_habits, line_habits, parenthesis_habits,
+)  # fmt: skip
 from mutants.explanations.habits import Seen
 from mutants.explanations.keywords import ADDED, keyword_habits
 from mutants.explanations.names import with_plain_type
 from mutants.explanations.pieces import bound_habits, piece_habits, without_remark
-from mutants.explanations.usage import (
-    end_habits,
-    kind_habits,
-    long_habits,
-    number_habits,
-    real_habits,
-    twice_habits,
-)
+from mutants.explanations.usage import (end_habits, kind_habits, long_habits, number_habits, real_habits, twice_habits)
 from mutants.texts.cards import Card, cards_of, source_lines
 
 

@@ -6,16 +6,8 @@ from collections.abc import Callable, Sequence
 from mutants.english import joined_words
 from mutants.explanations.names import called_names, declared_arrays
 from mutants.explanations.spans import (
-    KEYWORDS,
-    Marked,
-    label_marks,
-    label_value,
-    labels_in,
-    span,
-    value_of,
-    whole,
-    without_operators,
-)
+    KEYWORDS, Marked, label_marks, label_value, labels_in, span, value_of, whole, without_operators,
+)  # fmt: skip
 from mutants.texts.cards import Card, action_at
 from mutants.texts.parentheses import depths
 

@@ -56,9 +56,7 @@ def given_job(given: argparse.Namespace, path: Path, tests: Path | None, mothra:
     return of_job(path, given.equivalent, mothra)
 
 
-def job_to_tell(
-    given: argparse.Namespace, path: Path, tests: Path | None, mothra: Callable[[], str | None]
-) -> Given:
+def job_to_tell(given: argparse.Namespace, path: Path, tests: Path | None, mothra: Callable[[], str | None]) -> Given:
     """The same; where the source has a fault, which is told later, there are no mutants that could be declared."""
     try:
         return given_job(given, path, tests, mothra)

@@ -48,6 +48,11 @@ def head_row(cells: Iterable[Cell]) -> str:
     return f"<tr>{''.join(parts)}</tr>"
 
 
+def numbers(*values: object) -> list[Cell]:
+    """Cells of numbers, in a row."""
+    return [("n", value) for value in values]
+
+
 def table(
     head: Iterable[Cell],
     rows: Iterable[Iterable[Cell]],

@@ -4,7 +4,7 @@ from collections.abc import Sequence
 from typing import NamedTuple
 
 from mutants.english import plural
-from mutants.pages.frame import Cell, bar, page, table, text
+from mutants.pages.frame import Cell, bar, numbers, page, table, text
 from mutants.pages.report import KIND
 from mutants.texts.reports import Count, score_of
 
@@ -28,16 +28,12 @@ HEAD: list[Cell] = [
 
 def cells_of(entry: Entry) -> list[Cell]:
     name, count = text(entry.program), entry.counted
-    wanted = count.total - count.equivalent
     score = score_of(count) if entry.unit else ""
     return [
         ("", f'<a href="{text(entry.link)}">{name}</a>' if entry.link else name),
         ("", text(entry.unit)),
-        ("n", entry.tests),
-        ("n", wanted),
-        ("n", wanted - count.killed),
-        ("n", "no score" if score == "NONE" else score),
-        ("bar", bar(count.killed, wanted)),
+        *numbers(entry.tests, count.wanted, count.survived, "no score" if score == "NONE" else score),
+        ("bar", bar(count.killed, count.wanted)),
         ("", f'<span class="live">{text(entry.wrong)}</span>' if entry.wrong else ""),
     ]
 

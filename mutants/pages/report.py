@@ -5,18 +5,13 @@ from collections.abc import Iterable, Mapping, Sequence
 from typing import NamedTuple
 
 from mutants.declarations.proofs import (
-    Proofs,
-    count_of_proved,
-    left_out_text,
-    score_without,
-    wrongly_declared,
-    wrongly_proved,
-)
+    Proofs, count_of_proved, left_out_text, score_without, wrongly_declared, wrongly_proved,
+)  # fmt: skip
 from mutants.declarations.said import NOTHING, Said
 from mutants.english import joined_words, plural
 from mutants.operators import NAMES
 from mutants.pages.declared import declared_part, proved_part, remarks_part
-from mutants.pages.frame import Cell, bar, page, remark_part, sections, table, text
+from mutants.pages.frame import Cell, bar, numbers, page, remark_part, sections, table, text
 from mutants.pages.matrix import matrix_part
 from mutants.pages.program import AtLines, program_part
 from mutants.pages.suite import tests_part
@@ -48,9 +43,7 @@ def by_line(mutants: Iterable[Mutant]) -> dict[int, list[Mutant]]:
     return found
 
 
-def at_lines(
-    listed: Sequence[Mutant], rows: Sequence[Row], survivors: Iterable[Mutant], proofs: Proofs
-) -> AtLines:
+def at_lines(listed: Sequence[Mutant], rows: Sequence[Row], survivors: Iterable[Mutant], proofs: Proofs) -> AtLines:
     """What stands at each line of the program: the declared and proved mutants are those that survive."""
     every = with_status(listed, rows, "E")
     proved = by_line(mutant for mutant in every if proofs.is_alone(name_of(mutant)))
@@ -60,7 +53,7 @@ def at_lines(
 
 def score_part(count: Count, proved: int = 0) -> str:
     """The score in large figures, and what it is made of; so many mutants do not count by a proof alone."""
-    score, wanted = score_of(count), count.total - count.equivalent
+    score, wanted = score_of(count), count.wanted
     said = f"{count.killed} of {plural(wanted, 'mutant')} killed{left_out_text(count, proved)}"
     figures = "no score" if score == "NONE" else f"{score} %"
     return f'<div class="score"><b>{figures}</b>{bar(count.killed, wanted)}<span>{said}</span></div>\n'
@@ -121,15 +114,9 @@ def wrong_part(rows: Sequence[Row], proofs: Proofs) -> str:
 
 
 def operator_row(op: str, count: Count) -> list[Cell]:
-    return [
-        ("", f'<b>{text(op)}</b> <span class="name">{text(NAMES.get(op, ""))}</span>'),
-        ("n", count.total),
-        ("n", count.killed),
-        ("n", count.equivalent),
-        ("n", count.total - count.killed - count.equivalent),
-        ("n", score_of(count)),
-        ("bar", bar(count.killed, count.total - count.equivalent)),
-    ]
+    name = f'<b>{text(op)}</b> <span class="name">{text(NAMES.get(op, ""))}</span>'
+    counts = numbers(*count, count.survived, score_of(count))
+    return [("", name), *counts, ("bar", bar(count.killed, count.wanted))]
 
 
 def operators_part(counts: Mapping[str, Count]) -> str:
@@ -171,9 +158,7 @@ class Analysed(NamedTuple):
     report: Report
 
 
-def report_page(
-    analysed: Analysed, remark: str = "", outcomes: Outcomes = Outcomes(), said: Said = NOTHING
-) -> str:
+def report_page(analysed: Analysed, remark: str = "", outcomes: Outcomes = Outcomes(), said: Said = NOTHING) -> str:
     """The page of a job that was analysed, with what else is said of it."""
     job, printed, listed, report = analysed
     assert_same_mutants(listed, report)
@@ -204,9 +189,7 @@ def report_page(
     return page(f"{report.unit}: {KIND}", head + first_look(survivors, proved) + links, bodies)
 
 
-def listing_part(
-    job: Job, statements: Mapping[int, str], listed: Sequence[Mutant], report: Report, said: Said
-) -> str:
+def listing_part(job: Job, statements: Mapping[int, str], listed: Sequence[Mutant], report: Report, said: Said) -> str:
     """The program with its survivors, and the declared and proved mutants that survived."""
     source = job.source if said.shown is None else said.shown
     found = at_lines(listed, report.rows, report.survivors, said.proofs)

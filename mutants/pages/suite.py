@@ -1,12 +1,11 @@
 """What each test of a suite adds: how many mutants it kills, how many it alone, and the smallest set of tests."""
 
 import json
-from collections import Counter
 from collections.abc import Iterable, Mapping, Sequence
 
 from mutants.english import joined_words, plural
 from mutants.pages.cover import smallest_set
-from mutants.pages.frame import Cell, bar, table, text
+from mutants.pages.frame import Cell, bar, numbers, table, text
 from mutants.texts.reports import Row
 from mutants.texts.twins import names_text
 
@@ -26,8 +25,7 @@ def kills_of(rows: Sequence[Row], tests: int) -> list[int]:
 
 def alone_of(rows: Iterable[Row], tests: int) -> list[int]:
     """How many mutants each test kills that no other test kills."""
-    single = Counter(row.bits.index("1") for row in rows if row.bits.count("1") == 1)
-    return [single[test] for test in range(tests)]
+    return list(map(len, alone_by_test(rows, tests)))
 
 
 def shortened(told: str) -> str:
@@ -96,14 +94,9 @@ def titled(test: object, number: int, titles: Sequence[str]) -> str:
 
 
 def test_cells(number: int, told: str, kills: int, alone: Sequence[Row], mutants: int) -> list[Cell]:
-    return [
-        ("n", number),
-        ("", f"<code>{text(told)}</code>"),
-        ("n", kills),
-        ("n", f"<b>{len(alone)}</b>" if alone else "none"),
-        ("", text(alone_text(alone))),
-        ("bar", bar(kills, mutants)),
-    ]
+    many = numbers(kills, f"<b>{len(alone)}</b>" if alone else "none")
+    rest: list[Cell] = [("", text(alone_text(alone))), ("bar", bar(kills, mutants))]
+    return [("n", number), ("", f"<code>{text(told)}</code>"), *many, *rest]
 
 
 HEAD: list[Cell] = [

@@ -28,20 +28,10 @@ ABS = "ABS"
 Twins = Sequence[Mutant]
 
 
-def near_front(same: str) -> int:
-    """How many characters at the end of what is the same stand near a change behind it: whole words."""
+def near(words: Iterable[str]) -> int:
+    """How many characters of what is the same stand near a change: whole words, from the change on."""
     count = 0
-    for word in reversed(WORD.findall(same)):
-        if count >= NEAR:
-            break
-        count += len(word)
-    return count
-
-
-def near_back(same: str) -> int:
-    """How many characters at the front of what is the same stand near a change before it: whole words."""
-    count = 0
-    for word in WORD.findall(same):
+    for word in words:
         if count >= NEAR:
             break
         count += len(word)
@@ -63,11 +53,11 @@ def with_context(old: str, new: str) -> str:
     shown = [MARKS[mark].format(text(piece)) for mark, piece in found]
     if found and found[0][0] == "=":
         front = found[0][1]
-        at = len(front) - near_front(front)
+        at = len(front) - near(reversed(WORD.findall(front)))
         shown[0] = far_part(front[:at]) + text(front[at:])
     if len(found) > 1 and found[-1][0] == "=":
         back = found[-1][1]
-        at = near_back(back)
+        at = near(WORD.findall(back))
         shown[-1] = text(back[:at]) + far_part(back[at:])
     return "".join(shown)
 
@@ -107,9 +97,7 @@ def survivors_part(survivors: Iterable[Mutant], statement: str) -> str:
     return f'<div class="mutants">{parts}{folded(told, absolute, statement)}</div>\n'
 
 
-def declared_part(
-    declared: Iterable[Mutant], statement: str, reasons: Mapping[str, str], how: str = "declared"
-) -> str:
+def declared_part(declared: Iterable[Mutant], statement: str, reasons: Mapping[str, str], how: str = "declared") -> str:
     """The mutants of a line that are declared equivalent, or proved so, and survived, folded."""
     every = list(declared)
     summary = f"<summary>{len(every)} {how} equivalent</summary>"

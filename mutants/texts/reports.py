@@ -27,6 +27,15 @@ class Count(NamedTuple):
     killed: int
     equivalent: int
 
+    @property
+    def wanted(self) -> int:
+        """The mutants that a suite has to kill."""
+        return self.total - self.equivalent
+
+    @property
+    def survived(self) -> int:
+        return self.wanted - self.killed
+
 
 class Report(NamedTuple):
     unit: str
@@ -121,10 +130,9 @@ def summed(counts: Iterable[Count]) -> Count:
 
 def score_of(count: Count) -> str:
     """The score as the report writes it."""
-    wanted = count.total - count.equivalent
-    if wanted == 0:
+    if count.wanted == 0:
         return "NONE"
-    hundredths = count.killed * 10000 // wanted
+    hundredths = count.killed * 10000 // count.wanted
     return f"{hundredths // 100}.{hundredths % 100:02}"
 
 
