@@ -47,7 +47,7 @@ class Parts(Room):
 
     def test_groups_keep_the_order_and_the_longest_part_comes_first(self) -> None:
         totals = {"AAR": 3, "ABS": 50, "ACR": 0, "AOR": 9}
-        self.assertEqual(parts.groups_of(totals, 40), [["AAR", "ABS"], ["ACR", "AOR"]])
+        self.assertEqual(batches.groups_of(totals, 40), [["AAR", "ABS"], ["ACR", "AOR"]])
         found = parts.parts_of(totals, [["AAR", "ABS"], ["ACR", "AOR"]], [2, 1])
         self.assertEqual(found, [(0, 0, 106), (1, 0, 53), (0, 1, 18), (1, 1, 9)])
 

@@ -11,7 +11,7 @@ from pathlib import Path
 import running
 from mutants.declarations.entries import COLUMNS, Entry, appended, entries_text, read_entries
 from mutants.declarations.files import read_declarations
-from mutants.declarations.said import Said
+from mutants.declarations.said import NOTHING, Said
 from mutants.declarations.settling import Present, entry_for, settled
 from mutants.jobs.making import made_of, meant_for
 from mutants.pages.declared import declared_part
@@ -244,11 +244,11 @@ class Pages(unittest.TestCase):
     def test_those_that_a_test_kills_come_first(self) -> None:
         listed = [Mutant("ROR", n, n, 3, f"K={n}") for n in range(1, 4)]
         rows = [Row("ROR", 1, 1, "E", "000"), Row("ROR", 2, 2, "S", "000"), Row("ROR", 3, 3, "W", "101")]
-        page = declared_part(listed, rows, {3: "K=9"}, {"ROR 1": "it <is>"})
+        page = declared_part(listed, rows, {3: "K=9"}, Said(None, {"ROR 1": "it <is>"}, []))
         self.assertLess(page.index("ROR 3"), page.index("ROR 1"))
         has(self, page, "Killed by tests 1 and 3.", "no reason is given", "it &lt;is&gt;", "<del>9</del><ins>1</ins>")
         self.assertNotIn("ROR 2", page)
-        self.assertEqual(declared_part(listed[1:2], rows[1:2], {3: "K=9"}, {}), "")
+        self.assertEqual(declared_part(listed[1:2], rows[1:2], {3: "K=9"}, NOTHING), "")
 
     def test_the_source_is_shown_as_its_file_has_it_and_what_is_told_stands_at_the_top(self) -> None:
         job = json.dumps({"source": LEAST, "suite": [[1, 2, 0]], "equivalent": ["ROR 1"]}).encode()

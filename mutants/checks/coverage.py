@@ -6,7 +6,7 @@ no such mutant. So 1-0 is put into each of them in a way that changes nothing, a
 """
 
 import re
-from collections.abc import Iterable, Sequence
+from collections.abc import Collection, Iterable, Sequence
 from typing import NamedTuple
 
 from mutants.checks.checking import Checked
@@ -109,15 +109,20 @@ def asked_watches(checked: Checked, means: Means, name: str) -> dict[int, str]:
     return {line: row.bits for (line, front), mutant, row in pairs if mutant.text.startswith(front)}
 
 
+def known_bits(checked: Checked, lines: Collection[int], means: Means, name: str) -> dict[int, str]:
+    """For each of the lines a digit for each test, 1 where it comes there; and for others, as they are told too."""
+    known = {line: "1" * len(checked.job.suite) for line in lines if checked.statements[line].startswith("DATA ")}
+    known |= asked_traps(checked, means, name) if set(lines) - set(known) else {}
+    known |= asked_watches(checked, means, name) if set(lines) - set(known) else {}
+    return known
+
+
 def covering(checked: Checked, means: Means, name: str) -> dict[int, str]:
     """For each line that has mutants a digit for each test, 1 where it comes to the statement.
 
     Where this is not known otherwise, the tests that kill a mutant of the line are told.
     """
-    tests = len(checked.job.suite)
     lines = {mutant.line for mutant in checked.listed}
-    known = {line: "1" * tests for line in lines if checked.statements[line].startswith("DATA ")}
-    known |= asked_traps(checked, means, name) if lines - set(known) else {}
-    known |= asked_watches(checked, means, name) if lines - set(known) else {}
-    known = {**kill_bits(checked.listed, checked.report.rows, tests), **known}
+    killed = kill_bits(checked.listed, checked.report.rows, len(checked.job.suite))
+    known = {**killed, **known_bits(checked, lines, means, name)}
     return {line: known[line] for line in sorted(lines)}

@@ -20,19 +20,6 @@ class Part(NamedTuple):
     runs: int
 
 
-def groups_of(totals: Mapping[str, int], least: int) -> list[list[str]]:
-    """The operators in their order, in groups that have so many mutants at least, but for the last."""
-    groups: list[list[str]] = [[]]
-    count = 0
-    for op, total in totals.items():
-        if count >= least:
-            groups.append([])
-            count = 0
-        groups[-1].append(op)
-        count += total
-    return groups
-
-
 def group_size(totals: Mapping[str, int], batches: int, at_once: int) -> int:
     """How many mutants a group should have, so that there are parts for all processors."""
     return max(LEAST, sum(totals.values()) * batches // (SHARE * at_once))

@@ -5,11 +5,11 @@ from typing import NamedTuple
 
 from mutants.checks.faults import told_of_run
 from mutants.checks.machines import ask_machines
-from mutants.checks.parts import Part, group_size, groups_of, parts_of, whole_report
+from mutants.checks.parts import Part, group_size, parts_of, whole_report
 from mutants.program.calling import Fault, read_as
 from mutants.program.many import Call, Handling, ask_many, processors
 from mutants.progress import Estimate, Progress
-from mutants.texts.batches import batch_text, batches
+from mutants.texts.batches import batch_text, batches, groups_of
 from mutants.texts.jobs import Job
 from mutants.texts.reports import Report, read_report
 

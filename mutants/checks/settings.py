@@ -28,12 +28,9 @@ READING = ("tests", "unit", "size", "expand_tabs", "equivalent", "undeclared", "
 CALLED = [program.option for program in PROGRAMS.values()]
 # An option of the command line, and one of the file that is passed over then.
 OVERRULES = (
-    ("ops", "without"),
-    ("page", "no_page"),
-    ("no_page", "page"),
-    ("equivalent", "undeclared"),
-    ("undeclared", "equivalent"),
-)
+    ("ops", "without"), ("page", "no_page"), ("no_page", "page"),
+    ("equivalent", "undeclared"), ("undeclared", "equivalent"),
+)  # fmt: skip
 TRUE, FALSE = ("1", "yes", "true", "on"), ("0", "no", "false", "off")
 
 

@@ -10,7 +10,7 @@ from mutants.checks.checking import Checked
 from mutants.declarations.proofs import count_of_proved, left_out_text, score_without, wrongly_declared, wrongly_proved
 from mutants.declarations.said import NO_REASON, Group, groups_of_person, groups_of_proofs, proved_text
 from mutants.english import joined_words, plural
-from mutants.pages.report import DISAGREE, by_line, counts_by_line, no_survivor_text
+from mutants.pages.report import DISAGREE, by_line, counts_by_line, no_survivor_text, survivors_text
 from mutants.pages.suite import NUMBERS, alone_of, needless_text, titled
 from mutants.texts.lines import Mutant
 from mutants.texts.ranges import rows_of
@@ -107,8 +107,7 @@ def wrong_lines(checked: Checked) -> Iterator[str]:
 
 def declared_lines(checked: Checked) -> Iterator[str]:
     """The mutants that a person declares, with their texts and reasons, those first that a test kills."""
-    said = checked.said
-    groups = groups_of_person(checked.listed, checked.report.rows, said.reasons, said.proofs)
+    groups = groups_of_person(checked.listed, checked.report.rows, checked.said)
     if groups:
         yield f"{plural(sum(len(each.mutants) for each in groups), 'mutant')} declared equivalent:"
     yield from group_lines(checked, groups)
@@ -176,9 +175,7 @@ def survivor_lines(checked: Checked, telling: Telling) -> Iterator[str]:
     if not survivors:
         yield no_survivor_text(proved_count(checked))
         return
-    told = f"{plural(len(survivors), 'survivor')} on {plural(len(lines), 'line')}"
-    different = len(twins_in(survivors))
-    told += f", {plural(different, 'different program')}" if different < len(survivors) else ""
+    told = survivors_text(survivors)
     order = sorted(lines, key=lambda line: (-len(lines[line]), line))[: telling.top]
     rest = len(lines) - len(order)
     more = f" The {plural(len(order), 'line')} with most (--top N tells more, --all all):" if rest else ""

@@ -8,7 +8,7 @@ from mutants.classes.results import (
     Class, ClassTest, Reported, Result, class_count, class_of, only_here, reported_of, survivors_in_common,
 )  # fmt: skip
 from mutants.declarations.proofs import NO_PROOFS, Proofs, count_of_proved
-from mutants.english import joined_words, plural
+from mutants.english import first_words, joined_words, plural
 from mutants.pages.frame import Cell, bar, numbers, page, remark_part, table, text
 from mutants.pages.program import program_part
 from mutants.pages.report import at_lines, proofs_part, score_part
@@ -31,11 +31,6 @@ MOST, NAMED = 12, 3
 
 NUMBERS = ["Tests", "Killed", "Equi&shy;valent", "Sur&shy;vive", "Only here", "Score"]
 HEAD: list[Cell] = [("", "Name"), *[("n", word) for word in NUMBERS], ("bar", "")]
-
-
-def names_text(names: list[str]) -> str:
-    rest = [f"{len(names) - NAMED} more"] if len(names) > NAMED else []
-    return text(joined_words(names[:NAMED] + rest))
 
 
 def linked(name: str) -> str:
@@ -87,7 +82,7 @@ def unexpected_part(results: Sequence[Result]) -> str:
 
 def test_row(test: ClassTest) -> list[Cell]:
     values = f"<code>{text(values_of(test.values))}</code>"
-    return [("", values), ("", names_text(test.names)), *numbers(test.kills, test.alone or "none")]
+    return [("", values), ("", text(first_words(test.names, NAMED))), *numbers(test.kills, test.alone or "none")]
 
 
 TESTS_HEAD: list[Cell] = [("", "Values"), ("", "Of"), ("n", "Kills"), ("n", "It alone")]

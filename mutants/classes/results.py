@@ -4,7 +4,7 @@ import json
 from collections.abc import Iterable, Mapping, Sequence
 from typing import Any, NamedTuple
 
-from mutants.english import joined_words, plural
+from mutants.english import first_words, plural
 from mutants.pages.cover import smallest_set
 from mutants.texts.lines import Mutant
 from mutants.texts.reports import Count, Report, Row, score_of, summed
@@ -64,8 +64,7 @@ def reported_of(results: Iterable[Result]) -> list[Reported]:
 def failed_told(results: Sequence[Result]) -> str:
     """How many jobs failed, and which; no text where none did."""
     names = [each.name for each in results if each.report is None]
-    told = [*names[:MOST], *([f"{len(names) - MOST} more"] if len(names) > MOST else [])]
-    return f"{len(names)} of {plural(len(results), 'job')} failed: {joined_words(told)}" if names else ""
+    return f"{len(names)} of {plural(len(results), 'job')} failed: {first_words(names, MOST)}" if names else ""
 
 
 def test_places(results: Sequence[Reported]) -> tuple[dict[str, int], list[list[str]]]:
@@ -157,5 +156,6 @@ def csv_row(result: Result, only: Mapping[str, int]) -> list[object]:
         return [*names, *[""] * 10, result.code, plain_cell(result.refusal)]
     count, report = summed(result.report.counts.values()), result.report
     wrong = sum(row.status == "W" for row in report.rows)
-    numbers = [report.tests, *count, count.survived, score_of(count), only.get(result.name, 0), wrong, result.unexpected]
+    score = count.survived, score_of(count), only.get(result.name, 0)
+    numbers = [report.tests, *count, *score, wrong, result.unexpected]
     return [*names, report.unit, *numbers, "", plain_cell(result.refusal)]

@@ -5,8 +5,7 @@ from collections.abc import Iterator, Sequence
 from mutants.comparisons.comparing import Comparison
 from mutants.comparisons.states import State, Verdict, count_of
 from mutants.comparisons.telling import (
-    Item, items_of, items_of_changes, kills_in, proof_lines, score_text, test_change_text, tests_alone, value_text,
-    verdicts_text,
+    Item, items_of, items_of_changes, proof_lines, score_text, test_changes, verdicts_text,
 )  # fmt: skip
 from mutants.english import plural
 from mutants.texts.markdown import cell, code, table
@@ -57,14 +56,8 @@ def alone_part(title: str, verdicts: Sequence[Verdict], state: State) -> list[st
 
 
 def test_rows(comparison: Comparison) -> Iterator[list[object]]:
-    gone, added = tests_alone(comparison)
-    old, new = comparison.old, comparison.new
-    for number in added:
-        yield ["new", number, code(value_text(new, number)), f"kills {kills_in(new, number)}"]
-    for number in gone:
-        yield ["gone", number, code(value_text(old, number)), f"killed {kills_in(old, number)}"]
-    for change in comparison.tests:
-        yield ["changed", change.new, code(value_text(new, change.new)), cell(test_change_text(change))]
+    for what, number, values, kills in test_changes(comparison):
+        yield [what, number, code(values), cell(kills)]
 
 
 def comparison_markdown(comparison: Comparison) -> str:

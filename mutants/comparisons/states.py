@@ -4,13 +4,12 @@ import json
 from collections.abc import Iterable, Mapping, Sequence
 from typing import NamedTuple
 
-from mutants.exports.rows import tests_in
 from mutants.program.asking import asked_list, asked_print
 from mutants.program.unproved import remark_on
 from mutants.texts.jobs import read_job
 from mutants.texts.lines import Mutant
 from mutants.texts.prints import statements_by_line
-from mutants.texts.reports import Count, Report, assert_same_mutants
+from mutants.texts.reports import Count, Report, assert_same_mutants, tests_in
 
 
 class Verdict(NamedTuple):

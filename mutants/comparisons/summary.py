@@ -6,8 +6,7 @@ from itertools import groupby
 from mutants.comparisons.comparing import Comparison
 from mutants.comparisons.states import State, Verdict, count_of
 from mutants.comparisons.telling import (
-    Item, items_of, items_of_changes, kills_in, proof_lines, score_text, test_change_text, tests_alone, value_text,
-    verdicts_text,
+    Item, items_of, items_of_changes, proof_lines, score_text, test_changes, tests_alone, verdicts_text,
 )  # fmt: skip
 from mutants.english import plural
 
@@ -51,21 +50,13 @@ def alone_lines(title: str, verdicts: Sequence[Verdict], state: State) -> Iterat
         yield ""
 
 
-def test_line(what: str, number: int, values: str, told: str) -> str:
-    return f"  {what:<7}  {number:>3}  {values}{': ' if values else ''}{told}"
-
-
 def test_lines(comparison: Comparison) -> Iterator[str]:
     """The tests that one state has alone, and those with other kills than before."""
-    old, new, (gone, added) = comparison.old, comparison.new, tests_alone(comparison)
+    gone, added = tests_alone(comparison)
     counts = f"{len(comparison.same_tests)} in both, {len(added)} new, {len(gone)} gone"
     yield f"Tests, matched {comparison.how_of_tests}: {counts}, {len(comparison.tests)} with other kills than before."
-    for number in added:
-        yield test_line("new", number, value_text(new, number), f"kills {kills_in(new, number)}")
-    for number in gone:
-        yield test_line("gone", number, value_text(old, number), f"killed {kills_in(old, number)}")
-    for change in comparison.tests:
-        yield test_line("changed", change.new, value_text(new, change.new), test_change_text(change))
+    for what, number, values, kills in test_changes(comparison):
+        yield f"  {what:<7}  {number:>3}  {values}{': ' if values else ''}{kills}"
 
 
 def comparison_text(comparison: Comparison, old_path: object, new_path: object) -> str:

@@ -1,18 +1,18 @@
 """What the texts of a comparison share: mutants of one program together, names, tests, sentences on counts."""
 
-from collections.abc import Iterable, Mapping, Sequence
+from collections.abc import Iterable, Iterator, Mapping, Sequence
 from typing import NamedTuple
 
 from mutants.checks.summary import changed_text
 from mutants.comparisons.comparing import Change, Comparison, TestChange
 from mutants.comparisons.states import State, Verdict, count_of
-from mutants.english import joined_words, plural
+from mutants.english import first_words, plural, tests_text
 from mutants.pages.suite import shortened
 from mutants.texts.lines import Mutant
 from mutants.texts.reports import score_of
 from mutants.texts.twins import names_text, twins_in
 
-# So many mutants are named in a sentence, and so many tests.
+# So many mutants are named in a sentence.
 NAMED = 5
 UNKNOWN = "its text is in neither report"
 
@@ -39,17 +39,9 @@ def change_text(mutant: Mutant, statements: Mapping[int, str]) -> str:
     return changed_text(statements[mutant.line], mutant.text) if mutant.line in statements else mutant.text
 
 
-def tests_text(numbers: Sequence[int]) -> str:
-    """Tests by number, the first few of many."""
-    rest = [f"{len(numbers) - NAMED} more"] if len(numbers) > NAMED else []
-    return f"test{'s' if len(numbers) > 1 else ''} {joined_words([*numbers[:NAMED], *rest])}"
-
-
 def mutants_text(mutants: Sequence[Mutant]) -> str:
     """Mutants by name, the first few of many; twins count as one."""
-    groups = groups_of(mutants)
-    rest = [f"{len(groups) - NAMED} more"] if len(groups) > NAMED else []
-    return joined_words([*map(names_text, groups[:NAMED]), *rest])
+    return first_words(list(map(names_text, groups_of(mutants))), NAMED)
 
 
 def items_of_changes(changes: Sequence[Change], state: State) -> list[Item]:
@@ -112,6 +104,15 @@ def tests_alone(comparison: Comparison) -> tuple[list[int], list[int]]:
 
 def kills_in(state: State, number: int) -> int:
     return sum(number in verdict.killers for verdict in state.verdicts)
+
+
+def test_changes(comparison: Comparison) -> Iterator[tuple[str, int, str, str]]:
+    """The tests that one state has alone, and those with other kills than before: what became of a test, its number,
+    its values, and what is told of its kills."""
+    old, new, (gone, added) = comparison.old, comparison.new, tests_alone(comparison)
+    yield from (("new", each, value_text(new, each), f"kills {kills_in(new, each)}") for each in added)
+    yield from (("gone", each, value_text(old, each), f"killed {kills_in(old, each)}") for each in gone)
+    yield from (("changed", each.new, value_text(new, each.new), test_change_text(each)) for each in comparison.tests)
 
 
 def proof_lines(comparison: Comparison) -> list[str]:

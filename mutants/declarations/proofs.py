@@ -4,6 +4,7 @@ from collections.abc import Collection, Iterable, Mapping
 from types import MappingProxyType
 from typing import NamedTuple
 
+from mutants.english import plural
 from mutants.texts.lines import Mutant
 from mutants.texts.proofs import Proof, has_spare, meaning_of
 from mutants.texts.reports import Count, Row, score_of
@@ -81,8 +82,7 @@ def count_of_proved(rows: Iterable[Row], proofs: Proofs) -> int:
 def score_without(count: Count, proved: int) -> str:
     """The score as it is where so many mutants are not declared by a proof: in percent, and of how many mutants."""
     other = count._replace(equivalent=count.equivalent - proved)
-    wanted = other.total - other.equivalent
-    return f"{score_of(other)} %: {other.killed} of {wanted} mutant{'s' * (wanted != 1)} killed"
+    return f"{score_of(other)} %: {other.killed} of {plural(other.wanted, 'mutant')} killed"
 
 
 def is_killed_later(row: Row, proofs: Proofs) -> bool:

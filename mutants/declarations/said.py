@@ -55,11 +55,9 @@ def declared_groups(
     return sorted(groups, key=lambda group: group.row.status != "W")
 
 
-def groups_of_person(
-    listed: Iterable[Mutant], rows: Iterable[Row], reasons: Mapping[str, str], proofs: Proofs
-) -> list[Group]:
+def groups_of_person(listed: Iterable[Mutant], rows: Iterable[Row], said: Said) -> list[Group]:
     """The mutants that a person declares."""
-    return declared_groups(listed, rows, reasons, lambda name: not proofs.is_alone(name))
+    return declared_groups(listed, rows, said.reasons, lambda name: not said.proofs.is_alone(name))
 
 
 def groups_of_proofs(listed: Iterable[Mutant], rows: Iterable[Row], said: Said) -> list[Group]:

@@ -101,12 +101,12 @@ def mutant_objects(checked: Checked, covered: Mapping[int, str]) -> list[dict[st
     ]
 
 
-def mutation_report(
+def mutation_report_text(
     checked: Checked, covered: Mapping[int, str], program: Path, tests: Path, remark: str = ""
-) -> dict[str, Any]:
-    """The whole report, as an object of JSON. A remark stands beside the name of what made it."""
+) -> str:
+    """The whole report. A remark stands beside the name of what made it."""
     source = {"language": "fortran", "source": checked.file, "mutants": mutant_objects(checked, covered)}
-    return {
+    report = {
         "schemaVersion": SCHEMA_VERSION,
         "thresholds": {"high": HIGH, "low": LOW},
         "config": config_object(checked),
@@ -114,9 +114,4 @@ def mutation_report(
         "testFiles": {tests.as_posix(): tests_object(checked.job.suite)},
         "framework": {"name": f"mutants. {remark}" if remark else "mutants", "version": __version__},
     }
-
-
-def mutation_report_text(
-    checked: Checked, covered: Mapping[int, str], program: Path, tests: Path, remark: str = ""
-) -> str:
-    return json.dumps(mutation_report(checked, covered, program, tests, remark), ensure_ascii=False) + "\n"
+    return json.dumps(report, ensure_ascii=False) + "\n"

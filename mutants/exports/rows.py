@@ -8,7 +8,7 @@ from typing import NamedTuple
 from mutants.checks.checking import Checked
 from mutants.declarations.proofs import PROVED
 from mutants.texts.lines import Mutant
-from mutants.texts.reports import Row
+from mutants.texts.reports import Row, tests_in
 from mutants.texts.twins import name_of, names_text, others_by_name
 
 COLUMNS = "mutant operator line status declared proof before after killed_by covered_by twins".split()
@@ -30,11 +30,6 @@ class Told(NamedTuple):
     @property
     def name(self) -> str:
         return name_of(self.mutant)
-
-
-def tests_in(bits: str) -> list[int]:
-    """The numbers of the tests whose digit is 1."""
-    return [number for number, bit in enumerate(bits, 1) if bit == "1"]
 
 
 def status_of(row: Row, covered: str) -> str:

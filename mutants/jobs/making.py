@@ -105,10 +105,9 @@ def whole_text(made: Made, equivalent: Sequence[str] | None = None) -> str:
     text = made.text(equivalent)
     if len(made.suite) > TESTS:
         raise ValueError(f"the table has {len(made.suite)} tests, and a job takes {TESTS}")
-    if len(text.encode()) > BYTES:
-        raise ValueError(
-            f"the job has {len(text.encode()):,} bytes, and {BYTES:,} are the limit: leave out tests or comments"
-        )
+    size = len(text.encode())
+    if size > BYTES:
+        raise ValueError(f"the job has {size:,} bytes, and {BYTES:,} are the limit: leave out tests or comments")
     return text
 
 

@@ -3,7 +3,7 @@
 import re
 from collections.abc import Iterator, Sequence
 
-from mutants.english import joined_words, plural
+from mutants.english import first_words, plural
 from mutants.texts.cards import is_comment, source_lines
 
 # So many lines are told each by itself, and so many characters of one.
@@ -61,22 +61,16 @@ def listed(lines: Sequence[tuple[int, str]], one: str, many: str) -> Iterator[st
     if len(lines) <= MOST:
         yield from (f"line {number}: {one.format(shown[:LONGEST].strip())}" for number, shown in lines)
         return
-    told = joined_words([*(number for number, _ in lines[:MOST]), f"{len(lines) - MOST} more"])
-    yield f"lines {told}: {many.format(lines[0][1][:LONGEST].strip())}"
+    yield f"lines {first_words([number for number, _ in lines], MOST)}: {many.format(lines[0][1][:LONGEST].strip())}"
 
 
 def behind_72(lines: Sequence[str]) -> Iterator[str]:
     """What is told of text behind column 72. Numbers of cards are told in one sentence."""
-    found = [
-        (number, line[72:].strip())
-        for number, line in enumerate(lines, 1)
-        if line[72:].strip() and not is_comment(line)
-    ]
-    numbers = [(number, text) for number, text in found if CARD_NUMBER.fullmatch(text.upper())]
-    others = [(number, text) for number, text in found if not CARD_NUMBER.fullmatch(text.upper())]
-    yield from listed(
-        others, "{!r} stands behind column 72 and is not read", "text behind column 72 is not read, as {!r}"
-    )
+    texts = [(number, line[72:].strip()) for number, line in enumerate(lines, 1) if not is_comment(line)]
+    numbers = [(number, text) for number, text in texts if CARD_NUMBER.fullmatch(text.upper())]
+    others = [(number, text) for number, text in texts if text and not CARD_NUMBER.fullmatch(text.upper())]
+    one, many = "{!r} stands behind column 72 and is not read", "text behind column 72 is not read, as {!r}"
+    yield from listed(others, one, many)
     if numbers:
         told = f"{plural(len(numbers), 'line')} with what looks like the number of a card"
         yield f"{told} behind column 72, which is not read: the first is line {numbers[0][0]}, {numbers[0][1]!r}"

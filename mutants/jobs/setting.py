@@ -6,12 +6,11 @@ where it is never read, or where its first statement gives it a value on every w
 
 import re
 from collections.abc import Iterable, Sequence
-from typing import Any
 
 from mutants.jobs.sizes import DECLARATION
 from mutants.texts.parentheses import closing
 from mutants.texts.cards import Card, cards_of
-from mutants.texts.dummies import read_unit
+from mutants.texts.dummies import read_unit, zero_of
 
 DO = re.compile(r"DO(\d+),?([A-Z][A-Z0-9]*)=")
 TARGET = re.compile(r"([A-Z][A-Z0-9]*)([(=])")
@@ -78,10 +77,5 @@ def only_set(source: str, names: Sequence[str]) -> list[str]:
 
 def zeros_of(source: str, names: Sequence[str]) -> dict[str, Any]:
     """The dummy arguments that are only set, each with 0 or .FALSE. for all that it has."""
-    found: dict[str, Any] = {}
-    kinds = dict(zip(names, read_unit(source)[1]))
-    for name in only_set(source, names):
-        kind, elements = kinds[name]
-        zero = False if kind == "logical" else 0
-        found[name] = zero if elements is None else [zero] * elements
-    return found
+    dummies = dict(zip(names, read_unit(source)[1]))
+    return {name: zero_of(dummies[name]) for name in only_set(source, names)}

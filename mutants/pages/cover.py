@@ -11,6 +11,8 @@ most of what is left. Settled were 2,543 tests of the triangle, and tables of 25
 
 from collections.abc import Iterable
 
+from mutants.texts.subsuming import least_sets
+
 BRANCHES = 2_000
 
 
@@ -26,15 +28,6 @@ def bits_of(number: int) -> list[int]:
         places.append(lowest.bit_length() - 1)
         number ^= lowest
     return places
-
-
-def least_rows(rows: Iterable[int]) -> list[int]:
-    """The different rows that hold no other one."""
-    kept: list[int] = []
-    for row in sorted(set(rows), key=lambda row: (row.bit_count(), row)):
-        if not any(other & row == other for other in kept):
-            kept.append(row)
-    return kept
 
 
 def columns_of(rows: Iterable[int]) -> dict[int, int]:
@@ -62,7 +55,7 @@ def needless(rows: Iterable[int]) -> int:
 def reduced(rows: list[int]) -> list[int]:
     """Rows that ask for no more than the given ones do: no row holds another, and no test is needless."""
     while True:
-        rows = least_rows(rows)
+        rows = least_sets(rows)
         without = needless(rows)
         if not without:
             return rows

@@ -5,17 +5,15 @@ Those that are declared by a proof alone stand apart from those of a person, and
 
 from collections.abc import Iterable, Mapping, Sequence
 
-from mutants.declarations.proofs import NO_PROOFS, Proofs, wrongly_declared
+from mutants.declarations.proofs import wrongly_declared
 from mutants.declarations.said import NO_REASON, Group, Said, groups_of_person, groups_of_proofs, proved_text
-from mutants.english import joined_words, plural
+from mutants.english import plural, tests_text
 from mutants.pages.frame import Cell, table, text
 from mutants.pages.program import difference
 from mutants.texts.lines import Mutant
-from mutants.texts.reports import Row
+from mutants.texts.reports import Row, tests_in
 from mutants.texts.twins import name_of, names_text
 
-# So many tests that kill a mutant are named.
-NAMED = 5
 # What proofs promise, and what those with steps to spare do.
 ALL_TESTS = (
     "No test that a suite may have kills these, and nobody has to think about them: of each it is proved that it"
@@ -27,17 +25,10 @@ STEPS_TO_SPARE = (
 )
 
 
-def killers_text(bits: str) -> str:
-    """The tests that kill a mutant, the first few by number."""
-    numbers = [number for number, bit in enumerate(bits, 1) if bit == "1"]
-    rest = [f"{len(numbers) - NAMED} more"] if len(numbers) > NAMED else []
-    return f"test{'s' if len(numbers) > 1 else ''} {joined_words([*numbers[:NAMED], *rest])}"
-
-
 def declared_row(group: Group, statement: str) -> list[Cell]:
     """The row of a declared mutant; where tests kill it this comes before the reason."""
     mutant, row = group.mutants[0], group.row
-    killed = f'<b class="live">Killed by {killers_text(row.bits)}.</b> ' if row.status == "W" else ""
+    killed = f'<b class="live">Killed by {tests_text(tests_in(row.bits))}.</b> ' if row.status == "W" else ""
     said = text(group.reason) if group.reason else f'<span class="soft">{NO_REASON}</span>'
     return [
         ("", f"<b>{text(names_text(group.mutants))}</b>"),
@@ -54,19 +45,13 @@ def groups_table(groups: Sequence[Group], statements: Mapping[int, str], label: 
     return table(HEAD, [declared_row(group, statements[group.mutants[0].line]) for group in groups], label=label)
 
 
-def declared_part(
-    listed: Iterable[Mutant],
-    rows: Sequence[Row],
-    statements: Mapping[int, str],
-    reasons: Mapping[str, str],
-    proofs: Proofs = NO_PROOFS,
-) -> str:
+def declared_part(listed: Iterable[Mutant], rows: Sequence[Row], statements: Mapping[int, str], said: Said) -> str:
     """The table of the mutants that a person declares; no text where there is none."""
-    groups = groups_of_person(listed, rows, reasons, proofs)
+    groups = groups_of_person(listed, rows, said)
     if not groups:
         return ""
     count = sum(len(group.mutants) for group in groups)
-    wrong = len(wrongly_declared(rows, proofs))
+    wrong = len(wrongly_declared(rows, said.proofs))
     told = f"{plural(count, 'mutant')} {'is' if count == 1 else 'are'} declared equivalent: no test can kill"
     told += f" {'it' if count == 1 else 'them'}, so it is said."
     told += f" Tests kill {wrong} of them all the same, and {wrong} counts as killed." if wrong else ""

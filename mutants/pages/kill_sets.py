@@ -6,7 +6,7 @@ from itertools import groupby
 from mutants.english import plural
 from mutants.pages.frame import Cell, table
 from mutants.texts.ranges import rows_of
-from mutants.texts.reports import Row
+from mutants.texts.reports import Row, tests_in
 
 
 def ranges_of(numbers: Iterable[int]) -> str:
@@ -14,16 +14,11 @@ def ranges_of(numbers: Iterable[int]) -> str:
     return ", ".join("-".join(map(str, row)) for row in rows_of(numbers))
 
 
-def numbers_of(bits: str, digit: str = "1") -> list[int]:
-    """The numbers of the tests that have a digit."""
-    return [number for number, bit in enumerate(bits, 1) if bit == digit]
-
-
 def killers_text(bits: str) -> str:
     """The tests that kill, or those that do not where that is shorter."""
     if "1" not in bits or "0" not in bits:
         return "all tests" if "1" in bits else "no test"
-    told, rest = ranges_of(numbers_of(bits)), f"all but {ranges_of(numbers_of(bits, '0'))}"
+    told, rest = ranges_of(tests_in(bits)), f"all but {ranges_of(tests_in(bits, '0'))}"
     return told if bits.count("1") <= len(bits) / 2 else rest
 
 

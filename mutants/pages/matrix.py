@@ -13,10 +13,10 @@ from typing import NamedTuple
 
 from mutants.operators import NAMES
 from mutants.pages.frame import text
-from mutants.pages.kill_sets import kill_sets_part, numbers_of, ranges_of
+from mutants.pages.kill_sets import kill_sets_part, ranges_of
 from mutants.pages.pixels import source_of
 from mutants.texts.lines import Mutant
-from mutants.texts.reports import Row
+from mutants.texts.reports import Row, tests_in
 from mutants.texts.spans import change_of
 
 # A cell is so wide; so many mutants stand in a panel, and have a number each tenth; so many cells stand in a matrix.
@@ -63,7 +63,7 @@ def change_text(statement: str, mutant: str) -> str:
 def title_of(column: Column) -> str:
     """What a mutant changes, and the first tests that kill it, as HTML."""
     change = change_text(column.statement, column.mutant.text)
-    numbers = numbers_of(column.row.bits)
+    numbers = tests_in(column.row.bits)
     tests = ranges_of(numbers[:NAMED]) + (f" +{len(numbers) - NAMED}" if numbers[NAMED:] else "")
     return f"{column.row.op} {column.row.place}: {change}; {tests or 'no test'}"
 

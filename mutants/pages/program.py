@@ -49,15 +49,11 @@ class AtLines(NamedTuple):
     survivors: Mapping[int, Sequence[Mutant]]
     declared: Mapping[int, Sequence[Mutant]]
     proved: Mapping[int, Sequence[Mutant]]
+    # Why the declared and the proved ones are equivalent, by their names.
+    reasons: Mapping[str, str] = NO_REASONS
 
 
-def program_part(
-    source: str,
-    statements: Mapping[int, str],
-    found: AtLines,
-    reasons: Mapping[str, str] = NO_REASONS,
-    has_links: bool = False,
-) -> str:
+def program_part(source: str, statements: Mapping[int, str], found: AtLines, has_links: bool = False) -> str:
     """The whole program with its mutants.
 
     The mutants of a statement stand behind its last line, so that its lines stay together.
@@ -71,6 +67,6 @@ def program_part(
             first = initial[number]
             living, others, sure = (each.get(first, []) for each in (found.survivors, found.declared, found.proved))
             parts += [survivors_part(living, statements[first])] if living else []
-            parts += [declared_part(others, statements[first], reasons)] if others else []
-            parts += [declared_part(sure, statements[first], reasons, "proved")] if sure else []
+            parts += [declared_part(others, statements[first], found.reasons)] if others else []
+            parts += [declared_part(sure, statements[first], found.reasons, "proved")] if sure else []
     return '<div class="program">\n' + "".join(parts) + "</div>\n"

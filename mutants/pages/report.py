@@ -88,12 +88,18 @@ def first_look(survivors: Sequence[Mutant], proved: int = 0) -> str:
         return f"<p>{no_survivor_text(proved)}</p>\n"
     lines = Counter(mutant.line for mutant in survivors)
     line, most = lines.most_common(1)[0]
-    told, different = f"{plural(len(survivors), 'survivor')} on {plural(len(lines), 'line')}", len(twins_in(survivors))
-    told += f", {plural(different, 'different program')}" if different < len(survivors) else ""
+    told = survivors_text(survivors)
     told += f'; the most, {most}, on <a href="#L{line}">line {line}</a>' if len(lines) > 1 else ""
     asked = "Each asks: on what values does the changed line do something else? Such values are a test that is missing;"
     asked += " where there are none, the mutant is equivalent."
     return f"<p>{told}. {asked}</p>\n"
+
+
+def survivors_text(survivors: Sequence[Mutant]) -> str:
+    """How many survivors there are, on how many lines, and how many programs they are."""
+    different, lines = len(twins_in(survivors)), {mutant.line for mutant in survivors}
+    told = f"{plural(len(survivors), 'survivor')} on {plural(len(lines), 'line')}"
+    return f"{told}, {plural(different, 'different program')}" if different < len(survivors) else told
 
 
 def no_survivor_text(proved: int) -> str:
@@ -169,7 +175,7 @@ def report_page(analysed: Analysed, remark: str = "", outcomes: Outcomes = Outco
         raise ValueError("the list has mutants of lines that are none of the job")
     survivors, count, proofs = report.survivors, summed(report.counts.values()), said.proofs
     listing = listing_part(job, statements, listed, report, said)
-    reasons = declared_part(listed, report.rows, statements, said.reasons, proofs)
+    reasons = declared_part(listed, report.rows, statements, said)
     folded, proved = proved_part(listed, report.rows, statements, said), count_of_proved(report.rows, proofs)
     links, bodies = sections(
         [
@@ -193,7 +199,7 @@ def listing_part(job: Job, statements: Mapping[int, str], listed: Sequence[Mutan
     """The program with its survivors, and the declared and proved mutants that survived."""
     source = job.source if said.shown is None else said.shown
     found = at_lines(listed, report.rows, report.survivors, said.proofs)
-    return program_part(source, statements, found, said.all_reasons, has_links=True)
+    return program_part(source, statements, found._replace(reasons=said.all_reasons), has_links=True)
 
 
 def filter_part(survivors: Iterable[Mutant]) -> str:

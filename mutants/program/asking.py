@@ -1,18 +1,16 @@
 """What the program says of a job, read as values: its printed text, its mutants, its outcomes, its report."""
 
-import time
 from collections.abc import Mapping, Sequence
 
 from mutants.program.calling import answer, read_as
-from mutants.progress import Progress
+from mutants.progress import Paced
+from mutants.texts.batches import groups_of
 from mutants.texts.joining import joined_operators
 from mutants.texts.lines import Mutant
 from mutants.texts.lists import read_list
 from mutants.texts.prints import read_print
 from mutants.texts.reports import Report, read_report
 
-# What takes no longer than so many seconds is not told on the way, but on a terminal.
-QUIET = 1.0
 # Operators are run together up to so many mutants.
 BATCH = 40
 
@@ -32,35 +30,18 @@ def asked_outcome(program: str, number: int, words: Sequence[str], job: bytes) -
     return answer(program, ["exec", "--test", str(number), *words], job).rstrip("\n")
 
 
-def batches(totals: Mapping[str, int]) -> list[tuple[list[str], int]]:
-    """The operators in turn, a few together where they have few mutants: codes, and how many mutants they have."""
-    found: list[tuple[list[str], int]] = []
-    codes: list[str] = []
-    count = 0
-    for place, (op, total) in enumerate(totals.items(), 1):
-        codes, count = [*codes, op], count + total
-        if count >= BATCH or place == len(totals):
-            found.append((codes, count))
-            codes, count = [], 0
-    return found
-
-
 def asked_report(program: str, words: Sequence[str], totals: Mapping[str, int], job: bytes, name: str) -> Report:
     """The report on the operators of these totals, asked for in batches; the words are other options of `mothra run`.
 
     How far it is is told on standard error, by the name of the command, where it takes long.
     """
-    progress, begun, done, whole = Progress(name), time.monotonic(), 0, sum(totals.values())
-    reports = []
+    progress, done, whole, reports = Paced(name), 0, sum(totals.values()), []
     try:
-        for codes, count in batches(totals):
-            if progress.is_terminal or time.monotonic() - begun > QUIET:
-                progress.tell(f"{done} of {whole} mutants, now {codes[0]} to {codes[-1]}")
-            told = answer(program, ["run", "--ops", ",".join(codes), *words], job)
-            reports.append(read_as("mothra run", read_report, told))
-            done += count
-        if progress.width:
-            progress.tell(f"{done} of {whole} mutants")
+        for codes in groups_of(totals, BATCH) if totals else []:
+            progress.tell(f"{done} of {whole} mutants, now {codes[0]} to {codes[-1]}")
+            answered = answer(program, ["run", "--ops", ",".join(codes), *words], job)
+            reports.append(read_as("mothra run", read_report, answered))
+            done += sum(totals[op] for op in codes)
     finally:
-        progress.end()
+        progress.progress.end()
     return joined_operators(reports)

@@ -33,7 +33,6 @@ all, checks all of them. The exit status is the worst, and mutants.html in the f
 
 import argparse
 import sys
-from collections.abc import Iterator
 from pathlib import Path
 
 from mutants.caches import caches_folder, keep

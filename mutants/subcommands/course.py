@@ -71,14 +71,8 @@ from mutants.texts.jobs import Job, read_job
 from mutants.texts.prints import statements_by_line
 from mutants.texts.reports import summed
 from mutants.words import (
-    add_mothra_options,
-    add_operators,
-    asked_words,
-    number_from_1,
-    percent_text,
-    tell_remarks,
-    visible,
-)
+    add_mothra_options, add_operators, asked_words, number_from_1, percent_text, tell_remarks, visible,
+)  # fmt: skip
 
 # What a file of options says of the whole class.
 OF_CLASS = ("ops", "without", "steps", "no_proofs", "fail_under")

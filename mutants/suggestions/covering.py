@@ -2,8 +2,9 @@
 
 from collections.abc import Callable, Iterable, Mapping, Sequence
 
-from mutants.pages.cover import bits_of, least_rows, smallest_set
+from mutants.pages.cover import columns_of, smallest_set
 from mutants.suggestions.shapes import Row
+from mutants.texts.subsuming import least_sets
 
 # The search for a smallest set takes so many branches at most; then the greedy rule chooses.
 BRANCHES = 300
@@ -29,19 +30,10 @@ def kinds_of(pairs: Iterable[tuple[int, Row]], wanted: int, cost: Cost) -> Kinds
     return dict(sorted(found.items(), key=lambda pair: (-pair[0].bit_count(), cost(pair[1]), pair[1])))
 
 
-def killers_in(masks: Iterable[int]) -> dict[int, int]:
-    """For each mutant the places of the masks that have it, as bits."""
-    found: dict[int, int] = {}
-    for place, mask in enumerate(masks):
-        for number in bits_of(mask):
-            found[number] = found.get(number, 0) | 1 << place
-    return found
-
-
 def deciding(kinds: Kinds) -> int:
     """The mutants that decide: whatever kills all of them kills the others too."""
-    killers = killers_in(kinds)
-    least = set(least_rows(killers.values()))
+    killers = columns_of(kinds)
+    least = set(least_sets(killers.values()))
     found = 0
     for number, places in sorted(killers.items()):
         if places in least:
@@ -55,7 +47,7 @@ def few_rows(wanted: int, kills: Mapping[Row, int], cost: Cost) -> list[Row]:
     kinds = kinds_of(((mask, row) for row, mask in kills.items()), wanted, cost)
     kinds = kinds_of(kinds.items(), deciding(kinds), cost)
     rows = list(kinds.values())
-    places, _ = smallest_set(killers_in(kinds).values(), BRANCHES)
+    places, _ = smallest_set(columns_of(kinds).values(), BRANCHES)
     chosen = without_needless([rows[place] for place in places], wanted, kills, cost)
     return cheaper(chosen, wanted, kills, cost)
 

@@ -3,8 +3,7 @@
 import time
 from collections.abc import Collection, Mapping
 
-from mutants.checks.checking import Checked
-from mutants.checks.coverage import asked_traps, asked_watches
+from mutants.checks.coverage import known_bits
 from mutants.checks.running import Means
 from mutants.suggestions.asking import MOST_STEPS
 from mutants.suggestions.rounds import SIZE, Search
@@ -39,15 +38,8 @@ def reached_of(search: Search, lines: Collection[int], means: Means, name: str) 
         part = list(map(test_of, search.tried[at : at + size]))
         start = search.asker.checked
         asked = start._replace(job=Job(start.job.source, part), whole=start.whole._replace(counts={}))
-        found.add(len(part), bits_of_lines(asked, lines, few_steps, name))
+        bits = known_bits(asked, lines, few_steps, name)
+        found.add(len(part), {line: bits[line] for line in lines if line in bits})
         cost = (time.monotonic() - begun) * AT_ONCE / size
         at, size = at + size, AT_ONCE
     return found
-
-
-def bits_of_lines(asked: Checked, lines: Collection[int], means: Means, name: str) -> dict[int, str]:
-    """For each of the lines a digit for each row, 1 where it comes there."""
-    known = {line: "1" * len(asked.job.suite) for line in lines if asked.statements[line].startswith("DATA ")}
-    known |= asked_traps(asked, means, name) if set(lines) - set(known) else {}
-    known |= asked_watches(asked, means, name) if set(lines) - set(known) else {}
-    return {line: known[line] for line in lines if line in known}

@@ -20,9 +20,9 @@ from mutants.suggestions.clock import Clock
 from mutants.suggestions.covering import BRANCHES
 from mutants.suggestions.reaching import Reached, reached_of
 from mutants.suggestions.rounds import Search
-from mutants.suggestions.shapes import Row, Shape, Value, row_of, test_of
+from mutants.suggestions.shapes import Row, Shape, row_of, test_of
 from mutants.suggestions.values import constants_of
-from mutants.texts.dummies import read_unit
+from mutants.texts.dummies import read_unit, zero_of
 from mutants.texts.jobs import Job
 
 
@@ -43,11 +43,7 @@ class Suggested(NamedTuple):
 
 def first_row(checked: Checked) -> Row:
     """A row of zeros and .FALSE., for a table that has no test."""
-    found: list[Value] = []
-    for kind, elements in read_unit(checked.job.source)[1]:
-        zero = False if kind == "logical" else 0
-        found.append(zero if elements is None else (zero,) * elements)
-    return tuple(found)
+    return row_of(map(zero_of, read_unit(checked.job.source)[1]))
 
 
 def checked_with(start: Checked, rows: list[Row], means: Means, name: str) -> Checked:

@@ -1,7 +1,8 @@
-"""A job of any length as jobs that mothra takes: each has the whole program and a batch of the tests."""
+"""A job of any length as jobs that mothra takes: each has the whole program and a batch of the tests. And operators in
+groups, so that each is worth a call."""
 
 import json
-from collections.abc import Iterator, Sequence
+from collections.abc import Iterator, Mapping, Sequence
 from typing import Any
 
 from mutants.texts.jobs import Job
@@ -40,3 +41,16 @@ def batches(job: Job) -> list[tuple[int, int]]:
     room = MOST_BYTES - FRAME - size_of(job.source) - size_of(job.equivalent)
     ends = list(ends_of([size_of(test) for test in job.suite], room))
     return list(zip([0, *ends], ends))
+
+
+def groups_of(totals: Mapping[str, int], least: int) -> list[list[str]]:
+    """The operators in their order, in groups that have so many mutants at least, but for the last."""
+    groups: list[list[str]] = [[]]
+    count = 0
+    for op, total in totals.items():
+        if count >= least:
+            groups.append([])
+            count = 0
+        groups[-1].append(op)
+        count += total
+    return groups

@@ -10,6 +10,13 @@ from mutants.texts.cards import cards_of
 Dummy = tuple[str, int | None]
 
 
+def zero_of(dummy: Dummy) -> bool | int | list[int]:
+    """The value 0 or .FALSE., or an array of it."""
+    kind, elements = dummy
+    zero = False if kind == "logical" else 0
+    return zero if elements is None else [zero] * elements
+
+
 def read_head(text: str) -> tuple[str, list[str]]:
     """The unit's name and those of its dummy arguments."""
     head = re.fullmatch(r"SUBROUTINE([A-Z0-9]+)(?:\(([A-Z0-9,]*)\))?", text)

@@ -3,16 +3,11 @@
 from mutants.texts.reports import VERSION, Report, name_of, sum_lines
 
 
-def report_lines(report: Report) -> list[str]:
+def report_text(report: Report) -> str:
     lines = [VERSION, f"UNIT {report.unit}", f"TESTS {report.tests}", f"STEPS {report.steps}", f"EVERY {report.every}"]
     lines += [f"{op} {count.total} {count.killed} {count.equivalent}" for op, count in report.counts.items()]
     lines += sum_lines(report.counts.values())
     lines += [f"MUTANT {name_of(row)} {row.status} {row.bits or '-'}" for row in report.rows]
     lines += [f"SURVIVOR {name_of(mutant)} LINE {mutant.line} {mutant.text}" for mutant in report.survivors]
     lines += [f"WRONG {name_of(row)}" for row in report.rows if row.status == "W"]
-    return [*lines, "END"]
-
-
-def report_text(report: Report) -> str:
-    """The text of a report."""
-    return "".join(line + "\n" for line in report_lines(report))
+    return "".join(f"{line}\n" for line in [*lines, "END"])

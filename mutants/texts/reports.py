@@ -110,6 +110,11 @@ def assert_agrees(report: Report, sums: list[str], rest: list[str]) -> None:
         raise ValueError("the report is cut short or mixed: its last lines are not those of its rows")
 
 
+def tests_in(bits: str, digit: str = "1") -> list[int]:
+    """The numbers of the tests that have a digit: those that kill."""
+    return [number for number, bit in enumerate(bits, 1) if bit == digit]
+
+
 def name_of(mutant: Named) -> str:
     return f"{mutant.op} {mutant.number} {mutant.place}"
 
