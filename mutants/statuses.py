@@ -15,7 +15,7 @@ MEANINGS = {
     SUCCESS: "done, or help was asked for",
     FAULT: "a fault: of the job, of a file, or of the program; or a pipe that nobody reads any more",
     WORDS: "words that are refused",
-    BELOW: "the score is below --fail-under, or, of compare, a mutant that was killed survives",
+    BELOW: "the score is below --fail-under, or, of compare and --baseline, a mutant that was killed survives",
     UNEXPECTED: "an outcome of the program is another than the expected one",
     INTERRUPTED: "interrupted by Ctrl-C",
 }

@@ -43,5 +43,6 @@ SUBCOMMANDS = [
     Subcommand("page", "make one HTML file of what mothra says of a job"),
     Subcommand("explain", "say in words what a fault means for a job"),
     Subcommand("course", "run the suites of a class, and make a table and a page of them"),
+    Subcommand("completion", "write what completes words in bash, zsh or fish"),
     Subcommand("unproved", "make unproved builds of the programs, for a first look"),
 ]
