@@ -36,13 +36,9 @@ class Completion(unittest.TestCase):
 
     def test_what_bash_offers(self) -> None:
         for words, offered in (
-            (["sug"], ["suggest"]),
-            (["check", "--fail"], ["--fail-under"]),
-            (["check", "--ops", "RO"], ["ROR"]),
-            (["check", "--ops", "suff"], ["sufficient"]),
-            (["page", "--fail"], []),
-            (["check", "/etc/host"], None),
-        ):
+            (["sug"], ["suggest"]), (["check", "--fail"], ["--fail-under"]), (["check", "--ops", "RO"], ["ROR"]),
+            (["check", "--ops", "suff"], ["sufficient"]), (["page", "--fail"], []), (["check", "/etc/host"], None),
+        ):  # fmt: skip
             line = " ".join(map(shlex.quote, ["mutants", *words]))
             asked = f"COMP_WORDS=({line}); COMP_CWORD={len(words)}; _mutants; echo ${{COMPREPLY[@]}}"
             asked = f"{script_of('bash')}\n{asked}"

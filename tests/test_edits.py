@@ -94,12 +94,9 @@ class Reading(Repository):
 
     def test_refuses_what_is_no_edit(self) -> None:
         for text, told in (
-            ("", "no pair of texts"),
-            (edit_text("gone", "x"), "0 times"),
-            (edit_text("u32", "x"), "4 times"),
-            (edit_text("x + 1", "x", "../sum.rt"), "none below src"),
-            ("file: src/sum.rt\nnew: x\n", "no old text"),
-        ):
+            ("", "no pair of texts"), (edit_text("gone", "x"), "0 times"), (edit_text("u32", "x"), "4 times"),
+            (edit_text("x + 1", "x", "../sum.rt"), "none below src"), ("file: src/sum.rt\nnew: x\n", "no old text"),
+        ):  # fmt: skip
             with self.subTest(told), self.assertRaisesRegex(ValueError, told):
                 self.read(text)
 

@@ -66,10 +66,8 @@ class Expected(Room):
 
     def test_a_file(self) -> None:
         for name, text in (
-            ("e.txt", "1 2 1\nRETURNED 2 1 1\n"),
-            ("e.json", '["", "K=1"]'),
-            ("e.txt", "\n\n\n2 1 1\n"[2:]),
-        ):
+            ("e.txt", "1 2 1\nRETURNED 2 1 1\n"), ("e.json", '["", "K=1"]'), ("e.txt", "\n\n\n2 1 1\n"[2:]),
+        ):  # fmt: skip
             ended = self.check("--no-page", "--expect", self.put(name, text))
             self.assertEqual(ended[0], statuses.SUCCESS, ended)
         self.assertEqual(
@@ -80,11 +78,9 @@ class Expected(Room):
 
     def test_what_does_not_serve_is_one_line(self) -> None:
         for name, text, told in (
-            ("e.txt", "1 2 1\n", "it has 1 outcomes for 2 tests"),
-            ("e.json", "[1, 2]", "no list of texts"),
-            ("e.json", "{", "e.json"),
-            ("e.txt", "K=1\nL=2\n", "test 2: L is no dummy argument: these are I, J, K"),
-        ):
+            ("e.txt", "1 2 1\n", "it has 1 outcomes for 2 tests"), ("e.json", "[1, 2]", "no list of texts"),
+            ("e.json", "{", "e.json"), ("e.txt", "K=1\nL=2\n", "test 2: L is no dummy argument: these are I, J, K"),
+        ):  # fmt: skip
             refuses(self, self.check("--expect", self.put(name, text)), name, told)
         self.put("tests.csv", "J,I,L,expect\n1,2,0,\n")
         refuses(self, self.check(), "row 1, column 3: L is no dummy argument; the dummy arguments are I, J and K")

@@ -101,19 +101,12 @@ class Marks(unittest.TestCase):
 
     def test_the_marked_text(self) -> None:
         for fault, lines, wanted in (
-            ("F3 2", ["      K=\u00e9"], ["\u00e9"]),
-            ("F4 2", ["\tK=I"], ["\t"]),
-            ("F5 2", ["  X 0 K=I+J"], ["  X 0"]),
-            ("F6 2", ["     &K=1"], ["&"]),
-            ("S2 2", ["      CALL SUB(K)"], ["CALL SUB(K)"]),
-            ("S3 2", ["      K = ABC DEFG + 1"], ["ABC DEFG"]),
-            ("S3 2", ["      INTEGER ABCDEFG"], ["ABCDEFG"]),
-            ("S3 2", ["      IF (K.EQ.1) ABCDEFG=1"], ["ABCDEFG"]),
-            ("S4 2", ["      K=M(2147483648)"], ["2147483648"]),
-            ("S4 2", ["      GO TO 0"], ["0"]),
-            ("S5 2", ["      K=" + "(" * 41 + "I"], ["("]),
-            ("C2 X", ["      IF (I.GT.X) X=1"], ["X"]),
-            ("C2 E", ["      IF (I.EQ.1) E=1"], ["E"]),
+            ("F3 2", ["      K=\u00e9"], ["\u00e9"]), ("F4 2", ["\tK=I"], ["\t"]), ("F5 2", ["  X 0 K=I+J"], ["  X 0"]),
+            ("F6 2", ["     &K=1"], ["&"]), ("S2 2", ["      CALL SUB(K)"], ["CALL SUB(K)"]),
+            ("S3 2", ["      K = ABC DEFG + 1"], ["ABC DEFG"]), ("S3 2", ["      INTEGER ABCDEFG"], ["ABCDEFG"]),
+            ("S3 2", ["      IF (K.EQ.1) ABCDEFG=1"], ["ABCDEFG"]), ("S4 2", ["      K=M(2147483648)"], ["2147483648"]),
+            ("S4 2", ["      GO TO 0"], ["0"]), ("S5 2", ["      K=" + "(" * 41 + "I"], ["("]),
+            ("C2 X", ["      IF (I.GT.X) X=1"], ["X"]), ("C2 E", ["      IF (I.EQ.1) E=1"], ["E"]),
             ("C3 L", ["      INTEGER L", "      DIMENSION L(2)", SUM], ["L", "L"]),
             ("C6 10", ["   10 K=I", "   10 K=J"], ["   10", "   10"]),
             ("C7 2", ["      GO TO (10,20),I", "   10 K=I"], ["20"]),
@@ -122,7 +115,7 @@ class Marks(unittest.TestCase):
             ("C10 2", ["      DO 10,L=1,3", "   10 RETURN"], ["10", "   10"]),
             ("C12 3", ["      DO 10 L=1,3", "   10 L=2"], ["DO 10 L=1,3", "L=2"]),
             ("C4 2", ["      K=", "     &  .TRUE."], ["K=", ".TRUE."]),
-        ):
+        ):  # fmt: skip
             with self.subTest(fault + lines[0] if lines else fault):
                 self.assertEqual(self.marks(fault, *lines)[0], wanted)
 
@@ -206,17 +199,12 @@ class Ends(unittest.TestCase):
 class Words(unittest.TestCase):
     def test_the_option_that_is_wrong(self) -> None:
         for words, told in (
-            ("run --ops ABS,rOR", "Is ROR meant?"),
-            ("run --ops", "--ops has no value"),
-            ("run --steps 0", "a number from 1 to 1000000"),
-            ("run --workers=33", "a number from 1 to 32"),
-            ("list --steps 5", "'--steps' is no option of this command"),
-            ("run --worker 5", "Is --workers meant?"),
-            ("run --every x", "which is no number"),
-            ("run --every 1 --every 1", "--every stands twice"),
-            ("exec", "--test is missing"),
-            ("runs", "'runs' is no command"),
-        ):
+            ("run --ops ABS,rOR", "Is ROR meant?"), ("run --ops", "--ops has no value"),
+            ("run --steps 0", "a number from 1 to 1000000"), ("run --workers=33", "a number from 1 to 32"),
+            ("list --steps 5", "'--steps' is no option of this command"), ("run --worker 5", "Is --workers meant?"),
+            ("run --every x", "which is no number"), ("run --every 1 --every 1", "--every stands twice"),
+            ("exec", "--test is missing"), ("runs", "'runs' is no command"),
+        ):  # fmt: skip
             with self.subTest(words):
                 self.assertIn(told, words_say(words.split(" ")) or "")
         for words in ("run", "run --ops ABS,ROR --every +2 --steps 0010 --workers 32", "exec --test 1", "print"):

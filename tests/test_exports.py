@@ -74,12 +74,10 @@ class Reports(Exports):
         self.program.write_text(SOURCE)
         found = self.mutants()
         for name, place, new in (
-            ("ROR 1", (4, 14, 4, 18), ".LE."),
-            ("ROR 6", (4, 12, 6, 13), ".TRUE."),
-            ("SDL 1", (3, 7, 3, 12), "CONTINUE"),
-            ("SDL 3", (6, 17, 6, 23), "CONTINUE"),
+            ("ROR 1", (4, 14, 4, 18), ".LE."), ("ROR 6", (4, 12, 6, 13), ".TRUE."),
+            ("SDL 1", (3, 7, 3, 12), "CONTINUE"), ("SDL 3", (6, 17, 6, 23), "CONTINUE"),
             ("SAN 2", (4, 7, 6, 23), "TRAP"),
-        ):
+        ):  # fmt: skip
             at = found[name]["location"]
             self.assertEqual((*at["start"].values(), *at["end"].values()), place, name)
             self.assertEqual(found[name]["replacement"], new)

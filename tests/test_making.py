@@ -107,15 +107,10 @@ class Bytes(Room):
 class Tabs(Room):
     def test_the_first_leads_to_column_7_and_others_are_blanks(self) -> None:
         for line, wanted in (
-            ("\tK=I", "      K=I"),
-            ("10\tK=I", "10    K=I"),
-            ("\t1+J", "     1+J"),
-            ("\t\tK=I", "       K=I"),
-            ("      K\t=\tI", "      K = I"),
-            ("     &\t+J", "     & +J"),
-            ("C\tcomment", "C\tcomment"),
+            ("\tK=I", "      K=I"), ("10\tK=I", "10    K=I"), ("\t1+J", "     1+J"), ("\t\tK=I", "       K=I"),
+            ("      K\t=\tI", "      K = I"), ("     &\t+J", "     & +J"), ("C\tcomment", "C\tcomment"),
             ("\t", "      "),
-        ):
+        ):  # fmt: skip
             with self.subTest(line):
                 self.assertEqual(without_tabs(line), wanted)
 
@@ -196,15 +191,9 @@ class Sizes(Room):
 
     def test_expressions_are_those_of_the_language(self) -> None:
         for text, wanted in (
-            ("N", 7),
-            ("(N+1)*2", 16),
-            ("N/2", 3),
-            ("N-3*2", 1),
-            ("2*N-(-1)", 15),
-            ("-N+08", 1),
-            ("1:N", 7),
+            ("N", 7), ("(N+1)*2", 16), ("N/2", 3), ("N-3*2", 1), ("2*N-(-1)", 15), ("-N+08", 1), ("1:N", 7),
             ("007", None),
-        ):
+        ):  # fmt: skip
             source = f"      SUBROUTINE A(X)\n      INTEGER X({text})\n      END\n"
             with self.subTest(text):
                 found = sized(source, {"N": 7}).split("\n")[1] if wanted else ""
@@ -379,19 +368,10 @@ class Tables(Room):
 
     def test_cells(self) -> None:
         for cell, value in (
-            (" +7 ", 7),
-            ("-0", 0),
-            ("0007", 7),
-            ("t", True),
-            (".TRUE.", True),
-            (".f.", False),
-            ("3*0", [0, 0, 0]),
-            ("2*T .FALSE.", [True, True, False]),
-            ("1 2*-3", [1, -3, -3]),
-            (".", None),
-            (" 1  2 ", [1, 2]),
+            (" +7 ", 7), ("-0", 0), ("0007", 7), ("t", True), (".TRUE.", True), (".f.", False), ("3*0", [0, 0, 0]),
+            ("2*T .FALSE.", [True, True, False]), ("1 2*-3", [1, -3, -3]), (".", None), (" 1  2 ", [1, 2]),
             ("false F", [False, False]),
-        ):
+        ):  # fmt: skip
             with self.subTest(cell):
                 if value is None:
                     self.assertRaises(ValueError, read_cell, cell)

@@ -30,11 +30,8 @@ class Files(Exports):
     def test_tabs_count_as_one_column(self) -> None:
         self.program.write_text(TABS)
         for name, place in (
-            ("SDL 1", (2, 2, 2, 5)),
-            ("ROR 1", (3, 14, 3, 18)),
-            ("ROR 6", (3, 12, 4, 5)),
-            ("SDL 3", (4, 8, 4, 13)),
-        ):
+            ("SDL 1", (2, 2, 2, 5)), ("ROR 1", (3, 14, 3, 18)), ("ROR 6", (3, 12, 4, 5)), ("SDL 3", (4, 8, 4, 13)),
+        ):  # fmt: skip
             self.assertEqual(self.place(name, "--expand-tabs"), place, name)
         report = self.exported("--expand-tabs")
         self.assertEqual(report["files"][str(self.program)]["source"], TABS)

@@ -60,19 +60,10 @@ class Reports(unittest.TestCase):
 
     def test_refuses_a_report_that_says_two_things(self) -> None:
         for old, new in (
-            ("REPORT 2", "REPORT 1"),
-            ("TESTS 2", "TESTS 3"),
-            ("STEPS 100", "STEPS x"),
-            ("AOR 2 1 0", "AOR 2 2 0"),
-            ("TOTAL 4 2 1", "TOTAL 4 3 1"),
-            ("66.66", "66.67"),
-            ("K 10", "K 00"),
-            ("K 10", "S 10"),
-            ("S 00", "S 000"),
-            ("SDL 1 1 W", "SDL 2 2 W"),
-            ("SURVIVOR AOR 2", "SURVIVOR AOR 1"),
-            ("WRONG SDL 1 1", "WRONG SDL 2 2"),
-        ):
+            ("REPORT 2", "REPORT 1"), ("TESTS 2", "TESTS 3"), ("STEPS 100", "STEPS x"), ("AOR 2 1 0", "AOR 2 2 0"),
+            ("TOTAL 4 2 1", "TOTAL 4 3 1"), ("66.66", "66.67"), ("K 10", "K 00"), ("K 10", "S 10"), ("S 00", "S 000"),
+            ("SDL 1 1 W", "SDL 2 2 W"), ("SURVIVOR AOR 2", "SURVIVOR AOR 1"), ("WRONG SDL 1 1", "WRONG SDL 2 2"),
+        ):  # fmt: skip
             with self.subTest(new), self.assertRaises(ValueError):
                 read_report(REPORT.replace(old, new))
 

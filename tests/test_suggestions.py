@@ -57,29 +57,20 @@ class Shapes(unittest.TestCase):
 
     def test_the_order_that_all_arrays_are_in(self) -> None:
         for arrays, order in (
-            ([(1, 3), (2, 2)], Order(False, False)),
-            ([(1, 3), (2, 4)], Order(False, True)),
-            ([(3, 1), (2, 2)], Order(True, False)),
-            ([(3, 1), (1, 2)], None),
-            ([(1, 3), (1, 3)], None),
-            ([(1, 1), (2, 2)], None),
-            ([(False, True), (False, False)], None),
-            ([1, 2], None),
-        ):
+            ([(1, 3), (2, 2)], Order(False, False)), ([(1, 3), (2, 4)], Order(False, True)),
+            ([(3, 1), (2, 2)], Order(True, False)), ([(3, 1), (1, 2)], None), ([(1, 3), (1, 3)], None),
+            ([(1, 1), (2, 2)], None), ([(False, True), (False, False)], None), ([1, 2], None),
+        ):  # fmt: skip
             self.assertEqual(order_of(arrays), order, arrays)
 
     def test_rows_keep_order_ranges_and_nearness(self) -> None:
         row: Row = (5, (9, 3, 3), True, (True, True))
         for kept, found in (
-            (FREE, row),
-            (Kept({1: Order(False, False)}, {}), (5, (3, 3, 9), True, (True, True))),
+            (FREE, row), (Kept({1: Order(False, False)}, {}), (5, (3, 3, 9), True, (True, True))),
             (Kept({1: Order(True, False)}, {}), (5, (9, 3, 3), True, (True, True))),
-            (Kept({1: Order(False, True)}, {}), None),
-            (Kept({}, {0: (0, 5), 1: (3, 9)}), row),
-            (Kept({}, {0: (0, 4)}), None),
-            (Kept({}, {1: (4, 9)}), None),
-            (Kept({}, {}, is_near=True), row),
-        ):
+            (Kept({1: Order(False, True)}, {}), None), (Kept({}, {0: (0, 5), 1: (3, 9)}), row),
+            (Kept({}, {0: (0, 4)}), None), (Kept({}, {1: (4, 9)}), None), (Kept({}, {}, is_near=True), row),
+        ):  # fmt: skip
             self.assertEqual(Shape(SUITE, [], kept).kept(row), found)
         self.assertIsNone(Shape(SUITE, [], Kept({}, {}, is_near=True)).kept((10, (1, 2, 3), True, (True, True))))
 

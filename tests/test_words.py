@@ -16,12 +16,10 @@ class Lists(Room):
             ("check --ops=abs, uoi ,ror a.f", "check --ops=abs,uoi,ror a.f"),
             ("--except abs , uoi", "--except abs,uoi"),
             ("--lines 1-3, 7 --size N=8, LAST=9", "--lines 1-3,7 --size N=8,LAST=9"),
-            ("--ops abs, a.f t.csv", "--ops abs, a.f t.csv"),
-            ("--ops abs, --no-page", "--ops abs, --no-page"),
-            ("--reason so, abs", "--reason so, abs"),
-            ("declare a.f ROR 1, 2", "declare a.f ROR 1, 2"),
+            ("--ops abs, a.f t.csv", "--ops abs, a.f t.csv"), ("--ops abs, --no-page", "--ops abs, --no-page"),
+            ("--reason so, abs", "--reason so, abs"), ("declare a.f ROR 1, 2", "declare a.f ROR 1, 2"),
             ("--page a, abs", "--page a, abs"),
-        ):
+        ):  # fmt: skip
             with self.subTest(words):
                 self.assertEqual(with_whole_lists(words.split(" ")), wanted.split(" "))
         self.assertEqual(with_whole_lists([]), [])

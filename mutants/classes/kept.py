@@ -12,13 +12,13 @@ from mutants.files import written
 
 
 class Told(NamedTuple):
-    """What is told of a class: lines, which jobs failed, and the names of those with a page and of those below the
-    score that is asked for."""
+    """What is told of a class: lines, which jobs failed, the names of those with a page, and whether the score of one is
+    below what is asked for."""
 
     lines: list[str]
     failed: str
     names: list[str]
-    below: list[str]
+    is_below: bool
 
 
 def digest_of_class(tasks: Sequence[Task], results: Results, remark: str) -> str:
@@ -41,7 +41,7 @@ class KeptClass:
         """What was told of a class with this digest, where all its files are there."""
         try:
             kept = json.loads(self.path.read_bytes())
-            told = Told(kept["lines"], kept["failed"], kept["names"], kept["below"])
+            told = Told(kept["lines"], kept["failed"], kept["names"], kept["is_below"])
         except (OSError, ValueError, KeyError, TypeError):
             return None
         files = [self.out / "course.html", self.out / "course.csv", *(results.path(n, ".html") for n in told.names)]

@@ -66,14 +66,9 @@ def score_text(state: State) -> str:
     return "no score" if score == "NONE" else f"{score} %"
 
 
-def counted_text(count: int, noun: str, killed: int) -> str:
-    """So many mutants, and how many of them are killed."""
-    return f"{plural(count, noun)}, {killed} killed"
-
-
 def verdicts_text(verdicts: Sequence[Verdict]) -> str:
     count = count_of(verdicts)
-    told = counted_text(count.total, "mutant", count.killed)
+    told = f"{plural(count.total, 'mutant')}, {count.killed} killed"
     return f"{told}, {count.equivalent} declared equivalent" if count.equivalent else told
 
 

@@ -75,7 +75,7 @@ def only_set(source: str, names: Sequence[str]) -> list[str]:
     return [name for name in names if is_only_set(cards, name)]
 
 
-def zeros_of(source: str, names: Sequence[str]) -> dict[str, Any]:
+def zeros_of(source: str, names: Sequence[str]) -> dict[str, object]:
     """The dummy arguments that are only set, each with 0 or .FALSE. for all that it has."""
     dummies = dict(zip(names, read_unit(source)[1]))
     return {name: zero_of(dummies[name]) for name in only_set(source, names)}

@@ -201,7 +201,8 @@ def told_of(suites: Sequence[Suite], out: Path, remark: str, least: Fraction | N
     names = [each.name for each in reported_of(found)]
     lines = [f"{len(names)} of {len(found)} with a report: {out / 'course.html'}"]
     lines += [*proof_remarks([suite.task for suite in suites]), *([remark] if remark else [])]
-    return Told(lines, failed_told(found), names, below)
+    lines += [f"BELOW --fail-under: {joined_words(below)}, below {percent_text(least)} %."] if least and below else []
+    return Told(lines, failed_told(found), names, bool(below))
 
 
 def made_anew(given: argparse.Namespace, means: Means, tasks: list[Task], results: Results, remark: str) -> Told:
@@ -235,11 +236,6 @@ def take_settings(given: argparse.Namespace) -> bool:
     return has_settings
 
 
-def below_told(given: argparse.Namespace, below: Sequence[str]) -> str:
-    """Which suites are below what is asked for; no text where none is."""
-    return f"BELOW --fail-under: {joined_words(below)}, below {percent_text(given.fail_under)} %.\n" if below else ""
-
-
 def run(given: argparse.Namespace, name: str) -> int:
     program, read = find_program(given.mothra), read_with(given, take_settings(given))
     tasks = tasks_in(given.folder, program, read, prove_with(given, program))
@@ -252,6 +248,6 @@ def run(given: argparse.Namespace, name: str) -> int:
     if told is None:
         told = made_anew(given, Means(program, given.steps), tasks, results, remark)
         kept.keep(digest, told)
-    sys.stdout.write(visible("".join(f"{line}\n" for line in told.lines) + below_told(given, told.below)))
+    sys.stdout.write(visible("".join(f"{line}\n" for line in told.lines)))
     sys.stderr.write(visible(f"{name}: {told.failed}\n" if told.failed else ""))
-    return FAULT if told.failed else BELOW if told.below else SUCCESS
+    return FAULT if told.failed else BELOW if told.is_below else SUCCESS
