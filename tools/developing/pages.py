@@ -25,7 +25,6 @@ from pathlib import Path
 from typing import Any
 from urllib.parse import unquote
 
-from mutants.pages.frame import text
 from mutants.program.finding import find_program
 from mutants.program.roots import ROOT
 from mutants.program.unproved import is_unproved
@@ -52,7 +51,7 @@ addEventListener("load", () => {
 """
 # The pictures: of which page each is, how wide and how high, and the part that is shown.
 SHOTS: dict[str, tuple[str, int, int, str]] = {
-    "terminal.png": ("terminal.html", 1000, 620, "body"), "page.png": ("date.html", 1000, 1200, "body"),
+    "page.png": ("date.html", 1000, 1200, "body"),
     "page-narrow.png": ("date.html", 400, 1500, "body"), "course.png": ("class/out/course.html", 1200, 1100, "body"),
     "matrix.png": ("triangle.html", 1200, 1300, "section[aria-labelledby=matrix]"),
 }  # fmt: skip
@@ -64,12 +63,6 @@ CHECKS = {
     "full": ["--equivalent", "examples/triangle-full.equivalent.csv", "examples/triangle.f",
              "examples/triangle-full.suite.json"],
 }  # fmt: skip
-TERMINAL = """<!DOCTYPE html>
-<html lang="en"><head><meta charset="utf-8"><title>A terminal</title><style>
-body {{ margin: 0; padding: 16px; color: #dcdcdc; background: #1e1f22 }}
-pre {{ margin: 0; font: 14px/19px "DejaVu Sans Mono", monospace; white-space: pre-wrap; overflow-wrap: anywhere }}
-</style></head><body><main><pre>{}</pre></main></body></html>
-"""
 
 
 def shown(chromium: str, page: Path, script: str, size: tuple[int, int], *words: str) -> str:
@@ -111,14 +104,11 @@ def output_of(mothra: str, *words: str) -> str:
 
 
 def made_pages(mothra: str, folder: Path) -> list[Path]:
-    """Makes all pages in a folder; the last one is of a terminal."""
+    """Makes all pages in a folder."""
     for name, words in CHECKS.items():
         output_of(mothra, "check", "--page", str(folder / f"{name}.html"), *words)
     shutil.copytree(ROOT / "examples" / "class", folder / "class", ignore=shutil.ignore_patterns("out"))
     output_of(mothra, "course", str(folder / "class"))
-    told = output_of(mothra, "check", "--no-page", "--ops", "ROR", *CHECKS["date"])
-    command = f"$ mutants check --no-page --ops ROR {' '.join(CHECKS['date'])}\n"
-    (folder / "terminal.html").write_text(TERMINAL.format(text(command + told)), encoding="utf-8")
     return sorted(folder.rglob("*.html"))
 
 
