@@ -14,10 +14,10 @@ PACKAGE = Path(__file__).resolve().parent
 @cache
 def tool_digest() -> str:
     """The digest of this package: what an earlier one has made is made anew."""
-    found = hashlib.sha256()
+    digest = hashlib.sha256()
     for path in sorted(each for each in PACKAGE.rglob("*.*") if each.suffix in (".py", ".txt", ".css", ".js")):
-        found.update(path.read_bytes() + b"\0")
-    return found.hexdigest()
+        digest.update(path.read_bytes() + b"\0")
+    return digest.hexdigest()
 
 
 def caches_folder(kind: str) -> Path | None:

@@ -55,7 +55,7 @@ def codes_in(text: str) -> list[str]:
     """The codes in a text, with commas or blanks between them, each once and in the order of the operators; a name of
     a set stands for all of it."""
     words = [word for word in re.split(r"[,\s]+", text) if word]
-    found = {code for word in words for code in SETS.get(word.upper()) or [code_of(word)]}
-    if not found:
+    codes = {code for word in words for code in SETS.get(word.upper()) or [code_of(word)]}
+    if not codes:
         raise ValueError("there is no code of an operator")
-    return [code for code in NAMES if code in found]
+    return [code for code in NAMES if code in codes]

@@ -41,14 +41,14 @@ def is_list_open(words: Sequence[str]) -> bool:
 
 def with_whole_lists(words: Iterable[str]) -> list[str]:
     """The words, with those together that are one list with blanks beside its commas: --ops ABS, UOI."""
-    found: list[str] = []
+    joined: list[str] = []
     for word in words:
-        is_further = found and (found[-1].endswith(",") or word.startswith(",")) and FURTHER.fullmatch(word)
-        if is_further and is_list_open(found):
-            found[-1] += word
+        is_further = joined and (joined[-1].endswith(",") or word.startswith(",")) and FURTHER.fullmatch(word)
+        if is_further and is_list_open(joined):
+            joined[-1] += word
         else:
-            found.append(word)
-    return found
+            joined.append(word)
+    return joined
 
 
 def read_by(read: Callable[[str], Read]) -> Callable[[str], Read]:
@@ -67,10 +67,10 @@ def percent(word: str) -> Fraction:
     """A share in percent, as an option takes it."""
     if not re.fullmatch(r"\d{1,3}(\.\d{1,9})?\s*%?", word.strip()):
         raise argparse.ArgumentTypeError(f"{word} is no percentage, as 80 or 92.5")
-    found = Fraction(word.strip().rstrip("% "))
-    if found > 100:
+    share = Fraction(word.strip().rstrip("% "))
+    if share > 100:
         raise argparse.ArgumentTypeError(f"{word} is above 100 percent")
-    return found
+    return share
 
 
 def percent_text(share: Fraction) -> str:

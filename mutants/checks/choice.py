@@ -22,7 +22,7 @@ class Choice(NamedTuple):
 
 def ranges_in(text: str) -> list[tuple[int, int]]:
     """The ranges of lines in a text such as 10-20,25."""
-    found = []
+    ranges = []
     for word in text.split(","):
         match = RANGE.fullmatch(word.strip())
         if not match:
@@ -30,8 +30,8 @@ def ranges_in(text: str) -> list[tuple[int, int]]:
         first, last = int(match[1]), int(match[2] or match[1])
         if not 0 < first <= last:
             raise ValueError(f"{word.strip()!r} has no line: a range is from its first line to its last, from 1")
-        found.append((first, last))
-    return found
+        ranges.append((first, last))
+    return ranges
 
 
 def is_within(card: Card, ranges: Iterable[tuple[int, int]]) -> bool:
@@ -47,7 +47,7 @@ def lines_within(source: str, ranges: Sequence[tuple[int, int]]) -> set[int]:
 
 def statement_keys(source: str, printed: Sequence[str]) -> list[tuple[str, str]]:
     """The label and the printed text of each statement of a source."""
-    return [(card.label.lstrip("0"), told) for card, told in zip(cards_of(source), printed)]
+    return [(card.label.lstrip("0"), statement) for card, statement in zip(cards_of(source), printed)]
 
 
 def lines_changed(source: str, printed: Sequence[str], old_source: str, old_printed: Sequence[str]) -> set[int]:

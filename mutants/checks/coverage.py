@@ -54,10 +54,10 @@ def asked_traps(checked: Checked, means: Means, name: str) -> dict[int, str]:
 
 def kill_bits(listed: Iterable[Mutant], rows: Iterable[Row], tests: int) -> dict[int, str]:
     """The tests that kill some mutant of each line."""
-    found: dict[int, int] = {}
+    by_line: dict[int, int] = {}
     for mutant, row in zip(listed, rows):
-        found[mutant.line] = found.get(mutant.line, 0) | int(row.bits or "0", 2)
-    return {line: f"{bits:0{tests}b}" if tests else "" for line, bits in found.items()}
+        by_line[mutant.line] = by_line.get(mutant.line, 0) | int(row.bits or "0", 2)
+    return {line: f"{bits:0{tests}b}" if tests else "" for line, bits in by_line.items()}
 
 
 def first_parameter(text: str) -> int:
@@ -65,47 +65,47 @@ def first_parameter(text: str) -> int:
     return next(iter(commas(text)), len(text))
 
 
-def watched(told: str) -> Watched | None:
+def watched(statement: str) -> Watched | None:
     """A block IF, ELSE IF or DO that does the same and has 1-0 in it; None for another statement."""
-    block = re.fullmatch(r"((?:ELSE )?IF )\((.*)\) THEN", told)
+    block = re.fullmatch(r"((?:ELSE )?IF )\((.*)\) THEN", statement)
     if block:
         return Watched(f"{block[1]}(1-0.EQ.1.AND.({block[2]})) THEN", f"{block[1]}(1/0.EQ.1.AND.")
-    loop = re.match(r"DO \d+ \w+=", told)
+    loop = re.match(r"DO \d+ \w+=", statement)
     if not loop:
         return None
-    rest = told[loop.end() :]
+    rest = statement[loop.end() :]
     end = first_parameter(rest)
     return Watched(f"{loop[0]}(1-0)*({rest[:end]}){rest[end:]}", f"{loop[0]}1/0*")
 
 
-def card_lines(label: str, told: str) -> list[str]:
+def card_lines(label: str, statement: str) -> list[str]:
     """A statement in fixed form."""
-    pieces = [told[at : at + WIDTH] for at in range(0, len(told), WIDTH)]
+    pieces = [statement[at : at + WIDTH] for at in range(0, len(statement), WIDTH)]
     return [f"{label:>5} {pieces[0]}", *(f"     +{piece}" for piece in pieces[1:])]
 
 
 def watched_source(checked: Checked) -> tuple[str, dict[int, tuple[int, str]]]:
     """The program with 1-0 in those statements; and by their lines there, their lines and how the mutants begin."""
     lines: list[str] = []
-    found = {}
-    for card, told in zip(cards_of(checked.job.source), checked.printed):
-        watch = watched(told)
+    places = {}
+    for card, statement in zip(cards_of(checked.job.source), checked.printed):
+        watch = watched(statement)
         if watch:
-            found[len(lines) + 1] = card.line, watch.front
-        lines += card_lines(card.label, watch.statement if watch else told)
-    return "".join(f"{line}\n" for line in lines), found
+            places[len(lines) + 1] = card.line, watch.front
+        lines += card_lines(card.label, watch.statement if watch else statement)
+    return "".join(f"{line}\n" for line in lines), places
 
 
 def asked_watches(checked: Checked, means: Means, name: str) -> dict[int, str]:
     """The tests that come to each block IF, ELSE IF and DO; none where these are too long for a further operation."""
-    source, found = watched_source(checked)
+    source, watches = watched_source(checked)
     job = Job(source, checked.job.suite)
     try:
-        totals, listed = asked_mutants(job, AOR, means) if found else ({}, [])
+        totals, listed = asked_mutants(job, AOR, means) if watches else ({}, [])
     except Fault:
         return {}
-    rows = asked_in_parts(job, totals, means, name).rows if found else []
-    pairs = [(found[mutant.line], mutant, row) for mutant, row in zip(listed, rows) if mutant.line in found]
+    rows = asked_in_parts(job, totals, means, name).rows if watches else []
+    pairs = [(watches[mutant.line], mutant, row) for mutant, row in zip(listed, rows) if mutant.line in watches]
     return {line: row.bits for (line, front), mutant, row in pairs if mutant.text.startswith(front)}
 
 

@@ -118,12 +118,12 @@ def is_met(expected: str, outcome: str, names: Sequence[str]) -> bool:
 
 def differences(expected: Mapping[int, str], outcomes: Sequence[str], names: Sequence[str]) -> list[Difference]:
     """The tests, from 1, whose outcome is not what is expected of them."""
-    found = []
+    others = []
     for number, text in sorted(expected.items()):
         try:
             met = is_met(text, outcomes[number - 1], names)
         except ValueError as fault:
             raise ValueError(f"what is expected of test {number}: {fault}") from None
         if not met:
-            found.append(Difference(number, outcomes[number - 1], " ".join(text.split())))
-    return found
+            others.append(Difference(number, outcomes[number - 1], " ".join(text.split())))
+    return others

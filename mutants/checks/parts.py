@@ -28,12 +28,12 @@ def group_size(totals: Mapping[str, int], batches: int, at_once: int) -> int:
 def parts_of(totals: Mapping[str, int], groups: Sequence[Sequence[str]], sizes: Sequence[int]) -> list[Part]:
     """All parts of a job whose batches have these numbers of tests, the longest first."""
     mutants = [sum(totals[op] for op in group) for group in groups]
-    found = [
+    parts = [
         Part(batch, group, count * max(size, 1))
         for batch, size in enumerate(sizes)
         for group, count in enumerate(mutants)
     ]
-    return sorted(found, key=lambda part: (-part.runs, part))
+    return sorted(parts, key=lambda part: (-part.runs, part))
 
 
 def whole_report(reports: Mapping[tuple[int, int], Report]) -> Report:

@@ -48,12 +48,12 @@ def part_calls(job: Job, means: Means, groups: Sequence[Sequence[str]], parts: S
     """The calls of the parts. A call has several threads where its part is more than the share of a processor."""
     texts = [batch_text(job, *ends) for ends in batches(job)]
     whole = sum(part.runs for part in parts)
-    found: list[Call] = []
+    calls: list[Call] = []
     for part in parts:
         share = 1 if means.logins or means.jobs else processors() * part.runs // max(whole, 1)
         words = words_of(means, groups[part.group], min(32, max(1, share)))
-        found.append((words, texts[part.batch]))
-    return found
+        calls.append((words, texts[part.batch]))
+    return calls
 
 
 def asked_in_parts(job: Job, totals: Mapping[str, int], means: Means, name: str) -> Report:

@@ -12,8 +12,8 @@ from mutants.files import written
 
 
 class Told(NamedTuple):
-    """What is told of a class: lines, which jobs failed, the names of those with a page, and whether the score of one is
-    below what is asked for."""
+    """What is told of a class: lines, which jobs failed, the names of those with a page, and whether a score is below
+    what is asked for."""
 
     lines: list[str]
     failed: str
@@ -23,12 +23,12 @@ class Told(NamedTuple):
 
 def digest_of_class(tasks: Sequence[Task], results: Results, remark: str) -> str:
     """The digest of all that the files of a class are made of, beside the answers that are kept."""
-    found = hashlib.sha256(f"{tool_digest()}{remark}".encode())
+    digest = hashlib.sha256(f"{tool_digest()}{remark}".encode())
     for task in tasks:
         proofs = sorted(task.proofs.whys.items()), task.proofs.told(), task.proofs.remark
         said = task.name, task.refusal, task.shown, task.meant, task.remarks, task.expected, proofs
-        found.update(f"{results.key(task)}{said!r}".encode("utf-8", "replace"))
-    return found.hexdigest()
+        digest.update(f"{results.key(task)}{said!r}".encode("utf-8", "replace"))
+    return digest.hexdigest()
 
 
 class KeptClass:

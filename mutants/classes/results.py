@@ -84,10 +84,10 @@ def test_places(results: Sequence[Reported]) -> tuple[dict[str, int], list[list[
 
 def killed_by(row: Row, masks: Iterable[int]) -> int:
     """The tests that kill a mutant as bits, where each test of its suite has its own."""
-    found = 0
+    tests = 0
     for mask, bit in zip(masks, row.bits):
-        found |= mask if bit == "1" else 0
-    return found
+        tests |= mask if bit == "1" else 0
+    return tests
 
 
 def killers_of(results: Sequence[Reported], places: Mapping[str, int]) -> list[int]:

@@ -102,10 +102,10 @@ def suite_of(task: Task, known: Known | None, asked: Asked, results: Results) ->
 
 def digest_of(*made_of: object) -> str:
     """The digest of what a page is made of."""
-    found = hashlib.sha256()
+    digest = hashlib.sha256()
     for each in made_of:
-        found.update(repr(each).encode("utf-8", "replace") + b"\0")
-    return found.hexdigest()
+        digest.update(repr(each).encode("utf-8", "replace") + b"\0")
+    return digest.hexdigest()
 
 
 def digest_of_page(suite: Suite, shared: str) -> str:

@@ -29,15 +29,15 @@ class Matched(NamedTuple):
 def places_matched(olds: Sequence[str], news: Sequence[str]) -> dict[int, int]:
     """For places of old texts those of new ones: in order as far as there is one, and then text by text."""
     blocks = SequenceMatcher(None, olds, news, autojunk=False).get_matching_blocks()
-    found = {block.a + step: block.b + step for block in blocks for step in range(block.size)}
-    taken, left = set(found.values()), defaultdict(list)
+    new_places = {block.a + step: block.b + step for block in blocks for step in range(block.size)}
+    taken, left = set(new_places.values()), defaultdict(list)
     for place, text in enumerate(news):
         if place not in taken:
             left[text].append(place)
     for place, text in enumerate(olds):
-        if place not in found and left[text]:
-            found[place] = left[text].pop(0)
-    return found
+        if place not in new_places and left[text]:
+            new_places[place] = left[text].pop(0)
+    return new_places
 
 
 def lines_matched(olds: Mapping[int, str], news: Mapping[int, str]) -> dict[int, int]:

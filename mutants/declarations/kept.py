@@ -17,10 +17,10 @@ MOST, MOST_BYTES = 5_000, 1 << 25
 
 
 def digest_of(*parts: bytes) -> str:
-    found = hashlib.sha256()
+    digest = hashlib.sha256()
     for part in parts:
-        found.update(b"%d " % len(part) + part)
-    return found.hexdigest()
+        digest.update(b"%d " % len(part) + part)
+    return digest.hexdigest()
 
 
 @cache

@@ -45,13 +45,13 @@ def declared_groups(
 ) -> list[Group]:
     """The declared mutants that are meant, in their order, but those first that a test kills; twins of one reason
     together."""
-    found = {name_of(row): row for row in rows if row.status in "WE" and is_meant(name_of(row))}
+    declared = {name_of(row): row for row in rows if row.status in "WE" and is_meant(name_of(row))}
     groups: list[Group] = []
-    for twins in twins_in(mutant for mutant in listed if name_of(mutant) in found):
+    for twins in twins_in(mutant for mutant in listed if name_of(mutant) in declared):
         by_reason: dict[str, list[Mutant]] = {}
         for mutant in twins:
             by_reason.setdefault(reasons.get(name_of(mutant), ""), []).append(mutant)
-        groups += [Group(alike, found[name_of(alike[0])], reason) for reason, alike in by_reason.items()]
+        groups += [Group(alike, declared[name_of(alike[0])], reason) for reason, alike in by_reason.items()]
     return sorted(groups, key=lambda group: group.row.status != "W")
 
 

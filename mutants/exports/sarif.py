@@ -52,12 +52,12 @@ def result(twins: Sequence[Mutant], statement: str, span: Span, uri: str, ops: S
 def results(checked: Checked, uri: str, ops: Sequence[str]) -> list[dict[str, Any]]:
     cards = {card.line: card for card in cards_of(checked.shown)}
     written = partial(in_file, source_lines(checked.file))
-    found = []
+    survivors = []
     for twins in twins_in(checked.report.survivors):
         line, statement = twins[0].line, checked.statements[twins[0].line]
         span, _ = placed(Places(cards[line], statement), statement, twins[0].text)
-        found.append(result(twins, statement, written(span), uri, ops))
-    return found
+        survivors.append(result(twins, statement, written(span), uri, ops))
+    return survivors
 
 
 def sarif_text(checked: Checked, program: Path, remark: str = "") -> str:

@@ -42,14 +42,14 @@ def columns_of(rows: Iterable[int]) -> dict[int, int]:
 def needless(rows: Iterable[int]) -> int:
     """The tests that are in no more rows than another one, as bits; of tests in the same rows the first is needed."""
     kept: list[int] = []
-    found = 0
+    unneeded = 0
     columns = columns_of(rows)
     for test in sorted(columns, key=lambda test: (-columns[test].bit_count(), test)):
         if any(columns[test] & other == columns[test] for other in kept):
-            found |= 1 << test
+            unneeded |= 1 << test
         else:
             kept.append(columns[test])
-    return found
+    return unneeded
 
 
 def reduced(rows: list[int]) -> list[int]:

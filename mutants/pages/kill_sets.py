@@ -30,10 +30,10 @@ def names_of(rows: Iterable[Row]) -> str:
 
 def kill_sets(rows: Iterable[Row]) -> list[tuple[str, list[Row]]]:
     """The mutants that have the same killers, those with the fewest killers first."""
-    found: dict[str, list[Row]] = {}
+    by_bits: dict[str, list[Row]] = {}
     for row in rows:
-        found.setdefault(row.bits, []).append(row)
-    return sorted(found.items(), key=lambda pair: pair[0].count("1"))
+        by_bits.setdefault(row.bits, []).append(row)
+    return sorted(by_bits.items(), key=lambda pair: pair[0].count("1"))
 
 
 def kill_sets_part(rows: Sequence[Row]) -> str:

@@ -28,26 +28,26 @@ KIND = "kills and survivors"
 
 def counts_by_line(listed: Sequence[Mutant], rows: Iterable[Row]) -> dict[int, Count]:
     """How many mutants each line has, how many are killed, and how many are declared and survived."""
-    found = Counter((mutant.line, row.status) for mutant, row in zip(listed, rows))
+    count = Counter((mutant.line, row.status) for mutant, row in zip(listed, rows))
     lines = dict.fromkeys(mutant.line for mutant in listed)
     return {
-        line: Count(sum(found[line, s] for s in "KSEW"), found[line, "K"] + found[line, "W"], found[line, "E"])
+        line: Count(sum(count[line, s] for s in "KSEW"), count[line, "K"] + count[line, "W"], count[line, "E"])
         for line in lines
     }
 
 
 def by_line(mutants: Iterable[Mutant]) -> dict[int, list[Mutant]]:
-    found: dict[int, list[Mutant]] = defaultdict(list)
+    lines: dict[int, list[Mutant]] = defaultdict(list)
     for mutant in mutants:
-        found[mutant.line].append(mutant)
-    return found
+        lines[mutant.line].append(mutant)
+    return lines
 
 
 def at_lines(listed: Sequence[Mutant], rows: Sequence[Row], survivors: Iterable[Mutant], proofs: Proofs) -> AtLines:
     """What stands at each line of the program: the declared and proved mutants are those that survive."""
-    every = with_status(listed, rows, "E")
-    proved = by_line(mutant for mutant in every if proofs.is_alone(name_of(mutant)))
-    declared = by_line(mutant for mutant in every if not proofs.is_alone(name_of(mutant)))
+    equivalent = with_status(listed, rows, "E")
+    proved = by_line(mutant for mutant in equivalent if proofs.is_alone(name_of(mutant)))
+    declared = by_line(mutant for mutant in equivalent if not proofs.is_alone(name_of(mutant)))
     return AtLines(counts_by_line(listed, rows), by_line(survivors), declared, proved)
 
 

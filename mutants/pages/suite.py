@@ -74,11 +74,11 @@ def outcome_cell(outcome: str, expected: str | None) -> Cell:
 
 def alone_by_test(rows: Iterable[Row], tests: int) -> list[list[Row]]:
     """The mutants that each test kills and no other test does."""
-    found: list[list[Row]] = [[] for _ in range(tests)]
+    alone: list[list[Row]] = [[] for _ in range(tests)]
     for row in rows:
         if row.bits.count("1") == 1:
-            found[row.bits.index("1")].append(row)
-    return found
+            alone[row.bits.index("1")].append(row)
+    return alone
 
 
 def alone_text(alone: Sequence[Row]) -> str:

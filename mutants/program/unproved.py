@@ -52,11 +52,11 @@ def digest_path(name: str = MOTHRA.name) -> Path:
 
 def digest_of(crates: Path) -> str:
     """The digest of all that a build is made of."""
-    found = hashlib.sha256()
+    digest = hashlib.sha256()
     for path in sorted([*crates.glob("*/src/**/*.rt"), crates.parent / "crates.txt"]):
         data = path.read_bytes()
-        found.update(f"{path.relative_to(crates.parent)} {len(data)}\n".encode() + data)
-    return found.hexdigest()
+        digest.update(f"{path.relative_to(crates.parent)} {len(data)}\n".encode() + data)
+    return digest.hexdigest()
 
 
 def kept_digest(name: str = MOTHRA.name) -> str | None:

@@ -14,20 +14,20 @@ Kinds = dict[int, Row]
 
 
 def union_of(masks: Iterable[int]) -> int:
-    found = 0
+    union = 0
     for mask in masks:
-        found |= mask
-    return found
+        union |= mask
+    return union
 
 
 def kinds_of(pairs: Iterable[tuple[int, Row]], wanted: int, cost: Cost) -> Kinds:
     """For each set of the wanted mutants that a row kills the cheapest such row; the widest sets first."""
-    found: Kinds = {}
+    kinds: Kinds = {}
     for mask, row in pairs:
         mask &= wanted
-        if mask and (mask not in found or (cost(row), row) < (cost(found[mask]), found[mask])):
-            found[mask] = row
-    return dict(sorted(found.items(), key=lambda pair: (-pair[0].bit_count(), cost(pair[1]), pair[1])))
+        if mask and (mask not in kinds or (cost(row), row) < (cost(kinds[mask]), kinds[mask])):
+            kinds[mask] = row
+    return dict(sorted(kinds.items(), key=lambda pair: (-pair[0].bit_count(), cost(pair[1]), pair[1])))
 
 
 def deciding(kinds: Kinds) -> int:

@@ -28,6 +28,6 @@ def statements_by_line(source: str, printed: Sequence[str]) -> dict[int, str]:
     """The printed text of each statement, by the number of its initial line."""
     cards = cards_of(source)
     # Printing changes blanks, parentheses, commas and numbers, and no letter.
-    if [letters(card.text) for card in cards] != [letters(told) for told in printed]:
+    if [letters(card.text) for card in cards] != [letters(statement) for statement in printed]:
         raise ValueError("the printed program and the source of the job have not the same statements")
-    return {card.line: told for card, told in zip(cards, printed)}
+    return {card.line: statement for card, statement in zip(cards, printed)}

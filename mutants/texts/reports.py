@@ -80,10 +80,10 @@ def read_report(text: str) -> Report:
 
 def matches(pattern: re.Pattern[str], lines: Iterable[str]) -> list[re.Match[str]]:
     """The lines as matches of a pattern, which each of them has to be."""
-    found = [pattern.fullmatch(line) for line in lines]
-    if not all(found):
+    matched = [pattern.fullmatch(line) for line in lines]
+    if not all(matched):
         raise ValueError("the report has a line that is none")
-    return [match for match in found if match]
+    return [match for match in matched if match]
 
 
 def row_of(op: str, number: str, place: str, status: str, bits: str) -> Row:
@@ -91,10 +91,10 @@ def row_of(op: str, number: str, place: str, status: str, bits: str) -> Row:
 
 
 def survivors(lines: Iterable[str]) -> list[Mutant]:
-    found = [mutant_of(line.removeprefix("SURVIVOR ")) for line in lines if line.startswith("SURVIVOR ")]
-    if not all(found):
+    named = [mutant_of(line.removeprefix("SURVIVOR ")) for line in lines if line.startswith("SURVIVOR ")]
+    if not all(named):
         raise ValueError("the report has a line SURVIVOR that is none")
-    return [mutant for mutant in found if mutant]
+    return [mutant for mutant in named if mutant]
 
 
 def assert_agrees(report: Report, sums: list[str], rest: list[str]) -> None:
@@ -121,9 +121,9 @@ def name_of(mutant: Named) -> str:
 
 def counted(rows: Iterable[Row], ops: Iterable[str]) -> dict[str, Count]:
     """The counts of each of these operators, by the rows."""
-    found = Counter((row.op, row.status) for row in rows)
+    count = Counter((row.op, row.status) for row in rows)
     return {
-        op: Count(sum(found[op, status] for status in "KSEW"), found[op, "K"] + found[op, "W"], found[op, "E"])
+        op: Count(sum(count[op, status] for status in "KSEW"), count[op, "K"] + count[op, "W"], count[op, "E"])
         for op in ops
     }
 

@@ -31,11 +31,11 @@ class Subsuming(NamedTuple):
 
 def least_sets(masks: Iterable[int]) -> list[int]:
     """Those of some sets, as bits, that have no other one within."""
-    found: list[int] = []
+    least: list[int] = []
     for mask in sorted(set(masks), key=lambda mask: (mask.bit_count(), mask)):
-        if not any(each & mask == each for each in found):
-            found.append(mask)
-    return found
+        if not any(each & mask == each for each in least):
+            least.append(mask)
+    return least
 
 
 def subsuming(listed: Sequence[Mutant], rows: Sequence[Row]) -> Subsuming:
