@@ -93,14 +93,14 @@ def whole_path(word: str) -> str:
 def add_operators(parser: argparse.ArgumentParser) -> None:
     """The options that say of which operators the mutants are."""
     ops = read_by(codes_in)
-    told = "these operators alone, in any case; sufficient is a set of five"
-    parser.add_argument("--ops", metavar="A,B", type=ops, help=told)
+    text = "these operators alone, in any case; sufficient is a set of five"
+    parser.add_argument("--ops", metavar="A,B", type=ops, help=text)
     parser.add_argument("--except", metavar="A,B", type=ops, dest="without", help="all operators but these")
 
 
 def add_mothra_options(parser: argparse.ArgumentParser, *names: str) -> None:
     """Those options of mothra that are handed over, the operators by their codes."""
-    for option, value, told in (
+    for option, value, text in (
         ("ops", "A,B", "these operators alone, in any case; sufficient is a set of five"),
         ("every", "Q", "of each list the mutants 1, Q+1, 2Q+1 and on"),
         ("steps", "N", "the limit on steps"),
@@ -110,7 +110,7 @@ def add_mothra_options(parser: argparse.ArgumentParser, *names: str) -> None:
             read: Callable[[str], str] = str
             if option == "ops":
                 read = read_by(lambda word: ",".join(codes_in(word)))
-            parser.add_argument(f"--{option}", metavar=value, type=read, help=told)
+            parser.add_argument(f"--{option}", metavar=value, type=read, help=text)
 
 
 def asked_words(given: argparse.Namespace, *names: str) -> list[str]:

@@ -9,8 +9,8 @@ from mutants.words import percent, percent_text
 
 
 def add_threshold(parser: argparse.ArgumentParser) -> None:
-    told = "exit status 3 where the score is below this percentage"
-    parser.add_argument("--fail-under", metavar="PERCENT", type=percent, help=told)
+    text = "exit status 3 where the score is below this percentage"
+    parser.add_argument("--fail-under", metavar="PERCENT", type=percent, help=text)
 
 
 def is_below(count: Count, least: Fraction | None) -> bool:

@@ -123,16 +123,16 @@ def add_reading_options(parser: argparse.ArgumentParser) -> None:
     """The options that say how a program is read."""
     parser.add_argument("--unit", metavar="NAME", help="the unit, where the file has several; lines keep their numbers")
     parser.add_argument("--size", metavar="N=8,..", type=sizes_word, help="values of adjustable bounds")
-    told = "read tabs as blanks: the first of a line leads to column 7"
-    parser.add_argument("--expand-tabs", action="store_true", help=told)
+    text = "read tabs as blanks: the first of a line leads to column 7"
+    parser.add_argument("--expand-tabs", action="store_true", help=text)
 
 
 def add_making_options(parser: argparse.ArgumentParser) -> None:
     """The options that say how a program is read, and what is declared."""
     add_reading_options(parser)
     declared = parser.add_mutually_exclusive_group()
-    told = "the mutants declared equivalent, .csv or a list in .json; else those of PROGRAM.equivalent.csv"
-    declared.add_argument("--equivalent", metavar="FILE", type=Path, help=told)
+    text = "the mutants declared equivalent, .csv or a list in .json; else those of PROGRAM.equivalent.csv"
+    declared.add_argument("--equivalent", metavar="FILE", type=Path, help=text)
     declared.add_argument("--undeclared", action="store_true", help="declare no mutant")
 
 

@@ -63,11 +63,11 @@ from mutants.words import add_mothra_options, add_operators, number_from_1, read
 def add_choices(parser: argparse.ArgumentParser) -> None:
     """The options that say which mutants are asked about."""
     add_operators(parser)
-    told = "mutants of the statements on these lines alone, as 10-20,25"
-    parser.add_argument("--lines", metavar="A-B", type=read_by(ranges_in), help=told)
-    told = "mutants of the statements alone that another version of the program has not"
+    text = "mutants of the statements on these lines alone, as 10-20,25"
+    parser.add_argument("--lines", metavar="A-B", type=read_by(ranges_in), help=text)
+    text = "mutants of the statements alone that another version of the program has not"
     older = parser.add_mutually_exclusive_group()
-    older.add_argument("--changed", metavar="OLD.f", type=Path, help=told)
+    older.add_argument("--changed", metavar="OLD.f", type=Path, help=text)
     older.add_argument("--since", metavar="REV", help="the same of the program at a revision of git")
     add_making_options(parser)
 
@@ -75,24 +75,24 @@ def add_choices(parser: argparse.ArgumentParser) -> None:
 def add_means(parser: argparse.ArgumentParser) -> None:
     add_mothra_options(parser, "steps", "workers")
     parser.add_argument("--jobs", metavar="N", type=number_from_1, help="how many parts at once, on each machine")
-    told = "a machine, as parallel takes it; may be given again"
-    parser.add_argument("--sshlogin", metavar="LOGIN", action="append", default=[], help=told)
+    text = "a machine, as parallel takes it; may be given again"
+    parser.add_argument("--sshlogin", metavar="LOGIN", action="append", default=[], help=text)
 
 
 def add_results(parser: argparse.ArgumentParser) -> None:
     """The options that say what is asked of the result, and where it is written."""
     add_threshold(parser)
-    told = "tell what changed since this file of --json; exit status 3 where a mutant that was killed survives"
-    parser.add_argument("--baseline", metavar="OLD.json", type=Path, help=told)
+    text = "tell what changed since this file of --json; exit status 3 where a mutant that was killed survives"
+    parser.add_argument("--baseline", metavar="OLD.json", type=Path, help=text)
     parser.add_argument("--expect", metavar="FILE", type=Path, help="what the program has to do, a line for each test")
-    told = f"tell survivors of so many lines, those with most; {TOP} where nothing is said"
-    parser.add_argument("--top", metavar="N", type=number_from_1, help=told)
-    told = "tell all survivors with what each changes, the program's outcome on each test, and tests that add nothing"
-    parser.add_argument("--all", action="store_true", help=told)
+    text = f"tell survivors of so many lines, those with most; {TOP} where nothing is said"
+    parser.add_argument("--top", metavar="N", type=number_from_1, help=text)
+    text = "tell all survivors with what each changes, the program's outcome on each test, and tests that add nothing"
+    parser.add_argument("--all", action="store_true", help=text)
     parser.add_argument("--show-proved", action="store_true", help="tell each mutant that is proved equivalent")
     parser.add_argument("--page", metavar="FILE", type=Path, help="where the page is written, else PROGRAM.html")
     parser.add_argument("--no-page", action="store_true", help="write no page")
-    for option, told in (
+    for option, text in (
         ("report", "the report as mothra run has it, of all that ran"),
         ("json", "all mutants, in the JSON that tools of mutation testing share"),
         ("csv", "a table of all mutants"),
@@ -100,7 +100,7 @@ def add_results(parser: argparse.ArgumentParser) -> None:
         ("markdown", "a summary in Markdown, for a build or a review"),
         ("sarif", "the survivors in SARIF, which forges show beside the lines"),
     ):
-        parser.add_argument(f"--{option}", metavar="FILE", type=Path, help=f"write {told}")
+        parser.add_argument(f"--{option}", metavar="FILE", type=Path, help=f"write {text}")
 
 
 def add_options(parser: argparse.ArgumentParser) -> None:
@@ -111,10 +111,10 @@ def add_options(parser: argparse.ArgumentParser) -> None:
 
 
 def add_words(parser: argparse.ArgumentParser) -> None:
-    told = "a program in fixed form; a folder, or no word, stands for all programs that its mutants.ini or .toml names"
-    parser.add_argument("program", metavar="PROGRAM.f", type=Path, nargs="?", help=told)
-    told = "a table of tests, .json or .csv; else the one that the file of options names"
-    parser.add_argument("tests", metavar="TESTS", type=Path, nargs="?", help=told)
+    text = "a program in fixed form; a folder, or no word, stands for all programs that its mutants.ini or .toml names"
+    parser.add_argument("program", metavar="PROGRAM.f", type=Path, nargs="?", help=text)
+    text = "a table of tests, .json or .csv; else the one that the file of options names"
+    parser.add_argument("tests", metavar="TESTS", type=Path, nargs="?", help=text)
     add_mothra_option(parser)
     add_equivalents_option(parser)
     add_options(parser)

@@ -48,8 +48,8 @@ TAKEN = ("ops", "without", "fail_under")
 def add_words(parser: argparse.ArgumentParser) -> None:
     parser.add_argument("old", metavar="OLD", type=Path, help="a report, or a file of check --json")
     parser.add_argument("new", metavar="NEW", type=Path, help="the same of a later state")
-    told = "the jobs of two reports, for the texts of all mutants"
-    parser.add_argument("--jobs", metavar="JOB", type=Path, nargs=2, help=told)
+    text = "the jobs of two reports, for the texts of all mutants"
+    parser.add_argument("--jobs", metavar="JOB", type=Path, nargs=2, help=text)
     parser.add_argument("--markdown", action="store_true", help="write Markdown, for a review")
     add_operators(parser)
     add_threshold(parser)

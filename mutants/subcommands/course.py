@@ -85,8 +85,8 @@ def add_words(parser: argparse.ArgumentParser) -> None:
     add_mothra_option(parser)
     add_proof_options(parser)
     parser.add_argument("--jobs", metavar="N", type=number_from_1, help="how many jobs at once, on each machine")
-    told = "a machine, as parallel takes it; may be given again"
-    parser.add_argument("--sshlogin", metavar="LOGIN", action="append", default=[], help=told)
+    text = "a machine, as parallel takes it; may be given again"
+    parser.add_argument("--sshlogin", metavar="LOGIN", action="append", default=[], help=text)
     add_reading_options(parser)
     add_operators(parser)
     add_threshold(parser)

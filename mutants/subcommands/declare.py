@@ -53,8 +53,8 @@ def add_words(parser: argparse.ArgumentParser) -> None:
     parser.add_argument("mutants", metavar="MUTANT", nargs="*", help="a code and a number, as ROR 1; further numbers")
     parser.add_argument("--reason", metavar="TEXT", help="why no test can kill them")
     parser.add_argument("--renew", action="store_true", help="write the numbers of now of all entries that have moved")
-    told = "the file of declarations, in place of the one beside the program"
-    parser.add_argument("--equivalent", metavar="FILE.csv", type=Path, help=told)
+    text = "the file of declarations, in place of the one beside the program"
+    parser.add_argument("--equivalent", metavar="FILE.csv", type=Path, help=text)
     add_reading_options(parser)
     add_mothra_option(parser)
     add_proof_options(parser)

@@ -44,8 +44,8 @@ def add_words(parser: argparse.ArgumentParser) -> None:
     add_mothra_option(parser)
     add_making_options(parser)
     parser.add_argument("job", metavar="JOB|PROGRAM.f", type=Path, help="the job, a file, or a program in fixed form")
-    told = "words for mothra, or the line of a fault, or - where that is on standard input"
-    parser.add_argument("words", metavar="WORD", nargs=argparse.REMAINDER, help=told)
+    text = "words for mothra, or the line of a fault, or - where that is on standard input"
+    parser.add_argument("words", metavar="WORD", nargs=argparse.REMAINDER, help=text)
 
 
 def told_line(words: list[str]) -> str | None:

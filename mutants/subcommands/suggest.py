@@ -61,25 +61,25 @@ def seconds_word(word: str) -> float:
 def add_search(parser: argparse.ArgumentParser) -> None:
     """The options that say how long is searched, and where."""
     most = parser.add_mutually_exclusive_group()
-    told = f"how long the search is, with the last run on top; {SECONDS:g} where nothing is said"
-    most.add_argument("--seconds", metavar="N", type=read_by(seconds_word), help=told)
-    told = "how many rounds of 256 rows, whatever time they take"
-    most.add_argument("--rounds", metavar="N", type=number_from_1, help=told)
+    text = f"how long the search is, with the last run on top; {SECONDS:g} where nothing is said"
+    most.add_argument("--seconds", metavar="N", type=read_by(seconds_word), help=text)
+    text = "how many rounds of 256 rows, whatever time they take"
+    most.add_argument("--rounds", metavar="N", type=number_from_1, help=text)
     parser.add_argument("--seed", metavar="S", type=number_from_1, default=1, help="where chance begins, else 1")
-    told = "arguments by number or name with their least and greatest values, as 2=0:8,KEY=-9:9; may be given again"
+    text = "arguments by number or name with their least and greatest values, as 2=0:8,KEY=-9:9; may be given again"
     parser.add_argument(
-        "--ranges", metavar="ARG=A:B", type=read_by(read_ranges), action="append", default=[], help=told
+        "--ranges", metavar="ARG=A:B", type=read_by(read_ranges), action="append", default=[], help=text
     )
-    told = "try all rows of a box, in order, a million at most: the least and greatest values of arguments, as --ranges"
+    text = "try all rows of a box, in order, a million at most: the least and greatest values of arguments, as --ranges"
     parser.add_argument(
-        "--within", metavar="ARG=A:B", type=read_by(read_ranges), action="append", default=[], help=told
+        "--within", metavar="ARG=A:B", type=read_by(read_ranges), action="append", default=[], help=text
     )
-    told = "an array, by number or name, that need not stay in order; may be given again"
-    parser.add_argument("--free", metavar="ARG", action="append", default=[], help=told)
+    text = "an array, by number or name, that need not stay in order; may be given again"
+    parser.add_argument("--free", metavar="ARG", action="append", default=[], help=text)
     parser.add_argument("--nice", action="store_true", help="no value far from those of the tests")
     parser.add_argument("--drop", action="store_true", help="tell which tests of the table are needless then")
-    told = "write the table with the rows, and with --drop without the needless tests"
-    parser.add_argument("--table", metavar="FILE", type=Path, help=told)
+    text = "write the table with the rows, and with --drop without the needless tests"
+    parser.add_argument("--table", metavar="FILE", type=Path, help=text)
 
 
 def add_words(parser: argparse.ArgumentParser) -> None:
@@ -89,8 +89,8 @@ def add_words(parser: argparse.ArgumentParser) -> None:
     add_proof_options(parser)
     checks.add_choices(parser)
     add_mothra_options(parser, "steps", "workers")
-    told = "how many parts at once, where a run is in parts"
-    parser.add_argument("--jobs", metavar="N", type=number_from_1, help=told)
+    text = "how many parts at once, where a run is in parts"
+    parser.add_argument("--jobs", metavar="N", type=number_from_1, help=text)
     add_search(parser)
     # A file beside the program may say it for the check. Other machines are not asked.
     parser.set_defaults(expect=None, sshlogin=[])
