@@ -54,7 +54,7 @@ class Rows(unittest.TestCase):
             patched.start()
             self.addCleanup(patched.stop)
 
-    def told(self, program: Path, accept: bool = False) -> tuple[int, str]:
+    def shown(self, program: Path, accept: bool = False) -> tuple[int, str]:
         """The exit status and the output of the tool with this program; status 2 where it ends with a fault."""
         given = argparse.Namespace(program=program, unproved=False, accept=accept)
         with contextlib.redirect_stdout(io.StringIO()) as out:
@@ -72,40 +72,32 @@ class Rows(unittest.TestCase):
             f"sys.stdout.write({answers!r})\nsys.exit({status})\n"
         )
         program.chmod(0o755)
-        return self.told(program, accept)
+        return self.shown(program, accept)
 
-    def test_the_wanted_answers(self) -> None:
-        self.assertEqual(self.ended(ANSWERS), (0, "3 rows, 0 differ\n"))
-
-    def test_a_line_that_differs_is_told_with_its_row(self) -> None:
-        told = (
-            "# Sums.\n\n$ mothra exec --test 1\n> [[2,4,0]]\n(line 7)\n"
-            "-0: RETURNED 2 4 6\n+0: RETURNED 2 4 8\n\n3 rows, 1 differ\n"
+    def test_answers_as_wanted_and_not(self) -> None:
+        self.assertEqual(self.ended(ANSWERS), (0, "2 blocks, 0 differ\n"))
+        shown = (
+            "# Sums.\n 0: RETURNED 2 3 5\n > [[2,4,0]]\n-0: RETURNED 2 4 6\n+0: RETURNED 2 4 8\n    OF 3\n\n"
+            "2 blocks, 1 differ\n"
         )
-        self.assertEqual(self.ended(ANSWERS.replace("4 6", "4 8")), (1, told))
+        self.assertEqual(self.ended(ANSWERS.replace("4 6", "4 8")), (1, shown))
 
-    def test_a_row_that_is_new_and_one_that_is_gone(self) -> None:
-        self.wanted.write_text(ANSWERS.replace("> [[2,3,0]]", "> [[9,9,0]]"))
-        status, told = self.ended(ANSWERS)
-        self.assertEqual(status, 1)
-        self.assertIn("> [[9,9,0]]\n(no longer in the table)\n-0: RETURNED 2 3 5\n", told)
-        self.assertIn("> [[2,3,0]]\n(line 6)\n+0: RETURNED 2 3 5\n", told)
+    def test_a_block_that_is_gone(self) -> None:
+        status, shown = self.ended(ANSWERS[: ANSWERS.index("# Damaged")])
+        self.assertEqual((status, shown.splitlines()[0]), (1, "# Damaged jobs."))
+        self.assertIn("-1: FAULT J2\n", shown)
 
-    def test_answers_are_accepted_once_they_were_told(self) -> None:
+    def test_answers_are_accepted_once_they_were_shown(self) -> None:
         other = ANSWERS.replace("J2", "J3")
-        status, told = self.ended(other, accept=True)
+        status, shown = self.ended(other, accept=True)
         self.assertEqual((status, self.wanted.read_text()), (0, other))
-        self.assertIn("(line 11)\n-1: FAULT J2\n+1: FAULT J3\n\n3 rows, 1 accepted\n", told)
+        self.assertIn("-1: FAULT J2\n+1: FAULT J3\n", shown)
 
-    def test_a_program_that_fails(self) -> None:
-        status, told = self.ended(ANSWERS, accept=True, status=1)
+    def test_no_answers(self) -> None:
+        status, shown = self.ended(ANSWERS, accept=True, status=1)
         self.assertEqual((status, self.wanted.read_text()), (2, ANSWERS))
-        self.assertIn("ended with 1", told)
-
-    def test_no_program(self) -> None:
-        status, told = self.told(rows.BUILT.with_name("none"))
-        self.assertEqual(status, 2)
-        self.assertIn("none", told)
+        self.assertIn("ended with 1", shown)
+        self.assertEqual(self.shown(rows.BUILT.with_name("none"))[0], 2)
 
 
 if __name__ == "__main__":
