@@ -1,4 +1,4 @@
-"""The tools that make streams and memory fail, with small programs in the place of mothra."""
+"""The tool that makes memory fail, with small programs in the place of mothra."""
 
 import io
 import struct
@@ -11,15 +11,12 @@ from types import ModuleType
 from unittest import mock
 
 import running  # noqa: F401
-from developing import failing_streams, refused_memory
+from developing import refused_memory
 from developing.robustness import calls
 from developing.robustness.calls import Ended, answer_of, called
 from developing.robustness.refusing import FROM_THEN_ON, MARK, STOPS, Refusing, places_in
 from mutants.statuses import FAULT, SUCCESS
 
-# It writes its text where it has read all, and tells of what failed; or of nothing.
-READS = "#!/bin/sh\ntrap '' PIPE\ncat >/dev/null || exit 1\nprintf 'TEXT\\n' || exit 1\n"
-CARELESS = "#!/bin/sh\ncat >/dev/null\nprintf 'TEXT\\n'\nexit 0\n"
 # It asks for memory three times. What it does at which of them stands behind it, as in a program that rt builds.
 ASKS = """\
 #!/bin/sh
@@ -64,33 +61,6 @@ class Tool(unittest.TestCase):
         return status, out.getvalue().splitlines()
 
 
-class FailingStreams(Tool):
-    def sweep(self, text: str) -> tuple[int, list[str]]:
-        with tempfile.TemporaryDirectory() as folder:
-            program = Path(folder, "program")
-            program.write_text(text)
-            program.chmod(0o755)
-            with mock.patch.object(failing_streams, "CALLS", {"print": b"{}"}):
-                return self.call(failing_streams, mothra=str(program))
-
-    def test_tells_each_kind(self) -> None:
-        status, lines = self.sweep(READS)
-        told = "as it has to be"
-        self.assertEqual(
-            lines,
-            [
-                f"mothra print: reads that fail: 4 calls: {told} 4",
-                f"mothra print: writes that fail: 6 calls: {told} 6",
-            ],
-        )
-        self.assertEqual(status, SUCCESS)
-
-    def test_a_failure_that_the_program_does_not_tell_is_broken(self) -> None:
-        status, lines = self.sweep(CARELESS)
-        self.assertEqual(status, FAULT)
-        self.assertIn("BROKEN: status 0, 5 bytes 3", lines[0])
-
-
 class RefusedMemory(Tool):
     def sweep(self, code: str) -> tuple[int, list[str]]:
         def build(crate: Path, kept: Path, words: object, job: bytes) -> None:
@@ -132,7 +102,3 @@ class Refused(unittest.TestCase):
             self.assertEqual(copy.read_bytes(), COMPARES.replace(struct.pack("<i", MARK), b"\7\0\0\0") * 2)
             program.refuse(8, FROM_THEN_ON, STOPS)
             self.assertEqual(copy.read_bytes(), b"\x48\x3d\x08\0\0\0\x72\x0c\xcc\xcc" * 2)
-
-
-if __name__ == "__main__":
-    unittest.main()

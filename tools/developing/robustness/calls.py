@@ -4,8 +4,8 @@ import re
 import subprocess
 import tempfile
 import threading
-from collections.abc import Callable, Sequence
-from typing import IO, NamedTuple
+from collections.abc import Sequence
+from typing import NamedTuple
 
 from mutants.statuses import FAULT, SUCCESS, WORDS
 
@@ -22,25 +22,13 @@ class Ended(NamedTuple):
     status: int
 
 
-def called(words: Sequence[str], given: bytes, begin: Callable[[], None] | None = None) -> Ended:
-    """Runs a command on the bytes given."""
-    with tempfile.TemporaryFile() as source:
+def called(words: Sequence[str], given: bytes) -> Ended:
+    """Runs a command on the bytes given, and reads back what it wrote; it is ended where it takes too long."""
+    with tempfile.TemporaryFile() as source, tempfile.TemporaryFile() as target:
         source.write(given)
         source.seek(0)
-        return called_on(words, source, begin)
-
-
-def called_on(words: Sequence[str], source: IO[bytes] | int, begin: Callable[[], None] | None = None) -> Ended:
-    """Runs a command on an open file, and reads back what it wrote to another; it is ended where it takes too long.
-
-    `begin` is done in the child before the command; what it sets of signals stays.
-    """
-    null = subprocess.DEVNULL
-    with tempfile.TemporaryFile() as target:
         with BEGINNING:
-            child = subprocess.Popen(
-                words, stdin=source, stdout=target, stderr=null, preexec_fn=begin, restore_signals=begin is None
-            )
+            child = subprocess.Popen(words, stdin=source, stdout=target, stderr=subprocess.DEVNULL)
         limit = threading.Timer(MOST_SECONDS, child.kill)
         limit.start()
         status = child.wait()
