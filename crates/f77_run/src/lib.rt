@@ -30,6 +30,7 @@ mod workspace;
 pub use changed::ChangedRunner;
 pub use course::Course;
 pub use f77_actions::{Fault, Finish, Value};
+pub use f77_meaning::{Arg, Outcome, RunFault, Values};
 pub use fitting::fit;
 pub use interpreter::{counted_run, run};
 pub use runner::Runner;

@@ -1,5 +1,5 @@
-//! Verdicts: what a program comes to on each test, and which tests kill a mutant. A `Bench` holds a plan and its tests;
-//! `Verdicts::row` is the verdict of one mutant, and `verdict_of` says what a verdict is.
+//! Verdicts: which tests kill a mutant. A `Bench` holds a plan, its tests and what the program itself comes to on each;
+//! `verdict_of` gives the verdict of one mutant, and `Verdicts::row` that of one mutant after another.
 #![tactic(auto)]
 
 mod bench;

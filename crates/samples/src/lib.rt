@@ -11,7 +11,7 @@ mod suites;
 mod texts;
 mod words;
 
-pub use originals::{ADD, LOOP, PRESET};
+pub use originals::{ADD, LOOP};
 pub use patches::{changed, held, holder, number_and_text, patched};
 pub use programs::checked;
 pub use rows::parts;

@@ -4,6 +4,3 @@ pub const ADD: &str = "SUBROUTINE ADD(I,J,K); K=I+J; END";
 
 pub const LOOP: &str =
     "SUBROUTINE LOOP(N,K); K=0; IF (N.LT.0) GO TO 20; DO 10 I=1,N; 10 K=K+I; 20 K=K+1; 30 RETURN; END";
-
-pub const PRESET: &str =
-    "SUBROUTINE S(K); LOGICAL P; INTEGER M(3); DATA P/.TRUE./,M/3*1/; IF (P) K=M(1); END";
