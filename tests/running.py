@@ -11,26 +11,19 @@ import tempfile
 import time
 import traceback
 import unittest
-from collections.abc import Callable, Iterable, Sequence
+from collections.abc import Callable, Iterable
 from contextlib import ExitStack
-from functools import cache
-from importlib.machinery import ModuleSpec, SourceFileLoader
-from importlib.util import module_from_spec, spec_from_loader
 from pathlib import Path
-from typing import IO, Any, ContextManager, NoReturn, TypeVar
+from typing import IO, ContextManager, NoReturn, TypeVar
 from unittest import mock
 
 TESTS = Path(__file__).resolve().parent
 ROOT = TESTS.parent
 TOOLS, MUTANTS = ROOT / "tools", ROOT / "bin" / "mutants"
-STAND_IN, PROVER = TESTS / "stand_in", TESTS / "stand_in_equivalents"
 EXAMPLES = ["triangle", "triangle-more", "sort", "euclid", "closure"]
 
 # What a test starts finds the Python that runs the test first: a front of it would take longer than most tests.
 os.environ["PATH"] = f"{Path(sys.executable).parent}:{os.environ['PATH']}"
-# A program equivalents that is built or installed here is not asked: without a word of a test nothing is proved.
-os.environ["EQUIVALENTS"] = str(PROVER)
-os.environ.pop("PROVED", None)
 # What is kept of a check is kept for these tests alone.
 CACHES = tempfile.TemporaryDirectory()
 os.environ["XDG_CACHE_HOME"] = CACHES.name
@@ -39,12 +32,7 @@ os.environ["XDG_CACHE_HOME"] = CACHES.name
 sys.dont_write_bytecode = True
 sys.path[:0] = [str(ROOT), str(TOOLS)]
 
-from mutants.declarations import kept  # noqa: E402
-from mutants.program import calling, many  # noqa: E402
 from mutants.subcommands.registry import SUBCOMMANDS  # noqa: E402
-
-# What the stand-in of equivalents says is another thing from test to test.
-kept.MOST = 0
 
 # Of what was run: its exit status, its output and its errors.
 Ended = tuple[int, str, str]
@@ -94,7 +82,6 @@ def status_of(file: str) -> int:
             sys.stderr.write(end.code + "\n")
         return 1 if isinstance(end.code, str) else int(end.code or 0)
     return 0
-
 
 
 class Copy:
@@ -183,47 +170,27 @@ def refuses(case: unittest.TestCase, ended: Ended, *told: str) -> None:
         case.assertIn(word, errors)
 
 
+class Folder(unittest.TestCase):
+    """A test with a folder of its own."""
 
-def stand_in_module() -> Any:
-    """The stand-in of mothra as a module: what it answers without a process."""
-    return module_of(STAND_IN)
+    def setUp(self) -> None:
+        folder = tempfile.TemporaryDirectory()
+        self.addCleanup(folder.cleanup)
+        self.folder = Path(folder.name)
 
+    def put(self, name: str, text: str | bytes) -> Path:
+        path = self.folder / name
+        path.parent.mkdir(parents=True, exist_ok=True)
+        path.write_bytes(text if isinstance(text, bytes) else text.encode())
+        return path
 
-@cache
-def module_of(path: Path) -> Any:
-    """A stand-in as a module."""
-    loader = SourceFileLoader(path.name, str(path))
-    found = module_from_spec(spec_from_loader(path.name, loader) or ModuleSpec(path.name, loader))
-    loader.exec_module(found)
-    return found
+    def put_program(self, name: str, text: str) -> Path:
+        path = self.put(name, text)
+        path.chmod(0o755)
+        return path
 
-
-def call_stand_in(command: str, job: bytes, *words: str) -> bytes:
-    """What the stand-in writes for these words and a job, without a process."""
-    text, _ = stand_in_module().answer([command, *words], job)
-    return str(text).encode()
-
-
-def without_processes() -> ContextManager[object]:
-    """While it holds, what is asked of the stand-ins is answered by them as modules, so that a test takes less time."""
-    modules = {str(path): module_of(path) for path in (STAND_IN, PROVER)}
-    call_process, answer_of_process = calling.call, many.Calls.answer
-
-    def call(program: str, words: Sequence[str], job: bytes, seconds: float | None = None) -> tuple[str, int]:
-        if program not in modules:
-            return call_process(program, words, job, seconds)
-        text, status = modules[program].answer(words, job)
-        return str(text), int(status)
-
-    def answer(calls: many.Calls, words: Sequence[str], job: bytes) -> str:
-        if calls.program != str(STAND_IN):
-            return answer_of_process(calls, words, job)
-        return calling.answer(calls.program, words, job)
-
-    patches = ExitStack()
-    patches.enter_context(mock.patch.object(calling, "call", call))
-    patches.enter_context(mock.patch.object(many.Calls, "answer", answer))
-    return patches
+    def names(self) -> list[str]:
+        return sorted(path.name for path in self.folder.iterdir())
 
 
 def holds(case: unittest.TestCase, patches: ContextManager[object]) -> None:

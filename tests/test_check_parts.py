@@ -1,38 +1,21 @@
-"""The parts of a check: batches of tests, groups of operators, how far it is, other machines."""
+"""The parts of a check: lines, batches of tests, groups of operators, and how far it is."""
 
 import io
-import os
 import sys
 import unittest
 from unittest import mock
 
-import running
+import running  # noqa: F401  it finds the package
 from mutants import progress
-from mutants.checks import parts, running as checks_running
-from mutants.texts import batches
+from mutants.checks import parts, running as checks_running, summary
+from mutants.checks.choice import lines_within
 from mutants.checks.running import Means
+from mutants.texts import batches
 from mutants.texts.batches import MOST_BYTES, batch_text
 from mutants.texts.jobs import Job
-from room import DECLARED, Room
-from running import LEAST, TESTS
 
 
-class Parts(Room):
-    def test_a_suite_in_batches_and_groups_has_the_one_report(self) -> None:
-        suite = [[n % 4, n % 3, n] for n in range(7)]
-        self.tests = self.put("tests.json", str(suite))
-        names = self.put("names.csv", DECLARED)
-        wanted = running.call_stand_in("run", batch_text(Job(LEAST, suite, ["ROR 1", "SDL 2"])))
-        report = self.folder / "report"
-        words = ["--equivalent", names, "--report", report, "--no-page"]
-        with mock.patch.object(batches, "MOST_TESTS", 3), mock.patch.object(parts, "LEAST", 4):
-            status, _, errors = self.check(*words)
-        self.assertEqual((status, errors), (0, ""))
-        self.assertEqual(report.read_bytes(), wanted)
-        report.unlink()
-        self.check(*words, "--lines", "3")
-        alone = running.call_stand_in("run", batch_text(Job(LEAST, suite, ["SDL 2"])), "--ops", "RSR,SAN,SDL")
-        self.assertEqual(report.read_bytes(), alone)
+class Parts(unittest.TestCase):
 
     def test_batches_have_the_limits_of_a_job(self) -> None:
         many = Job("", [[n] for n in range(600)])
@@ -62,16 +45,6 @@ class Parts(Room):
                 calls = checks_running.part_calls(Job("", [[1]]), means, [["GLR"], ["ABS"]], found)
                 self.assertEqual("".join(words[-1] for words, _ in calls), threads)
 
-    def test_a_long_job_tells_how_far_it_is(self) -> None:
-        with mock.patch.object(progress, "QUIET", 0.0), mock.patch.object(progress, "OFTEN", 0.0):
-            status, _, errors = self.check("--no-page")
-        self.assertEqual(status, 0)
-        self.assertRegex(errors, r"(?m)^mutants check: the program itself on 2 tests: 0 % done$")
-        self.assertRegex(errors, r"(?m)^mutants check: 16 mutants, 2 tests: \d+ % done")
-        self.assertEqual(
-            [progress.seconds_text(s) for s in (0.2, 99, 130, 7200)], ["1 s", "99 s", "2 minutes", "2.0 hours"]
-        )
-
     def test_a_line_of_a_log_is_not_told_again_where_nothing_was_done(self) -> None:
         errors = io.StringIO()
         with mock.patch.object(sys, "stderr", errors), mock.patch.object(progress, "OFTEN", 0.0):
@@ -83,20 +56,19 @@ class Parts(Room):
         told = "check: work: 0 % done\ncheck: work: 50 % done, about \\d+ s left\n"
         self.assertRegex(errors.getvalue(), f"^{told}$")
 
-    def test_parts_on_other_machines(self) -> None:
-        elsewhere = self.folder / "elsewhere"
-        elsewhere.mkdir()
-        report = self.folder / "report"
-        words = ["--sshlogin", "elsewhere", "--report", report, "--no-page"]
-        change = {"PATH": f"{TESTS / 'bin'}:{os.environ['PATH']}", "FAKE_SSH_FOLDER": str(elsewhere)}
-        with mock.patch.dict(os.environ, change), mock.patch.object(batches, "MOST_TESTS", 1):
-            status, out, errors = self.check_by_calls(*words)
-        self.assertEqual((status, errors), (0, ""))
-        self.assertIn("Score 93.75 %", out)
-        self.assertEqual(
-            report.read_bytes(), running.call_stand_in("run", batch_text(Job(LEAST, [[1, 2, 0], [2, 1, 0]])))
-        )
-        self.assertEqual(list(elsewhere.iterdir()), [])
+    def test_lines_that_continue_a_statement_are_its_own(self) -> None:
+        source = "      K=1\n      I=\nC\n     &J\n      END\n"
+        self.assertEqual(lines_within(source, [(4, 4)]), {2})
+        self.assertEqual(lines_within(source, [(1, 2)]), {1, 2})
+        self.assertEqual(lines_within(source, [(6, 9)]), set())
+
+    def test_numbers_in_a_row_are_a_range(self) -> None:
+        for numbers, told in (([1], "1"), ([1, 2], "1 to 2"), ([1, 3, 4, 5, 9, 11, 12], "1, 3 to 5, 9 and 11 to 12")):
+            self.assertEqual(summary.ranges_text(numbers), told)
+
+    def test_a_time_is_told_in_a_unit_that_suits_it(self) -> None:
+        told = [progress.seconds_text(seconds) for seconds in (0.2, 99, 130, 7200)]
+        self.assertEqual(told, ["1 s", "99 s", "2 minutes", "2.0 hours"])
 
 
 if __name__ == "__main__":

@@ -3,27 +3,19 @@
 import json
 import random
 import re
-import tempfile
 import unittest
 from collections.abc import Iterator, Sequence
-from pathlib import Path
 
 import running
 from mutants.declarations.entries import COLUMNS, Entry, appended, entries_text, read_entries
 from mutants.declarations.files import read_declarations
 from mutants.declarations.said import NOTHING, Said
 from mutants.declarations.settling import Present, entry_for, settled
-from mutants.jobs.making import made_of, meant_for
 from mutants.pages.declared import declared_part
-from mutants.pages.report import Analysed, report_page
 from mutants.subcommands.declare import names_in
-from mutants.texts.jobs import read_job
 from mutants.texts.lines import Mutant
-from mutants.texts.lists import read_list
-from mutants.texts.prints import read_print
-from mutants.texts.reports import Row, read_report
-from running import LEAST, STAND_IN, has, refuses, run
-from test_page import Tags
+from mutants.texts.reports import Row
+from running import has
 
 # The statements of a program, with two that stand twice.
 DAYS = [
@@ -249,113 +241,6 @@ class Pages(unittest.TestCase):
         has(self, page, "Killed by tests 1 and 3.", "no reason is given", "it &lt;is&gt;", "<del>9</del><ins>1</ins>")
         self.assertNotIn("ROR 2", page)
         self.assertEqual(declared_part(listed[1:2], rows[1:2], {3: "K=9"}, NOTHING), "")
-
-    def test_the_source_is_shown_as_its_file_has_it_and_what_is_told_stands_at_the_top(self) -> None:
-        job = json.dumps({"source": LEAST, "suite": [[1, 2, 0]], "equivalent": ["ROR 1"]}).encode()
-        printed, listed, told = (running.call_stand_in(command, job).decode() for command in ("print", "list", "run"))
-        said = Said(LEAST.replace("      K=I", "      k  = i"), {"ROR 1": "the same"}, ["not <declared>"])
-        analysed = Analysed(read_job(job), read_print(printed), read_list(listed)[1], read_report(told))
-        page = report_page(analysed, said=said)
-        has(self, page, "k  = i</span>", '<p class="warn">not &lt;declared&gt;</p>', "the same</span>")
-        self.assertLess(page.index("not &lt;declared"), page.index('<h2 id="program">'))
-        self.assertNotIn("      K=I</span>", page)
-
-
-class Declaring(unittest.TestCase):
-    """A program, a table of two tests, and the file of declarations, which is still to be made."""
-
-    def setUp(self) -> None:
-        room = tempfile.TemporaryDirectory()
-        self.addCleanup(room.cleanup)
-        self.program = Path(room.name, "least.f")
-        self.program.write_text(LEAST)
-        self.tests = Path(room.name, "tests.csv")
-        self.tests.write_text("1,2,0\n2,1,0\n")
-        self.file = Path(room.name, "least.equivalent.csv")
-
-    def declare(self, *words: object) -> running.Ended:
-        return run("declare", "--mothra", STAND_IN, self.program, *words)
-
-
-class Processes(Declaring):
-    """Here the program is called as it is."""
-
-    def test_a_unit_that_is_picked_has_a_file_of_its_own(self) -> None:
-        self.program.write_text(LEAST + LEAST.replace("LEAST", "GREAT").replace(".LT.", ".GT."))
-        own = self.file.with_name("least.great.equivalent.csv")
-        ended = self.declare("SDL", "1", "--unit", "GREAT", "--reason", "none")
-        self.assertEqual(ended, (0, f"{own}: 1 mutant declared, and 0 before\n", ""))
-        job = json.loads(run("job", "--mothra", STAND_IN, "--unit", "great", self.program)[1])
-        self.assertEqual(job["equivalent"], ["SDL 1"])
-        self.assertNotIn("equivalent", run("job", "--unit", "LEAST", self.program)[1])
-
-
-class Commands(Declaring):
-    def setUp(self) -> None:
-        super().setUp()
-        running.holds(self, running.without_processes())
-
-    def test_an_entry_has_its_texts_and_its_reason(self) -> None:
-        ended = self.declare("ror", "1", "--reason", "J and I are the same then")
-        self.assertEqual(ended, (0, f"{self.file}: 1 mutant declared, and 0 before\n", ""))
-        self.declare("SDL", "1", "--reason", "wrong")
-        rows = ["ROR 1,IF (J.LT.I) K=J,IF (J.LE.I) K=J,J and I are the same then,", "SDL 1,K=I,CONTINUE,wrong,"]
-        self.assertEqual(self.file.read_text().splitlines(), [",".join(COLUMNS), *rows])
-        refuses(self, self.declare("ROR 1", "--reason", "again"), "ROR 1 is declared already")
-        refuses(self, self.declare("ROR 8", "--reason", "none"), "there is no ROR 8: ROR has 7 mutants")
-        refuses(self, self.declare("ROR 2"), "--reason")
-        refuses(self, self.declare("ROR 2", "--renew"), "--renew alone")
-        self.assert_page_has_them()
-
-    def assert_page_has_them(self) -> None:
-        status, page, errors = run("page", "--mothra", STAND_IN, self.program, self.tests)
-        self.assertEqual((status, errors), (0, ""))
-        has(self, page, "J and I are the same then", "Killed by test 1.", '<h2 id="declared">Declared equivalent</h2>')
-        has(self, page, "<b>Wrongly declared equivalent:</b> SDL 1.", "100.00 %")
-        tags = Tags(page)
-        self.assertEqual((tags.open, tags.wrong), ([], []))
-        job = json.loads(run("job", "--mothra", STAND_IN, self.program, self.tests)[1])
-        self.assertEqual(job["equivalent"], ["ROR 1", "SDL 1"])
-        self.assertNotIn("equivalent", run("job", "--undeclared", self.program, self.tests)[1])
-
-    def test_what_does_not_stand_there_any_more_is_told_and_not_declared(self) -> None:
-        self.file.write_text(
-            entries_text([Entry("ROR", 1, "IF (J.LT.I) K=J", "IF (J.LE.I) K=J"), Entry("SDL", 5, "K=I", "CONTINUE")])
-        )
-        self.program.write_text(LEAST.replace("LEAST", "GREAT").replace(".LT.", ".GT."))
-        status, out, errors = run("job", "--mothra", STAND_IN, self.program, self.tests)
-        self.assertEqual((status, json.loads(out)["equivalent"]), (0, ["SDL 1"]))
-        self.assertIn(
-            f"warning: {self.file}: 1 declared mutant found by the texts under a new number: SDL 5 is now SDL 1", errors
-        )
-        self.assertIn("ROR 1 is not declared: no statement is IF (J.LT.I) K=J any more", errors)
-        status, out, errors = self.declare("--renew")
-        self.assertEqual((status, out), (0, f"{self.file}: 1 of 2 entries with a new number\n"))
-        self.assertIn("ROR 1: no statement is", errors)
-        self.assertIn("\nSDL 1,K=I,CONTINUE,,\n", self.file.read_text())
-
-    def test_more_tests_than_a_job_takes_do_not_matter_to_declarations(self) -> None:
-        self.declare("ROR", "1", "--reason", "none")
-        self.tests.write_text("1,2,0\n" * 300)
-        made = made_of(self.program, self.tests)
-        meant = meant_for(made, self.program, None, lambda: str(STAND_IN))
-        self.assertEqual((len(made.suite), meant.names, meant.reasons), (300, ["ROR 1"], {"ROR 1": "none"}))
-
-    def test_a_bare_list_is_taken_with_a_warning_and_without_a_program(self) -> None:
-        bare = self.file.with_suffix(".json")
-        bare.write_text('["ROR 1"]')
-        status, out, errors = run("job", "--mothra", "there-is-none", self.program, self.tests)
-        self.assertEqual((status, json.loads(out)["equivalent"]), (0, ["ROR 1"]))
-        self.assertIn(f"warning: the bare numbers of {bare} are not tied to the program", errors)
-
-    def test_the_reasons_of_a_stored_job(self) -> None:
-        job = self.file.with_name("job.json")
-        self.declare("ROR 1", "--reason", "they are the same")
-        job.write_text(run("job", "--mothra", STAND_IN, self.program, self.tests)[1])
-        page = run("page", "--mothra", STAND_IN, "--equivalent", self.file, job)[1]
-        has(self, page, "they are the same")
-        has(self, run("page", "--mothra", STAND_IN, job)[1], "no reason is given")
-        refuses(self, run("page", "--mothra", STAND_IN, "--unit", "A", job), "is taken for a job")
 
 
 if __name__ == "__main__":

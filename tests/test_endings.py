@@ -6,14 +6,11 @@ import signal
 import subprocess
 import unittest
 from contextlib import redirect_stderr
-from functools import partial
-from pathlib import Path
 from unittest import mock
 
 import running
 from mutants import statuses
 from mutants.ending import ended_by_signals
-from room import Room
 from running import ROOT
 
 
@@ -35,30 +32,7 @@ class Pipes(unittest.TestCase):
             self.assertEqual(self.ended(subprocess.STDOUT, "job", "gone.f")[0], statuses.FAULT)
 
 
-SLOW = f"""\
-#!/bin/sh
-[ "$1" = run ] && {{ echo $$ > pid; touch begun; exec sleep 60; }}
-exec {running.STAND_IN} "$@"
-"""
-
-
-class Signals(Room):
-    def test_what_was_begun_ends_too_and_no_file_is_left(self) -> None:
-        self.put("slow", SLOW).chmod(0o755)
-        words = running.words_of("check", ["--mothra", self.folder / "slow", self.program, self.tests])
-        for number in (signal.SIGTERM, signal.SIGHUP):
-            with self.subTest(number.name):
-                (self.folder / "begun").unlink(missing_ok=True)
-                # These tests may be run where it is ignored, as by nohup.
-                take = partial(signal.signal, number, signal.SIG_DFL)
-                with subprocess.Popen(words, cwd=self.folder, stderr=subprocess.DEVNULL, preexec_fn=take) as begun:
-                    self.assertTrue(running.waited_for((self.folder / "begun").exists, 60))
-                    begun.send_signal(number)
-                    self.assertEqual(begun.wait(60), statuses.BY_SIGNAL + number)
-                with self.assertRaises(ProcessLookupError):
-                    os.kill(int((self.folder / "pid").read_text()), 0)
-                self.assertEqual(self.names(), ["begun", "least.f", "pid", "slow", "tests.csv"])
-
+class Signals(unittest.TestCase):
     def test_what_is_ignored_stays_so(self) -> None:
         for number, how in ((signal.SIGHUP, signal.SIG_IGN), (signal.SIGTERM, signal.SIG_DFL)):
             self.addCleanup(signal.signal, number, signal.signal(number, how))
@@ -66,18 +40,6 @@ class Signals(Room):
             self.assertEqual(signal.getsignal(signal.SIGHUP), signal.SIG_IGN)
             self.assertNotEqual(signal.getsignal(signal.SIGTERM), signal.SIG_DFL)
         self.assertEqual(signal.getsignal(signal.SIGTERM), signal.SIG_DFL)
-
-
-class WithoutHome(Room):
-    def test_a_user_without_a_home_and_a_name_has_no_caches_and_all_else(self) -> None:
-        gone = mock.patch.object(Path, "home", side_effect=RuntimeError("Could not determine home directory."))
-        with mock.patch.dict(os.environ, {"XDG_CACHE_HOME": "", "MOTHRA": str(running.STAND_IN)}), gone:
-            with running.without_processes():
-                status, out, errors = running.run("check", "--no-page", self.program, self.tests)
-            refused = running.run("unproved", "mothra")
-        self.assertEqual((status, errors), (0, ""))
-        self.assertIn("15 of 16 mutants killed", out)
-        running.refuses(self, (refused[0], refused[1], refused[2].split("\n", 1)[-1]), "XDG_CACHE_HOME names one")
 
 
 class Skipping(unittest.TestCase):

@@ -1,28 +1,16 @@
-"""The sweep over proved mutants: its rows, the programs that it makes, and what it tells."""
+"""The sweep over proved mutants: its rows, and the programs that it makes."""
 
-import os
 import re
-import tempfile
 import unittest
-from collections.abc import Sequence
 from itertools import islice
-from pathlib import Path
 from random import Random
-from unittest import mock
 
-import running
-from developing import equivalents_sweep as equivalence
+import running  # noqa: F401  it finds the package
 from developing.robustness.edges import edges_of, rows_for
 from developing.robustness.programs import program_of
-from mutants import statuses
 from mutants.jobs.cells import GREATEST, LEAST
-from mutants.suggestions.asking import Asker
-from mutants.suggestions.shapes import Row
 from mutants.texts.cards import action_at, cards_of, source_lines
 from mutants.texts.dummies import read_unit
-from mutants.texts.lines import Mutant
-from mutants.texts.proofs import Proof
-from running import PROVER, STAND_IN, LEAST as SOURCE, run
 
 JUMPS = re.compile(r"GOTO(\d+)|GOTO\(([\d,]+)\)|\)(\d+,\d+,\d+)$")
 
@@ -85,60 +73,6 @@ class Programs(unittest.TestCase):
         labels = [card.label for card in cards if card.label]
         self.assertEqual((depth, loops, len(set(labels))), (0, [], len(labels)), source)
         self.assertLessEqual({label for card in cards for label in labels_in(card.text)}, outside, source)
-
-
-class Sweeps(unittest.TestCase):
-    def setUp(self) -> None:
-        room = tempfile.TemporaryDirectory()
-        self.addCleanup(room.cleanup)
-        self.program = Path(room.name, "least.f")
-        self.program.write_text(SOURCE)
-
-    def sweep(self, proved: str, *words: object) -> running.Ended:
-        with mock.patch.dict(os.environ, {"PROVED": proved}), running.without_processes():
-            return run("equivalents-sweep", "--tests", "40", *words, STAND_IN, PROVER, self.program)
-
-    def test_an_equivalent_mutant_is_not_killed(self) -> None:
-        told = "least.f: 16 mutants, 1 proved (SAME 1), 40 tests, 0 killed\n"
-        told += "no mutant is killed that is proved equivalent\n"
-        self.assertEqual(self.sweep("ROR 1=SAME", "--programs", "0"), (statuses.SUCCESS, told, ""))
-
-    def test_one_that_is_killed_is_told_with_the_test(self) -> None:
-        status, out, _ = self.sweep("ROR 1=SAME,SDL 2=UNREAD", "--programs", "0")
-        self.assertEqual(status, statuses.FAULT)
-        self.assertRegex(out, r"2 proved \(SAME 1, UNREAD 1\), 40 tests, [12] killed\n")
-        self.assertRegex(out, r"\nleast.f: SDL 2 2 UNREAD LINE 4 CONTINUE: killed by \[.*\] with --steps 10000\n")
-
-    def test_one_with_steps_to_spare_has_to_live_where_it_has_that_room(self) -> None:
-        status, out, _ = self.sweep("SDL 2=SPARE-1", "--programs", "0")
-        self.assertEqual(status, statuses.FAULT)
-        self.assertRegex(out, r"1 proved \(SPARE-1 1\), 40 tests, 1 killed\n")
-        self.assertRegex(out, r"\nleast.f: SDL 2 2 SPARE-1 LINE 4 CONTINUE: killed by \[.*\] with --steps 10000\n")
-
-    def test_where_it_has_not_that_room_it_may_be_killed(self) -> None:
-        limits: list[int] = []
-
-        def within(asker: Asker, rows: Sequence[Row], steps: int) -> set[Row]:
-            limits.append(steps)
-            return set()
-
-        with mock.patch.object(equivalence, "within", within):
-            status, out, _ = self.sweep("ROR 1=SAME,SDL 2=SPARE-2", "--programs", "0")
-        self.assertEqual((status, limits[0]), (statuses.SUCCESS, equivalence.STEPS - 2))
-        self.assertIn(limits[1] + 2, equivalence.SMALL)
-        self.assertRegex(out, r"2 proved \(SAME 1, SPARE-2 1\), 40 tests, 0 killed\n")
-
-    def test_within_no_step_no_program_ends(self) -> None:
-        proof = Proof(Mutant("SDL", 2, 2, 4, "CONTINUE"), "SPARE-2")
-        with running.without_processes():
-            asker = equivalence.asker_of(equivalence.Case("least.f", SOURCE), [], [proof], str(STAND_IN))
-            found = [equivalence.within(asker, [(1, 2, 3)], steps) for steps in (-1, 0, 1)]
-        self.assertEqual(found, [set(), set(), {(1, 2, 3)}])
-
-    def test_a_made_program_that_is_refused_is_told_with_its_source(self) -> None:
-        status, out, _ = self.sweep("", "--programs", "1")
-        self.assertEqual(status, statuses.FAULT)
-        self.assertIn(f"program 1: mothra list: FAULT S2 1\n{program_of(1, 1)}", out)
 
 
 if __name__ == "__main__":

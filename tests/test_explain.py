@@ -2,10 +2,8 @@
 
 import json
 import re
-import tempfile
 import unittest
 from collections.abc import Callable, Iterator, Sequence
-from pathlib import Path
 from unittest import mock
 
 import running
@@ -16,10 +14,10 @@ from mutants.explanations.meanings import MEANINGS
 from mutants.explanations.told import explained
 from mutants.explanations.words import words_say
 from mutants.program.calling import Fault
-from running import STAND_IN, refuses, run
 
 FRONT, SUM, LAST = "      SUBROUTINE ADD(I,J,K)", "      K=I+J", "      END"
 CODE = r"[A-Z]\d+"
+JOB = {"source": f"{FRONT}\n      K=.TRUE.\n{LAST}\n", "suite": [[1, 2, 3]]}
 DETAILS = ["", "line", "label", "name", "key", "test", "value", "entry", "operator", "mutant"]
 
 
@@ -211,54 +209,19 @@ class Words(unittest.TestCase):
             self.assertIsNone(words_say(words.split(" ")))
 
 
-class Tool(unittest.TestCase):
-    def explain(self, job: object, *words: str, given: bytes = b"") -> running.Ended:
-        with tempfile.TemporaryDirectory() as folder:
-            path = Path(folder, "job.json")
-            path.write_bytes(job if isinstance(job, bytes) else json.dumps(job).encode())
-            return run("explain", "--mothra", STAND_IN, path, *words, given=given)
-
-    job = {"source": f"{FRONT}\n      K=.TRUE.\n{LAST}\n", "suite": [[1, 2, 3]]}
-
-    def test_a_line_that_was_given(self) -> None:
-        wanted = self.explain(self.job, "FAULT", "C4", "2")
-        self.assertEqual(wanted[0], 0)
-        self.assertTrue(wanted[1].startswith("FAULT C4 2\nINTEGER and LOGICAL do not agree"))
-        self.assertIn("     2 |       K=.TRUE.\n       |       ^^^^^^^^\n", wanted[1])
-        self.assertIn("ANSI X3.9-1978", wanted[1])
-        self.assertEqual(self.explain(self.job, "FAULT C4 2"), wanted)
-        self.assertEqual(self.explain(self.job, "-", given=b"FAULT C4 2\n"), wanted)
-
-    def test_the_program_is_run(self) -> None:
-        job = {"source": running.LEAST, "suite": [[1, 2]]}
-        self.assertIn("Test 1 is [1, 2].", self.explain(job)[1])
-        self.assertIn("Is ROR meant?", self.explain(job, "run", "--ops", "RO")[1])
-        self.assertEqual(self.explain({"source": running.LEAST}), (0, "There is no fault.\n", ""))
-
+class Told(unittest.TestCase):
     def test_every_code_is_explained_or_refused_in_one_line(self) -> None:
         details = {"": "", "name": " X", "key": " x", "operator": " ABS", "mutant": " ABS 1"}
         for code, meaning in MEANINGS.items():
             line = f"FAULT {code}{details.get(meaning.detail, ' 1')}"
             with self.subTest(line):
                 try:
-                    told = explained(line, json.dumps(self.job).encode(), None, [])
+                    told = explained(line, json.dumps(JOB).encode(), None, [])
                 except ValueError as fault:
                     self.assertIn("the fault is of another job", str(fault))
                 else:
                     self.assertTrue(told.startswith(f"{line}\n"))
                     self.assertIn("What to do: ", told)
-
-    def test_bad_input_is_one_line(self) -> None:
-        refuses(self, self.explain(self.job, "FAULT", "Z9"), "no line of a fault")
-        refuses(self, self.explain(self.job, "FAULT", "C4"), "no number of a line")
-        refuses(self, self.explain(self.job, "FAULT", "C4", "99"), "another job")
-        refuses(self, self.explain(b"[]", "FAULT", "J4", "1"), "another job")
-        refuses(self, self.explain(b"{", "FAULT", "C4", "2"), "JSON")
-        refuses(self, self.explain({"source": 1, "suite": 5}, "FAULT", "B3", "1"), "another job")
-        refuses(self, self.explain(self.job, "-", given=b"what\n"), "no line of a fault")
-        refuses(self, run("explain", "there-is-none"), "there-is-none: No such file")
-        refuses(self, run("explain", "--mothra", "there-is-none", running.example("euclid", ".json")), "no program")
-        self.assertEqual(run("explain", "--help")[0], 0)
 
 
 if __name__ == "__main__":

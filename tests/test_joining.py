@@ -1,25 +1,18 @@
 """Reports written back, and joined: of batches of tests, and of groups of operators, byte for byte."""
 
-import json
 import unittest
 
-import running
+import running  # noqa: F401  it finds the package
 from mutants.texts.joining import joined_batches, joined_operators
 from mutants.texts.report_lines import report_text
 from mutants.texts.reports import read_report
 from pieces import STORED, batch_of, group_of, stored
 
 
-def ran(suite: list[list[int]], *words: str, declared: tuple[str, ...] = ()) -> str:
-    """What the stand-in writes of a suite, which it runs in earnest."""
-    job = json.dumps({"source": running.LEAST, "suite": suite, "equivalent": declared}).encode()
-    return running.call_stand_in("run", job, *words).decode()
-
-
 class Written(unittest.TestCase):
     def test_what_is_read_is_written_back_byte_for_byte(self) -> None:
         self.assertIn("triangle-full", STORED)
-        for text in [*map(stored, STORED), ran([]), ran([[1, 2, 0]], declared=("ROR 1", "SDL 1"))]:
+        for text in map(stored, STORED):
             self.assertEqual(report_text(read_report(text)), text)
 
 
@@ -31,13 +24,6 @@ class Batches(unittest.TestCase):
                 with self.subTest(name, cuts=cuts):
                     batches = [batch_of(whole, *pair) for pair in zip(cuts, cuts[1:])]
                     self.assertEqual(report_text(joined_batches(batches)), stored(name))
-
-    def test_those_that_were_run_apart(self) -> None:
-        suite = [[5, n % 11, n] for n in range(23)]
-        for declared in ((), ("ROR 1", "SDL 2", "ROR 4")):
-            whole = ran(suite, declared=declared)
-            batches = [read_report(ran(suite[at : at + 5], declared=declared)) for at in range(0, 23, 5)]
-            self.assertEqual(report_text(joined_batches(batches)), whole)
 
     def test_refuses_those_of_other_mutants(self) -> None:
         whole = read_report(stored("euclid"))
@@ -62,14 +48,6 @@ class Groups(unittest.TestCase):
             self.assertEqual(report_text(joined_operators(groups)), stored(name))
             with self.assertRaises(ValueError):
                 joined_operators([groups[0], groups[1]._replace(unit="OTHER")])
-
-    def test_those_that_were_run_apart_in_batches(self) -> None:
-        suite = [[n % 3, n % 5, 9] for n in range(12)]
-        groups = []
-        for ops in ("AAR", "ROR,RSR", "SAN,SDL"):
-            batches = [read_report(ran(suite[at : at + 4], "--ops", ops)) for at in (0, 4, 8)]
-            groups.append(joined_batches(batches))
-        self.assertEqual(report_text(joined_operators(groups)), ran(suite))
 
 
 if __name__ == "__main__":

@@ -2,7 +2,6 @@
 
 import json
 import re
-import tempfile
 import unittest
 from pathlib import Path
 
@@ -17,7 +16,7 @@ from mutants.jobs.tables import Table, read_table, titles_of
 from mutants.jobs.units import units_of
 from mutants.texts.decoding import decoded
 from mutants.texts.tabs import without_tabs
-from running import LEAST, STAND_IN, refuses, run
+from running import LEAST, Folder, refuses, run
 
 SUM = """\
       SUBROUTINE SUM(N,X,JPNTR,LAST,K)
@@ -41,18 +40,7 @@ C     two
 """
 
 
-class Room(unittest.TestCase):
-    def setUp(self) -> None:
-        room = tempfile.TemporaryDirectory()
-        self.addCleanup(room.cleanup)
-        self.room = Path(room.name)
-        running.holds(self, running.without_processes())
-
-    def put(self, name: str, text: str | bytes) -> Path:
-        path = self.room / name
-        path.write_bytes(text if isinstance(text, bytes) else text.encode())
-        return path
-
+class Room(Folder):
     def made(self, source: str | bytes, table: str = "", wish: Wish = Wish(), ending: str = ".csv") -> Made:
         tests = self.put("tests" + ending, table) if table else None
         return made_of(self.put("program.f", source), tests, wish)
@@ -73,8 +61,6 @@ class Bytes(Room):
             self.assertTrue(is_program(Path(name)), name)
         for name in ("least.json", "least.f90", "least"):
             self.assertFalse(is_program(Path(name)), name)
-        page = run("page", "--mothra", STAND_IN, self.put("LEAST.FOR", LEAST.replace("\n", "\r\n")))
-        self.assertEqual((page[0], page[2]), (0, ""))
 
     def test_a_source_over_the_limit_is_told(self) -> None:
         with self.assertRaisesRegex(
@@ -165,13 +151,6 @@ class Units(Room):
         with self.assertRaisesRegex(ValueError, r"line 7 \(and 2 more\) has a tab"):
             self.made(source, wish=Wish("TWO"))
 
-    def test_a_page_shows_the_lines_of_the_unit_alone(self) -> None:
-        path = self.put("two.f", TWO + LEAST)
-        page = run("page", "--mothra", STAND_IN, "--unit", "LEAST", path)[1]
-        self.assertNotIn("SUBROUTINE TWO", page)
-        self.assertIn('<span class="number">10</span>', page)
-        self.assertNotIn('<span class="number">9</span>', page)
-
 
 class Sizes(Room):
     def test_the_values_of_the_option(self) -> None:
@@ -247,7 +226,7 @@ class Sizes(Room):
         source = "      SUBROUTINE A(X,K,Y)\n      INTEGER X(1),Y(1)\n      END\n"
         told = self.made(source, "1 2 3,1,4 5\n1 2 3,2,4 5\n").remarks
         more = "the tests have more elements than the bounds of X and Y say: --size X=3,Y=2 follows them"
-        self.assertEqual(told, [f"{self.room}/tests.csv: {more}"])
+        self.assertEqual(told, [f"{self.folder}/tests.csv: {more}"])
         self.assertEqual(self.made(source, "1 2 3,1,4 5\n", Wish(sizes={"X": 3, "Y": 2})).remarks, [])
         told = self.made(source, "[[[1],1,[2]],[[1,2],1,[2]]]", ending=".json").remarks
         self.assertIn("the bounds of X say: --size X=2 follows them", told[0])
@@ -261,7 +240,7 @@ class Sizes(Room):
         self.assertEqual(made.suite[0], [[1, 2, 0, 0], 1, [True, False], [5] * 4])
         self.assertEqual(made.suite[1], [[7, 7, 7, 0], 1, [False, True], [5] * 4])
         told = "rows with fewer elements than --size gives have 0 or F for those behind: P and X"
-        self.assertEqual(made.remarks, [f"{self.room}/tests.csv: {told}"])
+        self.assertEqual(made.remarks, [f"{self.folder}/tests.csv: {told}"])
         with self.assertRaisesRegex(ValueError, "row 1: Y has 3 elements, and its bounds with --size take 4"):
             self.made(source, "1 2,1,T,3*5\n", wish)
 

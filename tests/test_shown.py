@@ -1,57 +1,44 @@
-"""Names and cells with characters that a terminal obeys, or that are none of UTF-8 or XML; and hostile sources."""
+"""What reaches a terminal and a page: colours, characters that are obeyed, and that a hostile source is read soon."""
 
 import os
+import sys
 import time
 import unittest
 from unittest import mock
-from xml.etree import ElementTree
 
-import running
+from running import has
+from mutants import colours
 from mutants.explanations import also
 from mutants.pages.style import STYLE
 from mutants.texts.cards import cards_of
 from mutants.words import visible
-from room import Room
-from running import LEAST, has
-
-RED = "\x1b[31m"
 
 
-class Names(Room):
-    def name(self, name: str) -> None:
-        self.program = self.program.rename(self.folder / name)
-
-    def test_a_name_that_is_no_utf_8_fails_behind_no_work(self) -> None:
-        self.name(os.fsdecode(b"m\xfcller.f"))
-        files = {option: self.folder / option for option in ("json", "csv", "junit", "report")}
-        words = [word for option, path in files.items() for word in (f"--{option}", path)]
-        status, out, errors = self.check(*words)
-        self.assertEqual((status, errors), (0, ""))
-        for path in files.values():
-            path.read_text("utf-8")
-
-    def test_a_report_of_tests_is_well_formed(self) -> None:
-        self.name("a\x01<\x1b.f")
-        junit = self.folder / "junit.xml"
-        self.assertEqual(self.check("--no-page", "--junit", junit)[0], 0)
-        case = ElementTree.parse(junit).getroot().find(".//testcase")
-        self.assertTrue(case is not None and case.get("classname", "").endswith("a\ufffd<\ufffd.f"))
-
-    def test_no_escape_sequence_reaches_a_terminal(self) -> None:
-        self.name(f"{RED}x.f")
-        self.put("tests.csv", f"I,J,K,expect\n1,2,0,K=1{RED}\n2,1,0,K={RED}7\n")
-        for words in (["--all"], ["--no-page", "--equivalent", f"gone{RED}"]):
-            ended = self.check(*words)
-            self.assertNotIn("\x1b", ended[1] + ended[2])
-        self.program.write_text(f"{RED}\n{LEAST}")
-        with running.without_processes():
-            for tool, words in (("suggest", ["--rounds", "1"]), ("explain", []), ("page", []), ("job", [])):
-                ended = running.run(tool, "--mothra", running.STAND_IN, *words, self.program, self.tests)
-                self.assertNotIn("\x1b", ended[1] + ended[2], tool)
-        self.assertEqual(visible(f"a\t\n{RED}\r\udcff"), "a\t\n\ufffd[31m\ufffd\ufffd")
+class Characters(unittest.TestCase):
+    def test_those_that_are_obeyed_are_shown_as_one_sign(self) -> None:
+        self.assertEqual(visible("a\t\n\x1b[31m\r\udcff"), "a\t\n\ufffd[31m\ufffd\ufffd")
 
     def test_a_page_shows_where_a_deletion_ends(self) -> None:
         has(self, STYLE, "del + ins { margin-left:")
+
+
+class Colours(unittest.TestCase):
+    def test_they_are_for_terminals_alone_and_not_where_they_are_not_wanted(self) -> None:
+        for is_terminal, environment, has_some in (
+            (True, {}, True), (False, {}, False), (True, {"NO_COLOR": "1"}, False), (True, {"TERM": "dumb"}, False),
+        ):  # fmt: skip
+            with mock.patch.object(sys, "stdout") as out, mock.patch.dict(os.environ, {"TERM": "x", **environment}):
+                out.isatty.return_value = is_terminal
+                self.assertEqual(colours.painted("Score 1.00 %: x\n") != "Score 1.00 %: x\n", has_some)
+
+    def test_what_is_wrong_the_score_and_each_change(self) -> None:
+        told = "NOT AS EXPECTED: 1 test.\nScore 50.00 %: 1\n  ROR 1  I[.LT. -> .LE.]J\nline 4: x\n"
+        found = colours.coloured(told)
+        plain = found
+        for code in (colours.RED, colours.GREEN, colours.BOLD, colours.END):
+            plain = plain.replace(code, "")
+        self.assertEqual((plain, found.count("\x1b")), (told, 9))
+        has(self, found, "[\x1b[31m.LT.\x1b[0m -> \x1b[32m.LE.\x1b[0m]", "\x1b[1mScore 50.00 %\x1b[0m", "\nline 4: x\n")
 
 
 class Hostile(unittest.TestCase):

@@ -6,6 +6,7 @@ import running
 from mutants.texts.cards import Card, cards_of
 from mutants.texts.reports import read_report
 from mutants.texts.spans import Places, Span, change_of, placed, squeezed
+from mutants.texts.tabs import without_tabs, written_column
 
 
 def spliced(card: Card, span: Span, new: str) -> str:
@@ -72,6 +73,16 @@ class Positions(unittest.TestCase):
         card = cards_of("      DATA I,J/+01,2/\n")[0]
         span, new = placed(Places(card, "DATA I,J/1,2/"), "DATA I,J/1,2/", "DATA I,J/1,3/")
         self.assertEqual((span, new), (Span((1, 20), (1, 21)), "3"))
+
+
+class Columns(unittest.TestCase):
+    def test_each_character_has_its_own(self) -> None:
+        for line in ("\tK=I", "10\tK=I", "\t1+J", "     \tK", "      K\t=\tI", "     &\t+J", "      K=I", "\t\tK =\tJ"):
+            with self.subTest(line):
+                plain = without_tabs(line)
+                for column, character in enumerate(plain, 1):
+                    if character != " ":
+                        self.assertEqual(line[written_column(line, column) - 1], character)
 
 
 if __name__ == "__main__":

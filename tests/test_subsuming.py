@@ -3,12 +3,11 @@
 import itertools
 import unittest
 
+import running  # noqa: F401  it finds the package
 from mutants.operators import codes_in
 from mutants.texts.lines import Mutant
 from mutants.texts.reports import Row
 from mutants.texts.subsuming import least_sets, subsuming
-from room import Room
-from running import has
 
 
 def mutants_of(*told: str) -> tuple[list[Mutant], list[Row]]:
@@ -37,15 +36,6 @@ class Sets(unittest.TestCase):
         listed, rows = mutants_of("10", "00", "00")
         alike = [mutant._replace(text="K=0") for mutant in listed]
         self.assertEqual(subsuming(alike, rows).counted, (2, 1, 0))
-
-
-class Told(Room):
-    def test_the_check_and_the_page_tell_it(self) -> None:
-        out = self.check()[1]
-        told = "Where each mutant is left out that is killed whenever another is, it is 66.66 %: 2 of 3 mutants killed."
-        has(self, out, told)
-        page = (self.folder / "least.html").read_text()
-        has(self, page, f"<summary>{told}</summary>", "1 survivor, each program once")
 
     def test_sufficient_operators(self) -> None:
         self.assertEqual(codes_in("sufficient"), ["ABS", "AOR", "LCR", "ROR", "UOI"])

@@ -6,8 +6,10 @@ from typing import Any
 from unittest import mock
 
 import running
+from developing.suggestions import CASES
 from mutants.checks.checking import Checked
 from mutants.checks.running import Means
+from mutants.jobs.making import made_of
 from mutants.jobs.tables import Table
 from mutants.program.calling import Fault
 from mutants.suggestions import asking
@@ -329,6 +331,15 @@ class Lines(unittest.TestCase):
             ("x.json", Table([], [], {}, []), "[1, [1, 3, 5], true, [true, false]]"),
         ):
             self.assertEqual(layout_of(running.ROOT / name, table, names).line(SUITE[0]), line)
+
+
+class Cases(unittest.TestCase):
+    def test_each_has_tables_that_fit_it_and_a_start_that_is_less(self) -> None:
+        for case in CASES.values():
+            full = made_of(case.program, case.full)
+            start = full.suite[: case.start] if isinstance(case.start, int) else made_of(case.program, case.start).suite
+            self.assertEqual(full.remarks, [])
+            self.assertLess(len(start), len(full.suite))
 
 
 if __name__ == "__main__":

@@ -1,21 +1,18 @@
 """What else keeps a unit from being read: what is told first is taken out of a copy, and the program is asked again."""
 
-import json
 import re
-import tempfile
 import unittest
 from collections.abc import Iterable
-from pathlib import Path
 from unittest import mock
 
-import running
+import running  # noqa: F401  it finds the package
 from mutants.explanations import also
 from mutants.explanations.also import told_faults
 from mutants.explanations.copies import Copy
 from mutants.explanations.habits import Seen
 from mutants.explanations.sweep import Found, all_faults
 from mutants.texts.cards import cards_of
-from running import LEAST, STAND_IN, run
+from running import LEAST
 
 SOURCE = """\
       SUBROUTINE BAD(N,
@@ -163,87 +160,6 @@ class Notes(unittest.TestCase):
         self.assertEqual(told.count(", S2"), 10)
         self.assertTrue(told.endswith("\n3 more stand on the lines 12, 13 and 14.\n"
                                       "What is wrong beyond these can be told when they are mended.\n"))
-
-
-ASKED = """\
-#!/usr/bin/env -S python3 -S
-import json, sys
-source = json.load(sys.stdin)["source"].split("\\n")
-wrong = [number for number, line in enumerate(source, 1) if "CALL" in line]
-print(f"FAULT S2 {wrong[0]}" if wrong else "SDL 0\\nTOTAL 0")
-sys.exit(1 if wrong else 0)
-"""
-
-
-class Tool(unittest.TestCase):
-    def setUp(self) -> None:
-        room = tempfile.TemporaryDirectory()
-        self.addCleanup(room.cleanup)
-        self.room = Path(room.name)
-        self.program = self.room / "a.f"
-        self.mothra = self.room / "mothra"
-        self.mothra.write_text(ASKED)
-        self.mothra.chmod(0o755)
-        running.holds(self, running.without_processes())
-
-    def explain(self, *words: object) -> running.Ended:
-        return run("explain", "--mothra", self.mothra, *words)
-
-    def test_all_that_is_in_the_way_of_a_program_is_told(self) -> None:
-        self.program.write_text(
-            "      SUBROUTINE A(I)\n      CALL X\n      I=1\n      CALL Y\n      CALL Z\n      END\n"
-        )
-        status, out, errors = self.explain(self.program)
-        self.assertEqual((status, errors), (0, ""))
-        self.assertTrue(out.startswith("FAULT S2 2\n"))
-        told = out.partition("What else keeps the unit from being read (2), the first fault taken out:\n")[2]
-        self.assertEqual(told.split("\n")[0], "  line 4, S2: CALL Y (as on line 2)")
-        self.assertEqual(told.split("\n")[1], "  line 5, S2: CALL Z (as on line 2)")
-        self.assertNotIn("beyond these", out)
-
-    def test_the_lines_are_those_of_the_file_whatever_the_job_has(self) -> None:
-        self.program.write_text(LEAST + "      SUBROUTINE B(N,X)\n      INTEGER   X(N)\n      CALL X\n      END\n")
-        out = self.explain("--unit", "B", "--size", "N=3", self.program)[1]
-        self.assertIn("     8 |       CALL X\n       |       ^^^^^^\n", out)
-        self.assertNotIn("What else", out)
-
-    def test_a_job_and_a_given_line(self) -> None:
-        job = self.room / "job.json"
-        job.write_text(json.dumps({"source": "      SUBROUTINE A\n      CALL X\n      CALL Y\n      END\n"}))
-        self.assertIn("  line 3, S2: CALL Y (as on line 2)\n", self.explain(job)[1])
-        self.assertNotIn("CALL Y", self.explain(job, "FAULT", "S2", "2")[1])
-
-    def test_options_stand_in_front(self) -> None:
-        self.program.write_text(LEAST)
-        for words in (["--unit", "A"], ["tests.csv", "--size", "N=1"]):
-            running.refuses(self, self.explain(self.program, *words), "stands behind", "options come before it")
-        self.assertIn("There is no fault.", self.explain(self.program, "list", "--ops", "SDL")[1])
-
-    def test_free_form_is_told(self) -> None:
-        free = self.room / "a.f90"
-        free.write_text(LEAST)
-        running.refuses(self, self.explain(free), "free form is not read")
-        running.refuses(
-            self, self.explain(self.mothra), "it is no job in JSON, and the name of a program ends in .f, .for"
-        )
-        self.program.write_text("SUBROUTINE A(I)\n")
-        told = self.explain(self.program, "FAULT", "F5", "1")[1]
-        self.assertIn("It begins before column 7, as in free form", told)
-
-    def test_a_table_and_declarations_beside(self) -> None:
-        self.program.write_text(LEAST)
-        tests = self.room / "tests.csv"
-        tests.write_text("K,I,J\n0,1,2\n0,1,2\n")
-        (self.room / "a.equivalent.csv").write_text("mutant,before,after\nROR 1,IF (J.LT.I) K=J,IF (J.LE.I) K=J\n")
-        self.assertEqual(run("explain", "--mothra", STAND_IN, self.program, tests), (0, "There is no fault.\n", ""))
-        told = run("explain", "--mothra", STAND_IN, self.program, tests, "exec", "--test", "3")[1]
-        self.assertIn("FAULT J8 3\n", told)
-        tests.write_text("K,I,J\n0,1,2\n\n0,T,2\n")
-        told = run("explain", "--mothra", STAND_IN, self.program, tests)[1]
-        self.assertIn("Value 1 is true, for I (INTEGER).", told)
-        self.assertIn("\nTest 2 stands in row 4 of its table.\n", told)
-        self.program.write_text(LEAST.replace("LEAST", "OTHER").partition("\n")[2])
-        self.assertTrue(run("explain", "--mothra", STAND_IN, self.program, tests)[1].startswith("FAULT S2 1\n"))
 
 
 if __name__ == "__main__":

@@ -1,50 +1,44 @@
-"""The command with the programs that were proved: what it tells is what their reports say, and the small program of the
-other tests answers as they do."""
+"""The command with the programs that were proved: what it tells is what their reports say."""
 
-import csv
 import json
 import subprocess
-import tempfile
 import unittest
-from pathlib import Path
 
-import proved
-from mutants.statuses import BELOW, FAULT, SUCCESS, UNEXPECTED
+from proved import EQUIVALENTS, MOTHRA, OPS, mutants, said
+from mutants.statuses import BELOW, FAULT, SUCCESS
 from mutants.texts.reports import read_report, score_of, summed
-from proved import MOTHRA, mutants
-from running import LEAST, call_stand_in, example, has
+from running import LEAST, Folder, example, has
 
-GREAT = LEAST.replace("LEAST", "GREAT").replace(".LT.", ".GT.")
-OPS = "ROR,RSR,SAN,SDL,AAR"
-FUNCTION = "      INTEGER FUNCTION IADD(I,J)\n      IADD=I+J\n      END\n"
+# By the definitions of the four operators: each other relation and both truth values; RETURN, a trap and CONTINUE for
+# each statement, and for the statement of the IF.
+MUTANTS = """\
+ROR 7
+ROR 1 1 LINE 4 IF (J.LE.I) K=J
+ROR 2 2 LINE 4 IF (J.EQ.I) K=J
+ROR 3 3 LINE 4 IF (J.NE.I) K=J
+ROR 4 4 LINE 4 IF (J.GE.I) K=J
+ROR 5 5 LINE 4 IF (J.GT.I) K=J
+ROR 6 6 LINE 4 IF (.TRUE.) K=J
+ROR 7 7 LINE 4 IF (.FALSE.) K=J
+RSR 3
+RSR 1 1 LINE 3 RETURN
+RSR 2 2 LINE 4 RETURN
+RSR 3 3 LINE 4 IF (J.LT.I) RETURN
+SAN 3
+SAN 1 1 LINE 3 TRAP
+SAN 2 2 LINE 4 TRAP
+SAN 3 3 LINE 4 IF (J.LT.I) TRAP
+SDL 3
+SDL 1 1 LINE 3 CONTINUE
+SDL 2 2 LINE 4 CONTINUE
+SDL 3 3 LINE 4 IF (J.LT.I) CONTINUE
+TOTAL 16
+"""
 
 
-class Folder(unittest.TestCase):
-    def setUp(self) -> None:
-        room = tempfile.TemporaryDirectory()
-        self.addCleanup(room.cleanup)
-        self.folder = Path(room.name)
-
-    def put(self, name: str, text: str) -> Path:
-        path = self.folder / name
-        path.parent.mkdir(parents=True, exist_ok=True)
-        path.write_text(text)
-        return path
-
-
-class StandIn(unittest.TestCase):
-    def test_the_small_program_answers_as_the_proved_one(self) -> None:
-        suites: list[object] = [[], [[1, 2, 0]], [[1, 2, 0], [2, 1, 0], [-3, -3, 7]], [[1, 2]], [[True, 2, 0]]]
-        calls = ["print", f"list --ops {OPS}", "list --ops SDL,ROR", "exec --test 1", "exec --test 3",
-                 f"run --ops {OPS}", "run --ops SDL --workers 2", "list --ops XYZ"]  # fmt: skip
-        pairs = [(source, suite) for source in (LEAST, GREAT) for suite in suites]
-        jobs = [json.dumps({"source": source, "suite": suite}).encode() for source, suite in pairs]
-        for job in [*jobs, b"{", b"[]", b'{"suite":[]}']:
-            for call in calls:
-                with self.subTest(call, job=job):
-                    ended = subprocess.run([MOTHRA, *call.split()], input=job, capture_output=True)
-                    words = call.split()
-                    self.assertEqual(ended.stdout, call_stand_in(words[0], job, *words[1:]))
+class Least(unittest.TestCase):
+    def test_the_mutants_of_the_subroutine_of_these_tests(self) -> None:
+        self.assertEqual(said("list", json.dumps({"source": LEAST}).encode(), "--ops", OPS), MUTANTS)
 
 
 class Examples(Folder):
@@ -52,7 +46,7 @@ class Examples(Folder):
         for name in ("euclid", "closure", "triangle-weak", "date"):
             program, report = example(name.split("-")[0], ".f"), self.folder / "report"
             tests = example(name, ".suite.json") if name != "date" else example(name, ".csv")
-            status, out, errors = mutants("check", "--no-page", "--report", report, program, tests)
+            status, out, errors = mutants("check", "--no-page", "--report", report, program, tests, ops="")
             stored = example(name, ".report").read_text()
             count = summed(read_report(stored).counts.values())
             self.assertEqual((status, report.read_text()), (SUCCESS, stored), errors)
@@ -62,7 +56,7 @@ class Examples(Folder):
 
     def test_what_is_proved_equivalent_does_not_count(self) -> None:
         words = ("--ops", "ROR", "--no-page", example("date", ".f"), example("date", ".csv"))
-        status, out, errors = mutants("check", *words, proofs=True)
+        status, out, errors = mutants("check", *words, proofs=EQUIVALENTS)
         self.assertEqual(status, SUCCESS, errors)
         has(self, out, "As expected on 17 tests.\n", "Score 93.68 %: 89 of 95 mutants killed", "90.81 %: 89 of 98")
 
@@ -73,63 +67,7 @@ class Examples(Folder):
         has(self, page.read_text(), "90.81", "89 of 98", "<h1", "IDAY.LE.28")
 
 
-class Tables(Folder):
-    def setUp(self) -> None:
-        super().setUp()
-        self.program = self.put("least.f", LEAST)
-
-    def test_what_the_program_does_now_is_approved_and_told_where_it_changes(self) -> None:
-        table = self.put("least.csv", "I,J,K,expect\n1,2,0,\n2,1,0,\n")
-        self.assertEqual(mutants("approve", self.program, table)[0], SUCCESS)
-        self.assertEqual([row["expect"] for row in csv.DictReader(table.read_text().splitlines())], ["1 2 1", "2 1 1"])
-        self.program.write_text(GREAT)
-        status, out, _ = mutants("check", "--no-page", self.program, table)
-        self.assertEqual(status, UNEXPECTED)
-        has(self, out, "NOT AS EXPECTED")
-
-    def test_suggested_rows_kill_what_they_say(self) -> None:
-        table, more = self.put("least.csv", "I,J,K\n1,2,0\n"), self.folder / "more.csv"
-        call = ("suggest", "--ops", OPS, "--rounds", "1", "--table", more, self.program, table)
-        self.assertEqual(mutants(*call)[0], SUCCESS)
-        report = self.folder / "report"
-        mutants("check", "--ops", OPS, "--no-page", "--report", report, self.program, more)
-        alive = [row for row in read_report(report.read_text()).rows if row.status == "S"]
-        # J.LE.I differs where both are the same, and K is the same then.
-        self.assertEqual([(row.op, row.place) for row in alive], [("ROR", 1)])
-
-    def test_a_declared_mutant_does_not_count_and_is_told_where_a_test_kills_it(self) -> None:
-        table = self.put("least.csv", "I,J,K\n1,2,0\n2,1,0\n")
-        self.assertEqual(mutants("declare", self.program, "ROR", "1", "--reason", "the same then")[0], SUCCESS)
-        has(self, mutants("check", "--ops", OPS, "--no-page", self.program, table)[1], "15 of 15 mutants killed")
-
-    def test_each_student_of_a_class_has_the_score_of_the_own_suite(self) -> None:
-        for student, text in {"ada": "1,2,0\n", "grace": "1,2,0\n2,1,0\n"}.items():
-            self.put(f"suites/{student}.csv", text)
-        wanted = {}
-        for student in ("ada", "grace"):
-            suite = self.folder / "suites" / f"{student}.csv"
-            out = mutants("check", "--no-page", self.program, suite)[1]
-            wanted[student] = out.partition("Score ")[2].partition(" %")[0]
-        status, out, errors = mutants("course", self.folder)
-        self.assertEqual(status, SUCCESS, errors)
-        rows = list(csv.reader((self.folder / "out" / "course.csv").read_text().splitlines()))
-        for student, score in wanted.items():
-            (row,) = [row for row in rows if student in row]
-            self.assertIn(score, row)
-        self.assertNotEqual(*wanted.values())
-
-
 class Faults(Folder):
-    def test_what_is_no_subroutine_of_the_language_is_told_in_words(self) -> None:
-        table = self.put("t.csv", "1,2,3\n")
-        program, cut = "      PROGRAM P\n      END\n", LEAST.replace("END\n", "X=1.5\n")
-        for text, told in {FUNCTION: "FUNCTION", "": "", program: "PROGRAM", cut: ""}.items():
-            with self.subTest(text):
-                ended = mutants("check", "--no-page", self.put("p.f", text), table)
-                self.assertEqual((ended[0], ended[1]), (FAULT, ""))
-                self.assertIn("p.f", ended[2])
-                self.assertIn(told, ended[2])
-                self.assertNotIn("Traceback", ended[2])
 
     def test_a_test_on_which_the_program_fails_is_told(self) -> None:
         program = self.put("d.f", "      SUBROUTINE D(I,K)\n      K=10/I\n      END\n")
@@ -145,7 +83,7 @@ class Faults(Folder):
 
 class Programs(unittest.TestCase):
     def test_they_are_there(self) -> None:
-        for program in (MOTHRA, proved.EQUIVALENTS):
+        for program in (MOTHRA, EQUIVALENTS):
             self.assertEqual(subprocess.run([program, "--help"], capture_output=True).returncode, SUCCESS)
 
 

@@ -3,12 +3,14 @@
     tools/slips [--count N] [--seed S] [--jobs N]
 
 A slip is what a tired hand does: another comparison, sum or connective, True for False, a number larger by one, a `not`
-more. Each is made in a copy of the repository, and the tests that need no program are run there until one fails. A line
-tells each, with the test that catches it; the last line counts both.
+more. Each is made in a copy of the repository, and the tests are run there until one fails: those that need no program,
+and behind them those with mothra and equivalents where these are found. A line tells each slip, with the test that
+catches it; the last line counts both.
 """
 
 import argparse
 import ast
+import os
 import re
 import shutil
 import subprocess
@@ -18,6 +20,8 @@ from concurrent.futures import ThreadPoolExecutor
 from pathlib import Path
 from random import Random
 
+from mutants.program.finding import find_equivalents, find_program_if_any
+from mutants.program.programs import EQUIVALENTS, MOTHRA
 from mutants.program.roots import ROOT
 from mutants.statuses import SUCCESS
 from mutants.words import number_from_1
@@ -47,6 +51,21 @@ def slipped(node: ast.AST) -> bool:
     return True
 
 
+def failed_in(copy: Path) -> str:
+    """The first test that fails in a copy of the repository; no text where none does."""
+    programs = {MOTHRA.variable: find_program_if_any(None), EQUIVALENTS.variable: find_equivalents(None)}
+    there = {name: path for name, path in programs.items() if path}
+    for folder in ["tests", "tests/programs"] if len(there) == 2 else ["tests"]:
+        call = [sys.executable, "-B", "-m", "unittest", "discover", "-f", "-s", folder]
+        try:
+            ended = subprocess.run(call, cwd=copy, env=os.environ | there, capture_output=True, text=True, timeout=SLOW)
+        except subprocess.TimeoutExpired:
+            return "no end"
+        if found := re.search(r"^(?:FAIL|ERROR): (\w+)", ended.stderr, re.M):
+            return found[1]
+    return ""
+
+
 def tried(seed: str) -> tuple[str, str]:
     """The slip of this seed, and the first test that catches it; no text where none does."""
     chance = Random(seed)
@@ -63,14 +82,8 @@ def tried(seed: str) -> tuple[str, str]:
             # The module has nothing to slip in: another one is taken.
             return tried(f"{seed}+")
         path.write_text(ast.unparse(tree), encoding="utf-8")
-        call = [sys.executable, "-B", "-m", "unittest", "discover", "-f", "-s", "tests"]
-        try:
-            said = subprocess.run(call, cwd=copy, capture_output=True, text=True, timeout=SLOW).stderr
-        except subprocess.TimeoutExpired:
-            said = "ERROR: no end"
-    failed = re.search(r"^(?:FAIL|ERROR): (\w+|no end)", said, re.M)
-    after = ast.unparse(node).partition("\n")[0]
-    return f"{path.relative_to(copy)}:{node.lineno}: {before[node]} -> {after}", failed[1] if failed else ""
+        after = ast.unparse(node).partition("\n")[0]
+        return f"{path.relative_to(copy)}:{node.lineno}: {before[node]} -> {after}", failed_in(copy)
 
 
 def add_words(parser: argparse.ArgumentParser) -> None:

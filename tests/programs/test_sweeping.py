@@ -1,0 +1,70 @@
+"""The sweep over proved mutants: none is killed, and one that is killed is told."""
+
+import unittest
+from collections.abc import Sequence
+from pathlib import Path
+from unittest import mock
+
+from proved import EQUIVALENTS, MOTHRA
+from room import Room
+from developing import equivalents_sweep as sweep
+from developing.robustness.programs import program_of
+from mutants import statuses
+from mutants.suggestions.asking import Asker
+from mutants.suggestions.shapes import Row
+from mutants.texts.lines import Mutant
+from mutants.texts.proofs import Proof
+from running import LEAST, Ended, run
+
+SDL_2 = "EQUIVALENT SDL 2 2 {} LINE 4 CONTINUE"
+
+
+class Sweeps(Room):
+    def sweep(self, *words: object, mothra: object = MOTHRA, proofs: object = EQUIVALENTS) -> Ended:
+        return run("equivalents-sweep", "--tests", "40", "--jobs", "1", *words, mothra, proofs, self.program)
+
+    def wrong(self, why: str) -> Path:
+        """A program that calls a mutant equivalent which a test kills."""
+        return self.put_program("wrong", f"#!/bin/sh\nprintf '{SDL_2.format(why)}\\nPROVED 1 OF 2\\n'\n")
+
+    def test_an_equivalent_mutant_is_not_killed(self) -> None:
+        status, out, errors = self.sweep("--programs", "2")
+        self.assertEqual((status, errors), (statuses.SUCCESS, ""))
+        self.assertRegex(out, r"^least\.f: \d+ mutants, \d+ proved \(\w+ .*\), \d+ tests, 0 killed\n2 made programs: ")
+        self.assertTrue(out.endswith("\nno mutant is killed that is proved equivalent\n"), out)
+
+    def test_one_that_is_killed_is_told_with_the_test(self) -> None:
+        for why in ("UNREAD", "SPARE-1"):
+            status, out, _ = self.sweep("--programs", "0", proofs=self.wrong(why))
+            self.assertEqual(status, statuses.FAULT)
+            self.assertIn(f" 1 proved ({why} 1), 40 tests, 1 killed\n", out)
+            self.assertRegex(out, rf"\nleast.f: SDL 2 2 {why} LINE 4 CONTINUE: killed by \[.*\] with --steps 10000\n")
+
+    def test_where_it_has_not_the_room_to_spare_it_may_be_killed(self) -> None:
+        limits: list[int] = []
+
+        def within(asker: Asker, rows: Sequence[Row], steps: int) -> set[Row]:
+            limits.append(steps)
+            return set()
+
+        with mock.patch.object(sweep, "within", within):
+            status, out, _ = self.sweep("--programs", "0", proofs=self.wrong("SPARE-2"))
+        self.assertEqual((status, limits[0]), (statuses.SUCCESS, sweep.STEPS - 2))
+        self.assertIn(limits[1] + 2, sweep.SMALL)
+
+    def test_within_no_step_no_program_ends(self) -> None:
+        proof = Proof(Mutant("SDL", 2, 2, 4, "CONTINUE"), "SPARE-2")
+        asker = sweep.asker_of(sweep.Case("least.f", LEAST), [], [proof], MOTHRA)
+        # LEAST takes two steps where J is not below I.
+        found = [sweep.within(asker, [(1, 2, 3)], steps) for steps in (-1, 0, 1, 9)]
+        self.assertEqual(found, [set(), set(), set(), {(1, 2, 3)}])
+
+    def test_a_made_program_that_is_refused_is_told_with_its_source(self) -> None:
+        refusing = self.wrapped("refusing", '[ "$1" = list ] && { echo FAULT S2 1; exit 1; }')
+        status, out, _ = self.sweep("--programs", "1", mothra=refusing)
+        self.assertEqual(status, statuses.FAULT)
+        self.assertIn(f"program 1: mothra list: FAULT S2 1\n{program_of(1, 1)}", out)
+
+
+if __name__ == "__main__":
+    unittest.main()
