@@ -147,7 +147,8 @@ FILES = {
     "sums/src/law.rt": LAW, "sums/specs/Sum.antt": SPEC, "sums/specs/Pair.antt": PAIR_SPEC,
     "sums/specs/Digits.antt": DIGITS, "sums/specs/Hidden.antt": HIDDEN_SPEC, "sums/specs/Lemma.antt": LEMMA,
     "sums/specs/Lib.antt": "pub mod Sum\n", "sums/proofs/Placed.antt": PROOF,
-    "mothra_app/src/lib.rt": SERVING, "mothra/src/main.rt": "use mothra_app::{Status, serve};\n", "sums_tests/src/lib.rt": TESTED,
+    "mothra_app/src/lib.rt": SERVING, "mothra/src/main.rt": "use mothra_app::{Status, serve};\n",
+    "sums_tests/src/lib.rt": TESTED,
 }  # fmt: skip
 
 

@@ -101,7 +101,8 @@ class Programs(NamedTuple):
 
 def asker_of(case: Case, printed: list[str], proofs: Sequence[Proof], mothra: str) -> Asker:
     """What asks which of the mutants that are proved are killed."""
-    report = Report("", 0, STEPS, 1, dict.fromkeys(sorted({proof.mutant.op for proof in proofs}), Count(0, 0, 0)), [], [])
+    ops = sorted({proof.mutant.op for proof in proofs})
+    report = Report("", 0, STEPS, 1, dict.fromkeys(ops, Count(0, 0, 0)), [], [])
     checked = Checked(Job(case.source, []), printed, {}, [], report, report, [], [], [])
     return Asker(checked, [proof.mutant for proof in proofs], Means(mothra, workers="1"), Clock(None))
 

@@ -259,11 +259,11 @@ def judged_run(compared: Compared, mutant: Mutant, test: int, original: Outcome,
     return judgement, f"{mutant.name} LINE {mutant.line} {mutant.text}: test {test} has bit {bit}, gfortran: {told}"
 
 
-def compare_batch(compared: Compared, mutants: Sequence[Mutant], folder: Path, pool: ThreadPoolExecutor) -> list[Judged]:
+def compare_batch(compared: Compared, batch: Sequence[Mutant], folder: Path, pool: ThreadPoolExecutor) -> list[Judged]:
     """How each run of some mutants compares, in one program; or of the program, where there are none."""
     dummies = read_unit(json.loads(compared.job)["source"])[1]
-    units = [f"unit_{number}" for number in range(len(mutants) + 1)]
-    sources = [source_of(compared.cards, unit, mutant) for unit, mutant in zip(units, [None, *mutants])]
+    units = [f"unit_{number}" for number in range(len(batch) + 1)]
+    sources = [source_of(compared.cards, unit, mutant) for unit, mutant in zip(units, [None, *batch])]
     (folder / "driver.f90").write_text(driver_of(units, dummies, compared.tests, ["call limit_time"], ROUTINES))
     refused = compile_units(folder, sources)
     if 0 in refused:
@@ -277,9 +277,9 @@ def compare_batch(compared: Compared, mutants: Sequence[Mutant], folder: Path, p
         if place == 0:
             return judged_program(compared, test, originals[test - 1])
         outcome = outcome_of(folder, place + 1, test)
-        return judged_run(compared, mutants[place - 1], test, originals[test - 1], outcome)
+        return judged_run(compared, batch[place - 1], test, originals[test - 1], outcome)
 
-    pairs = [(place, test) for place in range(min(len(mutants), 1), len(units)) for test in numbers]
+    pairs = [(place, test) for place in range(min(len(batch), 1), len(units)) for test in numbers]
     return list(pool.map(judge, *zip(*pairs))) if pairs else []
 
 
