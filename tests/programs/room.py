@@ -3,7 +3,6 @@
 from pathlib import Path
 from unittest import mock
 
-import proved
 import running
 from mutants import progress
 from proved import MOTHRA, OPS, mutants
@@ -35,7 +34,7 @@ class Room(Folder):
 
     def wrapped(self, name: str, *lines: str) -> Path:
         """A program that is mothra but for what these lines of a shell do first."""
-        return self.put_program(name, "\n".join(["#!/bin/sh", *lines, f'exec {proved.MOTHRA} "$@"', ""]))
+        return self.put_program(name, "\n".join(["#!/bin/sh", *lines, f'exec "{MOTHRA}" "$@"', ""]))
 
 
 def without_progress(errors: str) -> str:

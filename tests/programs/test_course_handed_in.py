@@ -92,13 +92,13 @@ class HandedIn(Class):
 
     def test_a_link_is_refused_and_shows_nothing(self) -> None:
         secret = self.folder.parent / "secret.csv"
-        secret.write_text("mine alone\n")
+        secret.write_text("mine\n")
         (self.suites / "bert.csv").symlink_to(secret)
         self.course()
         self.assertIn("it is a link", self.assert_anna_stands()["bert"]["told"])
         for path in self.folder.rglob("*"):
             if path.is_file() and not path.is_symlink():
-                self.assertNotIn("mine alone", path.read_text())
+                self.assertNotIn("mine", path.read_text())
 
     def test_no_cell_is_a_formula(self) -> None:
         self.hand_in({"=1+1.csv": "1,2,0\n", "@x.csv": "1\n"})
