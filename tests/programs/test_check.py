@@ -31,6 +31,7 @@ Each test kills a mutant that no other test kills.
 The page: {page}
 Which mutants can be proved equivalent was not asked: --no-proofs was given.
 """
+CALL = "      SUBROUTINE OTHER(I,J,K)\n      CALL X\n      END\n"
 
 
 class Told(Room):
@@ -135,7 +136,7 @@ class Choices(Room):
         has(self, out, f"Left out: 3 mutants of statements that are the same in {old}.")
         same = self.put("same.f", "C\n" + LEAST.replace("K=I", "K = I"))
         self.assertIn("Left out: 16 mutants", self.check("--no-page", "--changed", same)[1])
-        refuses(self, self.check("--changed", self.put("bad.f", "      END\n")), "bad.f, line 1: ", "FAULT S2 1")
+        refuses(self, self.check("--changed", self.put("bad.f", CALL)), "bad.f, line 2: ", "FAULT S2 2")
 
     def test_the_page_says_what_was_left_out(self) -> None:
         self.check("--lines", "3")
@@ -190,8 +191,8 @@ class Ends(Room):
             refuses(self, self.check("--equivalent", self.put("names.json", wrong)), "names.json")
         refuses(self, self.check("--page", self.folder / "none" / "x.html"), "there is no folder")
         refuses(self, self.check(program=Path("gone")), "no program gone")
-        self.put("least.f", "      SUBROUTINE OTHER(I,J,K)\n")
-        refuses(self, self.check(), "least.f, line 1: ", "FAULT S2 1", "SUBROUTINE OTHER")
+        self.put("least.f", CALL)
+        refuses(self, self.check(), "least.f, line 2: ", "FAULT S2 2", "CALL X")
         self.assertEqual(self.names(), ["least.f", "names.json", "tests.csv"])
 
     def test_a_part_that_fails_ends_it(self) -> None:

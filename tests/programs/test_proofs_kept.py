@@ -64,14 +64,14 @@ class Kept(Room):
             self.assertEqual(self.whys("ROR,SDL", source=LOOP), ["UNREAD", "SPARE-1"])
             self.assertEqual(self.asked, [["--ops", "ROR,SDL"], ["--ops", "SDL"]])
         # This test leaves no room for a step more.
-        self.assertEqual(self.whys("ROR,SDL", "--steps", "60", source=LOOP, suite=[[50, 0]]), ["UNREAD"])
+        self.assertEqual(self.whys("ROR,SDL", "--steps", "60", source=LOOP, suite=[[100, 0]]), ["UNREAD"])
         self.assertEqual(self.asked[2:], [["--ops", "ROR,SDL", "--steps", "60"], ["--steps", "60", "--ops", "SDL"]])
 
     def test_another_program_is_asked_for_itself(self) -> None:
-        other = self.put("other", Path(EQUIVALENTS).read_bytes())
+        other = self.put("other", Path(EQUIVALENTS).read_bytes() + b"another build")
         self.whys()
         with self.assertRaises(ValueError):
-            Prover(str(other)).found([], Job(SURE, []))
+            Prover(str(other)).found(["--ops", "SDL"], Job(SURE, []))
         self.assertEqual(len(self.asked), 2)
 
     def test_a_damaged_entry_is_made_anew(self) -> None:

@@ -181,7 +181,7 @@ class StepsToSpare(Proving):
         self.assertIn("not counting 1 proved equivalent", self.told("--steps", "3"))
 
     def test_each_batch_of_a_long_suite_has_to_leave_the_room(self) -> None:
-        short, long = [[1, 0]] * 300, [50, 0]
+        short, long = [[1, 0]] * 300, [100, 0]
         for suite, whys in ((short, ["UNREAD", "SPARE-1"]), ([*short, long], ["UNREAD"]), ([long, *short], ["UNREAD"])):
             found = Prover(EQUIVALENTS).found(["--ops", "SDL", "--steps", "60"], Job(LOOP, suite))
             self.assertEqual([proof.why for proof in found], whys)

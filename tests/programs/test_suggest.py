@@ -3,7 +3,6 @@
 import csv
 import io
 import re
-import time
 from typing import Any
 from unittest import mock
 
@@ -15,7 +14,7 @@ from mutants.declarations.proofs import NO_PROOFS, Proofs
 from mutants.declarations.proving import Prover
 from mutants.program.calling import OutOfTime
 from mutants.subcommands import suggest  # noqa: F401  read once, for all copies of this process
-from mutants.suggestions import choosing, rounds
+from mutants.suggestions import choosing, clock, rounds
 from mutants.suggestions.asking import Asker
 from mutants.suggestions.clock import Clock
 from running import has, refuses
@@ -77,12 +76,15 @@ class Told(Search):
         self.assertIn(f"line 4: IF (J.LT.I) K=J (1 left; {found[1]} of the {found[1]} rows came here)\n", out)
 
     def test_the_time_is_that_of_the_search_alone(self) -> None:
-        def slow(prover: Prover, *asked: object) -> Proofs:
-            time.sleep(0.6)
-            return NO_PROOFS
+        with mock.patch.object(clock, "time") as time:
+            time.monotonic.return_value = 0
 
-        with mock.patch.object(Prover, "proofs", slow):
-            out = self.suggest("--seconds", "0.5")[1]
+            def slow(prover: Prover, *asked: object) -> Proofs:
+                time.monotonic.return_value = 1000
+                return NO_PROOFS
+
+            with mock.patch.object(Prover, "proofs", slow):
+                out = self.suggest("--seconds", "500")[1]
         self.assertRegex(out, r"Tried: [1-9]\d* rows")
 
     def test_without_a_row_there_is_no_hint(self) -> None:

@@ -7,6 +7,7 @@ from unittest import mock
 
 from proved import EQUIVALENTS, MOTHRA
 from room import Room
+from test_proved import SURE
 from developing import equivalents_sweep as sweep
 from developing.robustness.programs import program_of
 from mutants import statuses
@@ -28,6 +29,7 @@ class Sweeps(Room):
         return self.put_program("wrong", f"#!/bin/sh\nprintf '{SDL_2.format(why)}\\nPROVED 1 OF 2\\n'\n")
 
     def test_an_equivalent_mutant_is_not_killed(self) -> None:
+        self.program.write_text(SURE)
         status, out, errors = self.sweep("--programs", "2")
         self.assertEqual((status, errors), (statuses.SUCCESS, ""))
         self.assertRegex(out, r"^least\.f: \d+ mutants, \d+ proved \(\w+ .*\), \d+ tests, 0 killed\n2 made programs: ")
@@ -55,7 +57,6 @@ class Sweeps(Room):
     def test_within_no_step_no_program_ends(self) -> None:
         proof = Proof(Mutant("SDL", 2, 2, 4, "CONTINUE"), "SPARE-2")
         asker = sweep.asker_of(sweep.Case("least.f", LEAST), [], [proof], MOTHRA)
-        # LEAST takes two steps where J is not below I.
         found = [sweep.within(asker, [(1, 2, 3)], steps) for steps in (-1, 0, 1, 9)]
         self.assertEqual(found, [set(), set(), set(), {(1, 2, 3)}])
 
