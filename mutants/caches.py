@@ -1,7 +1,12 @@
-"""The user's folder for caches: what can be made anew, and is kept so that it need not be."""
+"""The user's folder for caches: what can be made anew, and is kept so that it need not be.
+
+An answer of a program is kept by the digest of the program, of its words and of the job. It stands behind its own
+digest, so one that is damaged is as if there were none.
+"""
 
 import hashlib
 import os
+from collections.abc import Sequence
 from functools import cache
 from itertools import accumulate
 from pathlib import Path
@@ -42,3 +47,39 @@ def keep(path: Path, data: bytes, most: int, most_bytes: int = 1 << 30) -> None:
                 old.unlink(missing_ok=True)
     except OSError:
         pass
+
+
+def digest_of(*parts: bytes) -> str:
+    digest = hashlib.sha256()
+    for part in parts:
+        digest.update(b"%d " % len(part) + part)
+    return digest.hexdigest()
+
+
+@cache
+def digest_of_program(program: str) -> str:
+    return digest_of(Path(program).read_bytes())
+
+
+def path_of_answer(kind: str, program: str, words: Sequence[str], job: bytes) -> Path | None:
+    """Where an answer is kept; None where nothing can be."""
+    folder = caches_folder(kind)
+    try:
+        made_of = digest_of_program(program).encode(), " ".join(words).encode(), job
+        return folder / digest_of(*made_of) if folder else None
+    except OSError:
+        return None
+
+
+def kept_answer(path: Path | None) -> str | None:
+    """The answer that is kept; None where there is none that is whole."""
+    try:
+        digest, _, text = path.read_bytes().partition(b"\n") if path else (b"", b"", b"")
+    except OSError:
+        return None
+    return text.decode() if digest.decode("ascii", "replace") == digest_of(text) else None
+
+
+def keep_answer(path: Path | None, text: str, most: int, most_bytes: int) -> None:
+    if path:
+        keep(path, f"{digest_of(text.encode())}\n{text}".encode(), most, most_bytes)

@@ -10,6 +10,7 @@ from mutants.checks.faults import program_told
 from mutants.checks.outcomes import Difference, asked_outcomes, differences
 from mutants.checks.revisions import bytes_at
 from mutants.checks.running import Means, asked_in_parts
+from mutants.declarations.boxes import kept_boxes
 from mutants.declarations.proving import NO_PROVER, Prover
 from mutants.declarations.said import NOTHING, Said
 from mutants.english import joined_words
@@ -189,6 +190,7 @@ def check(asked: Asked, given: Given, means: Means, name: str, prover: Prover = 
     outcomes = named(asked.tests, lambda: asked_outcomes(job, means, name))
     unexpected = named(expected.path, lambda: differences(expected.texts, outcomes, names))
     job, said = with_proofs([*words_of_ops(asked), *means.step_words], job, said, listed, prover, name)
+    said = said._replace(boxes=kept_boxes(program, job.source, int(means.steps or STEPS)))
     is_whole, begun = len(choice.listed) == len(listed), time.monotonic()
     whole = ran(job, printed, totals if is_whole else totals_of(totals, choice.listed), means, name)
     seconds = time.monotonic() - begun

@@ -7,6 +7,7 @@ from textwrap import wrap
 from typing import NamedTuple
 
 from mutants.checks.checking import Checked
+from mutants.declarations.boxes import boxed_text
 from mutants.declarations.proofs import count_of_proved, left_out_text, score_without, wrongly_declared, wrongly_proved
 from mutants.declarations.said import NO_REASON, Group, groups_of_person, groups_of_proofs, proved_text
 from mutants.english import joined_words, plural
@@ -186,6 +187,13 @@ def survivor_lines(checked: Checked, telling: Telling) -> Iterator[str]:
         yield from tell(lines[line], checked.statements[line])
 
 
+def box_lines(checked: Checked) -> Iterator[str]:
+    """How many of the survivors no row of a box kills that was searched."""
+    boxed = checked.said.killed_by_no_row(checked.report.survivors)
+    if boxed:
+        yield f"{boxed_text(boxed)} The page names the box."
+
+
 def half_declared_lines(checked: Checked) -> Iterator[str]:
     """The survivors whose program is declared equivalent under another name alone."""
     declared = {name_of(row) for row in checked.report.rows if row.status == "E"}
@@ -241,7 +249,7 @@ def short_lines(checked: Checked, telling: Telling, since: Sequence[str]) -> Ite
     """The score, what changed, and the lines with most survivors."""
     yield from [*difference_lines(checked), *score_lines(checked), *since, ""]
     yield from survivor_lines(checked, telling)
-    yield from [*half_declared_lines(checked), *unreached_lines(checked)]
+    yield from [*box_lines(checked), *half_declared_lines(checked), *unreached_lines(checked)]
     yield from [*(proved_lines(checked, True) if telling.shows_proved else ()), ""]
 
 
@@ -249,8 +257,8 @@ def all_lines(checked: Checked, telling: Telling, since: Sequence[str]) -> Itera
     yield from [*outcome_lines(checked), *difference_lines(checked), ""]
     yield from [*score_lines(checked), *twin_lines(checked), *since, ""]
     yield from survivor_lines(checked, telling)
-    yield from [*half_declared_lines(checked), *unreached_lines(checked), *declared_lines(checked)]
-    yield from [*proved_lines(checked, telling.shows_proved), "", *suite_lines(checked)]
+    yield from [*box_lines(checked), *half_declared_lines(checked), *unreached_lines(checked)]
+    yield from [*declared_lines(checked), *proved_lines(checked, telling.shows_proved), "", *suite_lines(checked)]
 
 
 def summary(

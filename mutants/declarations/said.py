@@ -4,6 +4,7 @@ from collections.abc import Callable, Iterable, Mapping, Sequence
 from types import MappingProxyType
 from typing import NamedTuple
 
+from mutants.declarations.boxes import Searched
 from mutants.declarations.proofs import NO_PROOFS, Proofs
 from mutants.english import plural
 from mutants.texts.lines import Mutant
@@ -15,18 +16,23 @@ NO_REASON = "no reason is given"
 
 class Said(NamedTuple):
     """What is known of a job beside its texts: the source as its file has it, reasons by mutant, what is told, what is
-    proved of its mutants, and the names of its tests, where they have some."""
+    proved of its mutants, the names of its tests, where they have some, and what searches of boxes found of mutants."""
 
     shown: str | None = None
     reasons: Mapping[str, str] = MappingProxyType({})
     remarks: Sequence[str] = ()
     proofs: Proofs = NO_PROOFS
     titles: Sequence[str] = ()
+    boxes: Mapping[str, Searched] = MappingProxyType({})
 
     @property
     def all_reasons(self) -> dict[str, str]:
         """The reasons of a person, and of what nobody declares that of its proof."""
         return {**{name: self.proofs.reason(name) for name in self.proofs.names}, **self.reasons}
+
+    def killed_by_no_row(self, mutants: Iterable[Mutant]) -> int:
+        """How many of these mutants no row of a box kills all of whose rows were tried."""
+        return sum(name in self.boxes and not self.boxes[name].row for name in map(name_of, mutants))
 
 
 NOTHING = Said()

@@ -4,7 +4,7 @@ from collections.abc import Mapping, Sequence
 from typing import NamedTuple
 
 from mutants.pages.frame import bar, text
-from mutants.pages.survivors import MARKS, NO_REASONS, declared_part, survivors_part
+from mutants.pages.survivors import MARKS, NO_REMARKS, declared_part, survivors_part
 from mutants.texts.cards import is_comment, last_lines, source_lines
 from mutants.texts.differences import pieces
 from mutants.texts.lines import Mutant
@@ -49,8 +49,9 @@ class AtLines(NamedTuple):
     survivors: Mapping[int, Sequence[Mutant]]
     declared: Mapping[int, Sequence[Mutant]]
     proved: Mapping[int, Sequence[Mutant]]
-    # Why the declared and the proved ones are equivalent, by their names.
-    reasons: Mapping[str, str] = NO_REASONS
+    # What is said of mutants, by their names: why the declared and the proved ones are equivalent, and of which boxes
+    # no row kills a survivor.
+    remarks: Mapping[str, str] = NO_REMARKS
 
 
 def program_part(source: str, statements: Mapping[int, str], found: AtLines, has_links: bool = False) -> str:
@@ -66,7 +67,7 @@ def program_part(source: str, statements: Mapping[int, str], found: AtLines, has
         if number in initial:
             first = initial[number]
             living, others, sure = (each.get(first, []) for each in (found.survivors, found.declared, found.proved))
-            parts += [survivors_part(living, statements[first])] if living else []
-            parts += [declared_part(others, statements[first], found.reasons)] if others else []
-            parts += [declared_part(sure, statements[first], found.reasons, "proved")] if sure else []
+            parts += [survivors_part(living, statements[first], found.remarks)] if living else []
+            parts += [declared_part(others, statements[first], found.remarks)] if others else []
+            parts += [declared_part(sure, statements[first], found.remarks, "proved")] if sure else []
     return '<div class="program">\n' + "".join(parts) + "</div>\n"

@@ -4,6 +4,7 @@ from collections import Counter, defaultdict
 from collections.abc import Iterable, Mapping, Sequence
 from typing import NamedTuple
 
+from mutants.declarations.boxes import NO_PROOF, boxed_text
 from mutants.declarations.proofs import (
     Proofs, count_of_proved, left_out_text, score_without, wrongly_declared, wrongly_proved,
 )  # fmt: skip
@@ -82,8 +83,8 @@ def facts_of(report: Report) -> str:
     return f'<p class="soft">{told}.</p>\n'
 
 
-def first_look(survivors: Sequence[Mutant], proved: int = 0) -> str:
-    """Where the survivors are, in one sentence."""
+def first_look(survivors: Sequence[Mutant], proved: int, said: Said) -> str:
+    """Where the survivors are, and of how many of them no row of a box kills."""
     if not survivors:
         return f"<p>{no_survivor_text(proved)}</p>\n"
     lines = Counter(mutant.line for mutant in survivors)
@@ -92,6 +93,8 @@ def first_look(survivors: Sequence[Mutant], proved: int = 0) -> str:
     told += f'; the most, {most}, on <a href="#L{line}">line {line}</a>' if len(lines) > 1 else ""
     asked = "Each asks: on what values does the changed line do something else? Such values are a test that is missing;"
     asked += " where there are none, the mutant is equivalent."
+    boxed = said.killed_by_no_row(survivors)
+    asked += f" {boxed_text(boxed)} {NO_PROOF}" if boxed else ""
     return f"<p>{told}. {asked}</p>\n"
 
 
@@ -192,14 +195,15 @@ def report_page(analysed: Analysed, remark: str = "", outcomes: Outcomes = Outco
     head += unexpected_part(outcomes.unexpected) + score_part(count, proved) + proofs_part(count, proved)
     head += subsuming_part(listed, report.rows) + facts_of(report) + wrong_part(report.rows, proofs)
     head += remarks_part(said.remarks)
-    return page(f"{report.unit}: {KIND}", head + first_look(survivors, proved) + links, bodies)
+    return page(f"{report.unit}: {KIND}", head + first_look(survivors, proved, said) + links, bodies)
 
 
 def listing_part(job: Job, statements: Mapping[int, str], listed: Sequence[Mutant], report: Report, said: Said) -> str:
     """The program with its survivors, and the declared and proved mutants that survived."""
     source = job.source if said.shown is None else said.shown
     found = at_lines(listed, report.rows, report.survivors, said.proofs)
-    return program_part(source, statements, found._replace(reasons=said.all_reasons), has_links=True)
+    remarks = {**{name: each.text for name, each in said.boxes.items()}, **said.all_reasons}
+    return program_part(source, statements, found._replace(remarks=remarks), has_links=True)
 
 
 def filter_part(survivors: Iterable[Mutant]) -> str:

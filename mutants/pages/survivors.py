@@ -20,7 +20,7 @@ UNFOLDED = 5
 # So many characters of a statement at least stand beside a change; so many more are worth to be left out on a small
 # screen; and so many are left out everywhere.
 NEAR, FAR, FARTHEST = 14, 8, 90
-NO_REASONS: Mapping[str, str] = MappingProxyType({})
+NO_REMARKS: Mapping[str, str] = MappingProxyType({})
 MARKS = {"=": "{}", "-": "<del>{}</del>", "+": "<ins>{}</ins>"}
 # The operator whose mutants are equivalent most often.
 ABS = "ABS"
@@ -62,39 +62,39 @@ def with_context(old: str, new: str) -> str:
     return "".join(shown)
 
 
-def survivor_item(twins: Twins, statement: str, reason: str = "") -> str:
-    """A survivor with all its names."""
-    why = f'<span class="soft">{text(reason)}</span>' if reason else ""
+def survivor_item(twins: Twins, statement: str, remarks: Mapping[str, str]) -> str:
+    """A survivor with all its names, and what is said of one of them, as of the others."""
+    remark = next((remarks[name] for name in map(name_of, twins) if name in remarks), "")
+    why = f'<span class="soft">{text(remark)}</span>' if remark else ""
     code = f"<code>{with_context(statement, twins[0].text)}</code>"
     return f"<li><b>{text(names_text(twins))}</b>{code}{why}</li>\n"
 
 
-def items(groups: Iterable[Twins], statement: str, reasons: Mapping[str, str] = NO_REASONS) -> str:
-    """The mutants of a line in groups of twins; declared ones have reasons by their names."""
-    parts = [survivor_item(twins, statement, reasons.get(name_of(twins[0]), "")) for twins in groups]
-    return "<ul>\n" + "".join(parts) + "</ul>\n"
+def items(groups: Iterable[Twins], statement: str, remarks: Mapping[str, str]) -> str:
+    """The mutants of a line in groups of twins, with what is said of them by their names."""
+    return "<ul>\n" + "".join(survivor_item(twins, statement, remarks) for twins in groups) + "</ul>\n"
 
 
-def folded(told: str, groups: Sequence[Twins], statement: str) -> str:
+def folded(summary: str, groups: Sequence[Twins], statement: str, remarks: Mapping[str, str]) -> str:
     if not groups:
         return ""
-    return f"<details><summary>{told}</summary>{items(groups, statement)}</details>\n"
+    return f"<details><summary>{summary}</summary>{items(groups, statement, remarks)}</details>\n"
 
 
 def ops_of(groups: Iterable[Twins]) -> list[str]:
     return list(dict.fromkeys(twin.op for twins in groups for twin in twins))
 
 
-def survivors_part(survivors: Iterable[Mutant], statement: str) -> str:
+def survivors_part(survivors: Iterable[Mutant], statement: str, remarks: Mapping[str, str] = NO_REMARKS) -> str:
     """The survivors of a line: the first few, the others folded, and those of ABS alone folded too."""
     groups = twins_in(survivors)
     others = [twins for twins in groups if ops_of([twins]) != [ABS]]
     absolute = [twins for twins in groups if ops_of([twins]) == [ABS]]
     shown, rest = others[:UNFOLDED], others[UNFOLDED:]
-    parts = items(shown, statement) if shown else ""
-    parts += folded(f"{len(rest)} more, of {joined_words(ops_of(rest))}", rest, statement)
-    told = f"<b>{ABS}</b> {NAMES[ABS]}: {plural(len(absolute), 'survivor')}"
-    return f'<div class="mutants">{parts}{folded(told, absolute, statement)}</div>\n'
+    parts = items(shown, statement, remarks) if shown else ""
+    parts += folded(f"{len(rest)} more, of {joined_words(ops_of(rest))}", rest, statement, remarks)
+    summary = f"<b>{ABS}</b> {NAMES[ABS]}: {plural(len(absolute), 'survivor')}"
+    return f'<div class="mutants">{parts}{folded(summary, absolute, statement, remarks)}</div>\n'
 
 
 def declared_part(declared: Iterable[Mutant], statement: str, reasons: Mapping[str, str], how: str = "declared") -> str:

@@ -24,10 +24,12 @@ from collections.abc import Mapping, Sequence
 from functools import cache
 from pathlib import Path
 
+from mutants.checks.checking import STEPS
 from mutants.checks.faults import program_told, told_of_run
 from mutants.checks.outcomes import asked_outcomes
 from mutants.checks.running import Means
 from mutants.checks.settings import READING, with_settings
+from mutants.declarations.boxes import kept_boxes
 from mutants.declarations.proofs import NO_PROOFS, Proofs
 from mutants.declarations.proving import add_proof_options, prover_of
 from mutants.jobs.given import job_to_tell
@@ -112,7 +114,7 @@ def run(given: argparse.Namespace, name: str) -> int:
     report = report_of(given, program, totals, declared_text(text, proofs.names), command)
     outcomes = outcomes_of(given, program, job, command)
     # A page is UTF-8 whatever the terminal takes.
-    said = asked.said._replace(proofs=proofs)
+    said = asked.said._replace(proofs=proofs, boxes=kept_boxes(program, job.source, int(given.steps or STEPS)))
     told = report_page(Analysed(job, printed, listed, report), remark_on(program), outcomes, said)
     sys.stdout.buffer.write(told.encode())
     return SUCCESS

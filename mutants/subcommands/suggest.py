@@ -15,8 +15,9 @@ how many of the rows that were tried came to their lines. A column `expect` of t
 An array of numbers that is in order in all tests stays so in all rows, and this is told; --free lifts it. Nothing else
 is known of what the arguments have to be: --ranges says it. --within I=-8:8,J=0:9 tries all rows of a box, in order, a
 million at most, and says of each survivor whether a row of the box kills it; an argument that is only set is 0 there,
-and a LOGICAL one has both values. A mutant that the program equivalents proves equivalent is
-no survivor, and is not searched for. Where a row kills one that is proved with steps to spare, this is told.
+and a LOGICAL one has both values. The pages of check and page say it too, until the program changes. A mutant that the
+program equivalents proves equivalent is no survivor, and is not searched for. Where a row kills one that is proved with
+steps to spare, this is said.
 
 With --rounds the same seed gives the same text; with --seconds it depends on the machine. Ctrl-C ends the search, and
 what was found until then is told; the exit status is that of an interrupted command.
@@ -29,6 +30,7 @@ from pathlib import Path
 from mutants.checks.checking import Checked, dummies_of
 from mutants.checks.settings import assert_tests, with_settings
 from mutants.checks.starting import start_of
+from mutants.declarations.boxes import keep_boxes
 from mutants.declarations.proving import add_proof_options
 from mutants.english import plural
 from mutants.exports.outputs import Output, assert_free
@@ -39,7 +41,7 @@ from mutants.program.unproved import remark_on
 from mutants.statuses import INTERRUPTED, SUCCESS
 from mutants.subcommands import check as checks
 from mutants.suggestions.aims import SECONDS, Aim, read_ranges
-from mutants.suggestions.box import box_of
+from mutants.suggestions.box import BoxSearch, box_of
 from mutants.suggestions.clock import Clock
 from mutants.suggestions.suggesting import Suggested, suggested
 from mutants.suggestions.tables import Layout, layout_of, table_with
@@ -127,6 +129,14 @@ def write_table(path: Path, given: argparse.Namespace, table: Table, found: Sugg
     return f"The table with the rows: {path}"
 
 
+def keep_box(found: Suggested, program: str, layout: Layout) -> list[str]:
+    """Keeps what all rows of a box say of the survivors, for the pages of later checks; a line on it."""
+    search = found.search
+    results = search.results(layout) if isinstance(search, BoxSearch) else {}
+    is_kept = results and keep_boxes(program, found.start.job.source, search.steps, results)
+    return ["Pages of later checks say this under each survivor, until the program changes."] if is_kept else []
+
+
 def run(given: argparse.Namespace, name: str) -> int:
     aim = aim_of(given)
     settings = with_settings(given, given.program, checks.add_options)
@@ -141,6 +151,7 @@ def run(given: argparse.Namespace, name: str) -> int:
     found = suggested(start, aim, begun.means, Clock(aim.seconds), name)
     layout = layout_of(given.tests, table, dummies_of(start.printed))
     more = [write_table(given.table, given, table, found, layout)] if given.table else []
+    more += keep_box(found, begun.means.program, layout)
     more += checks.end_lines(start.said.proofs, settings, remark_on(begun.means.program))
     text = summary(found, given.program, given.tests, layout, aim)
     sys.stdout.write(visible(text + "".join(f"{line}\n" for line in more)))

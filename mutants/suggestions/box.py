@@ -9,12 +9,16 @@ from collections.abc import Iterator, Mapping, Sequence
 from itertools import islice, product
 from typing import Any, NamedTuple
 
+from mutants.declarations.boxes import Searched
 from mutants.english import joined_words
 from mutants.jobs.setting import zeros_of
+from mutants.pages.cover import bits_of
 from mutants.suggestions.aims import place_of
 from mutants.suggestions.rounds import SIZE, Search, Tell
 from mutants.suggestions.shapes import Range, Row, Scalar, Value
+from mutants.suggestions.tables import Layout
 from mutants.texts.dummies import Dummy, read_unit
+from mutants.texts.twins import name_of
 
 # A box has so many rows at most; of so many rows it is asked to which lines they come.
 MOST, ASKED = 1_000_000, 8 * SIZE
@@ -102,3 +106,10 @@ class BoxSearch(Search):
             if mask & self.alive:
                 self.exact[row] = mask
                 self.alive &= ~mask
+
+    def results(self, layout: Layout) -> dict[str, Searched]:
+        """Where all rows were tried, what they say of each survivor, by its name: the first row that kills it."""
+        killers = {number: row for row, mask in reversed(self.exact.items()) for number in bits_of(mask)}
+        rows = {number: layout.line(row) for number, row in killers.items()}
+        mutants = enumerate(self.asker.mutants if self.is_whole else [])
+        return {name_of(mutant): Searched(self.box.told, rows.get(number, "")) for number, mutant in mutants}

@@ -7,6 +7,7 @@ from textwrap import wrap
 
 from mutants.checks.checking import dummies_of
 from mutants.checks.summary import WIDTH, difference_lines, line_lines, ranges_text, score_line, wrong_lines
+from mutants.declarations.boxes import NO_PROOF
 from mutants.declarations.proofs import count_of_proved, killed_later
 from mutants.english import joined_words, plural
 from mutants.pages.report import by_line
@@ -19,7 +20,6 @@ from mutants.texts.lines import Mutant
 from mutants.texts.twins import names_text, twins_in
 
 LOOK = "What the program does on a row is its own outcome, right or wrong: look at it before you take the row."
-BOX = "That is more than a hint at equivalence and less than a proof: a row outside of the box may kill it."
 HINT = "That is a hint at equivalence, and no more than that."
 UNTRIED = "No row was tried, so this says nothing of them."
 
@@ -127,8 +127,9 @@ def left_lines(found: Suggested) -> Iterator[str]:
         return
     verb = "is one survivor" if len(survivors) == 1 else f"are {len(survivors)} survivors"
     is_box = isinstance(found.search, BoxSearch) and found.search.is_whole
-    told = f"no row of this box kills. {BOX}" if is_box else f"no row killed. {HINT if found.search.tried else UNTRIED}"
-    yield f"There {verb} on {plural(len(lines), 'line')} that {told}"
+    hint = HINT if found.search.tried else UNTRIED
+    which = f"no row of this box kills. {NO_PROOF}" if is_box else f"no row killed. {hint}"
+    yield f"There {verb} on {plural(len(lines), 'line')} that {which}"
     for line in sorted(lines):
         statement = found.final.statements[line]
         yield f"line {line}: {statement} ({len(lines[line])} left{reached_text(found, line)})"

@@ -1,0 +1,48 @@
+"""What searches of whole boxes of rows found of the mutants of a program, kept in the user's folder for caches.
+
+It holds of a source under a limit on steps, whatever the tests are: so pages say it until the program changes. A later
+search adds to it.
+"""
+
+import json
+from collections.abc import Mapping
+from pathlib import Path
+from typing import NamedTuple
+
+from mutants.caches import keep_answer, kept_answer, path_of_answer
+
+KIND, MOST, MOST_BYTES = "boxes", 1_000, 1 << 25
+NO_PROOF = "That is more than a hint at equivalence and less than a proof: a row outside of the box may kill it."
+
+
+def boxed_text(count: int) -> str:
+    """That no row of a box kills so many of the survivors."""
+    return f"Of the survivors {count} {'is' if count == 1 else 'are'} killed by no row of a box that was searched."
+
+
+class Searched(NamedTuple):
+    """A box all rows of which were tried, and the first row that kills the mutant; no text where none does."""
+
+    box: str
+    row: str = ""
+
+    @property
+    def text(self) -> str:
+        return f"a row that kills it: {self.row}" if self.row else f"no row of this box kills it: {self.box}"
+
+
+def path_for(program: str, source: str, steps: int) -> Path | None:
+    return path_of_answer(KIND, program, ["--steps", str(steps)], source.encode())
+
+
+def kept_boxes(program: str, source: str, steps: int) -> dict[str, Searched]:
+    """What is known of the mutants of a source, by their names."""
+    text = kept_answer(path_for(program, source, steps))
+    return {name: Searched(*each) for name, each in json.loads(text or "{}").items()}
+
+
+def keep_boxes(program: str, source: str, steps: int, results: Mapping[str, Searched]) -> bool:
+    """Keeps what a search found. Whether there is a place for it."""
+    path = path_for(program, source, steps)
+    keep_answer(path, json.dumps({**kept_boxes(program, source, steps), **results}), MOST, MOST_BYTES)
+    return path is not None
