@@ -17,13 +17,13 @@ def has_colours() -> bool:
     return sys.stdout.isatty() and not os.environ.get("NO_COLOR") and os.environ.get("TERM") != "dumb"
 
 
-def coloured(told: str) -> str:
+def coloured(text: str) -> str:
     """A text with its colours."""
-    told = CHANGE.sub(rf"[{RED}\1{END} -> {GREEN}\2{END}]", told)
-    told = SCORE.sub(rf"{BOLD}\g<0>{END}", told)
-    return WRONG.sub(rf"{BOLD}{RED}\g<0>{END}", told)
+    text = CHANGE.sub(rf"[{RED}\1{END} -> {GREEN}\2{END}]", text)
+    text = SCORE.sub(rf"{BOLD}\g<0>{END}", text)
+    return WRONG.sub(rf"{BOLD}{RED}\g<0>{END}", text)
 
 
-def painted(told: str) -> str:
+def painted(text: str) -> str:
     """A text as standard output takes it: what else a terminal would obey is gone."""
-    return coloured(visible(told)) if has_colours() else visible(told)
+    return coloured(visible(text)) if has_colours() else visible(text)

@@ -45,7 +45,7 @@ def add_subcommand(add: Callable[..., argparse.ArgumentParser], command: Subcomm
         command.name,
         help=command.line,
         description=text_of_help(module.__doc__),
-        epilog=statuses.told(),
+        epilog=statuses.meanings(),
         formatter_class=RAW,
     )
     add_version(parser)
@@ -60,9 +60,9 @@ def asked_name(words: Sequence[str]) -> str | None:
 
 def parser_for(words: Sequence[str]) -> argparse.ArgumentParser:
     """The parser of the command, for these words."""
-    usage, told = f"{NAME} [--help] [--version] SUBCOMMAND ..", text_of_help(__doc__).rpartition("\n\n")[2]
+    usage, description = f"{NAME} [--help] [--version] SUBCOMMAND ..", text_of_help(__doc__).rpartition("\n\n")[2]
     parser = argparse.ArgumentParser(
-        prog=NAME, usage=usage, description=told, epilog=statuses.told(), formatter_class=RAW
+        prog=NAME, usage=usage, description=description, epilog=statuses.meanings(), formatter_class=RAW
     )
     add_version(parser)
     kind = parser.add_subparsers(metavar="SUBCOMMAND", required=True, prog=NAME, parser_class=Parser)

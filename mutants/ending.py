@@ -78,13 +78,13 @@ def run_tool(name: str, main: Callable[[], int]) -> int:
     takes_any_text()
     try:
         with ended_by_signals():
-            return told_status(name, main)
+            return reported_status(name, main)
     except BrokenPipeError:
         leave_closed_pipes()
         return FAULT
 
 
-def told_status(name: str, main: Callable[[], int]) -> int:
+def reported_status(name: str, main: Callable[[], int]) -> int:
     """The status of what is done, with a line on standard error for what ends it before."""
     try:
         return status_of(main)

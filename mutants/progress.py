@@ -63,24 +63,24 @@ class Estimate:
         self.progress, self.what, self.whole, self.done = progress, what, whole, 0
         self.begun = time.monotonic()
         self.next = self.begun + (0 if progress.is_terminal else QUIET)
-        self.told = -1
+        self.shown = -1
 
     def add(self, part: int) -> None:
         self.done += part
 
     def text(self, now: float) -> str:
         share = self.done / self.whole if self.whole else 1.0
-        told = f"{self.what}: {math.floor(100 * share)} % done"
+        line = f"{self.what}: {math.floor(100 * share)} % done"
         if self.done and share < 1:
-            told += f", about {seconds_text((now - self.begun) * (1 - share) / share)} left"
-        return told
+            line += f", about {seconds_text((now - self.begun) * (1 - share) / share)} left"
+        return line
 
     def tick(self) -> None:
         """Tells it, where it is time to."""
         now = time.monotonic()
-        if now >= self.next and (self.progress.is_terminal or self.done != self.told):
+        if now >= self.next and (self.progress.is_terminal or self.done != self.shown):
             # Lines that stay, as in the log of a build, are told where something was done since.
-            self.next, self.told = now + (0 if self.progress.is_terminal else OFTEN), self.done
+            self.next, self.shown = now + (0 if self.progress.is_terminal else OFTEN), self.done
             self.progress.tell(self.text(now))
 
 

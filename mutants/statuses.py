@@ -21,7 +21,7 @@ MEANINGS = {
 }
 
 
-def told() -> str:
+def meanings() -> str:
     """The statuses with their meanings, a line each, for the help."""
     lines = [f"  {status:>3}  {meaning}" for status, meaning in MEANINGS.items()]
     return "\n".join(["exit statuses:", *lines])

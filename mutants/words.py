@@ -23,8 +23,8 @@ def visible(value: object) -> str:
     return "".join(c if c.isprintable() or c in "\t\n" else "\ufffd" for c in str(value))
 
 
-def text_of_help(told: str | None) -> str:
-    return (told or "").strip()
+def text_of_help(docstring: str | None) -> str:
+    return (docstring or "").strip()
 
 
 def add_version(parser: argparse.ArgumentParser) -> None:

@@ -21,7 +21,7 @@ class Rows(unittest.TestCase):
         arrays = itertools.product((0, 1), repeat=2)
         wanted = [(n, a, p, 0) for n in (1, 2) for a in arrays for p in (False, True)]
         self.assertEqual((list(found.rows())[:8], found.size), (wanted[:8], 2 * 4 * 2))
-        self.assertEqual(found.told, "N from 1 to 2 and A from 0 to 1")
+        self.assertEqual(found.text, "N from 1 to 2 and A from 0 to 1")
 
     def test_what_does_not_serve(self) -> None:
         for asked, told in (

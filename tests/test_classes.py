@@ -6,7 +6,7 @@ from unittest import mock
 import running  # noqa: F401  it finds the package
 from mutants.classes import processes
 from mutants.classes.batched import whole_text
-from mutants.classes.results import Result, failed_told
+from mutants.classes.results import Result, failed_text
 from mutants.program import many
 from mutants.program.calling import Fault
 from mutants.program.parallel import answers_in, parallel_words, text_of_answer
@@ -40,9 +40,9 @@ class Processes(unittest.TestCase):
 class Failed(unittest.TestCase):
     def test_the_count_and_a_few_names_are_told(self) -> None:
         found = [Result(f"s{number}", "least", [], None, "FAULT B3 1") for number in range(7)]
-        self.assertEqual(failed_told(found), "7 of 7 jobs failed: s0, s1, s2, s3, s4 and 2 more")
-        self.assertEqual(failed_told(found[:1]), "1 of 1 job failed: s0")
-        self.assertEqual(failed_told([]), "")
+        self.assertEqual(failed_text(found), "7 of 7 jobs failed: s0, s1, s2, s3, s4 and 2 more")
+        self.assertEqual(failed_text(found[:1]), "1 of 1 job failed: s0")
+        self.assertEqual(failed_text([]), "")
 
 
 def given(answer: str | Fault) -> str:

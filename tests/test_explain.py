@@ -11,7 +11,7 @@ from mutants.explanations import ends
 from mutants.explanations.jobs import notes_on
 from mutants.explanations.marks import places, shown
 from mutants.explanations.meanings import MEANINGS
-from mutants.explanations.told import explained
+from mutants.explanations.explanation import explained
 from mutants.explanations.words import words_say
 from mutants.program.calling import Fault
 

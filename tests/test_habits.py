@@ -8,11 +8,11 @@ from unittest import mock
 
 import running  # noqa: F401  it finds the package
 from developing import examples
-from mutants.checks.faults import told_of_program
+from mutants.checks.faults import program_fault
 from mutants.explanations.habits import HABITS, read_paragraph
 from mutants.explanations.names import called_names, declared_arrays, logical_names
 from mutants.explanations.seeing import advice_of_all, habits_seen, said_of_all, statement_habits
-from mutants.explanations.told import explained
+from mutants.explanations.explanation import explained
 from mutants.program.calling import Fault
 
 # Statements, with the name of the habit that is seen in each.
@@ -132,7 +132,7 @@ class Told(unittest.TestCase):
             ("FAULT C2 ABS", "a.f: ABS is FORTRAN 77, for any kind of number or for REAL."),
             ("FAULT C2 X", "a.f: This name is REAL"),
         ):
-            told = str(told_of_program(Path("a.f"), source, source, Fault("print", line)))
+            told = str(program_fault(Path("a.f"), source, source, Fault("print", line)))
             self.assertTrue(told.startswith(begin), told)
             self.assertIn(f"({line})", told)
 

@@ -136,7 +136,7 @@ class Units(Room):
         heads = "SUBROUTINE A", "INTEGER FUNCTION B(I)", "FUNCTION C(I)", "PROGRAM D", "BLOCK DATA", "I=1"
         found = units_of("".join(f"      {head}\n      END\n" for head in heads))
         wanted = ["SUBROUTINE A", "FUNCTION B", "FUNCTION C", "PROGRAM D", "BLOCK DATA", "a unit without a name"]
-        self.assertEqual([unit.told().partition(" (")[0] for unit in found], wanted)
+        self.assertEqual([unit.text().partition(" (")[0] for unit in found], wanted)
 
     def test_what_stands_behind_the_last_end_is_left_to_the_program(self) -> None:
         source = LEAST + "      K=1\n"

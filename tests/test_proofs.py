@@ -93,15 +93,15 @@ class Finding(Folder):
     def test_without_one_nothing_is_proved_and_why_is_told(self) -> None:
         found = Prover(not_asked=NOT_FOUND).proofs([], Job(LEAST, [], ["ROR 1"]), [])
         told = "Which mutants can be proved equivalent was not asked: the program equivalents is not found."
-        self.assertEqual((found.names, found.told()), ([], told))
-        self.assertEqual(NO_PROVER.proofs([], Job(LEAST, []), []).told(), "")
+        self.assertEqual((found.names, found.not_asked_text()), ([], told))
+        self.assertEqual(NO_PROVER.proofs([], Job(LEAST, []), []).not_asked_text(), "")
 
 
 class Values(unittest.TestCase):
     def test_what_is_declared_by_a_proof_alone(self) -> None:
         found = Proofs({"ROR 1": "SAME", "ABS 2": "UNREAD"}, {"ROR 1"})
         self.assertEqual((found.names, found.is_alone("ROR 1"), found.is_alone("SDL 1")), (["ABS 2"], False, False))
-        self.assertEqual((NO_PROOFS.names, NO_PROOFS.told(), NO_PROOFS.reason("ROR 1")), ([], "", ""))
+        self.assertEqual((NO_PROOFS.names, NO_PROOFS.not_asked_text(), NO_PROOFS.reason("ROR 1")), ([], "", ""))
 
     def test_one_that_a_later_row_kills_is_no_fault_of_the_programs(self) -> None:
         proofs = Proofs({"ROR 1": "SAME", "ROR 7": "SPARE-2", "ROR 3": "SPARE-1"}, tests=2)

@@ -50,7 +50,7 @@ class Hostile(unittest.TestCase):
 
         with mock.patch.object(also, "asked_fault", first):
             begun = time.process_time()
-            told = also.also_told("none", source, source)
+            told = also.other_faults_text("none", source, source)
         self.assertLess(time.process_time() - begun, 8)
         self.assertIn("What is wrong beyond these can be told when they are mended.", told)
 

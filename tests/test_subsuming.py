@@ -30,7 +30,7 @@ class Sets(unittest.TestCase):
     def test_the_score_counts_a_set_of_killers_once_and_each_survivor(self) -> None:
         found = subsuming(*mutants_of("100", "110", "111", "100", "011", "000", "000", "EEE"))
         self.assertEqual([mutant.place for mutant in found.killed], [1, 5])
-        self.assertIn("it is 50.00 %: 2 of 4 mutants killed.", found.told())
+        self.assertIn("it is 50.00 %: 2 of 4 mutants killed.", found.text())
 
     def test_survivors_that_are_one_program_are_one(self) -> None:
         listed, rows = mutants_of("10", "00", "00")

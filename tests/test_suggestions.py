@@ -24,7 +24,7 @@ from mutants.suggestions.rows import Rows
 from mutants.suggestions.shapes import Kept, Order, Row, Shape, items_of, order_of, row_of, test_of
 from mutants.suggestions.simpler import simpler_rows
 from mutants.suggestions.tables import layout_of
-from mutants.suggestions.told import mutants_text
+from mutants.suggestions.summary import mutants_text
 from mutants.suggestions.values import Values, constants_of
 from mutants.texts.jobs import Job
 from mutants.texts.lines import Mutant

@@ -7,10 +7,10 @@ from unittest import mock
 
 import running  # noqa: F401  it finds the package
 from mutants.explanations import also
-from mutants.explanations.also import told_faults
+from mutants.explanations.also import fault_lines
 from mutants.explanations.copies import Copy
 from mutants.explanations.habits import Seen
-from mutants.explanations.sweep import Found, all_faults
+from mutants.explanations.sweep import SourceFault, all_faults
 from mutants.texts.cards import cards_of
 from running import LEAST
 
@@ -59,7 +59,7 @@ def told_of(source: str) -> tuple[str, str] | None:
 HEAD, DECLARED = "      SUBROUTINE A(I)", "      INTEGER ABS"
 
 
-def faults_in(found: Iterable[Found]) -> list[str]:
+def faults_in(found: Iterable[SourceFault]) -> list[str]:
     return [f"{each.code} {each.detail}" for each in found]
 
 
@@ -134,28 +134,28 @@ class Sweeps(unittest.TestCase):
 
 
 class Notes(unittest.TestCase):
-    def told(self, *faults: Found) -> list[str]:
-        return told_faults(faults, SOURCE, Found("S2", "4", [Seen("REAL")]))
+    def told(self, *faults: SourceFault) -> list[str]:
+        return fault_lines(faults, SOURCE, SourceFault("S2", "4", [Seen("REAL")]))
 
     def test_a_fault_is_told_with_its_line_and_its_text(self) -> None:
-        (told,) = self.told(Found("C2", "Z"))
+        (told,) = self.told(SourceFault("C2", "Z"))
         self.assertTrue(told.startswith("  line 14, C2 Z: Z=MIN(K,Z)\n      This name is REAL: "))
         # On a line that is none of a statement, one may begin in the copy.
-        self.assertEqual(self.told(Found("S2", "8"))[0].split("\n")[0], "  line 8, S2: 2)")
-        (told,) = self.told(Found("S2", "7", [Seen("CALL")]))
+        self.assertEqual(self.told(SourceFault("S2", "8"))[0].split("\n")[0], "  line 8, S2: 2)")
+        (told,) = self.told(SourceFault("S2", "7", [Seen("CALL")]))
         self.assertTrue(told.startswith("  line 7, S2: CALL SUB(K,\n      CALL is a call of another subroutine. "))
         self.assertIn("Write the statements of that subroutine", told)
 
     def test_what_was_said_is_said_once(self) -> None:
         real, call = [Seen("REAL")], [Seen("CALL")]
-        told = self.told(Found("S2", "6", real), Found("S2", "7", call), Found("S2", "8", call))
+        told = self.told(SourceFault("S2", "6", real), SourceFault("S2", "7", call), SourceFault("S2", "8", call))
         self.assertEqual(told[0], "  line 6, S2: DO I=1,N (as on line 4)")
         self.assertEqual(told[2], "  line 8, S2: 2) (as on line 7)")
 
     def test_more_than_ten_are_told_by_their_lines(self) -> None:
-        found = [Found("S2", str(line)) for line in range(1, 15)]
+        found = [SourceFault("S2", str(line)) for line in range(1, 15)]
         with mock.patch.object(also, "all_faults", lambda source, ask: (found, False)):
-            told = also.also_told("mothra", SOURCE, SOURCE)
+            told = also.other_faults_text("mothra", SOURCE, SOURCE)
         self.assertIn("(13)", told)
         self.assertEqual(told.count(", S2"), 10)
         self.assertTrue(told.endswith("\n3 more stand on the lines 12, 13 and 14.\n"

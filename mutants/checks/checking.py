@@ -6,7 +6,7 @@ from pathlib import Path
 from typing import NamedTuple, TypeVar
 
 from mutants.checks.choice import Choice, choose, lines_changed, lines_within, restricted, totals_of
-from mutants.checks.faults import program_told
+from mutants.checks.faults import naming_line
 from mutants.checks.outcomes import Difference, asked_outcomes, differences
 from mutants.checks.revisions import bytes_at
 from mutants.checks.running import Means, asked_in_parts
@@ -91,7 +91,7 @@ def source_alone(job: Job) -> bytes:
 
 def printed_of(program: str, path: Path, job: Job, shown: str) -> list[str]:
     """The printed text of each statement. A fault is told with the line as it is shown."""
-    with program_told(path, job.source, shown):
+    with naming_line(path, job.source, shown):
         return asked_print(program, source_alone(job))
 
 
@@ -126,7 +126,7 @@ def chosen(program: str, asked: Asked, job: Job, printed: Sequence[str], listed:
 
 
 def listed_of(program: str, asked: Asked, job: Job, shown: str) -> tuple[dict[str, int], list[Mutant]]:
-    with program_told(asked.program, job.source, shown):
+    with naming_line(asked.program, job.source, shown):
         return asked_list(program, words_of_ops(asked), source_alone(job))
 
 
@@ -136,8 +136,8 @@ def ops_left_out(asked: Asked) -> list[str]:
     rest = [op for op in NAMES if op not in kept]
     if not rest:
         return []
-    told = f"all operators but {joined_words(kept)}" if len(kept) < len(rest) else joined_words(rest)
-    return [f"the mutants of {told}"]
+    names = f"all operators but {joined_words(kept)}" if len(kept) < len(rest) else joined_words(rest)
+    return [f"the mutants of {names}"]
 
 
 def ran(job: Job, printed: Sequence[str], totals: dict[str, int], means: Means, name: str) -> Report:
@@ -198,5 +198,5 @@ def check(asked: Asked, given: Given, means: Means, name: str, prover: Prover = 
     left_out = ops_left_out(asked) + choice.left_out
     statements = statements_by_line(job.source, printed)
     number = sum(bool(text.strip()) for text in expected.texts.values())
-    found = job, printed, statements, choice.listed, report, whole, left_out, outcomes, unexpected
-    return Checked(*found, said=said, expected=number, seconds=seconds)
+    answers = job, printed, statements, choice.listed, report, whole, left_out, outcomes, unexpected
+    return Checked(*answers, said=said, expected=number, seconds=seconds)

@@ -20,7 +20,7 @@ def said_of(line: str) -> str:
     return f"{meaning.says} ({line})" if meaning else line
 
 
-def told_of_program(path: Path, source: str, shown: str, fault: Fault) -> ValueError:
+def program_fault(path: Path, source: str, shown: str, fault: Fault) -> ValueError:
     """What keeps a program from being read, with its line where the fault has one; other faults stay as they are.
 
     A habit of other Fortran is told in the place of what the fault means: of the source of the job, where bounds have
@@ -39,15 +39,15 @@ def told_of_program(path: Path, source: str, shown: str, fault: Fault) -> ValueE
 
 
 @contextmanager
-def program_told(path: Path, source: str, shown: str) -> Iterator[None]:
+def naming_line(path: Path, source: str, shown: str) -> Iterator[None]:
     """While it holds, a fault of a program is told with its line."""
     try:
         yield
     except Fault as fault:
-        raise told_of_program(path, source, shown, fault) from None
+        raise program_fault(path, source, shown, fault) from None
 
 
-def told_of_run(declared: Sequence[object], fault: Fault) -> ValueError:
+def run_fault(declared: Sequence[object], fault: Fault) -> ValueError:
     """What keeps the mutants from being run; a declared mutant is named. What is no fault stays as it is."""
     code, _, detail = fault.line.removeprefix("FAULT ").partition(" ")
     if not fault.line.startswith("FAULT "):

@@ -27,7 +27,7 @@ def ask_machines(
         come.append(place)
 
     tick()
-    told = spread(program, calls, jobs, logins, take)[:LONGEST]
+    complaint = spread(program, calls, jobs, logins, take)[:LONGEST]
     if len(come) < len(calls):
         missing = plural(len(calls) - len(come), "part")
-        raise ValueError(f"{missing} of the job without an answer{f': {told}' if told else ''}")
+        raise ValueError(f"{missing} of the job without an answer{f': {complaint}' if complaint else ''}")

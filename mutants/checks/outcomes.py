@@ -26,7 +26,7 @@ class Difference(NamedTuple):
     expected: str
 
 
-def told_of_test(number: int, fault: Fault) -> ValueError:
+def test_fault(number: int, fault: Fault) -> ValueError:
     """What keeps a test from being run, in one line; what is no fault of the test stays as it is."""
     if not fault.line.startswith(("FAULT N", "FAULT J4", "FAULT J7")):
         return fault
@@ -44,25 +44,25 @@ def asked_outcomes(job: Job, means: Means, name: str | None) -> list[str]:
     """
     words, plain = ["exec", "--test", "1", *means.step_words], Job(job.source, job.suite)
     calls: list[Call] = [(words, batch_text(plain, at, at + 1)) for at in range(len(job.suite))]
-    found, progress = [""] * len(calls), Progress(name or "")
+    outcomes, progress = [""] * len(calls), Progress(name or "")
     estimate = Estimate(progress, f"the program itself on {len(calls)} tests", len(calls))
 
     def keep(place: int, text: str) -> None:
-        found[place] = text.rstrip("\n")
+        outcomes[place] = text.rstrip("\n")
         estimate.add(1)
 
     def refuse(place: int, fault: Fault) -> ValueError:
-        return told_of_test(place + 1, fault)
+        return test_fault(place + 1, fault)
 
     try:
         ask_many(means.program, calls, calls_at_once(means), Handling(keep, estimate.tick if name else untold, refuse))
     finally:
         progress.end()
-    for number, outcome in enumerate(found, 1):
+    for number, outcome in enumerate(outcomes, 1):
         if outcome.split(" ")[0] not in ENDS:
-            told = f"test {number}: the program itself ends as {outcome} on {values_of(job.suite[number - 1])}"
-            raise ValueError(f"{told}; it has to return or stop on each test")
-    return found
+            ending = f"test {number}: the program itself ends as {outcome} on {values_of(job.suite[number - 1])}"
+            raise ValueError(f"{ending}; it has to return or stop on each test")
+    return outcomes
 
 
 def values_in(outcome: str) -> list[str]:
@@ -84,7 +84,7 @@ def array_text(inside: str) -> str:
 def words_in(text: str) -> list[str]:
     """The words of an expectation as an outcome has them: upper case, arrays in parentheses and without blanks."""
     plain = re.sub(r"\s*=\s*", "=", text.strip().upper().translate(str.maketrans("[]", "()")))
-    plain = re.sub(r"\(([^()]*)\)", lambda found: f" {array_text(found[1])} ", plain).replace("= (", "=(")
+    plain = re.sub(r"\(([^()]*)\)", lambda array: f" {array_text(array[1])} ", plain).replace("= (", "=(")
     words = [word.rpartition("=") for word in plain.split()]
     return [name + sign + (word if word.startswith("(") else scalar_text(word)) for name, sign, word in words]
 
@@ -111,8 +111,8 @@ def is_met(expected: str, outcome: str, names: Sequence[str]) -> bool:
     if all("=" in word for word in words):
         return all([is_word_met(word, outcome, names) for word in words])
     if len(words) != len(names):
-        told = f"{expected!r} has {len(words)} values, and the subroutine has {len(names)} dummy arguments"
-        raise ValueError(told + ("" if "(" in expected else "; an array is one value, in parentheses: (1,2,3)"))
+        refusal = f"{expected!r} has {len(words)} values, and the subroutine has {len(names)} dummy arguments"
+        raise ValueError(refusal + ("" if "(" in expected else "; an array is one value, in parentheses: (1,2,3)"))
     return all(word in ("*", value) for word, value in zip(words, values_in(outcome)))
 
 

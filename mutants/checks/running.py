@@ -3,7 +3,7 @@
 from collections.abc import Mapping, Sequence
 from typing import NamedTuple
 
-from mutants.checks.faults import told_of_run
+from mutants.checks.faults import run_fault
 from mutants.checks.machines import ask_machines
 from mutants.checks.parts import Part, group_size, parts_of, whole_report
 from mutants.program.calling import Fault, read_as
@@ -76,7 +76,7 @@ def asked_in_parts(job: Job, totals: Mapping[str, int], means: Means, name: str)
         else:
             ask_many(means.program, calls, at_once, Handling(keep, estimate.tick))
     except Fault as fault:
-        raise told_of_run(job.equivalent, fault) from None
+        raise run_fault(job.equivalent, fault) from None
     finally:
         progress.end()
     return whole_report(reports)

@@ -41,12 +41,12 @@ class Sections(NamedTuple):
 
 
 def read_ini(path: Path) -> dict[str, Values]:
-    found = configparser.ConfigParser(interpolation=None)
+    parser = configparser.ConfigParser(interpolation=None)
     try:
-        found.read_string(path.read_text(encoding="utf-8-sig"), str(path))
+        parser.read_string(path.read_text(encoding="utf-8-sig"), str(path))
     except configparser.Error as fault:
         raise ValueError(" ".join(str(fault).split())) from None
-    return {name: dict(found[name]) for name in found.sections()}
+    return {name: dict(parser[name]) for name in parser.sections()}
 
 
 def toml_text(value: object) -> str:

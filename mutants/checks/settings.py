@@ -83,9 +83,9 @@ def read_settings(path: Path, program: Path, add_options: AddOptions) -> argpars
         sections, parser = read_sections(path), parser_of(add_options)
         own = sections.of(program)
         values = {**sections.common, **(own.values if own else {})}
-        found = parser.parse_args(words_in(values, parser, path.parent))
-        found.tests = own.tests if own else None
-        return found
+        settings = parser.parse_args(words_in(values, parser, path.parent))
+        settings.tests = own.tests if own else None
+        return settings
     except ValueError as fault:
         raise ValueError(f"{path}: {fault}") from None
 

@@ -30,8 +30,8 @@ class Start(NamedTuple):
 
     def checked(self, name: str) -> Checked:
         """The check."""
-        found = check(self.asked, Given(self.job, self.said, self.expected), self.means, name, self.prover)
-        return found._replace(file=self.made.source.file)
+        checked = check(self.asked, Given(self.job, self.said, self.expected), self.means, name, self.prover)
+        return checked._replace(file=self.made.source.file)
 
 
 def expected_of(given: argparse.Namespace, made: Made) -> Expected:

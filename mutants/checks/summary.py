@@ -39,8 +39,8 @@ class Telling(NamedTuple):
 
 def outcome_lines(checked: Checked) -> Iterator[str]:
     """What the program itself does on each test."""
-    told, titles = [*enumerate(checked.job.suite, 1)], checked.said.titles
-    shown = [(titled(test, number, titles), outcome) for (number, test), outcome in zip(told, checked.outcomes)]
+    tests, titles = [*enumerate(checked.job.suite, 1)], checked.said.titles
+    shown = [(titled(test, number, titles), outcome) for (number, test), outcome in zip(tests, checked.outcomes)]
     if not shown:
         return
     yield "The program on the tests:"
@@ -51,12 +51,12 @@ def outcome_lines(checked: Checked) -> Iterator[str]:
 
 def difference_lines(checked: Checked) -> Iterator[str]:
     """The tests on which the program does not do what is expected; or on how many it does."""
-    found = checked.unexpected
-    if checked.expected and not found:
+    differences = checked.unexpected
+    if checked.expected and not differences:
         yield f"As expected on {plural(checked.expected, 'test')}."
-    if found:
-        yield f"NOT AS EXPECTED: {plural(len(found), 'test')}. The score is that of a program that is wrong."
-    for each in found:
+    if differences:
+        yield f"NOT AS EXPECTED: {plural(len(differences), 'test')}. The score is that of a program that is wrong."
+    for each in differences:
         values = titled(checked.job.suite[each.test - 1], each.test, checked.said.titles)
         yield f"  test {each.test}  {values}: {each.outcome}, expected {each.expected}"
 
@@ -69,9 +69,9 @@ def proved_count(checked: Checked) -> int:
 def score_line(checked: Checked) -> str:
     count = summed(checked.report.counts.values())
     score = f"Score {score_of(count)} %" if count.wanted else "No score"
-    told = f"{score}: {count.killed} of {plural(count.wanted, 'mutant')} killed"
-    told += left_out_text(count, proved_count(checked))
-    return f"{told}, of those that were asked for." if checked.left_out else f"{told}."
+    line = f"{score}: {count.killed} of {plural(count.wanted, 'mutant')} killed"
+    line += left_out_text(count, proved_count(checked))
+    return f"{line}, of those that were asked for." if checked.left_out else f"{line}."
 
 
 def proof_lines(checked: Checked) -> Iterator[str]:
@@ -83,17 +83,17 @@ def proof_lines(checked: Checked) -> Iterator[str]:
 
 def subsuming_lines(checked: Checked) -> Iterator[str]:
     """The score over the mutants that subsume all others, where it tells something else."""
-    found = subsuming(checked.listed, checked.report.rows)
-    if found.counted.total < sum(row.status != "E" for row in checked.report.rows):
-        yield found.told()
+    least = subsuming(checked.listed, checked.report.rows)
+    if least.counted.total < sum(row.status != "E" for row in checked.report.rows):
+        yield least.text()
 
 
 def twin_lines(checked: Checked) -> Iterator[str]:
     """The same of programs, where some mutants are one; the score counts mutants, as the report does."""
     count = count_of_programs(checked.listed, checked.report.rows)
     if count.total < len(checked.listed):
-        told = plural(count.wanted, "different program")
-        yield f"Some of the mutants are the same program: {count.killed} of {told} killed."
+        programs = plural(count.wanted, "different program")
+        yield f"Some of the mutants are the same program: {count.killed} of {programs} killed."
 
 
 def wrong_lines(checked: Checked) -> Iterator[str]:
@@ -134,9 +134,9 @@ def group_lines(checked: Checked, groups: Iterable[Group]) -> Iterator[str]:
     """Declared mutants with their texts and reasons."""
     for each in groups:
         first = each.mutants[0]
-        told = changed_text(checked.statements[first.line], first.text)
+        change = changed_text(checked.statements[first.line], first.text)
         killed = "KILLED, " if each.row.status == "W" else ""
-        yield f"  {names_text(each.mutants):<{NAME}}  line {first.line}: {told}: {killed}{each.reason or NO_REASON}"
+        yield f"  {names_text(each.mutants):<{NAME}}  line {first.line}: {change}: {killed}{each.reason or NO_REASON}"
 
 
 def changed_text(old: str, new: str) -> str:
@@ -176,11 +176,11 @@ def survivor_lines(checked: Checked, telling: Telling) -> Iterator[str]:
     if not survivors:
         yield no_survivor_text(proved_count(checked))
         return
-    told = survivors_text(survivors)
+    head = survivors_text(survivors)
     order = sorted(lines, key=lambda line: (-len(lines[line]), line))[: telling.top]
     rest = len(lines) - len(order)
     more = f" The {plural(len(order), 'line')} with most (--top N tells more, --all all):" if rest else ""
-    yield f"{told}, each with what it changes:" if telling.is_all else f"{told}.{more}" if more else f"{told}:"
+    yield f"{head}, each with what it changes:" if telling.is_all else f"{head}.{more}" if more else f"{head}:"
     for line in sorted(lines) if telling.is_all else order:
         yield f"line {line}: {checked.statements[line]} ({len(lines[line])} of {counts[line].total} survive)"
         tell = line_lines if telling.is_all else few_lines
@@ -202,8 +202,8 @@ def half_declared_lines(checked: Checked) -> Iterator[str]:
         others = [twin for twin in group if name_of(twin) in declared]
         left = [twin for twin in group if name_of(twin) in alive]
         if others and left:
-            told = f"{names_text(left)} and {names_text(others)} are the same program"
-            yield f"{told}, and only the last is declared equivalent (mutants declare takes all names)."
+            same = f"{names_text(left)} and {names_text(others)} are the same program"
+            yield f"{same}, and only the last is declared equivalent (mutants declare takes all names)."
 
 
 def unreached_lines(checked: Checked) -> Iterator[str]:

@@ -19,8 +19,8 @@ def whole_text(texts: Sequence[str], firsts: Sequence[int]) -> str:
     failed = next((place for place, text in enumerate(texts) if not text.startswith("REPORT ")), None)
     if len(texts) == 1 or failed is not None:
         text = texts[failed or 0]
-        found = OF_TEST.fullmatch(text)
-        return f"FAULT {found[1]} {firsts[failed or 0] + int(found[2])}\n" if found else text
+        fault = OF_TEST.fullmatch(text)
+        return f"FAULT {fault[1]} {firsts[failed or 0] + int(fault[2])}\n" if fault else text
     return report_text(joined_batches([read_report(text) for text in texts]))
 
 

@@ -108,8 +108,8 @@ def tables_in(folder: Path) -> dict[str, Path]:
 
 def unread_remarks(folder: Path) -> list[str]:
     """What is told of files that would declare something or set options where everybody may write."""
-    found = [path for path in sorted(suites_folder(folder).iterdir()) if is_declaring(path) or path.name in (INI, TOML)]
-    return [f"{path} is not read, since suites are handed in there: {advice_on(path, folder)}" for path in found]
+    paths = [path for path in sorted(suites_folder(folder).iterdir()) if is_declaring(path) or path.name in (INI, TOML)]
+    return [f"{path} is not read, since suites are handed in there: {advice_on(path, folder)}" for path in paths]
 
 
 def advice_on(path: Path, folder: Path) -> str:

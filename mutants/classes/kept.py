@@ -11,7 +11,7 @@ from mutants.classes.folder import Results, Task
 from mutants.files import written
 
 
-class Told(NamedTuple):
+class Summary(NamedTuple):
     """What is told of a class: lines, which jobs failed, the names of those with a page, and whether a score is below
     what is asked for."""
 
@@ -25,7 +25,7 @@ def digest_of_class(tasks: Sequence[Task], results: Results, remark: str) -> str
     """The digest of all that the files of a class are made of, beside the answers that are kept."""
     digest = hashlib.sha256(f"{tool_digest()}{remark}".encode())
     for task in tasks:
-        proofs = sorted(task.proofs.whys.items()), task.proofs.told(), task.proofs.remark
+        proofs = sorted(task.proofs.whys.items()), task.proofs.not_asked_text(), task.proofs.remark
         said = task.name, task.refusal, task.shown, task.meant, task.remarks, task.expected, proofs
         digest.update(f"{results.key(task)}{said!r}".encode("utf-8", "replace"))
     return digest.hexdigest()
@@ -37,15 +37,15 @@ class KeptClass:
     def __init__(self, out: Path) -> None:
         self.out, self.path = out, out / "course.key"
 
-    def told(self, digest: str, results: Results) -> Told | None:
+    def summary(self, digest: str, results: Results) -> Summary | None:
         """What was told of a class with this digest, where all its files are there."""
         try:
             kept = json.loads(self.path.read_bytes())
-            told = Told(kept["lines"], kept["failed"], kept["names"], kept["is_below"])
+            summary = Summary(kept["lines"], kept["failed"], kept["names"], kept["is_below"])
         except (OSError, ValueError, KeyError, TypeError):
             return None
-        files = [self.out / "course.html", self.out / "course.csv", *(results.path(n, ".html") for n in told.names)]
-        return told if kept["digest"] == digest and all(path.exists() for path in files) else None
+        files = [self.out / "course.html", self.out / "course.csv", *(results.path(n, ".html") for n in summary.names)]
+        return summary if kept["digest"] == digest and all(path.exists() for path in files) else None
 
-    def keep(self, digest: str, told: Told) -> None:
-        written(self.path, json.dumps({"digest": digest, **told._asdict()}).encode())
+    def keep(self, digest: str, summary: Summary) -> None:
+        written(self.path, json.dumps({"digest": digest, **summary._asdict()}).encode())

@@ -61,8 +61,8 @@ def by_score(results: Sequence[Reported]) -> list[Reported]:
 
 def scores_part(results: Sequence[Reported]) -> str:
     only = only_here(results)
-    told = "<p><b>Only here</b>: how many mutants this suite kills that no other suite of the class kills.</p>\n"
-    return table(HEAD, [score_row(result, only) for result in by_score(results)]) + told
+    legend = "<p><b>Only here</b>: how many mutants this suite kills that no other suite of the class kills.</p>\n"
+    return table(HEAD, [score_row(result, only) for result in by_score(results)]) + legend
 
 
 def refused_part(results: Sequence[Result]) -> str:
@@ -74,9 +74,9 @@ def refused_part(results: Sequence[Result]) -> str:
 
 def unexpected_part(results: Sequence[Result]) -> str:
     """The suites that expect something else of the program than it does, or whose expectations cannot be read."""
-    told = [f"{each.name} ({plural(each.unexpected, 'test')})" for each in results if each.unexpected]
+    names = [f"{each.name} ({plural(each.unexpected, 'test')})" for each in results if each.unexpected]
     more = [f"{each.name}: {each.refusal}" for each in results if each.report and each.refusal]
-    which = f"The program does not do what is expected of it by {joined_words(told)}." if told else ""
+    which = f"The program does not do what is expected of it by {joined_words(names)}." if names else ""
     return "".join(f'<p class="warn">{text(each)}</p>\n' for each in [which, *more] if each)
 
 
@@ -93,14 +93,14 @@ def best_tests_part(whole: Class) -> str:
     rows: list[list[Cell]] = [
         [*test_row(whole.tests[place]), ("", "yes" if place in whole.least else "")] for place in order[:MOST]
     ]
-    told = f"<p>Of {plural(len(whole.tests), 'different test')} of the class, those that kill the most.</p>\n"
-    return told + table([*TESTS_HEAD, ("", "In the smallest set")], rows)
+    head = f"<p>Of {plural(len(whole.tests), 'different test')} of the class, those that kill the most.</p>\n"
+    return head + table([*TESTS_HEAD, ("", "In the smallest set")], rows)
 
 
 def least_part(whole: Class) -> str:
     killed = sum(mask != 0 for mask in whole.killers)
-    told = f"<p>{text(least_set_text(whole.least, whole.is_least, killed, 'class'))}.</p>\n"
-    return told + (table(TESTS_HEAD, [test_row(whole.tests[place]) for place in whole.least]) if whole.least else "")
+    head = f"<p>{text(least_set_text(whole.least, whole.is_least, killed, 'class'))}.</p>\n"
+    return head + (table(TESTS_HEAD, [test_row(whole.tests[place]) for place in whole.least]) if whole.least else "")
 
 
 def listing_part(whole: Class, results: Sequence[Reported], known: View | None) -> str:
@@ -109,9 +109,9 @@ def listing_part(whole: Class, results: Sequence[Reported], known: View | None) 
     if known is None:
         return f"<p>{plural(len(common), 'mutant')} survive in all suites.</p>\n"
     rows = rows_of_all(whole)
-    told = f"<p>{plural(len(common), 'mutant')} that no suite of the class kills. The counts are of all suites.</p>\n"
+    head = f"<p>{plural(len(common), 'mutant')} that no suite of the class kills. The counts are of all suites.</p>\n"
     source, statements, listed, proofs = known
-    return told + program_part(source, statements, at_lines(listed, rows, common, proofs))
+    return head + program_part(source, statements, at_lines(listed, rows, common, proofs))
 
 
 def rows_of_all(whole: Class) -> list[Row]:
@@ -162,8 +162,8 @@ def course_page(title: str, results: Sequence[Result], known: Mapping[str, View]
     reported = {name: reported_of(ours) for name, ours in programs.items()}
     classes = {name: class_of(ours) if ours else None for name, ours in reported.items()}
     done = len(reported_of(results))
-    told = f"<p>{plural(len(results), 'job')}, {done} with a report.</p>\n"
-    head = f"<h1>{text(title)}: what the suites kill</h1>\n{told}" + remark_part(remark)
+    count = f"<p>{plural(len(results), 'job')}, {done} with a report.</p>\n"
+    head = f"<h1>{text(title)}: what the suites kill</h1>\n{count}" + remark_part(remark)
     sections = [
         program_section(place, name, ours, classes[name], known.get(name))
         for place, (name, ours) in enumerate(programs.items(), 1)

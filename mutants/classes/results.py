@@ -61,7 +61,7 @@ def reported_of(results: Iterable[Result]) -> list[Reported]:
     return [Reported(each.name, each.suite, each.report) for each in results if each.report is not None]
 
 
-def failed_told(results: Sequence[Result]) -> str:
+def failed_text(results: Sequence[Result]) -> str:
     """How many jobs failed, and which; no text where none did."""
     names = [each.name for each in results if each.report is None]
     return f"{len(names)} of {plural(len(results), 'job')} failed: {first_words(names, MOST)}" if names else ""

@@ -7,7 +7,7 @@ from typing import NamedTuple
 
 from mutants.caches import tool_digest
 from mutants.checks.checking import dummies_of
-from mutants.checks.faults import said_of, told_of_program
+from mutants.checks.faults import said_of, program_fault
 from mutants.checks.outcomes import Difference, asked_outcomes, differences
 from mutants.checks.running import Means
 from mutants.classes.batched import OF_TEST
@@ -43,12 +43,12 @@ class Suite(NamedTuple):
 
 def words_of(task: Task, line: str) -> str:
     """What the line of a fault means: of a test with its row, of the program with its line."""
-    found = OF_TEST.fullmatch(line)
-    if found and 0 < int(found[2]) <= len(task.rows):
-        return f"row {task.rows[int(found[2]) - 1]}: {said_of(line)}"
+    of_test = OF_TEST.fullmatch(line)
+    if of_test and 0 < int(of_test[2]) <= len(task.rows):
+        return f"row {task.rows[int(of_test[2]) - 1]}: {said_of(line)}"
     if not line.startswith("FAULT ") or not task.made or not task.program:
         return line
-    return str(told_of_program(task.program, task.made.source.text, task.shown, Fault("run", line)))
+    return str(program_fault(task.program, task.made.source.text, task.shown, Fault("run", line)))
 
 
 def refused(task: Task, text: str | None) -> Result:
@@ -56,8 +56,8 @@ def refused(task: Task, text: str | None) -> Result:
     line = text.splitlines()[0] if text and text.strip() else NO_ANSWER
     suite = task.made.suite if task.made else []
     code = line.split(" ")[1] if line.startswith("FAULT ") else NO_CODE
-    told = task.refusal or words_of(task, line)
-    return Result(task.name, task.program_name, suite, None, told.replace(f"{folder_of(task)}/", ""), code)
+    reason = task.refusal or words_of(task, line)
+    return Result(task.name, task.program_name, suite, None, reason.replace(f"{folder_of(task)}/", ""), code)
 
 
 def folder_of(task: Task) -> str:
@@ -91,12 +91,12 @@ def suite_of(task: Task, known: Known | None, asked: Asked, results: Results) ->
         return Suite(task, text or "", refused(task, text))
     report, outcomes = read_report(text), asked.lines(task, results)
     suite = task.made.suite if task.made else []
-    told, unexpected = "", list[Difference]()
+    refusal, unexpected = "", list[Difference]()
     try:
         unexpected = differences(task.expected, outcomes, dummies_of(known.printed))
     except ValueError as fault:
-        told = str(fault)
-    result = Result(task.name, task.program_name, suite, report, told, unexpected=len(unexpected))
+        refusal = str(fault)
+    result = Result(task.name, task.program_name, suite, report, refusal, unexpected=len(unexpected))
     return Suite(task, text, result, outcomes, unexpected)
 
 

@@ -53,19 +53,20 @@ def with_ops(state: State, ops: Sequence[str]) -> State:
 
 def remarks_on(old: State, new: State, ops: Sequence[str]) -> list[str]:
     """What has to be known beside the two lists, in sentences."""
-    told = []
+    lines = []
     rest = [op for state in (old, new) for op in state.ops if op not in ops]
     if rest:
-        told.append(f"Compared are the mutants of {', '.join(ops) or 'no operator'}: the others are in one file alone.")
+        compared_ops = ", ".join(ops) or "no operator"
+        lines.append(f"Compared are the mutants of {compared_ops}: the others are in one file alone.")
     if old.steps != new.steps:
-        told.append(f"The limit on steps was {old.steps}, and is {new.steps}.")
-    told += [f"Left out of {name}: {each}." for name, state in (("OLD", old), ("NEW", new)) for each in state.left_out]
-    return told + list(dict.fromkeys(state.remark for state in (old, new) if state.remark))
+        lines.append(f"The limit on steps was {old.steps}, and is {new.steps}.")
+    lines += [f"Left out of {name}: {each}." for name, state in (("OLD", old), ("NEW", new)) for each in state.left_out]
+    return lines + list(dict.fromkeys(state.remark for state in (old, new) if state.remark))
 
 
-def change_of_test(old: int, new: int, found: Matched) -> TestChange:
-    gained = [now.mutant for before, now in found.pairs if new in now.killers and old not in before.killers]
-    lost = [now.mutant for before, now in found.pairs if old in before.killers and new not in now.killers]
+def change_of_test(old: int, new: int, matched: Matched) -> TestChange:
+    gained = [now.mutant for before, now in matched.pairs if new in now.killers and old not in before.killers]
+    lost = [now.mutant for before, now in matched.pairs if old in before.killers and new not in now.killers]
     return TestChange(old, new, gained, lost)
 
 
@@ -83,21 +84,21 @@ def compared(old: State, new: State) -> Comparison:
     """The comparison of two states, by the operators that both have."""
     ops = [op for op in new.ops if op in old.ops]
     one, other = with_ops(old, ops), with_ops(new, ops)
-    found = matched(one, other)
+    mutants = matched(one, other)
     # Survivors before and now.
-    alive: list[tuple[Verdict, Verdict]] = [(b, n) for b, n in found.pairs if not b.is_killed and not n.is_killed]
+    alive: list[tuple[Verdict, Verdict]] = [(b, n) for b, n in mutants.pairs if not b.is_killed and not n.is_killed]
     by_word = [(b, n) for b, n in alive if not b.is_proved and not n.is_proved]
     tests = tests_matched(old.tests, new.tests)
-    changes = [change_of_test(*pair, found) for pair in tests]
+    changes = [change_of_test(*pair, mutants) for pair in tests]
     return Comparison(
         one,
         other,
-        found,
-        [Change(n.mutant, n.killers, n.status == "W") for _, n in newly_killed(found.pairs)],
-        [Change(n.mutant, b.killers, n.status == "E") for b, n in newly_surviving(found.pairs)],
+        mutants,
+        [Change(n.mutant, n.killers, n.status == "W") for _, n in newly_killed(mutants.pairs)],
+        [Change(n.mutant, b.killers, n.status == "E") for b, n in newly_surviving(mutants.pairs)],
         [n.mutant for b, n in by_word if (b.status, n.status) == ("S", "E")],
         [n.mutant for b, n in by_word if (b.status, n.status) == ("E", "S")],
-        [n.mutant for b, n in found.pairs if n.is_proved and not b.is_proved],
+        [n.mutant for b, n in mutants.pairs if n.is_proved and not b.is_proved],
         [n.mutant for b, n in alive if b.is_proved and not n.is_proved],
         [change for change in changes if change.gained or change.lost],
         tests,

@@ -21,13 +21,13 @@ def folded(title: str, lines: Sequence[str], rows: int) -> list[str]:
     return ["<details>", f"<summary>{title}</summary>", "", *lines, "", "</details>", ""]
 
 
-def items_part(title: str, items: Sequence[Item], told: str = "") -> list[str]:
-    """A table of mutants; nothing where there is none. `told` is over what is told of each."""
+def items_part(title: str, items: Sequence[Item], what: str = "") -> list[str]:
+    """A table of mutants; nothing where there is none. `what` is the head of the column of remarks."""
     if not items:
         return []
-    head = ["Mutant", "Line", "Change", *([told] if told else [])]
+    head = ["Mutant", "Line", "Change", *([what] if what else [])]
     rows = [
-        [cell(item.names), item.line or "", code(item.change), *([cell(item.told)] if told else [])] for item in items
+        [cell(item.names), item.line or "", code(item.change), *([cell(item.remark)] if what else [])] for item in items
     ]
     return folded(title, table(head, rows), len(rows))
 
@@ -51,8 +51,8 @@ def alone_part(title: str, verdicts: Sequence[Verdict], state: State) -> list[st
     if not verdicts:
         return []
     alive = [verdict.mutant for verdict in verdicts if verdict.status == "S"]
-    told = f"{title}: {verdicts_text(verdicts)}"
-    return items_part(f"{told}; the survivors", items_of(alive, state)) or [f"{told}.", ""]
+    counted = f"{title}: {verdicts_text(verdicts)}"
+    return items_part(f"{counted}; the survivors", items_of(alive, state)) or [f"{counted}.", ""]
 
 
 def test_rows(comparison: Comparison) -> Iterator[list[object]]:
@@ -62,22 +62,22 @@ def test_rows(comparison: Comparison) -> Iterator[list[object]]:
 
 def comparison_markdown(comparison: Comparison) -> str:
     """The whole text, without the paths of the files."""
-    old, new, found = comparison.old, comparison.new, comparison.matched
+    old, new, mutants = comparison.old, comparison.new, comparison.matched
     lost, killed = comparison.newly_surviving, comparison.newly_killed
     lines = [f"### Mutants of {cell(new.unit)}: {score_text(old)} before, {score_text(new)} now", ""]
     lines += counts_table(old, new)
-    told = f"{plural(len(lost), 'mutant')} that {'was' if len(lost) == 1 else 'were'} killed"
-    title = f"{told} {'survives' if len(lost) == 1 else 'survive'}"
+    counted = f"{plural(len(lost), 'mutant')} that {'was' if len(lost) == 1 else 'were'} killed"
+    title = f"{counted} {'survives' if len(lost) == 1 else 'survive'}"
     none = ["No mutant survives that was killed.", ""]
     lines += items_part(title, items_of_changes(lost, new), "Was killed by") or none
     lines += items_part(f"{plural(len(killed), 'mutant')} newly killed", items_of_changes(killed, new), "Killed by")
-    lines += alone_part("New", found.added, new) + alone_part("Gone", found.gone, old)
+    lines += alone_part("New", mutants.added, new) + alone_part("Gone", mutants.gone, old)
     lines += items_part("Declared equivalent since then", items_of(comparison.declared, new))
     lines += items_part("Declared equivalent no more", items_of(comparison.undeclared, new))
     lines += proof_lines(comparison)
     rows = list(test_rows(comparison))
     lines += folded("Tests", table(["", "Test", "Values", "What it kills"], rows), len(rows)) if rows else []
-    told = f"{plural(len(found.pairs), 'mutant')} in both, matched {found.how}."
-    lines += [f"{told} Tests are matched {comparison.how_of_tests}."]
+    counted = f"{plural(len(mutants.pairs), 'mutant')} in both, matched {mutants.how}."
+    lines += [f"{counted} Tests are matched {comparison.how_of_tests}."]
     lines += [cell(remark) for remark in comparison.remarks]
     return "\n".join(lines) + "\n"

@@ -43,8 +43,8 @@ def places_matched(olds: Sequence[str], news: Sequence[str]) -> dict[int, int]:
 def lines_matched(olds: Mapping[int, str], news: Mapping[int, str]) -> dict[int, int]:
     """For lines of old statements those of the same statements now."""
     old_lines, new_lines = sorted(olds), sorted(news)
-    found = places_matched([olds[line] for line in old_lines], [news[line] for line in new_lines])
-    return {old_lines[place]: new_lines[other] for place, other in found.items()}
+    places = places_matched([olds[line] for line in old_lines], [news[line] for line in new_lines])
+    return {old_lines[place]: new_lines[other] for place, other in places.items()}
 
 
 def paired(
@@ -82,18 +82,18 @@ def by_text(old: State, new: State) -> Matched:
 def assert_same_lists(old: State, new: State) -> None:
     """The states have the same mutants, as far as their reports tell it."""
     refusal = "the reports are not of the same mutants"
-    told = "; reports have no texts of killed mutants. Give the jobs (--jobs OLD.json NEW.json), or files of --json"
+    advice = "; reports have no texts of killed mutants. Give the jobs (--jobs OLD.json NEW.json), or files of --json"
     if (old.unit, old.every) != (new.unit, new.every):
-        raise ValueError(f"the reports are not of one unit and one choice of mutants{told}")
+        raise ValueError(f"the reports are not of one unit and one choice of mutants{advice}")
     counts = [[sum(each.mutant.op == op for each in state.verdicts) for op in old.ops] for state in (old, new)]
     for op, one, other in zip(old.ops, *counts):
         if one != other:
-            raise ValueError(f"{refusal}: {op} has {one}, and then {other}{told}")
+            raise ValueError(f"{refusal}: {op} has {one}, and then {other}{advice}")
     for one_verdict, other_verdict in zip(old.verdicts, new.verdicts):
         texts = one_verdict.mutant.text, other_verdict.mutant.text
         if all(texts) and texts[0] != texts[1]:
             name = name_of(one_verdict.mutant)
-            raise ValueError(f"{refusal}: {name} is {texts[0]}, and then {texts[1]}{told}")
+            raise ValueError(f"{refusal}: {name} is {texts[0]}, and then {texts[1]}{advice}")
 
 
 def by_number(old: State, new: State) -> Matched:

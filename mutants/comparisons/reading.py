@@ -22,24 +22,24 @@ def initial_line(statements: Mapping[int, str], line: int) -> int:
 
 
 def verdict_of(
-    found: Mapping[str, Any], numbers: Mapping[str, int], statements: Mapping[int, str], proved: Collection[str]
+    entry: Mapping[str, Any], numbers: Mapping[str, int], statements: Mapping[int, str], proved: Collection[str]
 ) -> Verdict:
     """The verdict of a mutant of a mutation report."""
-    op, place = found["id"].split(" ")
-    line = initial_line(statements, found["location"]["start"]["line"])
-    mutant = Mutant(op, numbers[found["id"]], int(place), line, text_in(found["description"]))
-    status = STATUSES[found["status"]]["statusReason" in found]
-    return Verdict(mutant, status, tuple(map(int, found["killedBy"])), found["id"] in proved)
+    op, place = entry["id"].split(" ")
+    line = initial_line(statements, entry["location"]["start"]["line"])
+    mutant = Mutant(op, numbers[entry["id"]], int(place), line, text_in(entry["description"]))
+    status = STATUSES[entry["status"]]["statusReason" in entry]
+    return Verdict(mutant, status, tuple(map(int, entry["killedBy"])), entry["id"] in proved)
 
 
 def numbers_of(ids: list[str]) -> dict[str, int]:
     """The numbers of mutants within their operators, from 1."""
     counts: dict[str, int] = {}
-    found = {}
+    numbers = {}
     for name in ids:
         op = name.partition(" ")[0]
-        counts[op] = found[name] = counts.get(op, 0) + 1
-    return found
+        counts[op] = numbers[name] = counts.get(op, 0) + 1
+    return numbers
 
 
 def state_of_mutation_report(text: str) -> State:
@@ -47,15 +47,15 @@ def state_of_mutation_report(text: str) -> State:
     try:
         report = json.loads(text)
         config, (file,) = report["config"], report["files"].values()
-        statements = {int(line): told for line, told in config["statements"].items()}
-        numbers = numbers_of([found["id"] for found in file["mutants"]])
+        statements = {int(line): statement for line, statement in config["statements"].items()}
+        numbers = numbers_of([entry["id"] for entry in file["mutants"]])
         # Files of earlier versions tell of no proof.
         proved = set(config.get("proved", []))
-        verdicts = [verdict_of(found, numbers, statements, proved) for found in file["mutants"]]
+        verdicts = [verdict_of(entry, numbers, statements, proved) for entry in file["mutants"]]
         tests = [json.dumps(test) for test in config["suite"]]
         remark = report["framework"]["name"].removeprefix("mutants").removeprefix(". ")
-        told = config["operators"], verdicts, tests, statements, config["leftOut"], remark
-        return State(config["unit"], config["steps"], 1, *told)
+        values = config["operators"], verdicts, tests, statements, config["leftOut"], remark
+        return State(config["unit"], config["steps"], 1, *values)
     except (KeyError, TypeError, AttributeError, ValueError, IndexError, RecursionError):
         raise ValueError("it is no whole file of this version's mutants check --json") from None
 

@@ -42,24 +42,24 @@ class Since(NamedTuple):
     what: str
     old: State
     new: State
-    found: Matched
+    mutants: Matched
 
     @property
     def lost(self) -> list[Mutant]:
         """The mutants that were killed and survive."""
-        return [now.mutant for _, now in newly_surviving(self.found.pairs)]
+        return [now.mutant for _, now in newly_surviving(self.mutants.pairs)]
 
     @property
     def changes(self) -> list[str]:
         """What changed, and how often."""
         same = len(tests_matched(self.old.tests, self.new.tests))
-        found = (
-            (len(newly_killed(self.found.pairs)), "mutant", "newly killed"),
+        counts = (
+            (len(newly_killed(self.mutants.pairs)), "mutant", "newly killed"),
             (len(self.lost), "mutant", "newly surviving"),
-            (len(self.found.added), "mutant", "new"), (len(self.found.gone), "mutant", "gone"),
+            (len(self.mutants.added), "mutant", "new"), (len(self.mutants.gone), "mutant", "gone"),
             (len(self.new.tests) - same, "test", "new"), (len(self.old.tests) - same, "test", "gone"),
         )  # fmt: skip
-        return [f"{plural(count, noun)} {how}" for count, noun, how in found if count]
+        return [f"{plural(count, noun)} {how}" for count, noun, how in counts if count]
 
     def lines(self) -> Iterator[str]:
         yield f"Since {self.what} ({score_text(self.old)}): {', '.join(self.changes) or 'nothing has changed'}."
@@ -77,17 +77,17 @@ def since(what: str, old: State, checked: Checked) -> Since:
 
 def kept_path(folder: Path, asked: Sequence[object]) -> Path:
     """Where the state of a check that is asked these things is kept."""
-    told = json.dumps([__version__, *map(str, asked)])
-    return folder / f"{hashlib.sha256(told.encode()).hexdigest()[:32]}.json.gz"
+    key = json.dumps([__version__, *map(str, asked)])
+    return folder / f"{hashlib.sha256(key.encode()).hexdigest()[:32]}.json.gz"
 
 
 def kept_state(path: Path) -> State | None:
     """The state that is kept; None where there is none that can be read."""
     try:
-        found = json.loads(gzip.decompress(path.read_bytes()))
-        verdicts = [Verdict(Mutant(*mutant), status, (), proved) for mutant, status, proved in found.pop("verdicts")]
-        statements = {int(line): told for line, told in found.pop("statements").items()}
-        state = State(**found, verdicts=verdicts, statements=statements)
+        stored = json.loads(gzip.decompress(path.read_bytes()))
+        verdicts = [Verdict(Mutant(*mutant), status, (), proved) for mutant, status, proved in stored.pop("verdicts")]
+        statements = {int(line): statement for line, statement in stored.pop("statements").items()}
+        state = State(**stored, verdicts=verdicts, statements=statements)
         count_of(state.verdicts)
         return state
     except (OSError, EOFError, ValueError, TypeError, KeyError, AttributeError):
@@ -97,5 +97,5 @@ def kept_state(path: Path) -> State | None:
 def bytes_of(state: State) -> bytes:
     """A state as it is kept."""
     verdicts = [[each.mutant, each.status, each.is_proved] for each in state.verdicts]
-    told = {**state._asdict(), "verdicts": verdicts}
-    return gzip.compress(json.dumps(told).encode(), 1, mtime=0)
+    stored = {**state._asdict(), "verdicts": verdicts}
+    return gzip.compress(json.dumps(stored).encode(), 1, mtime=0)

@@ -28,7 +28,7 @@ def item_lines(items: Sequence[Item], state: State, is_whole: bool) -> Iterator[
         shown = group if is_whole or len(group) <= SHOWN else group[: SHOWN - 1]
         yield f"line {line}: {state.statements[line]}" if line in state.statements else f"line {line or 'unknown'}:"
         for item in shown:
-            yield f"  {item.names:<{wide}}  {item.change}" + (f": {item.told}" if item.told else "")
+            yield f"  {item.names:<{wide}}  {item.change}" + (f": {item.remark}" if item.remark else "")
         if len(shown) < len(group):
             yield f"  {'':<{wide}}  and {len(group) - len(shown)} more"
 
@@ -62,9 +62,9 @@ def test_lines(comparison: Comparison) -> Iterator[str]:
 def comparison_text(comparison: Comparison, old_path: object, new_path: object) -> str:
     """The whole text. All mutants that were killed and survive are told, and of other lists a part."""
     old, new = comparison.old, comparison.new
-    lost, killed, found = comparison.newly_surviving, comparison.newly_killed, comparison.matched
+    lost, killed, mutants = comparison.newly_surviving, comparison.newly_killed, comparison.matched
     lines = [state_line("OLD", old_path, old), state_line("NEW", new_path, new)]
-    lines += [f"{plural(len(found.pairs), 'mutant')} in both, matched {found.how}.", *comparison.remarks, ""]
+    lines += [f"{plural(len(mutants.pairs), 'mutant')} in both, matched {mutants.how}.", *comparison.remarks, ""]
     lines += part(
         f"NEWLY SURVIVING: {plural(len(lost), 'mutant')}; behind each the tests that killed it.",
         items_of_changes(lost, new),
@@ -74,8 +74,8 @@ def comparison_text(comparison: Comparison, old_path: object, new_path: object) 
     lines += [] if lost else ["No mutant survives that was killed.", ""]
     title = f"Newly killed: {plural(len(killed), 'mutant')}; behind each the tests that kill it."
     lines += part(title, items_of_changes(killed, new), new)
-    lines += alone_lines("New", found.added, new)
-    lines += alone_lines("Gone", found.gone, old)
+    lines += alone_lines("New", mutants.added, new)
+    lines += alone_lines("Gone", mutants.gone, old)
     declared, undeclared = comparison.declared, comparison.undeclared
     lines += part(f"Declared equivalent since then: {plural(len(declared), 'mutant')}.", items_of(declared, new), new)
     title = f"Declared equivalent no more: {plural(len(undeclared), 'mutant')}."

@@ -23,7 +23,7 @@ class Item(NamedTuple):
     names: str
     line: int
     change: str
-    told: str
+    remark: str
 
 
 def groups_of(mutants: Iterable[Mutant]) -> list[list[Mutant]]:
@@ -47,17 +47,17 @@ def mutants_text(mutants: Sequence[Mutant]) -> str:
 def items_of_changes(changes: Sequence[Change], state: State) -> list[Item]:
     """Mutants that changed, each with the tests that tell."""
     by_mutant = {change.mutant: change for change in changes}
-    found = []
+    items = []
     for group in groups_of(by_mutant):
         change = by_mutant[group[0]]
-        told = tests_text(change.tests) + (", declared equivalent" if change.is_declared else "")
-        found.append(Item(names_text(group), group[0].line, change_text(group[0], state.statements), told))
-    return sorted(found, key=lambda item: item.line)
+        remark = tests_text(change.tests) + (", declared equivalent" if change.is_declared else "")
+        items.append(Item(names_text(group), group[0].line, change_text(group[0], state.statements), remark))
+    return sorted(items, key=lambda item: item.line)
 
 
 def items_of(mutants: Iterable[Mutant], state: State) -> list[Item]:
-    found = [Item(names_text(g), g[0].line, change_text(g[0], state.statements), "") for g in groups_of(mutants)]
-    return sorted(found, key=lambda item: item.line)
+    items = [Item(names_text(g), g[0].line, change_text(g[0], state.statements), "") for g in groups_of(mutants)]
+    return sorted(items, key=lambda item: item.line)
 
 
 def score_text(state: State) -> str:
@@ -68,8 +68,8 @@ def score_text(state: State) -> str:
 
 def verdicts_text(verdicts: Sequence[Verdict]) -> str:
     count = count_of(verdicts)
-    told = f"{plural(count.total, 'mutant')}, {count.killed} killed"
-    return f"{told}, {count.equivalent} declared equivalent" if count.equivalent else told
+    text = f"{plural(count.total, 'mutant')}, {count.killed} killed"
+    return f"{text}, {count.equivalent} declared equivalent" if count.equivalent else text
 
 
 def test_change_text(change: TestChange) -> str:
@@ -81,8 +81,8 @@ def test_change_text(change: TestChange) -> str:
 
 def value_text(state: State, number: int) -> str:
     """The values of a test; of a report alone they are unknown, and nothing is told."""
-    told = state.tests[number - 1]
-    return "" if told == str(number) else shortened(told)
+    values = state.tests[number - 1]
+    return "" if values == str(number) else shortened(values)
 
 
 def others(state: State, same: Iterable[int]) -> list[int]:
@@ -112,6 +112,6 @@ def test_changes(comparison: Comparison) -> Iterator[tuple[str, int, str, str]]:
 
 def proof_lines(comparison: Comparison) -> list[str]:
     """How many mutants are proved equivalent since then, and no more."""
-    told = (("Proved equivalent since then", comparison.proved), ("Proved equivalent no more", comparison.unproved))
-    lines = [f"{what}: {plural(len(mutants), 'mutant')}." for what, mutants in told if mutants]
+    parts = (("Proved equivalent since then", comparison.proved), ("Proved equivalent no more", comparison.unproved))
+    lines = [f"{what}: {plural(len(mutants), 'mutant')}." for what, mutants in parts if mutants]
     return [*lines, ""] if lines else []

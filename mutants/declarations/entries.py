@@ -44,17 +44,17 @@ class Entry(NamedTuple):
 
 def entry_of(cells: Mapping[str, str], row: int) -> Entry:
     """The entry of a row of the table."""
-    found = NAME.fullmatch(" ".join(cells["mutant"].split()).upper())
-    if not found:
+    name = NAME.fullmatch(" ".join(cells["mutant"].split()).upper())
+    if not name:
         raise ValueError(f"row {row}: {cells['mutant']!r} is no name of a mutant, as ROR 1")
-    if found[1] not in NAMES:
-        raise ValueError(f"row {row}: there is no operator {found[1]}")
+    if name[1] not in NAMES:
+        raise ValueError(f"row {row}: there is no operator {name[1]}")
     if not cells["before"].strip() or not cells["after"].strip():
         raise ValueError(
-            f"row {row}: {found[0]} has not both texts, that of the line before the change and that after it"
+            f"row {row}: {name[0]} has not both texts, that of the line before the change and that after it"
         )
     before, after, reason, where = (cells.get(column, "").strip() for column in COLUMNS[1:])
-    return Entry(found[1], int(found[2]), before, after, reason, where, row)
+    return Entry(name[1], int(name[2]), before, after, reason, where, row)
 
 
 def columns_of(row: Sequence[str]) -> list[str]:

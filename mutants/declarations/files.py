@@ -95,5 +95,5 @@ def meant_by(declarations: Declarations, program: str | None, job: bytes) -> Mea
         return Meant(declarations.bare, {}, [BARE.format(declarations.path)] if declarations.bare else [])
     if program is None:
         raise ValueError(f"{declarations.path}: its entries are looked for in the list of mothra, which is not there")
-    found = asked_settled(program, declarations.entries, job)
-    return Meant(found.names, found.reasons, [f"{declarations.path}: {remark}" for remark in found.remarks()])
+    settled = asked_settled(program, declarations.entries, job)
+    return Meant(settled.names, settled.reasons, [f"{declarations.path}: {remark}" for remark in settled.remarks()])

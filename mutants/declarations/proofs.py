@@ -49,7 +49,7 @@ class Proofs(NamedTuple):
         why = self.whys.get(name)
         return f"{PROVED} ({why}): {meaning_of(why)}" if why else ""
 
-    def told(self) -> str:
+    def not_asked_text(self) -> str:
         """One sentence where nothing was asked. Else no text."""
         return f"Which mutants can be proved equivalent was not asked: {self.not_asked}." if self.not_asked else ""
 
@@ -57,16 +57,18 @@ class Proofs(NamedTuple):
 NO_PROOFS = Proofs()
 
 
-def proofs_of(found: Iterable[Proof], declared: Collection[str] = NO_NAMES, remark: str = "", tests: int = 0) -> Proofs:
+def proofs_of(
+    proved: Iterable[Proof], declared: Collection[str] = NO_NAMES, remark: str = "", tests: int = 0
+) -> Proofs:
     """The proofs of mutants that a job may declare."""
-    whys = {name_of(proof.mutant): proof.why for proof in found if proof.mutant.place <= MOST}
+    whys = {name_of(proof.mutant): proof.why for proof in proved if proof.mutant.place <= MOST}
     return Proofs(whys, frozenset(declared), remark=remark, tests=tests)
 
 
-def assert_listed(found: Iterable[Proof], listed: Iterable[Mutant]) -> None:
+def assert_listed(proved: Iterable[Proof], listed: Iterable[Mutant]) -> None:
     """Each mutant that is proved is one of the list of mothra: else the programs are of different sources."""
     known = set(listed)
-    for proof in found:
+    for proof in proved:
         if proof.mutant not in known:
             raise ValueError(
                 f"equivalents names {name_of(proof.mutant)}, which is another mutant in the list of mothra: build both"

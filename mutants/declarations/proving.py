@@ -50,7 +50,7 @@ class Prover(NamedTuple):
         text = answered(self.program, words, job, lambda: plain_answer(NAME, self.program, words, job), self.anew)
         return read_as(NAME, read_proofs, text)[0]
 
-    def found(self, words: Sequence[str], job: Job) -> list[Proof]:
+    def proved(self, words: Sequence[str], job: Job) -> list[Proof]:
         """What the program says of a source and its tests, of any number.
 
         Proofs with steps to spare alone look at the tests: so the source is asked about, and then for the tests the
@@ -72,13 +72,13 @@ class Prover(NamedTuple):
         if not self.program:
             return Proofs(declared=declared, not_asked=self.not_asked)
         try:
-            found = self.found(words, job)
+            proved = self.proved(words, job)
         except Fault as fault:
             if fault.status == WORDS:
                 raise
             return Proofs(declared=declared, not_asked=f"{NAME} answers {fault.line}")
-        assert_listed(found, listed)
-        return proofs_of(found, declared, remark_on_proofs(self.program), len(job.suite))
+        assert_listed(proved, listed)
+        return proofs_of(proved, declared, remark_on_proofs(self.program), len(job.suite))
 
 
 NO_PROVER = Prover()
@@ -88,5 +88,5 @@ def prover_of(given: argparse.Namespace) -> Prover:
     """The prover that the words ask for."""
     if given.no_proofs:
         return Prover(not_asked=NOT_WANTED)
-    found = find_equivalents(given.equivalents)
-    return Prover(found, anew=given.anew) if found else Prover(not_asked=NOT_FOUND)
+    program = find_equivalents(given.equivalents)
+    return Prover(program, anew=given.anew) if program else Prover(not_asked=NOT_FOUND)

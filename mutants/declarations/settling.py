@@ -86,8 +86,8 @@ def moved_remarks(moved: Sequence[tuple[Entry, Mutant]]) -> list[str]:
         return []
     named = [f"{entry.name} is now {mutant.op} {mutant.place}" for entry, mutant in moved[:NAMED]]
     more = f" and {len(moved) - NAMED} more" if len(moved) > NAMED else ""
-    told = f"{plural(len(moved), 'declared mutant')} found by the texts under a new number: {', '.join(named)}{more}"
-    return [f"{told} (mutants declare --renew writes the numbers of now)"]
+    moves = f"{plural(len(moved), 'declared mutant')} found by the texts under a new number: {', '.join(named)}{more}"
+    return [f"{moves} (mutants declare --renew writes the numbers of now)"]
 
 
 def why_not_there(entry: Entry, present: Present) -> str:
@@ -101,10 +101,10 @@ def why_not_there(entry: Entry, present: Present) -> str:
 
 def why_unclear(entry: Entry, lines: Sequence[int]) -> str:
     """Why an entry is refused whose texts stand on several lines, or stood on several."""
-    told = f"its texts stand on line{'s' if len(lines) > 1 else ''} {joined_words(lines)}"
+    where = f"its texts stand on line{'s' if len(lines) > 1 else ''} {joined_words(lines)}"
     if entry.where:
-        return f"{told}, and before and behind them the program has changed since one was meant: declare it again"
-    return f"{told}, and which is meant is not said: declare it again"
+        return f"{where}, and before and behind them the program has changed since one was meant: declare it again"
+    return f"{where}, and which is meant is not said: declare it again"
 
 
 class Settling:
@@ -117,7 +117,7 @@ class Settling:
         for mutant in present.listed:
             self.by_texts[present.texts_of(mutant)].append(mutant)
 
-    def found(self, entry: Entry) -> Mutant | str:
+    def meant(self, entry: Entry) -> Mutant | str:
         """The mutant that an entry means, or why there is none."""
         alike = self.by_texts.get(entry.texts, [])
         if not alike:
@@ -141,37 +141,37 @@ class Settling:
         front, _, rest = sides.partition(":")
         if count != str(len(lines)) or not (front and rest):
             return []
-        found = {line: self.present.sides(line) for line in lines}
-        return [line for line in lines if found[line][0] == front or found[line][1] == rest]
+        now = {line: self.present.sides(line) for line in lines}
+        return [line for line in lines if now[line][0] == front or now[line][1] == rest]
 
     def settle(self, entries: Sequence[Entry]) -> dict[int, Mutant | str]:
         """Of each entry by its place the mutant, or why there is none; those come first whose numbers still hold."""
         by_name = {(mutant.op, mutant.place): mutant for mutant in self.present.listed}
-        told: dict[int, Mutant | str] = {}
+        answers: dict[int, Mutant | str] = {}
 
         def holds(place: int) -> bool:
             mutant = by_name.get((entries[place].op, entries[place].place))
             return mutant is not None and self.present.texts_of(mutant) == entries[place].texts
 
         for place in sorted(range(len(entries)), key=lambda place: not holds(place)):
-            found = told[place] = self.found(entries[place])
-            if isinstance(found, Mutant):
-                self.taken.add(found)
-        return told
+            answer = answers[place] = self.meant(entries[place])
+            if isinstance(answer, Mutant):
+                self.taken.add(answer)
+        return answers
 
 
 def settled(entries: Sequence[Entry], present: Present) -> Settled:
     """What the entries mean in the program of now."""
-    told = Settling(present).settle(entries)
+    answers = Settling(present).settle(entries)
     result = Settled([], [], [])
     for place, entry in enumerate(entries):
-        found = told[place]
-        if isinstance(found, str):
-            result.refused.append((entry, found))
+        answer = answers[place]
+        if isinstance(answer, str):
+            result.refused.append((entry, answer))
             continue
-        result.declared.append(Declared(found, entry))
-        if found.place != entry.place:
-            result.moved.append((entry, found))
+        result.declared.append(Declared(answer, entry))
+        if answer.place != entry.place:
+            result.moved.append((entry, answer))
     return result
 
 

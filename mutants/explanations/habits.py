@@ -65,17 +65,17 @@ def in_columns(line: str) -> str:
     return line[1:] if line.startswith(">") else f"{label[1]:>5} {line[label.end():]}" if label else f"      {line}"
 
 
-def example_of(found: "re.Match[str]") -> Example:
-    return Example(found["code"], found["name"] or "", found["lines"].split("|"))
+def example_of(match: "re.Match[str]") -> Example:
+    return Example(match["code"], match["name"] or "", match["lines"].split("|"))
 
 
 def read_paragraph(text: str) -> tuple[str, Habit]:
     """The name of a habit, and what a paragraph says of it."""
-    found = PARAGRAPH.fullmatch(text)
-    if not found:
+    match = PARAGRAPH.fullmatch(text)
+    if not match:
         raise ValueError(f"{FILE.name} has a paragraph that is none: {text[:40]!r}")
-    examples = [example_of(each) for each in EXAMPLE.finditer(found["examples"])]
-    return found["habit"], Habit(examples, found["says"], found["advice"])
+    examples = [example_of(each) for each in EXAMPLE.finditer(match["examples"])]
+    return match["habit"], Habit(examples, match["says"], match["advice"])
 
 
 def read_habits() -> dict[str, Habit]:

@@ -18,8 +18,8 @@ LONGEST = 100
 
 
 def short(value: object) -> str:
-    told = json.dumps(value)
-    return told if len(told) <= LONGEST else told[: LONGEST - 3] + " .."
+    text = json.dumps(value)
+    return text if len(text) <= LONGEST else text[: LONGEST - 3] + " .."
 
 
 def object_of(text: bytes) -> dict[str, Any]:
@@ -34,18 +34,18 @@ def object_of(text: bytes) -> dict[str, Any]:
 
 
 def items_of(job: Mapping[str, Any], key: str) -> list[Any]:
-    found = job.get(key, [])
-    if not isinstance(found, list):
+    items = job.get(key, [])
+    if not isinstance(items, list):
         raise ValueError(f"the key {key} of the job has no list: the fault is of another job")
-    return found
+    return items
 
 
 def item_of(job: Mapping[str, Any], key: str, number: int) -> Any:
     """An item of a list of the job, by its number from 1."""
-    found = items_of(job, key)
-    if not 0 < number <= len(found):
+    items = items_of(job, key)
+    if not 0 < number <= len(items):
         raise ValueError(f"the job has no item {number} in {key}: the fault is of another job")
-    return found[number - 1]
+    return items[number - 1]
 
 
 def test_of(job: Mapping[str, Any], number: int) -> list[Any]:
@@ -113,8 +113,8 @@ def shape_notes(job: Mapping[str, Any], test: list[Any], number: int | None = No
     """How a test and the dummy arguments differ."""
     dummies = dummies_of(str(job.get("source")))
     notes = [f"{f'Test {number}' if number else 'The test'} is {short(test)}."]
-    told = ", ".join(wanted(name, *dummy) for name, dummy in dummies) or "none"
-    notes.append(f"It has {plural(len(test), 'value')}; the dummy arguments are {len(dummies)}: {told}.")
+    kinds = ", ".join(wanted(name, *dummy) for name, dummy in dummies) or "none"
+    notes.append(f"It has {plural(len(test), 'value')}; the dummy arguments are {len(dummies)}: {kinds}.")
     if len(test) == len(dummies):
         wrong = [place for place, (value, (_, dummy)) in enumerate(zip(test, dummies)) if not fits(value, *dummy)]
         for place in wrong[:1]:
@@ -138,18 +138,18 @@ def entry_notes(program: str | None, text: bytes, job: Mapping[str, Any], number
     """What is wrong with a declared entry."""
     entry = item_of(job, "equivalent", number)
     notes = [f"Entry {number} is {short(entry)}."]
-    found = re.fullmatch(r"([A-Z]{3}) (\d+)", entry) if isinstance(entry, str) else None
+    name = re.fullmatch(r"([A-Z]{3}) (\d+)", entry) if isinstance(entry, str) else None
     earlier = job["equivalent"].index(entry) + 1
     if earlier < number:
         return notes + [f"Entry {earlier} is the same."]
-    if found and found[1] not in NAMES:
-        return notes + [f"There is no operator {found[1]}."]
-    if found and program:
+    if name and name[1] not in NAMES:
+        return notes + [f"There is no operator {name[1]}."]
+    if name and program:
         try:
-            total = answer(program, ["list", "--ops", found[1]], text).split("\n")[0]
+            total = answer(program, ["list", "--ops", name[1]], text).split("\n")[0]
         except Fault:
             return notes
-        notes.append(f"{found[1]} has {plural(int(total.split(' ')[1]), 'mutant')} of this program.")
+        notes.append(f"{name[1]} has {plural(int(total.split(' ')[1]), 'mutant')} of this program.")
     return notes
 
 

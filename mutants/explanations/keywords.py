@@ -68,9 +68,9 @@ LOOP = re.compile(rf"DO,?{NAME}=[^,]+,")
 def seen_by(forms: Iterable[tuple[str, str]], text: str) -> Iterator[Seen]:
     """The habits whose forms a text begins with."""
     for form, habit in forms:
-        found = re.match(form, text)
-        if found:
-            word = next(filter(None, found.groups()), "")
+        match = re.match(form, text)
+        if match:
+            word = next(filter(None, match.groups()), "")
             yield Seen(habit, {"word": BLANKS.get(word, word)})
 
 

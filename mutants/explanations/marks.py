@@ -33,8 +33,8 @@ def form_marks(code: str, number: int, lines: Sequence[str]) -> Marked:
 
 def name_marks(code: str, name: str, cards: Sequence[Card]) -> list[Mark]:
     """Where a name stands: its first place, or, where it is declared twice, those of its declarations."""
-    found = [(card, find_name(card.text, name)) for card in cards]
-    marks = [(card, span(card, at, at + len(name))) for card, at in found if at is not None]
+    places = [(card, find_name(card.text, name)) for card in cards]
+    marks = [(card, span(card, at, at + len(name))) for card, at in places if at is not None]
     if code == "C3":
         declared = [marked for card, marked in marks if card.text.startswith(tuple(KEYWORDS[:4]))]
         return sum(declared, []) or sum([marked for _, marked in marks[:1]], [])
@@ -43,8 +43,8 @@ def name_marks(code: str, name: str, cards: Sequence[Card]) -> list[Mark]:
 
 def behind_72(lines: Sequence[str], marks: Iterable[Mark]) -> list[str]:
     """A note where a marked line goes on behind column 72."""
-    told = sorted({mark.line for mark in marks if lines[mark.line - 1][72:].strip(" ")})
-    return [f"Of line {line} all behind column 72 is not read: {lines[line - 1][72:].strip()[:40]}" for line in told]
+    cut = sorted({mark.line for mark in marks if lines[mark.line - 1][72:].strip(" ")})
+    return [f"Of line {line} all behind column 72 is not read: {lines[line - 1][72:].strip()[:40]}" for line in cut]
 
 
 def line_marks(code: str, number: int, lines: Sequence[str], cards: Sequence[Card]) -> Marked:

@@ -32,11 +32,11 @@ KINDS = {
 
 def read_paragraph(text: str) -> tuple[str, Meaning]:
     """The code and the meaning that a paragraph has."""
-    found = PARAGRAPH.fullmatch(text)
-    if not found:
+    match = PARAGRAPH.fullmatch(text)
+    if not match:
         raise ValueError(f"{FILE.name} has a paragraph that is none: {text[:40]!r}")
-    rule = KINDS[found["kind"]] + found["rule"] if found["kind"] else "No rule is broken."
-    return found["code"], Meaning(found["detail"] or "", found["says"], found["sections"] or "", rule, found["advice"])
+    rule = KINDS[match["kind"]] + match["rule"] if match["kind"] else "No rule is broken."
+    return match["code"], Meaning(match["detail"] or "", match["says"], match["sections"] or "", rule, match["advice"])
 
 
 def read_meanings() -> dict[str, Meaning]:

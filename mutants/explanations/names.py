@@ -22,26 +22,26 @@ def with_plain_type(text: str) -> str:
 
 def declared_arrays(texts: Iterable[str]) -> set[str]:
     """The names that declarations of any type give bounds, by the texts of statements."""
-    found = [(text, ARRAYS.match(text)) for text in texts]
-    return {name for text, front in found if front for name in re.findall(r"([A-Z][A-Z0-9]*)\(", text[front.end() :])}
+    fronts = [(text, ARRAYS.match(text)) for text in texts]
+    return {name for text, front in fronts if front for name in re.findall(r"([A-Z][A-Z0-9]*)\(", text[front.end() :])}
 
 
 def logical_names(texts: Iterable[str]) -> set[str]:
     """The names that are declared LOGICAL."""
-    found = [re.fullmatch(r"LOGICAL(?:\*\d+)?([A-Z].*)", text) for text in texts]
-    return {name for each in found if each for name in ITEM.findall(each[1])}
+    matches = [re.fullmatch(r"LOGICAL(?:\*\d+)?([A-Z].*)", text) for text in texts]
+    return {name for each in matches if each for name in ITEM.findall(each[1])}
 
 
 def called_names(text: str, arrays: Collection[str]) -> list[tuple[str, int]]:
     """The names in a statement with a parenthesis behind them that are neither arrays nor functions,
     and where they stand."""
     front = re.match(r"(?:ELSE)?IF(?=\()|GOTO(?=\()|DO\d+,?(?=[A-Z]+\d*=)", text)
-    found: list[tuple[str, int]] = []
+    calls: list[tuple[str, int]] = []
     if ARRAYS.match(text):
-        return found
+        return calls
     for match in re.finditer(r"([A-Z][A-Z0-9]*)\(", text):
         if front and match.start() < front.end() or match[1] in arrays or match[1] in FUNCTIONS:
             continue
-        if match[1] not in dict(found):
-            found.append((match[1], match.start()))
-    return found
+        if match[1] not in dict(calls):
+            calls.append((match[1], match.start()))
+    return calls

@@ -27,9 +27,9 @@ PIECES = (
 
 def without_remark(text: str) -> tuple[str, bool]:
     """A text up to a ! that stands in no quotes, and whether there is one."""
-    for found in re.finditer(r"'[^']*'|\"[^\"]*\"|!", text):
-        if found[0] == "!":
-            return text[: found.start()], True
+    for piece in re.finditer(r"'[^']*'|\"[^\"]*\"|!", text):
+        if piece[0] == "!":
+            return text[: piece.start()], True
     return text, False
 
 
@@ -46,12 +46,12 @@ def piece_habits(text: str) -> Iterator[Seen]:
     if number:
         yield Seen("number with a point", {"number": number[0]})
     for form, habit, word in PIECES:
-        found = re.search(form, plain)
-        if found:
-            yield Seen(habit, {word: found[0]} if word else {})
-    for found in re.finditer(r"\.[A-Z]+\.", NUMBER.sub("0", plain)):
-        if found[0].strip(".") not in OPERATORS:
-            yield Seen("other operator", {"operator": found[0]})
+        piece = re.search(form, plain)
+        if piece:
+            yield Seen(habit, {word: piece[0]} if word else {})
+    for piece in re.finditer(r"\.[A-Z]+\.", NUMBER.sub("0", plain)):
+        if piece[0].strip(".") not in OPERATORS:
+            yield Seen("other operator", {"operator": piece[0]})
 
 
 def bound_habit(bound: Bound) -> Seen:

@@ -28,31 +28,31 @@ def softened(text: str) -> str:
 
 def shortened(text: str) -> str:
     """A statement whose names are cut where they are too long: others of the same front become the same name."""
-    while found := long_name_in(text):
-        text = text[: found[0] + 6] + text[found[1] :]
+    while place := long_name_in(text):
+        text = text[: place[0] + 6] + text[place[1] :]
     return text
 
 
 def as_head(text: str) -> str | None:
     """The statement of a subroutine in the place of one that begins another unit, or that is of no subset."""
-    found = HEAD.fullmatch(text)
-    if not found:
+    head = HEAD.fullmatch(text)
+    if not head:
         return None
-    names = [name for name in (found[2] or "").split(",") if NAME.fullmatch(name)]
-    return f"SUBROUTINE {found[1].replace('_', '')[:6]}({','.join(names)})"
+    names = [name for name in (head[2] or "").split(",") if NAME.fullmatch(name)]
+    return f"SUBROUTINE {head[1].replace('_', '')[:6]}({','.join(names)})"
 
 
 def items_of(text: str) -> list[str]:
     """The items of a declaration; none of another statement."""
-    found = DECLARATION.match(text)
-    return re.findall(r"[A-Z][A-Z0-9]*(?:\([^()]*\))?", text[found.end() :]) if found else []
+    front = DECLARATION.match(text)
+    return re.findall(r"[A-Z][A-Z0-9]*(?:\([^()]*\))?", text[front.end() :]) if front else []
 
 
 def without_item(text: str, name: str) -> str:
     """A declaration without a name; empty where it declares no other."""
-    found = DECLARATION.match(text)
+    front = DECLARATION.match(text)
     left = [item for item in items_of(text) if item.partition("(")[0] != name]
-    return f"{found[1]}{','.join(left)}" if found and left else ""
+    return f"{front[1]}{','.join(left)}" if front and left else ""
 
 
 def declared_twice(name: str, texts: list[str]) -> int | None:

@@ -26,7 +26,7 @@ def span(card: Card, begin: int, end: int) -> list[Mark]:
     columns: dict[int, list[int]] = {}
     for line, column in card.places[begin:end]:
         columns.setdefault(line, []).append(column)
-    return [Mark(line, min(found), max(found)) for line, found in columns.items()]
+    return [Mark(line, min(places), max(places)) for line, places in columns.items()]
 
 
 def whole(card: Card) -> list[Mark]:
@@ -35,17 +35,17 @@ def whole(card: Card) -> list[Mark]:
 
 def without_operators(text: str) -> str:
     """The text with blanks in the places of .EQ. and its kin, so that these are no names."""
-    return re.sub(r"\.[A-Z]+\.", lambda found: " " * len(found[0]), text)
+    return re.sub(r"\.[A-Z]+\.", lambda operator: " " * len(operator[0]), text)
 
 
 def find_name(text: str, name: str) -> int | None:
     """Where a name stands in the text of a statement; None where it does not."""
     text = without_operators(text)
-    for found in re.finditer(re.escape(name), text):
-        before, behind = text[: found.start()], text[found.end() : found.end() + 1]
+    for match in re.finditer(re.escape(name), text):
+        before, behind = text[: match.start()], text[match.end() : match.end() + 1]
         is_first = not before[-1:].isalnum() or before in KEYWORDS or re.fullmatch(r"(.*\W)?DO\d+", before)
         if is_first and not behind.isalnum():
-            return found.start()
+            return match.start()
     return None
 
 
@@ -58,9 +58,9 @@ def labels_in(text: str) -> list[tuple[int, int, int]]:
     """The labels that a statement names: of each its value, and where it begins and ends."""
     at = action_at(text)
     for form in (r"GOTO(\d+)", r"GOTO\(([\d,]+)\)", r"([\d,]+)", r"DO(\d+)"):
-        found = re.compile(form).match(text, at)
-        if found:
-            numbers = re.compile(r"\d+").finditer(text, found.start(1), found.end(1))
+        match = re.compile(form).match(text, at)
+        if match:
+            numbers = re.compile(r"\d+").finditer(text, match.start(1), match.end(1))
             return [(value_of(number[0]), number.start(), number.end()) for number in numbers]
     return []
 

@@ -16,27 +16,27 @@ def long_name_in(whole_text: str) -> tuple[int, int] | None:
     """Where the first name of more than six characters stands, without the keyword before it."""
     front = re.compile("|".join(KEYWORDS) + r"|DO\d+|GOTO")
     text = without_operators(whole_text)
-    for found in re.finditer(r"[A-Z][A-Z0-9]*", text):
-        word, begin = found[0], found.start()
+    for match in re.finditer(r"[A-Z][A-Z0-9]*", text):
+        word, begin = match[0], match.start()
         if begin in (0, action_at(text)) and word == "CONTINUE":
             continue
         keyword = front.match(word) if begin in (0, action_at(text)) else None
         begin += len(keyword[0]) if keyword else 0
-        if found.end() - begin > 6 and text[begin].isalpha():
-            return begin, found.end()
+        if match.end() - begin > 6 and text[begin].isalpha():
+            return begin, match.end()
     return None
 
 
 def long_name(card: Card) -> Marked:
     """The first name that is too long."""
-    found = long_name_in(card.text)
-    return span(card, *found) if found else whole(card), []
+    place = long_name_in(card.text)
+    return span(card, *place) if place else whole(card), []
 
 
 def large_number(card: Card) -> Marked:
-    for found in re.finditer(r"(?<![A-Z0-9])\d+", card.text):
-        if value_of(found[0]) > 2147483647:
-            return span(card, found.start(), found.end()), []
+    for number in re.finditer(r"(?<![A-Z0-9])\d+", card.text):
+        if value_of(number[0]) > 2147483647:
+            return span(card, number.start(), number.end()), []
     for value, begin, end in labels_in(card.text):
         if not 0 < value <= 99999 or end - begin > 5:
             return span(card, begin, end), []
@@ -60,15 +60,15 @@ def number_fault(card: Card, cards: Sequence[Card]) -> Marked:
 def missing_labels(card: Card, cards: Sequence[Card]) -> Marked:
     known = {value for value in map(label_value, cards) if value is not None}
     missing = [(begin, end) for value, begin, end in labels_in(card.text) if value not in known]
-    told = f"Labels stand on the statements: {joined_words(sorted(known))}." if known else "No statement has a label."
-    return [mark for place in missing for mark in span(card, *place)] or whole(card), [told]
+    note = f"Labels stand on the statements: {joined_words(sorted(known))}." if known else "No statement has a label."
+    return [mark for place in missing for mark in span(card, *place)] or whole(card), [note]
 
 
 def targets(card: Card, cards: Sequence[Card]) -> Marked:
     """The labels that the statement names, and the statements on which they stand."""
-    found = labels_in(card.text)
-    marks = [mark for _, begin, end in found for mark in span(card, begin, end)]
-    return marks + [mark for value, _, _ in found for mark in label_marks(cards, value)] or whole(card), []
+    labels = labels_in(card.text)
+    marks = [mark for _, begin, end in labels for mark in span(card, begin, end)]
+    return marks + [mark for value, _, _ in labels for mark in label_marks(cards, value)] or whole(card), []
 
 
 def do_variable(card: Card, cards: Sequence[Card]) -> Marked:

@@ -17,7 +17,7 @@ MOST, MOST_BYTES = 200, 2_000_000
 Ask = Callable[[str], tuple[str, str] | None]
 
 
-class Found(NamedTuple):
+class SourceFault(NamedTuple):
     """A fault: its code, its detail, in which a line is one of the source, and the habits that it shows."""
 
     code: str
@@ -32,23 +32,23 @@ def is_of_source(copy: Copy, code: str, detail: str) -> bool:
     return code != "C11" or not copy.is_of_open_block(int(detail))
 
 
-def all_faults(source: str, ask: Ask) -> tuple[list[Found], bool]:
+def all_faults(source: str, ask: Ask) -> tuple[list[SourceFault], bool]:
     """The faults of a source in the order in which they are told, and whether these are all that can be found."""
-    copy, found = Copy(source), dict[tuple[str, str], Found]()
+    copy, faults = Copy(source), dict[tuple[str, str], SourceFault]()
     for _ in range(min(MOST, MOST_BYTES // max(len(source), 1))):
         fault = ask(copy.text())
         if fault is None:
-            return list(found.values()), True
+            return list(faults.values()), True
         code, detail = fault
         if not is_of_source(copy, code, detail):
             break
         is_line = MEANINGS[code].detail == "line"
         own = str(copy.own_line(int(detail))) if is_line else detail
-        is_again = (code, own) in found
+        is_again = (code, own) in faults
         if not is_again:
             # Whether an IF is a logical one is seen where it still stands; other statements may begin in the copy.
             seen = habits_seen(code, own, source) if code == "C11" else habits_seen(code, detail, copy.text())
-            found[code, own] = Found(code, own, seen)
+            faults[code, own] = SourceFault(code, own, seen)
         if is_again and not (is_line and int(detail) in copy.softened) or not copy.mended(code, detail):
             break
-    return list(found.values()), False
+    return list(faults.values()), False

@@ -56,8 +56,8 @@ def called_habit(name: str, at: int, card: Card, cards: Sequence[Card]) -> Seen:
 
 
 def called_habits(card: Card, cards: Sequence[Card]) -> list[Seen]:
-    found = called_names(card.text, declared_arrays(texts_of(cards)))
-    return [called_habit(name, at, card, cards) for name, at in found]
+    calls = called_names(card.text, declared_arrays(texts_of(cards)))
+    return [called_habit(name, at, card, cards) for name, at in calls]
 
 
 def bounds_habits(card: Card) -> Iterator[Seen]:
@@ -78,8 +78,8 @@ def whole_habits(card: Card, arrays: Collection[str]) -> Iterator[Seen]:
 
 def number_habits(card: Card, cards: Sequence[Card]) -> list[Seen]:
     """Why subscripts, bounds or arguments do not agree."""
-    found = [*called_habits(card, cards), *bounds_habits(card)]
-    return found or list(whole_habits(card, declared_arrays(texts_of(cards))))
+    habits = [*called_habits(card, cards), *bounds_habits(card)]
+    return habits or list(whole_habits(card, declared_arrays(texts_of(cards))))
 
 
 def real_habits(name: str, cards: Sequence[Card]) -> list[Seen]:
@@ -89,10 +89,10 @@ def real_habits(name: str, cards: Sequence[Card]) -> list[Seen]:
             return [Seen("truth value without points", {"name": name})]
         if name.startswith("THEN") and action_of(card.text)[1].startswith(f"{name}="):
             return [Seen("IF with THEN and more")]
-        found = called_habits(card, cards)
-        if name in [seen.words["name"] for seen in found]:
+        habits = called_habits(card, cards)
+        if name in [seen.words["name"] for seen in habits]:
             # Of this name first, and of what else is called there.
-            return sorted(found, key=lambda seen: seen.words["name"] != name)
+            return sorted(habits, key=lambda seen: seen.words["name"] != name)
     return []
 
 
@@ -102,12 +102,12 @@ def twice_habits(name: str) -> list[Seen]:
 
 def long_habits(card: Card) -> list[Seen]:
     """What a name of more than six characters is."""
-    found = long_name_in(card.text)
+    place = long_name_in(card.text)
     value = re.match(r"(?:INTEGER|LOGICAL)[A-Z][A-Z0-9]*=", card.text)
-    if value or not found:
+    if value or not place:
         return [Seen("first value")] if value else []
-    name = card.text[found[0] : found[1]]
-    if name.startswith("THEN") and action_at(card.text) == found[0]:
+    name = card.text[place[0] : place[1]]
+    if name.startswith("THEN") and action_at(card.text) == place[0]:
         return [Seen("IF with THEN and more")]
     return [Seen("long name", {"name": name, "count": len(name)})]
 

@@ -69,9 +69,9 @@ def words_say(words: Sequence[str]) -> str | None:
         return f"{first}: the commands are {', '.join(OPTIONS)}."
     known, pairs = OPTIONS[words[0]], pairs_of(words[1:])
     for place, (option, value) in enumerate(pairs):
-        told = option_says(option, value, known)
-        if told:
-            return told
+        text = option_says(option, value, known)
+        if text:
+            return text
         if option in dict(pairs[:place]):
             return f"{option} stands twice."
     is_missing = words[0] == "exec" and "--test" not in dict(pairs)

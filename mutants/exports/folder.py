@@ -47,12 +47,12 @@ def sections_in(folder: Path) -> Sections:
     if path is None:
         raise ValueError(f"{folder}: there is neither {INI} nor {TOML}; give PROGRAM.f and TESTS")
     try:
-        found = read_sections(path)
+        sections = read_sections(path)
     except ValueError as fault:
         raise ValueError(f"{path}: {fault}") from None
-    if not found.programs:
+    if not sections.programs:
         raise ValueError(f"{path}: it names no program: a section has the keys source and tests")
-    return found
+    return sections
 
 
 def assert_for_many(given: argparse.Namespace) -> None:

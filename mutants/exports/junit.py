@@ -20,9 +20,9 @@ def add(parent: Element, tag: str, **values: object) -> Element:
 
 def add_failure(case: Element, survivors: Sequence[Mutant], count: Count) -> None:
     verb = "survives" if len(survivors) == 1 else "survive"
-    told = f"{len(survivors)} of {plural(count.total, 'mutant')} {verb}"
+    message = f"{len(survivors)} of {plural(count.total, 'mutant')} {verb}"
     lines = [f"{names_text(twins)}: {twins[0].text}" for twins in twins_in(survivors)]
-    add(case, "failure", message=told, type="survivors").text = visible("\n".join(lines))
+    add(case, "failure", message=message, type="survivors").text = visible("\n".join(lines))
 
 
 def junit_text(checked: Checked, program: Path, remark: str = "") -> str:
@@ -34,8 +34,8 @@ def junit_text(checked: Checked, program: Path, remark: str = "") -> str:
     if remark:
         add(add(suite, "properties"), "property", name="remark", value=remark)
     for line in sorted(counts):
-        told = {"name": f"line {line}: {checked.statements[line]}", "classname": program.as_posix(), "time": 0}
-        case = add(suite, "testcase", **told)
+        attributes = {"name": f"line {line}: {checked.statements[line]}", "classname": program.as_posix(), "time": 0}
+        case = add(suite, "testcase", **attributes)
         if line in survivors:
             add_failure(case, survivors[line], counts[line])
     indent(root)

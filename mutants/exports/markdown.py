@@ -17,8 +17,8 @@ SHOWN, UNFOLDED = 3, 10
 def changes_text(survivors: Iterable[Mutant], statement: str) -> str:
     """The first few survivors of a line, each with its change."""
     groups = twins_in(survivors)
-    told = [f"{cell(names_text(group))} {code(changed_text(statement, group[0].text))}" for group in groups[:SHOWN]]
-    return "<br>".join([*told, *([f"and {len(groups) - SHOWN} more"] if len(groups) > SHOWN else [])])
+    changes = [f"{cell(names_text(group))} {code(changed_text(statement, group[0].text))}" for group in groups[:SHOWN]]
+    return "<br>".join([*changes, *([f"and {len(groups) - SHOWN} more"] if len(groups) > SHOWN else [])])
 
 
 def lines_table(checked: Checked) -> list[str]:
@@ -34,14 +34,14 @@ def lines_table(checked: Checked) -> list[str]:
     shown = table(head, rows)
     if len(rows) <= UNFOLDED:
         return shown
-    told = f"{plural(len(checked.report.survivors), 'survivor')} on {plural(len(rows), 'line')}"
-    return ["<details>", f"<summary>{told}</summary>", "", *shown, "", "</details>"]
+    summary = f"{plural(len(checked.report.survivors), 'survivor')} on {plural(len(rows), 'line')}"
+    return ["<details>", f"<summary>{summary}</summary>", "", *shown, "", "</details>"]
 
 
-def markdown_text(checked: Checked, program: object, told: Sequence[str] = ()) -> str:
+def markdown_text(checked: Checked, program: object, remarks: Sequence[str] = ()) -> str:
     """The whole text; `told` are further lines, on what changed and on the build."""
     score = score_line(checked)
-    more = [*difference_lines(checked), *(line for line in score_lines(checked) if line != score), *told]
+    more = [*difference_lines(checked), *(line for line in score_lines(checked) if line != score), *remarks]
     lines = [f"### {cell(checked.report.unit)} of {cell(program)}: {plural(len(checked.job.suite), 'test')}", ""]
     lines += [f"**{cell(score)}**", "", *(f"- {cell(line.strip())}" for line in more), ""]
     lines += lines_table(checked) if checked.report.survivors else [no_survivor_text(0)]

@@ -8,7 +8,7 @@ from typing import Any
 
 from mutants import __version__
 from mutants.checks.checking import Checked
-from mutants.exports.rows import Told, told_of
+from mutants.exports.rows import Record, records_of
 from mutants.operators import NAMES
 from mutants.pages.suite import values_of
 from mutants.texts.cards import Place, cards_of, source_lines
@@ -43,10 +43,10 @@ def location(span: Span) -> dict[str, dict[str, int]]:
     return {"start": position(span.start), "end": position(span.end)}
 
 
-def description(told: Told) -> str:
+def description(record: Record) -> str:
     """What a mutant makes of its statement, and the names of those that make the same of it."""
-    same = f"{SAME}{told.twins})" if told.twins else ""
-    return f"{NAMES.get(told.mutant.op, told.mutant.op)}: {told.mutant.text}{same}"
+    same = f"{SAME}{record.twins})" if record.twins else ""
+    return f"{NAMES.get(record.mutant.op, record.mutant.op)}: {record.mutant.text}{same}"
 
 
 def text_in(described: str) -> str:
@@ -63,28 +63,28 @@ def config_object(checked: Checked) -> dict[str, Any]:
         "steps": checked.report.steps,
         "operators": list(checked.report.counts),
         "leftOut": checked.left_out,
-        "statements": {str(line): told for line, told in checked.statements.items()},
+        "statements": {str(line): statement for line, statement in checked.statements.items()},
         "suite": checked.job.suite,
         "proved": [name_of(mutant) for mutant in checked.listed if proofs.is_alone(name_of(mutant))],
     }
 
 
-def mutant_object(told: Told, places: Places, reason: str, written: InFile) -> dict[str, Any]:
-    span, new = placed(places, told.before, told.mutant.text)
-    found: dict[str, Any] = {
-        "id": told.name,
-        "mutatorName": told.mutant.op,
-        "description": description(told),
+def mutant_object(record: Record, places: Places, reason: str, written: InFile) -> dict[str, Any]:
+    span, new = placed(places, record.before, record.mutant.text)
+    entry: dict[str, Any] = {
+        "id": record.name,
+        "mutatorName": record.mutant.op,
+        "description": description(record),
         "replacement": new,
         "location": location(written(span)),
-        "status": told.status,
-        "killedBy": list(map(str, told.killed_by)),
-        "coveredBy": list(map(str, told.covered_by)),
+        "status": record.status,
+        "killedBy": list(map(str, record.killed_by)),
+        "coveredBy": list(map(str, record.covered_by)),
     }
-    if told.is_declared:
-        what = EQUIVALENT if told.status == "Ignored" else f"{EQUIVALENT}, but a test kills it"
-        found["statusReason"] = f"{what}: {reason}" if reason else what
-    return found
+    if record.is_declared:
+        what = EQUIVALENT if record.status == "Ignored" else f"{EQUIVALENT}, but a test kills it"
+        entry["statusReason"] = f"{what}: {reason}" if reason else what
+    return entry
 
 
 def tests_object(suite: Sequence[Any]) -> dict[str, Any]:
@@ -96,8 +96,8 @@ def mutant_objects(checked: Checked, covered: Mapping[int, str]) -> list[dict[st
     places = {line: Places(cards[line], checked.statements[line]) for line in covered}
     reasons, written = checked.said.all_reasons, partial(in_file, source_lines(checked.file))
     return [
-        mutant_object(told, places[told.mutant.line], reasons.get(told.name, ""), written)
-        for told in told_of(checked, covered)
+        mutant_object(record, places[record.mutant.line], reasons.get(record.name, ""), written)
+        for record in records_of(checked, covered)
     ]
 
 

@@ -44,10 +44,10 @@ class Output(NamedTuple):
 def page_text(shown: Shown) -> str:
     checked = shown.checked
     remarks = [shown.remark, *(f"Left out: {each}." for each in checked.left_out)]
-    told = " ".join(each for each in remarks if each)
+    remark = " ".join(each for each in remarks if each)
     outcomes = Outcomes(checked.outcomes, {each.test: each.expected for each in checked.unexpected})
     analysed = Analysed(checked.job, checked.printed, checked.listed, checked.report)
-    return report_page(analysed, told, outcomes, checked.said)
+    return report_page(analysed, remark, outcomes, checked.said)
 
 
 def json_text(shown: Shown) -> str:
@@ -55,14 +55,14 @@ def json_text(shown: Shown) -> str:
 
 
 def markdown_of(shown: Shown) -> str:
-    told = [*shown.changes, *([shown.remark] if shown.remark else [])]
-    return markdown_text(shown.checked, shown.program, told)
+    remarks = [*shown.changes, *([shown.remark] if shown.remark else [])]
+    return markdown_text(shown.checked, shown.program, remarks)
 
 
 def read_files(given: argparse.Namespace) -> list[Path]:
     """The files that the check reads, and that lie on a disk."""
-    found = [given.program, given.tests, given.expect, given.changed, given.equivalent, given.baseline]
-    return [path for path in found if path is not None and path.is_file()]
+    paths = [given.program, given.tests, given.expect, given.changed, given.equivalent, given.baseline]
+    return [path for path in paths if path is not None and path.is_file()]
 
 
 def assert_made_here(path: Path) -> None:
@@ -108,11 +108,11 @@ def outputs_of(given: argparse.Namespace) -> list[Output]:
         ("summary in Markdown", given.markdown, markdown_of, False),
         ("survivors in SARIF", given.sarif, lambda s: sarif_text(s.checked, s.program, s.remark), False),
     ]
-    found = [Output(what, path, text, needs) for what, path, text, needs in asked if path]
-    assert_free(found, read_files(given))
+    outputs = [Output(what, path, text, needs) for what, path, text, needs in asked if path]
+    assert_free(outputs, read_files(given))
     if page and (given.page is None or "page" in given.from_file):
         assert_made_here(page)
-    return found
+    return outputs
 
 
 def write_outputs(outputs: Sequence[Output], shown: Shown) -> list[str]:

@@ -14,7 +14,7 @@ from mutants.texts.twins import name_of, names_text, others_by_name
 COLUMNS = "mutant operator line status declared proof before after killed_by covered_by twins".split()
 
 
-class Told(NamedTuple):
+class Record(NamedTuple):
     """A mutant, its statement, its status, whether it is declared equivalent, the tests that kill it and come to it,
     the names of those that are the same program, and the word of its proof where it is declared by that alone."""
 
@@ -41,7 +41,7 @@ def status_of(row: Row, covered: str) -> str:
     return "Survived" if "1" in covered else "NoCoverage"
 
 
-def told_of(checked: Checked, covered: Mapping[int, str]) -> Iterator[Told]:
+def records_of(checked: Checked, covered: Mapping[int, str]) -> Iterator[Record]:
     """What is told of each mutant, in the order of the report;
     `covered` has for each line the tests that come to it."""
     others, proofs = others_by_name(checked.listed), checked.said.proofs
@@ -50,7 +50,7 @@ def told_of(checked: Checked, covered: Mapping[int, str]) -> Iterator[Told]:
         before, status = checked.statements[mutant.line], status_of(row, bits)
         proof = proofs.whys[name_of(mutant)] if proofs.is_alone(name_of(mutant)) else ""
         numbers = tests_in(row.bits), tests_in(bits)
-        yield Told(mutant, before, status, row.status in "EW", *numbers, twins, proof)
+        yield Record(mutant, before, status, row.status in "EW", *numbers, twins, proof)
 
 
 def table_text(checked: Checked, covered: Mapping[int, str]) -> str:
@@ -58,7 +58,7 @@ def table_text(checked: Checked, covered: Mapping[int, str]) -> str:
     kept = io.StringIO()
     table = csv.writer(kept, lineterminator="\n")
     table.writerow(COLUMNS)
-    for each in told_of(checked, covered):
+    for each in records_of(checked, covered):
         tests = [" ".join(map(str, numbers)) for numbers in (each.killed_by, each.covered_by)]
         declared = PROVED if each.proof else "yes" if each.is_declared else "no"
         row = [each.name, each.mutant.op, each.mutant.line, each.status, declared, each.proof]

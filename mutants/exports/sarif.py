@@ -36,14 +36,14 @@ def rule(op: str) -> dict[str, Any]:
 def result(twins: Sequence[Mutant], statement: str, span: Span, uri: str, ops: Sequence[str]) -> dict[str, Any]:
     """A survivor with all its names. It is found again by its texts, wherever its line is."""
     first = twins[0]
-    told = f"{names_text(twins)} survives: {changed_text(statement, first.text)}. {ASKED}"
+    message = f"{names_text(twins)} survives: {changed_text(statement, first.text)}. {ASKED}"
     print_of = hashlib.sha256(f"{first.op}\n{statement}\n{first.text}".encode()).hexdigest()
     place = {"artifactLocation": {"uri": uri}, "region": region(span)}
     return {
         "ruleId": first.op,
         "ruleIndex": ops.index(first.op),
         "level": "warning",
-        "message": {"text": told},
+        "message": {"text": message},
         "locations": [{"physicalLocation": place}],
         "partialFingerprints": {"texts/v1": print_of},
     }

@@ -30,11 +30,11 @@ def filled(text: str, table: Table, dummies: Sequence[str], outcomes: Mapping[in
     reader, begin = csv.reader(lines), 0
     kept = [] if table.columns else [line_of([*columns, COLUMN], end)]
     for cells in reader:
-        told, begin = lines[begin : reader.line_num], reader.line_num
+        written, begin = lines[begin : reader.line_num], reader.line_num
         is_head = bool(table.columns) and any(map(str.strip, cells)) and begin < min(table.rows, default=begin + 1)
         if is_head and place == len(columns):
-            told = [line_of([*cells, COLUMN], end)]
+            written = [line_of([*cells, COLUMN], end)]
         elif begin in by_row and (by_row[begin] or place == len(cells)):
-            told = [line_of(with_cell(cells, place, by_row[begin]), end)]
-        kept += told
+            written = [line_of(with_cell(cells, place, by_row[begin]), end)]
+        kept += written
     return "".join(kept)

@@ -45,10 +45,10 @@ def read_word(word: str) -> Value:
 
 def read_words(word: str) -> list[Value]:
     """The value of a word, as often as it says."""
-    found = REPEAT.fullmatch(word)
-    if found and not 0 < int(found[1][:9]) <= MOST:
-        raise ValueError(f"{word[:LONGEST]!r} repeats a value {found[1][:9]} times: it is from 1 to {MOST} times")
-    return [read_word(found[2])] * int(found[1]) if found else [read_word(word)]
+    repeat = REPEAT.fullmatch(word)
+    if repeat and not 0 < int(repeat[1][:9]) <= MOST:
+        raise ValueError(f"{word[:LONGEST]!r} repeats a value {repeat[1][:9]} times: it is from 1 to {MOST} times")
+    return [read_word(repeat[2])] * int(repeat[1]) if repeat else [read_word(word)]
 
 
 def read_cell(cell: str) -> Any:
@@ -70,7 +70,7 @@ def checked_value(value: object) -> Any:
     """A value of a table in JSON, which has to be one of a job."""
     if is_value(value):
         return value
-    told = json.dumps(value)[:LONGEST]
+    text = json.dumps(value)[:LONGEST]
     if isinstance(value, int) and not isinstance(value, bool):
-        raise ValueError(f"{told} is out of range: a value is from {LEAST} to {GREATEST}")
-    raise ValueError(f"{told} is no value: a whole number, true, false, or a list of one kind of these")
+        raise ValueError(f"{text} is out of range: a value is from {LEAST} to {GREATEST}")
+    raise ValueError(f"{text} is no value: a whole number, true, false, or a list of one kind of these")

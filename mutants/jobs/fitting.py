@@ -14,12 +14,12 @@ from mutants.texts.dummies import read_unit
 def sized_arrays(source: Source, sizes: Mapping[str, int]) -> dict[str, bool]:
     """The arrays whose bounds --size gives; and whether that is true of the last bound alone, so that an array that
     has fewer elements has those in front."""
-    found: dict[str, list[Bound]] = {}
+    by_array: dict[str, list[Bound]] = {}
     for card in cards_of(source.shown):
         for bound in bounds_of(card.text):
             if bound.array in sizes and bound.is_last or not bound.text.isdecimal():
-                found.setdefault(bound.array, []).append(bound)
-    return {array: all(bound.is_last for bound in bounds) for array, bounds in found.items()}
+                by_array.setdefault(bound.array, []).append(bound)
+    return {array: all(bound.is_last for bound in bounds) for array, bounds in by_array.items()}
 
 
 def filled(value: Any, elements: int) -> list[Any]:
@@ -42,11 +42,11 @@ def fit(source: Source, table: Table, names: Sequence[str], sizes: Mapping[str, 
                 raise ValueError(f"row {row}: {name} has {count} elements, and its bounds with --size take {elements}")
             elif name in sizes and elements is None and isinstance(value, int) and value > sizes[name]:
                 raise ValueError(f"row {row}: {name} is {value}, above the {sizes[name]} of --size")
-    told = "rows with fewer elements than --size gives have 0 or F for those behind"
-    return [f"{told}: {joined_words(sorted(short))}"] if short else []
+    what = "rows with fewer elements than --size gives have 0 or F for those behind"
+    return [f"{what}: {joined_words(sorted(short))}"] if short else []
 
 
-def sizes_told(source: Source, table: Table, names: Sequence[str]) -> list[str]:
+def sizes_remarks(source: Source, table: Table, names: Sequence[str]) -> list[str]:
     """A sentence on dummy arrays whose size the tests tell: the one bound is no number, or 1, which once meant any."""
     bounds = [bound for card in cards_of(source.text) for bound in bounds_of(card.text)]
     is_open = {bound.array for bound in bounds if bound.is_last and not bound.text.isdecimal()}
@@ -58,5 +58,5 @@ def sizes_told(source: Source, table: Table, names: Sequence[str]) -> list[str]:
         if (elements == 1 or name in is_open) and lengths and lengths != {1}:
             sizes[name] = max(lengths)
     words = ",".join(f"{name}={size}" for name, size in sizes.items())
-    told = f"the tests have more elements than the bounds of {joined_words(sizes)} say: --size {words} follows them"
-    return [told] if sizes else []
+    remark = f"the tests have more elements than the bounds of {joined_words(sizes)} say: --size {words} follows them"
+    return [remark] if sizes else []

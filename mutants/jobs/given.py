@@ -41,10 +41,10 @@ def of_program(given: argparse.Namespace, program: Path, tests: Path | None, mot
     """The job that is made of a program and a table."""
     made = made_of(program, tests, wish_of(given))
     meant: Meant = meant_for(made, program, given.equivalent, mothra, looks_beside=not given.undeclared)
-    told = made.remarks + meant.remarks
+    remarks = made.remarks + meant.remarks
     text = whole_text(made, meant.names if meant.is_of_file else None)
     rows = made.table.rows if made.table else []
-    return Given(text.encode(), Said(made.source.shown, meant.reasons, told, titles=made.titles), told, rows)
+    return Given(text.encode(), Said(made.source.shown, meant.reasons, remarks, titles=made.titles), remarks, rows)
 
 
 def given_job(given: argparse.Namespace, path: Path, tests: Path | None, mothra: Callable[[], str | None]) -> Given:

@@ -9,7 +9,7 @@ from typing import Any, NamedTuple, TypeVar
 
 from mutants.declarations.files import NONE_MEANT, Meant, found_beside, meant_by, read_declarations
 from mutants.files import bytes_of
-from mutants.jobs.fitting import fit, sizes_told
+from mutants.jobs.fitting import fit, sizes_remarks
 from mutants.jobs.setting import zeros_of
 from mutants.jobs.sizes import read_sizes
 from mutants.jobs.sources import Source, Wish, source_of
@@ -48,7 +48,7 @@ class Made(NamedTuple):
         return "{" + ",\n".join(members) + "}\n"
 
 
-def told_of(path: Path, read: Callable[[], Read]) -> Read:
+def with_path(path: Path, read: Callable[[], Read]) -> Read:
     """What is read of a file; a fault names the file."""
     try:
         return read()
@@ -70,7 +70,7 @@ def made_of(program: Path, tests: Path | None = None, wish: Wish = Wish()) -> Ma
 
     Of what does not begin with SUBROUTINE the program tells too, so no table is read for it.
     """
-    source = told_of(program, lambda: source_of(bytes_of(program), wish))
+    source = with_path(program, lambda: source_of(bytes_of(program), wish))
     made = Made(source, None, [f"{program}: {remark}" for remark in source.remarks])
     return made if tests is None else with_table(made, tests, wish)
 
@@ -81,10 +81,10 @@ def with_table(made: Made, path: Path, wish: Wish = Wish()) -> Made:
     if known is None:
         return made
     dummies: Sequence[str] = known
-    table = told_of(path, lambda: read_table(path, dummies, zeros_of(source.text, dummies)))
-    fitted = told_of(path, lambda: fit(source, table, dummies, wish.sizes)) if wish.sizes else []
-    told = [*table.remarks, *fitted, *sizes_told(source, table, dummies)]
-    return Made(source, table, made.remarks + [f"{path}: {each}" for each in told])
+    table = with_path(path, lambda: read_table(path, dummies, zeros_of(source.text, dummies)))
+    fitted = with_path(path, lambda: fit(source, table, dummies, wish.sizes)) if wish.sizes else []
+    remarks = [*table.remarks, *fitted, *sizes_remarks(source, table, dummies)]
+    return Made(source, table, made.remarks + [f"{path}: {each}" for each in remarks])
 
 
 def meant_for(

@@ -26,7 +26,7 @@ KEYWORD = re.compile(r" *\d* *(GO *TO|DO +\d+|CALL|ELSE *IF|END *(IF|DO)|INTEGER
 def without_parentheses(text: str) -> str:
     """A text without what stands in parentheses: behind a name nothing is left of it, and elsewhere a number."""
     while True:
-        shorter = re.sub(r"([A-Z0-9]?)\([^()=]*\)", lambda found: found[1] or "1", text)
+        shorter = re.sub(r"([A-Z0-9]?)\([^()=]*\)", lambda item: item[1] or "1", text)
         if shorter == text:
             return text
         text = shorter
@@ -34,8 +34,8 @@ def without_parentheses(text: str) -> str:
 
 def is_statement(text: str) -> bool:
     """Whether a text looks like a statement. Two words that only a blank parts are prose, but behind a keyword."""
-    found = KEYWORD.match(text.upper())
-    bare = text.upper()[found.end() :] if found else text.upper()
+    keyword = KEYWORD.match(text.upper())
+    bare = text.upper()[keyword.end() :] if keyword else text.upper()
     if re.search(r"[A-Z0-9] +[A-Z0-9]", bare) or not text.strip():
         return False
     flat = without_parentheses(re.sub(r"\s", "", text.upper()))
@@ -72,8 +72,8 @@ def behind_72(lines: Sequence[str]) -> Iterator[str]:
     one, many = "{!r} stands behind column 72 and is not read", "text behind column 72 is not read, as {!r}"
     yield from listed(others, one, many)
     if numbers:
-        told = f"{plural(len(numbers), 'line')} with what looks like the number of a card"
-        yield f"{told} behind column 72, which is not read: the first is line {numbers[0][0]}, {numbers[0][1]!r}"
+        cards = f"{plural(len(numbers), 'line')} with what looks like the number of a card"
+        yield f"{cards} behind column 72, which is not read: the first is line {numbers[0][0]}, {numbers[0][1]!r}"
 
 
 def remarks_on_text(source: str) -> list[str]:

@@ -22,14 +22,14 @@ def target_of(text: str) -> tuple[str, str]:
         end = closing(text, text.index("("))
         name, rest = target_of(text[end + 1 :])
         return name, f"{text[: end + 1]},{rest}"
-    loop, found = DO.match(text), TARGET.match(text)
+    loop, target = DO.match(text), TARGET.match(text)
     if loop:
         return loop[2], text[loop.end() :]
-    if found and found[2] == "=":
-        return found[1], text[found.end() :]
-    if found:
-        end = closing(text, found.end() - 1) + 1
-        return (found[1], text[found.end() :]) if text[end : end + 1] == "=" else ("", text)
+    if target and target[2] == "=":
+        return target[1], text[target.end() :]
+    if target:
+        end = closing(text, target.end() - 1) + 1
+        return (target[1], text[target.end() :]) if text[end : end + 1] == "=" else ("", text)
     return "", text
 
 

@@ -36,12 +36,12 @@ def read_sizes(word: str) -> dict[str, int]:
     """The values of --size, by names in upper case."""
     sizes: dict[str, int] = {}
     for part in word.upper().split(","):
-        found = re.fullmatch(r"\s*([A-Z][A-Z0-9]{0,5})\s*=\s*(\d{1,5})\s*", part)
-        if not found or not 0 < int(found[2]) <= 10000:
+        size = re.fullmatch(r"\s*([A-Z][A-Z0-9]{0,5})\s*=\s*(\d{1,5})\s*", part)
+        if not size or not 0 < int(size[2]) <= 10000:
             raise ValueError(f"--size has {part.strip()!r}, which is no name with a number from 1 to 10000, as N=8")
-        if found[1] in sizes:
-            raise ValueError(f"--size has {found[1]} twice")
-        sizes[found[1]] = int(found[2])
+        if size[1] in sizes:
+            raise ValueError(f"--size has {size[1]} twice")
+        sizes[size[1]] = int(size[2])
     return sizes
 
 
@@ -53,8 +53,8 @@ def parts_between(text: str, begin: int, end: int) -> list[tuple[int, int]]:
 
 def bounds_of(text: str) -> Iterator[Bound]:
     """The bounds of the arrays that a statement declares."""
-    found = DECLARATION.match(text)
-    at = found.end() if found else len(text)
+    front = DECLARATION.match(text)
+    at = front.end() if front else len(text)
     while item := ITEM.match(text, at):
         at = item.end()
         if item[2]:

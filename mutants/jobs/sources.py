@@ -50,14 +50,14 @@ def is_program(path: Path) -> bool:
     return path.suffix.lower() in SUFFIXES
 
 
-def tabs_told(source: str) -> str:
+def tabs_fault(source: str) -> str:
     """Why a source with tabs does not serve, and what does; no text where it has none."""
     lines = [number for number, line in enumerate(source.split("\n"), 1) if has_tab(line)]
     if not lines:
         return ""
     many = f" (and {len(lines) - 1} more)" if len(lines) > 1 else ""
-    told = f"line {lines[0]}{many} has a tab, which FORTRAN 77 does not know: --expand-tabs reads the first tab of"
-    return f"{told} a line as the way to column 7, or to column 6 before a digit from 1 to 9, and any other as a blank"
+    where = f"line {lines[0]}{many} has a tab, which FORTRAN 77 does not know: --expand-tabs reads the first tab of"
+    return f"{where} a line as the way to column 7, or to column 6 before a digit from 1 to 9, and any other as a blank"
 
 
 def unit_in(source: str, name: str | None) -> tuple[str, str, list[str]]:
@@ -68,22 +68,22 @@ def unit_in(source: str, name: str | None) -> tuple[str, str, list[str]]:
     unit = picked(units, name)
     if len(units) == 1:
         return source, "", []
-    told = [] if name is not None else [f"of {len(units)} units the only subroutine is taken, {unit.told()}"]
-    return with_lines(source, unit), unit.name, told
+    remarks = [] if name is not None else [f"of {len(units)} units the only subroutine is taken, {unit.text()}"]
+    return with_lines(source, unit), unit.name, remarks
 
 
-def bounds_told(source: str) -> list[str]:
+def bounds_remarks(source: str) -> list[str]:
     """A sentence for each line with bounds that are no numbers, with the option that gives them values."""
     by_line: dict[int, list[Bound]] = defaultdict(list)
     for line, bound in unsized(source):
         by_line[line].append(bound)
-    told = []
+    remarks = []
     for line, bounds in by_line.items():
         which = joined_words(f"{bound.text} of {bound.array}" for bound in bounds)
         names = dict.fromkeys(name for bound in bounds for name in names_for(bound))
         offer = f": --size {','.join(f'{name}=..' for name in names)} gives values" if names else ""
-        told.append(f"line {line}: no number is the bound {which}{offer}")
-    return told
+        remarks.append(f"line {line}: no number is the bound {which}{offer}")
+    return remarks
 
 
 def source_of(data: bytes, wish: Wish) -> Source:
@@ -94,12 +94,12 @@ def source_of(data: bytes, wish: Wish) -> Source:
     kept, unit, remarks = unit_in(plain, wish.unit)
     if not wish.expands_tabs:
         kept = "\n".join(old if new else "" for old, new in zip(text.split("\n"), kept.split("\n"))) if unit else text
-    shown, told = kept, tabs_told(kept)
-    if told:
-        raise ValueError(told)
+    shown, fault = kept, tabs_fault(kept)
+    if fault:
+        raise ValueError(fault)
     kept = sized(kept, wish.sizes, wish.shares_sizes) if wish.sizes else kept
     size = len(kept.encode())
     if size > LARGEST:
         advice = "leave out comments" if unit else "leave out comments, or pick a unit by --unit"
         raise ValueError(f"the source has {size:,} bytes, and a job takes {LARGEST:,}: {advice}")
-    return Source(kept, shown, unit, remarks + bounds_told(kept) + remarks_on_text(shown), text)
+    return Source(kept, shown, unit, remarks + bounds_remarks(kept) + remarks_on_text(shown), text)

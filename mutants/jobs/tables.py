@@ -39,7 +39,7 @@ class Cell(NamedTuple):
     column: int
     name: str = ""
 
-    def told(self) -> str:
+    def place(self) -> str:
         return f"row {self.row}, column {self.column}" + (f" ({self.name})" if self.name else "")
 
 
@@ -84,7 +84,7 @@ def columns_of(row: int, cells: Cells, dummies: Sequence[str]) -> list[str]:
     names, missing = names_in(cells), [name for name in dummies if name not in names_in(cells)]
     known = f"the dummy arguments are {joined_words(dummies) or 'none'}"
     for column, name in enumerate(names, 1):
-        where = Cell(row, column).told()
+        where = Cell(row, column).place()
         if name in names[: column - 1] and name:
             raise ValueError(f"{where}: {name} stands twice")
         if name not in dummies and name != EXPECT and missing:
@@ -99,13 +99,13 @@ def columns_of(row: int, cells: Cells, dummies: Sequence[str]) -> list[str]:
 def shape_fault(row: int, cells: Cells, columns: Sequence[str], is_text: bool) -> str:
     """Why a row does not serve that has another number of cells than there are columns."""
     wanted = f"{len(columns)} are wanted: {', '.join(columns)}" if columns else "there is no dummy argument"
-    told = f"row {row} has {plural(len(cells), 'cell')}, and {wanted}"
+    count = f"row {row} has {plural(len(cells), 'cell')}, and {wanted}"
     if is_text and len(cells) == 1 and ";" in cells[0]:
-        return f"{Cell(row, 1).told()}: {cells[0].strip()[:LONGEST]!r} has semicolons: cells are separated by commas"
+        return f"{Cell(row, 1).place()}: {cells[0].strip()[:LONGEST]!r} has semicolons: cells are separated by commas"
     if is_text and len(cells) == 1 and len(cells[0].split()) > 1:
         shown = cells[0].strip()[:LONGEST]
-        return f"{told} (blanks make one array of {shown!r}: cells are separated by commas)"
-    return told
+        return f"{count} (blanks make one array of {shown!r}: cells are separated by commas)"
+    return count
 
 
 class Reading:
@@ -124,11 +124,11 @@ class Reading:
             self.left_blank[cell.name] = "F" if is_truth else "0"
             return value
         if is_blank(given) and cell.name and self.dummies is not None:
-            raise ValueError(f"{cell.told()}: the cell is empty, and the program reads {cell.name}")
+            raise ValueError(f"{cell.place()}: the cell is empty, and the program reads {cell.name}")
         try:
             return read(given)
         except ValueError as fault:
-            raise ValueError(f"{cell.told()}: {fault}") from None
+            raise ValueError(f"{cell.place()}: {fault}") from None
 
     def add(self, row: int, cells: Cells, read: Callable[[Any], Any], is_text: bool) -> None:
         """Adds the test of a row."""
@@ -148,8 +148,8 @@ class Reading:
         self.table.rows.append(row)
         if is_text and len(cells) == 1 and isinstance(values.get(0), list) and not self.table.remarks:
             name = f", for {named[0]}" if named[0] else ""
-            told = f"row {row}: {cells[0].strip()[:LONGEST]!r} is one array of {len(values[0])} elements{name}"
-            self.table.remarks.append(told)
+            remark = f"row {row}: {cells[0].strip()[:LONGEST]!r} is one array of {len(values[0])} elements{name}"
+            self.table.remarks.append(remark)
 
     def take(self, rows: Iterator[tuple[int, Cells]], read: Callable[[Any], Any], is_text: bool) -> Table:
         for place, (row, cells) in enumerate(rows):
@@ -157,15 +157,15 @@ class Reading:
                 self.columns = columns_of(row, cells, self.names)
             else:
                 self.add(row, cells, read, is_text)
-        told = joined_words(f"{name} ({value})" for name, value in self.left_blank.items())
-        more = [f"cells that are left blank have the value behind each, since it is only set: {told}"] if told else []
+        shown = joined_words(f"{name} ({value})" for name, value in self.left_blank.items())
+        more = [f"cells that are left blank have the value behind each, since it is only set: {shown}"] if shown else []
         return self.table._replace(columns=self.columns, remarks=self.table.remarks + more)
 
 
 def titles_of(table: Table) -> list[str]:
     """The names of the tests, where a column has them."""
-    found = [table.others[name] for name in TITLES if name in table.others]
-    column = found[0] if found else []
+    columns = [table.others[name] for name in TITLES if name in table.others]
+    column = columns[0] if columns else []
     return ["" if is_blank(cell) else " ".join(str(cell).split()) for cell in column]
 
 

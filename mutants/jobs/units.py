@@ -18,7 +18,7 @@ class Unit(NamedTuple):
     first: int
     last: int
 
-    def told(self) -> str:
+    def text(self) -> str:
         which = f"{self.kind} {self.name}".strip() or "a unit without a name"
         return f"{which} (lines {self.first} to {self.last})"
 
@@ -49,15 +49,16 @@ def units_of(source: str) -> list[Unit]:
 
 def picked(units: Sequence[Unit], name: str | None) -> Unit:
     """The unit of a name; without one the only subroutine of the file."""
-    told = "; ".join(unit.told() for unit in units)
+    units_text = "; ".join(unit.text() for unit in units)
     if name is not None:
-        found = [unit for unit in units if unit.name == name.upper()]
-        if len(found) != 1:
-            raise ValueError(f"{'no unit has' if not found else 'several units have'} the name {name.upper()}: {told}")
-        return found[0]
+        named = [unit for unit in units if unit.name == name.upper()]
+        if len(named) != 1:
+            count = "several units have" if named else "no unit has"
+            raise ValueError(f"{count} the name {name.upper()}: {units_text}")
+        return named[0]
     subroutines = [unit for unit in units if unit.kind == "SUBROUTINE"]
     if len(subroutines) != 1:
-        raise ValueError(f"the file has {len(units)} units, and --unit NAME says which is meant: {told}")
+        raise ValueError(f"the file has {len(units)} units, and --unit NAME says which is meant: {units_text}")
     return subroutines[0]
 
 

@@ -52,10 +52,10 @@ def declared_part(listed: Iterable[Mutant], rows: Sequence[Row], statements: Map
         return ""
     count = sum(len(group.mutants) for group in groups)
     wrong = len(wrongly_declared(rows, said.proofs))
-    told = f"{plural(count, 'mutant')} {'is' if count == 1 else 'are'} declared equivalent: no test can kill"
-    told += f" {'it' if count == 1 else 'them'}, so it is said."
-    told += f" Tests kill {wrong} of them all the same, and {wrong} counts as killed." if wrong else ""
-    return f"<p>{told}</p>\n" + groups_table(groups, statements, "Declared equivalent")
+    sentence = f"{plural(count, 'mutant')} {'is' if count == 1 else 'are'} declared equivalent: no test can kill"
+    sentence += f" {'it' if count == 1 else 'them'}, so it is said."
+    sentence += f" Tests kill {wrong} of them all the same, and {wrong} counts as killed." if wrong else ""
+    return f"<p>{sentence}</p>\n" + groups_table(groups, statements, "Declared equivalent")
 
 
 def proved_part(listed: Iterable[Mutant], rows: Sequence[Row], statements: Mapping[int, str], said: Said) -> str:
@@ -64,10 +64,10 @@ def proved_part(listed: Iterable[Mutant], rows: Sequence[Row], statements: Mappi
     if not groups:
         return ""
     has_spare = any(said.proofs.has_spare(name_of(group.mutants[0])) for group in groups)
-    told = ALL_TESTS + (STEPS_TO_SPARE if has_spare else "")
+    promise = ALL_TESTS + (STEPS_TO_SPARE if has_spare else "")
     inner = groups_table(groups, statements, "Proved equivalent")
     summary = f"<summary>{proved_text(groups, said.proofs)}</summary>"
-    return f"<p>{told}</p>\n<details>{summary}\n{inner}</details>\n"
+    return f"<p>{promise}</p>\n<details>{summary}\n{inner}</details>\n"
 
 
 def remarks_part(remarks: Iterable[str]) -> str:

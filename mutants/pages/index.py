@@ -41,9 +41,9 @@ def cells_of(entry: Entry) -> list[Cell]:
 def index_page(entries: Sequence[Entry], remark: str = "") -> str:
     """The page of the programs, in the order of their file."""
     wrong = sum(bool(entry.wrong) for entry in entries)
-    told = f"{plural(len(entries), 'program')}, {wrong} with something wrong." if wrong else ""
+    warning = f"{plural(len(entries), 'program')}, {wrong} with something wrong." if wrong else ""
     head = f"<h1>{plural(len(entries), 'program')}: which mutants their tests kill</h1>\n"
-    head += f'<p class="warn"><b>{told}</b></p>\n' if told else ""
+    head += f'<p class="warn"><b>{warning}</b></p>\n' if warning else ""
     head += f'<p class="warn">{text(remark)}</p>\n' if remark else ""
     title = f"{plural(len(entries), 'program')}: {KIND}"
     return page(title, head, table(HEAD, map(cells_of, entries), label="The programs", does_sort=True))

@@ -18,8 +18,8 @@ def killers_text(bits: str) -> str:
     """The tests that kill, or those that do not where that is shorter."""
     if "1" not in bits or "0" not in bits:
         return "all tests" if "1" in bits else "no test"
-    told, rest = ranges_of(tests_in(bits)), f"all but {ranges_of(tests_in(bits, '0'))}"
-    return told if bits.count("1") <= len(bits) / 2 else rest
+    killers, rest = ranges_of(tests_in(bits)), f"all but {ranges_of(tests_in(bits, '0'))}"
+    return killers if bits.count("1") <= len(bits) / 2 else rest
 
 
 def names_of(rows: Iterable[Row]) -> str:
@@ -41,6 +41,6 @@ def kill_sets_part(rows: Sequence[Row]) -> str:
     shown = kill_sets(rows)
     cells: list[list[Cell]] = [[("", killers_text(bits)), ("", names_of(alike))] for bits, alike in shown]
     head: list[Cell] = [("", "Killed by"), ("", "Mutants")]
-    told = f"The same as a table: {plural(len(shown), 'set')} of tests, each with what just these tests kill"
+    summary = f"The same as a table: {plural(len(shown), 'set')} of tests, each with what just these tests kill"
     inner = table(head, cells, label="Which tests kill which mutants")
-    return f"<details><summary>{told}</summary>\n{inner}</details>\n"
+    return f"<details><summary>{summary}</summary>\n{inner}</details>\n"

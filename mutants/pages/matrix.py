@@ -119,21 +119,21 @@ def fold(columns: Sequence[Column], killed: str, tests: int, count: int) -> str:
     op = columns[0].row.op
     is_open = " open" if count <= UNFOLDED and op != "ABS" else ""
     panels = "".join(panel(part, tests, count <= TITLED) for part in in_panels(columns))
-    told = f"<b>{text(op)}</b> {text(NAMES.get(op, ''))}: {killed}"
-    return f'<details{is_open}><summary>{told}</summary><div class="panels">\n{panels}</div></details>\n'
+    summary = f"<b>{text(op)}</b> {text(NAMES.get(op, ''))}: {killed}"
+    return f'<details{is_open}><summary>{summary}</summary><div class="panels">\n{panels}</div></details>\n'
 
 
 def key(every: int, is_titled: bool) -> str:
-    told = (
+    legend = (
         "A row is a test, a column a mutant of the operator, by its number; a cell is filled where the test kills the"
         " mutant. A triangle stands under a mutant that no test kills; it is hollow where the mutant is declared"
         " equivalent. The number behind a row is how many of these mutants the test kills."
     )
-    told += " A column leads to the line of its mutant"
-    told += "; its title has the change and the first tests that kill it." if is_titled else "."
+    legend += " A column leads to the line of its mutant"
+    legend += "; its title has the change and the first tests that kill it." if is_titled else "."
     if every > 1:
-        told += f" So that there are no more than {MOST:,} cells, each {every}th mutant of each operator is shown."
-    return f"<p>{told}</p>\n"
+        legend += f" So that there are no more than {MOST:,} cells, each {every}th mutant of each operator is shown."
+    return f"<p>{legend}</p>\n"
 
 
 def matrix_part(listed: Sequence[Mutant], rows: Sequence[Row], statements: Mapping[int, str], tests: int) -> str:
@@ -147,5 +147,5 @@ def matrix_part(listed: Sequence[Mutant], rows: Sequence[Row], statements: Mappi
         statuses = [row.status for row in rows if row.op == op]
         killed = f"{sum(status in 'KW' for status in statuses)} of {len(statuses)} killed"
         folds.append(fold(list(group), killed, tests, len(shown)))
-    told = key(every, len(shown) <= TITLED)
-    return f'{told}<div class="matrix">\n{"".join(folds)}{kill_sets_part(rows)}</div>\n'
+    legend = key(every, len(shown) <= TITLED)
+    return f'{legend}<div class="matrix">\n{"".join(folds)}{kill_sets_part(rows)}</div>\n'

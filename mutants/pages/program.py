@@ -18,12 +18,12 @@ def difference(old: str, new: str) -> str:
 
 def marks_of(count: Count, survived: int) -> str:
     """The marks of a line: a bar, how many mutants are killed, and how many survive."""
-    told = f"{count.killed} of {count.total}"
+    killed = f"{count.killed} of {count.total}"
     if survived:
         last = f'<span class="live">{survived} survive{"s" if survived == 1 else ""}</span>'
     else:
         last = f"<span>{count.equivalent} equivalent</span>" if count.equivalent else "<span>all killed</span>"
-    return f'<span class="marks"><span>{bar(count.killed, count.total)}</span><span>{told}</span>{last}</span>'
+    return f'<span class="marks"><span>{bar(count.killed, count.total)}</span><span>{killed}</span>{last}</span>'
 
 
 def line_part(number: int, line: str, count: Count | None, survived: int, has_link: bool) -> str:
@@ -31,8 +31,8 @@ def line_part(number: int, line: str, count: Count | None, survived: int, has_li
     marks = marks_of(count, survived) if count else '<span class="marks"></span>'
     kind = "line remark" if is_comment(line) else "line"
     link = f' id="L{number}"' if has_link and count else ""
-    told = f'<span class="number">{number}</span><span class="source">{text(line) or " "}</span>{marks}'
-    return f'<div class="{kind}"{link}>{told}</div>\n'
+    cells = f'<span class="number">{number}</span><span class="source">{text(line) or " "}</span>{marks}'
+    return f'<div class="{kind}"{link}>{cells}</div>\n'
 
 
 def numbered_lines(source: str) -> list[tuple[int, str]]:
@@ -54,20 +54,20 @@ class AtLines(NamedTuple):
     remarks: Mapping[str, str] = NO_REMARKS
 
 
-def program_part(source: str, statements: Mapping[int, str], found: AtLines, has_links: bool = False) -> str:
+def program_part(source: str, statements: Mapping[int, str], marked: AtLines, has_links: bool = False) -> str:
     """The whole program with its mutants.
 
     The mutants of a statement stand behind its last line, so that its lines stay together.
     """
     ends, parts = last_lines(source), []
-    initial = {ends.get(line, line): line for line in {*found.survivors, *found.declared, *found.proved}}
+    initial = {ends.get(line, line): line for line in {*marked.survivors, *marked.declared, *marked.proved}}
     for number, line in numbered_lines(source):
-        alive = len(found.survivors.get(number, []))
-        parts.append(line_part(number, line, found.counts.get(number), alive, has_links))
+        alive = len(marked.survivors.get(number, []))
+        parts.append(line_part(number, line, marked.counts.get(number), alive, has_links))
         if number in initial:
             first = initial[number]
-            living, others, sure = (each.get(first, []) for each in (found.survivors, found.declared, found.proved))
-            parts += [survivors_part(living, statements[first], found.remarks)] if living else []
-            parts += [declared_part(others, statements[first], found.remarks)] if others else []
-            parts += [declared_part(sure, statements[first], found.remarks, "proved")] if sure else []
+            living, others, sure = (each.get(first, []) for each in (marked.survivors, marked.declared, marked.proved))
+            parts += [survivors_part(living, statements[first], marked.remarks)] if living else []
+            parts += [declared_part(others, statements[first], marked.remarks)] if others else []
+            parts += [declared_part(sure, statements[first], marked.remarks, "proved")] if sure else []
     return '<div class="program">\n' + "".join(parts) + "</div>\n"

@@ -62,25 +62,25 @@ def score_part(count: Count, proved: int = 0) -> str:
 
 def proofs_part(count: Count, proved: int) -> str:
     """The score without the proofs, where there are some."""
-    told = f"Without the proofs the score is {score_without(count, proved)}."
-    return f'<p class="soft">{told}</p>\n' if proved else ""
+    sentence = f"Without the proofs the score is {score_without(count, proved)}."
+    return f'<p class="soft">{sentence}</p>\n' if proved else ""
 
 
 def subsuming_part(listed: Sequence[Mutant], rows: Sequence[Row]) -> str:
     """The score over the mutants that subsume all others, and those of them that are killed, folded."""
-    found = subsuming(listed, rows)
-    if found.counted.total == sum(row.status != "E" for row in rows):
+    least = subsuming(listed, rows)
+    if least.counted.total == sum(row.status != "E" for row in rows):
         return ""
-    links = [f'<a href="#L{mutant.line}">{text(name_of(mutant))}</a>' for mutant in found.killed]
-    whose = f"Killed: {joined_words(links) or 'none'}. {plural(found.survivors, 'survivor')}, each program once."
-    return f'<details class="soft"><summary>{text(found.told())}</summary>\n<p>{whose}</p></details>\n'
+    links = [f'<a href="#L{mutant.line}">{text(name_of(mutant))}</a>' for mutant in least.killed]
+    whose = f"Killed: {joined_words(links) or 'none'}. {plural(least.survivors, 'survivor')}, each program once."
+    return f'<details class="soft"><summary>{text(least.text())}</summary>\n<p>{whose}</p></details>\n'
 
 
 def facts_of(report: Report) -> str:
-    told = f"{plural(report.tests, 'test')}; runs of at most {report.steps} steps"
+    facts = f"{plural(report.tests, 'test')}; runs of at most {report.steps} steps"
     if report.every > 1:
-        told += f"; of each operator's list the mutants 1, {report.every + 1}, {2 * report.every + 1} and on"
-    return f'<p class="soft">{told}.</p>\n'
+        facts += f"; of each operator's list the mutants 1, {report.every + 1}, {2 * report.every + 1} and on"
+    return f'<p class="soft">{facts}.</p>\n'
 
 
 def first_look(survivors: Sequence[Mutant], proved: int, said: Said) -> str:
@@ -89,20 +89,20 @@ def first_look(survivors: Sequence[Mutant], proved: int, said: Said) -> str:
         return f"<p>{no_survivor_text(proved)}</p>\n"
     lines = Counter(mutant.line for mutant in survivors)
     line, most = lines.most_common(1)[0]
-    told = survivors_text(survivors)
-    told += f'; the most, {most}, on <a href="#L{line}">line {line}</a>' if len(lines) > 1 else ""
+    where = survivors_text(survivors)
+    where += f'; the most, {most}, on <a href="#L{line}">line {line}</a>' if len(lines) > 1 else ""
     asked = "Each asks: on what values does the changed line do something else? Such values are a test that is missing;"
     asked += " where there are none, the mutant is equivalent."
     boxed = said.killed_by_no_row(survivors)
     asked += f" {boxed_text(boxed)} {NO_PROOF}" if boxed else ""
-    return f"<p>{told}. {asked}</p>\n"
+    return f"<p>{where}. {asked}</p>\n"
 
 
 def survivors_text(survivors: Sequence[Mutant]) -> str:
     """How many survivors there are, on how many lines, and how many programs they are."""
     different, lines = len(twins_in(survivors)), {mutant.line for mutant in survivors}
-    told = f"{plural(len(survivors), 'survivor')} on {plural(len(lines), 'line')}"
-    return f"{told}, {plural(different, 'different program')}" if different < len(survivors) else told
+    text = f"{plural(len(survivors), 'survivor')} on {plural(len(lines), 'line')}"
+    return f"{text}, {plural(different, 'different program')}" if different < len(survivors) else text
 
 
 def no_survivor_text(proved: int) -> str:
@@ -110,9 +110,9 @@ def no_survivor_text(proved: int) -> str:
     return f"No mutant survives that is not declared {'or proved ' if proved else ''}equivalent."
 
 
-def warning(what: str, names: Sequence[str], told: str) -> str:
+def warning(what: str, names: Sequence[str], why: str) -> str:
     """Mutants that a test kills though it should not be able to; no text where there is none."""
-    return f'<p class="warn"><b>{what}:</b> {text(joined_words(names))}. {told}</p>\n' if names else ""
+    return f'<p class="warn"><b>{what}:</b> {text(joined_words(names))}. {why}</p>\n' if names else ""
 
 
 def wrong_part(rows: Sequence[Row], proofs: Proofs) -> str:
@@ -154,8 +154,8 @@ def unexpected_part(unexpected: Mapping[int, str]) -> str:
     if not unexpected:
         return ""
     which = f"Test {joined_words(unexpected)}" if len(unexpected) == 1 else f"Tests {joined_words(sorted(unexpected))}"
-    told = f"<b>{which}: the program does not do what is expected.</b> The score is that of a wrong program."
-    return f'<p class="warn">{told}</p>\n'
+    warning = f"<b>{which}: the program does not do what is expected.</b> The score is that of a wrong program."
+    return f'<p class="warn">{warning}</p>\n'
 
 
 class Analysed(NamedTuple):
@@ -201,9 +201,9 @@ def report_page(analysed: Analysed, remark: str = "", outcomes: Outcomes = Outco
 def listing_part(job: Job, statements: Mapping[int, str], listed: Sequence[Mutant], report: Report, said: Said) -> str:
     """The program with its survivors, and the declared and proved mutants that survived."""
     source = job.source if said.shown is None else said.shown
-    found = at_lines(listed, report.rows, report.survivors, said.proofs)
+    marked = at_lines(listed, report.rows, report.survivors, said.proofs)
     remarks = {**{name: each.text for name, each in said.boxes.items()}, **said.all_reasons}
-    return program_part(source, statements, found._replace(remarks=remarks), has_links=True)
+    return program_part(source, statements, marked._replace(remarks=remarks), has_links=True)
 
 
 def filter_part(survivors: Iterable[Mutant]) -> str:

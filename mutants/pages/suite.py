@@ -28,8 +28,8 @@ def alone_of(rows: Iterable[Row], tests: int) -> list[int]:
     return list(map(len, alone_by_test(rows, tests)))
 
 
-def shortened(told: str) -> str:
-    return told if len(told) <= LONGEST else told[: LONGEST - 2] + " .."
+def shortened(text: str) -> str:
+    return text if len(text) <= LONGEST else text[: LONGEST - 2] + " .."
 
 
 def values_of(test: object) -> str:
@@ -42,8 +42,8 @@ def least_set_text(kept: Sequence[int], is_least: bool, killed: int, noun: str =
         return f"The {noun} kills no mutant"
     if is_least:
         return f"The smallest set that kills all {killed} that the {noun} kills has {plural(len(kept), 'test')}"
-    told = f"A set of {plural(len(kept), 'test')} kills all {killed} that the {noun} kills"
-    return f"{told}, by the greedy rule; the search for a smallest one was given up, and a smaller one may be there"
+    text = f"A set of {plural(len(kept), 'test')} kills all {killed} that the {noun} kills"
+    return f"{text}, by the greedy rule; the search for a smallest one was given up, and a smaller one may be there"
 
 
 def needless_text(alone: Iterable[int]) -> str:
@@ -68,8 +68,8 @@ def remarks_on(rows: Sequence[Row], alone: Sequence[int]) -> str:
 
 def outcome_cell(outcome: str, expected: str | None) -> Cell:
     """What the program itself does on a test, and what is expected where that is something else."""
-    told = f"<code>{text(shortened(outcome))}</code>"
-    return "", told if expected is None else f'{told} <span class="live">expected {text(shortened(expected))}</span>'
+    code = f"<code>{text(shortened(outcome))}</code>"
+    return "", code if expected is None else f'{code} <span class="live">expected {text(shortened(expected))}</span>'
 
 
 def alone_by_test(rows: Iterable[Row], tests: int) -> list[list[Row]]:
@@ -93,10 +93,10 @@ def titled(test: object, number: int, titles: Sequence[str]) -> str:
     return f"{shortened(title)}: {values_of(test)}" if title else values_of(test)
 
 
-def test_cells(number: int, told: str, kills: int, alone: Sequence[Row], mutants: int) -> list[Cell]:
+def test_cells(number: int, values: str, kills: int, alone: Sequence[Row], mutants: int) -> list[Cell]:
     many = numbers(kills, f"<b>{len(alone)}</b>" if alone else "none")
     rest: list[Cell] = [("", text(alone_text(alone))), ("bar", bar(kills, mutants))]
-    return [("n", number), ("", f"<code>{text(told)}</code>"), *many, *rest]
+    return [("n", number), ("", f"<code>{text(values)}</code>"), *many, *rest]
 
 
 HEAD: list[Cell] = [
@@ -120,8 +120,8 @@ def tests_part(
     kills, alone = kills_of(rows, len(suite)), alone_by_test(rows, len(suite))
     head, shown = [*HEAD], []
     for place in sorted(range(len(suite)), key=lambda place: (-len(alone[place]), -kills[place], place)):
-        told = titled(suite[place], place + 1, titles)
-        cells = test_cells(place + 1, told, kills[place], alone[place], len(rows))
+        values = titled(suite[place], place + 1, titles)
+        cells = test_cells(place + 1, values, kills[place], alone[place], len(rows))
         if outcomes:
             cells.insert(2, outcome_cell(outcomes[place], unexpected.get(place + 1)))
         shown.append(cells)

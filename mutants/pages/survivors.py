@@ -49,14 +49,14 @@ def far_part(far: str) -> str:
 @lru_cache(maxsize=65_536)
 def with_context(old: str, new: str) -> str:
     """The two statements as one text in which what is gone and what is new are marked, and what is far from both."""
-    found = pieces(old, new)
-    shown = [MARKS[mark].format(text(piece)) for mark, piece in found]
-    if found and found[0][0] == "=":
-        front = found[0][1]
+    parts = pieces(old, new)
+    shown = [MARKS[mark].format(text(piece)) for mark, piece in parts]
+    if parts and parts[0][0] == "=":
+        front = parts[0][1]
         at = len(front) - near(reversed(WORD.findall(front)))
         shown[0] = far_part(front[:at]) + text(front[at:])
-    if len(found) > 1 and found[-1][0] == "=":
-        back = found[-1][1]
+    if len(parts) > 1 and parts[-1][0] == "=":
+        back = parts[-1][1]
         at = near(WORD.findall(back))
         shown[-1] = text(back[:at]) + far_part(back[at:])
     return "".join(shown)

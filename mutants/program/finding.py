@@ -30,10 +30,10 @@ class NoProgram(ValueError):
 
 def named_program(word: str, where: str) -> str:
     """The path of the program that a word names: a path, or a name on the path."""
-    found = shutil.which(word)
-    if not found:
+    path = shutil.which(word)
+    if not path:
         raise ValueError(f"there is no program {word}, which {where} names")
-    return os.path.abspath(found)
+    return os.path.abspath(path)
 
 
 def searched_program(kind: Program, word: str | None, built: Path) -> str | None:
@@ -43,24 +43,24 @@ def searched_program(kind: Program, word: str | None, built: Path) -> str | None
     That it is an unproved build is told on standard error.
     """
     if word is not None:
-        found: str | None = named_program(word, kind.option)
+        path: str | None = named_program(word, kind.option)
     elif os.environ.get(kind.variable):
-        found = named_program(os.environ[kind.variable], kind.variable)
+        path = named_program(os.environ[kind.variable], kind.variable)
     elif os.access(built, os.X_OK):
-        found = str(built)
+        path = str(built)
     else:
-        found = released_path(kind.name) or shutil.which(kind.name) or find_unproved(kind.name)
-    if found and is_unproved(found, kind.name):
-        sys.stderr.write(f"{os.path.abspath(found)}: {said(kind.name)}\n")
-    return os.path.abspath(found) if found else None
+        path = released_path(kind.name) or shutil.which(kind.name) or find_unproved(kind.name)
+    if path and is_unproved(path, kind.name):
+        sys.stderr.write(f"{os.path.abspath(path)}: {said(kind.name)}\n")
+    return os.path.abspath(path) if path else None
 
 
 def find_program(word: str | None = None) -> str:
     """The path of the program mothra."""
-    found = searched_program(MOTHRA, word, BUILT)
-    if not found:
+    path = searched_program(MOTHRA, word, BUILT)
+    if not path:
         raise NoProgram(MISSING)
-    return found
+    return path
 
 
 def find_program_if_any(word: str | None) -> str | None:

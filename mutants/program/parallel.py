@@ -28,10 +28,10 @@ Take = Callable[[int, str, int], None]
 def find_parallel() -> None:
     """Raises ValueError where GNU parallel is not there; another program of its name is not it."""
     try:
-        told = subprocess.run(["parallel", "--version"], capture_output=True, text=True, errors="replace")
+        version = subprocess.run(["parallel", "--version"], capture_output=True, text=True, errors="replace")
     except OSError:
         raise ValueError(MISSING) from None
-    if not told.stdout.startswith("GNU parallel"):
+    if not version.stdout.startswith("GNU parallel"):
         raise ValueError("the program parallel is not GNU parallel")
 
 
@@ -47,11 +47,11 @@ def command_of(program: str) -> str:
 
 
 def parallel_words(program: str, jobs: int | None, logins: Iterable[str]) -> list[str]:
-    found = ["parallel", "--pipe", "-N2", "--block", BLOCK]
-    found += ["--jobs", str(jobs)] if jobs else []
+    words = ["parallel", "--pipe", "-N2", "--block", BLOCK]
+    words += ["--jobs", str(jobs)] if jobs else []
     for login in logins:
-        found += ["--sshlogin", login]
-    return [*found, command_of(program)]
+        words += ["--sshlogin", login]
+    return [*words, command_of(program)]
 
 
 def lines_of(calls: Iterable[Call]) -> Iterable[bytes]:
@@ -103,8 +103,8 @@ def last_line(errors: IO[bytes]) -> str:
     errors.seek(0)
     lines = errors.read().decode("utf-8", "replace").splitlines()
     # An unproved build says at each call what it is, which is no failure.
-    told = [line.strip() for line in lines if line.strip() and not line.startswith(MARK)]
-    return told[-1] if told else ""
+    messages = [line.strip() for line in lines if line.strip() and not line.startswith(MARK)]
+    return messages[-1] if messages else ""
 
 
 def spread(program: str, calls: Sequence[Call], jobs: int | None, logins: Iterable[str], take: Take) -> str:

@@ -31,7 +31,7 @@ TRIALS = {MOTHRA.name: (["print"], PRINTED), EQUIVALENTS.name: (["--ops", "SDL"]
 SCRIPT = """\
 #!/bin/sh
 # Made by mutants unproved: what the program beside this file writes is proved by nothing, and each call says so.
-echo {told} >&2
+echo {notice} >&2
 exec {program} "$@"
 """
 
@@ -82,11 +82,11 @@ def is_unproved(program: str, name: str = MOTHRA.name) -> bool:
 
 def said(name: str = MOTHRA.name) -> str:
     """What is said of the build that is kept."""
-    digest, told = kept_digest(name), SAID_OF.format(name)
+    digest, text = kept_digest(name), SAID_OF.format(name)
     if digest is None:
-        return told
+        return text
     compared = "" if CRATES.is_dir() else ", and no sources are here to compare with"
-    return f"{told} (built from the sources with the digest {digest[:DIGITS]}{compared})"
+    return f"{text} (built from the sources with the digest {digest[:DIGITS]}{compared})"
 
 
 def remark_on(program: str) -> str:
@@ -107,8 +107,8 @@ def remove(name: str = MOTHRA.name) -> None:
 
 def script_of(digest: str, name: str) -> str:
     """The script that marks each call of a build."""
-    told = f"{MARK}nothing that this {name} says is proved (sources {digest[:DIGITS]})"
-    return SCRIPT.format(told=shlex.quote(told), program=shlex.quote(str(binary_path(name))))
+    notice = f"{MARK}nothing that this {name} says is proved (sources {digest[:DIGITS]})"
+    return SCRIPT.format(notice=shlex.quote(notice), program=shlex.quote(str(binary_path(name))))
 
 
 def programs_here() -> list[str]:
@@ -127,11 +127,11 @@ def make(name: str = MOTHRA.name) -> Path:
     kept_path(name).parent.mkdir(parents=True, exist_ok=True)
     remove(name)
     words, wanted = TRIALS[name]
-    digest, told = digest_of(CRATES), build(CRATES / name, binary_path(name), ["--", *words], JOB)
-    if told != wanted:
+    digest, answer = digest_of(CRATES), build(CRATES / name, binary_path(name), ["--", *words], JOB)
+    if answer != wanted:
         remove(name)
         does = "print a job" if name == MOTHRA.name else "answer a job"
-        raise ValueError(f"rt try built a program that does not {does}: {told[:80]!r}")
+        raise ValueError(f"rt try built a program that does not {does}: {answer[:80]!r}")
     kept_path(name).write_text(script_of(digest, name))
     kept_path(name).chmod(0o755)
     digest_path(name).write_text(digest)

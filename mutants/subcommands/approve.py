@@ -65,8 +65,8 @@ def run(given: argparse.Namespace, name: str) -> int:
     path = given.table or given.tests
     written(path, filled(decoded(given.tests.read_bytes()), made.table, names, new).encode())
     lines = [f"{path}: {plural(len(new), 'cell')} expect filled with what the program does now. {LOOK}"]
-    lines += [f"  test {at}  {titled(job.suite[at - 1], at, made.titles)}: {told}" for at, told in new.items()]
-    found = differences(cells, outcomes, names)
-    lines += [f"NOT AS EXPECTED: test {each.test}: {each.outcome}, expected {each.expected}" for each in found]
+    lines += [f"  test {at}  {titled(job.suite[at - 1], at, made.titles)}: {outcome}" for at, outcome in new.items()]
+    unmet = differences(cells, outcomes, names)
+    lines += [f"NOT AS EXPECTED: test {each.test}: {each.outcome}, expected {each.expected}" for each in unmet]
     sys.stdout.write(visible("\n".join(lines) + "\n"))
-    return UNEXPECTED if found else SUCCESS
+    return UNEXPECTED if unmet else SUCCESS

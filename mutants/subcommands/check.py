@@ -130,8 +130,8 @@ def status_of(checked: Checked, is_below: bool, is_lost: bool) -> int:
 
 def end_lines(proofs: Proofs, settings: Path | None, remark: str) -> list[str]:
     """What is told last: why nothing was proved, a file of options, and that a build is unproved."""
-    told = [proofs.told(), f"Options are from {settings}, too." if settings else "", proofs.remark, remark]
-    return [each for each in told if each]
+    lines = [proofs.not_asked_text(), f"Options are from {settings}, too." if settings else "", proofs.remark, remark]
+    return [each for each in lines if each]
 
 
 def last_check(start: Start, checked: Checked) -> list[Since]:
@@ -144,8 +144,8 @@ def last_check(start: Start, checked: Checked) -> list[Since]:
     path = kept_path(folder, [*files, chosen_codes(asked.ops, asked.without), asked.ranges, asked.old, asked.since])
     old = kept_state(path)
     keep(path, bytes_of(state_of(checked)), KEPT)
-    found = [since("the last check", old, checked)] if old else []
-    return [each for each in found if each.changes]
+    changes = [since("the last check", old, checked)] if old else []
+    return [each for each in changes if each.changes]
 
 
 def changes_of(start: Start, baseline: Path | None, old: State | None, checked: Checked) -> list[Since]:
@@ -171,10 +171,10 @@ def done_of(given: argparse.Namespace, name: str) -> Done:
     more = [*write_outputs(outputs, shown), *below]
     more += end_lines(checked.said.proofs, settings, remark)
     telling = Telling(given.top or TOP, given.all, given.show_proved)
-    told = summary(checked, given.program, more, telling, changed)
+    text = summary(checked, given.program, more, telling, changed)
     is_lost = baseline is not None and any(each.lost for each in changes)
     status = status_of(checked, is_below(count, given.fail_under), is_lost)
-    return Done(checked, told, status, None if given.no_page else page_of(given), remark, changed)
+    return Done(checked, text, status, None if given.no_page else page_of(given), remark, changed)
 
 
 def check_folder(given: argparse.Namespace, name: str) -> int:

@@ -26,7 +26,7 @@ class Option(NamedTuple):
     value that is."""
 
     word: str
-    told: str
+    help: str
     value: str
     is_file: bool
 
@@ -66,19 +66,19 @@ def bash_lines() -> Iterator[str]:
     yield from ["}", "complete -o filenames -F _mutants mutants"]
 
 
-def quoted(told: str, special: str) -> str:
+def quoted(text: str, special: str) -> str:
     """A text in single quotes, with a backslash before each character that is special inside."""
     for character in "\\" + special:
-        told = told.replace(character, "\\" + character)
-    return told.replace("'", "’")
+        text = text.replace(character, "\\" + character)
+    return text.replace("'", "’")
 
 
 def zsh_option(option: Option) -> str:
-    told = f"*{option.word}[{quoted(option.told, '[]:')}]"
+    spec = f"*{option.word}[{quoted(option.help, '[]:')}]"
     if not option.value:
-        return f"'{told}'"
+        return f"'{spec}'"
     kind = f"({' '.join(option.values)})" if option.values else "_files" if option.is_file else " "
-    return f"'{told}:{quoted(option.value, ':')}:{kind}'"
+    return f"'{spec}:{quoted(option.value, ':')}:{kind}'"
 
 
 def zsh_lines() -> Iterator[str]:
@@ -98,9 +98,9 @@ def fish_lines() -> Iterator[str]:
         yield f"complete -c mutants -n __fish_use_subcommand -f -a {command.name} -d '{quoted(command.line, '')}'"
         for option in options_of(command):
             value = f"-x -a '{' '.join(option.values)}'" if option.values else "-r -F" if option.is_file else "-x"
-            told = f"-l {option.word[2:]} {value if option.value else ''}".rstrip()
+            spec = f"-l {option.word[2:]} {value if option.value else ''}".rstrip()
             seen = f"-n '__fish_seen_subcommand_from {command.name}'"
-            yield f"complete -c mutants {seen} {told} -d '{quoted(option.told, '')}'"
+            yield f"complete -c mutants {seen} {spec} -d '{quoted(option.help, '')}'"
 
 
 SHELLS = {"bash": bash_lines, "zsh": zsh_lines, "fish": fish_lines}

@@ -48,10 +48,10 @@ from mutants.checks.settings import READING, with_settings
 from mutants.checks.threshold import add_threshold, is_below
 from mutants.classes.batched import Batched
 from mutants.classes.folder import SUITES, Prove, Read, Reading, Results, Task, suites_folder, tasks_in, unread_remarks
-from mutants.classes.kept import KeptClass, Told, digest_of_class
+from mutants.classes.kept import KeptClass, Summary, digest_of_class
 from mutants.classes.page import View, course_page
 from mutants.classes.processes import run_here
-from mutants.classes.results import COLUMNS, Result, csv_row, failed_told, only_here, reported_of
+from mutants.classes.results import COLUMNS, Result, csv_row, failed_text, only_here, reported_of
 from mutants.classes.suites import Asked, Known, Suite, suite_of, write_pages
 from mutants.declarations.proofs import NO_PROOFS, Proofs
 from mutants.declarations.proving import add_proof_options, prover_of
@@ -108,19 +108,20 @@ def run_missing(given: argparse.Namespace, program: str, tasks: list[Task], resu
         done[0] += 1
         progress.tell(f"{done[0]} of {len(tasks)}")
 
-    words, told = [*results.words, "--workers", "1"], ""
+    words, complaint = [*results.words, "--workers", "1"], ""
     batched = Batched([task.text for task in missing if task.text is not None], keep)
     try:
         if given.sshlogin:
             # On other machines the word is one that each of them knows.
             called, calls = given.mothra or program, [(["run", *words], text) for text in batched.texts]
-            told = spread(called, calls, given.jobs, given.sshlogin, batched.take_answer)
+            complaint = spread(called, calls, given.jobs, given.sshlogin, batched.take_answer)
         else:
             run_here(program, words, batched.texts, given.jobs, batched.take)
     finally:
         progress.end()
     if done[0] < len(tasks):
-        sys.stderr.write(f"{name}: {len(tasks) - done[0]} jobs have no answer{': ' if told else ''}{told[:LONGEST]}\n")
+        reason = f": {complaint[:LONGEST]}" if complaint else ""
+        sys.stderr.write(f"{name}: {len(tasks) - done[0]} jobs have no answer{reason}\n")
     return True
 
 
@@ -138,8 +139,8 @@ def known_programs(given: argparse.Namespace, program: str, tasks: list[Task]) -
     """Of each program of the folder that has no fault: its printed text and its mutants."""
     words = asked_words(given, "ops", "every")
     first = {task.program_name: task.made.text(suite=[]).encode() for task in reversed(tasks) if task.made}
-    found = {name: known_of(program, text, words) for name, text in first.items()}
-    return {name: known for name, known in found.items() if known}
+    programs = {name: known_of(program, text, words) for name, text in first.items()}
+    return {name: known for name, known in programs.items() if known}
 
 
 def view_of(task: Task, known: Known) -> View:
@@ -164,17 +165,17 @@ def prove_with(given: argparse.Namespace, program: str) -> Prove:
 
 def proof_remarks(tasks: Sequence[Task]) -> list[str]:
     """Why nothing was proved, and that a build is unproved."""
-    told = [text for task in tasks for text in (task.proofs.told(), task.proofs.remark) if text]
-    return list(dict.fromkeys(told))
+    remarks = [text for task in tasks for text in (task.proofs.not_asked_text(), task.proofs.remark) if text]
+    return list(dict.fromkeys(remarks))
 
 
-def write_table(out: Path, found: list[Result]) -> None:
+def write_table(out: Path, results: list[Result]) -> None:
     """The table of the class, a row for each job."""
     kept = io.StringIO()
     table = csv.writer(kept, lineterminator="\n")
     table.writerow(COLUMNS)
-    for name in dict.fromkeys(result.program for result in found):
-        ours = [result for result in found if result.program == name]
+    for name in dict.fromkeys(result.program for result in results):
+        ours = [result for result in results if result.program == name]
         reported = reported_of(ours)
         only = only_here(reported) if reported else {}
         table.writerows(csv_row(result, only) for result in ours)
@@ -183,35 +184,35 @@ def write_table(out: Path, found: list[Result]) -> None:
 
 def write_class(out: Path, suites: Sequence[Suite], known: Mapping[str, Known], remark: str) -> None:
     """The table and the page of the class, whose title is the name of its folder."""
-    found = [suite.result for suite in suites]
-    write_table(out, found)
+    results = [suite.result for suite in suites]
+    write_table(out, results)
     views = {
         suite.task.program_name: view_of(suite.task, known[suite.task.program_name])
         for suite in suites
         if suite.task.text is not None and suite.task.program_name in known
     }
-    text = course_page(out.resolve().parent.name, found, views, remark)
+    text = course_page(out.resolve().parent.name, results, views, remark)
     written(out / "course.html", text.encode("utf-8", "replace"))
 
 
-def told_of(suites: Sequence[Suite], out: Path, remark: str, least: Fraction | None) -> Told:
+def summary_of(suites: Sequence[Suite], out: Path, remark: str, least: Fraction | None) -> Summary:
     """What is told of the class."""
-    found = [suite.result for suite in suites]
-    below = [each.name for each in reported_of(found) if is_below(summed(each.report.counts.values()), least)]
-    names = [each.name for each in reported_of(found)]
-    lines = [f"{len(names)} of {len(found)} with a report: {out / 'course.html'}"]
+    results = [suite.result for suite in suites]
+    below = [each.name for each in reported_of(results) if is_below(summed(each.report.counts.values()), least)]
+    names = [each.name for each in reported_of(results)]
+    lines = [f"{len(names)} of {len(results)} with a report: {out / 'course.html'}"]
     lines += [*proof_remarks([suite.task for suite in suites]), *([remark] if remark else [])]
     lines += [f"BELOW --fail-under: {joined_words(below)}, below {percent_text(least)} %."] if least and below else []
-    return Told(lines, failed_told(found), names, bool(below))
+    return Summary(lines, failed_text(results), names, bool(below))
 
 
-def made_anew(given: argparse.Namespace, means: Means, tasks: list[Task], results: Results, remark: str) -> Told:
+def made_anew(given: argparse.Namespace, means: Means, tasks: list[Task], results: Results, remark: str) -> Summary:
     """All files of the class but for those that are there as they have to be, and what is told of them."""
     known, out, asked = known_programs(given, means.program, tasks), given.folder / "out", Asked(means)
     suites = [suite_of(task, known.get(task.program_name), asked, results) for task in tasks]
     write_class(out, suites, known, remark)
     write_pages(suites, known, remark, results)
-    return told_of(suites, out, remark, given.fail_under)
+    return summary_of(suites, out, remark, given.fail_under)
 
 
 def read_with(given: argparse.Namespace, has_settings: bool) -> Read:
@@ -244,10 +245,10 @@ def run(given: argparse.Namespace, name: str) -> int:
     results = Results(given.folder / "out" / "jobs", asked_words(given, "ops", "every", "steps"))
     has_run, remark = run_missing(given, program, tasks, results, name), remark_on(program)
     kept, digest = KeptClass(given.folder / "out"), digest_of_class(tasks, results, f"{remark}{given.fail_under}")
-    told = None if has_run else kept.told(digest, results)
-    if told is None:
-        told = made_anew(given, Means(program, given.steps), tasks, results, remark)
-        kept.keep(digest, told)
-    sys.stdout.write(visible("".join(f"{line}\n" for line in told.lines)))
-    sys.stderr.write(visible(f"{name}: {told.failed}\n" if told.failed else ""))
-    return FAULT if told.failed else BELOW if told.is_below else SUCCESS
+    summary = None if has_run else kept.summary(digest, results)
+    if summary is None:
+        summary = made_anew(given, Means(program, given.steps), tasks, results, remark)
+        kept.keep(digest, summary)
+    sys.stdout.write(visible("".join(f"{line}\n" for line in summary.lines)))
+    sys.stderr.write(visible(f"{name}: {summary.failed}\n" if summary.failed else ""))
+    return FAULT if summary.failed else BELOW if summary.is_below else SUCCESS

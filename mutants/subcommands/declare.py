@@ -22,7 +22,7 @@ import sys
 from collections.abc import Iterable, Sequence
 from pathlib import Path
 
-from mutants.checks.faults import program_told
+from mutants.checks.faults import naming_line
 from mutants.checks.settings import READING, with_settings
 from mutants.declarations.entries import Entry, appended, entries_text, written_entries
 from mutants.declarations.files import asked_present, path_beside
@@ -31,7 +31,7 @@ from mutants.declarations.proving import add_proof_options, prover_of
 from mutants.declarations.settling import Present, Settled, entry_for, settled
 from mutants.english import joined_words, plural
 from mutants.files import locked, written
-from mutants.jobs.making import add_reading_options, made_of, told_of, wish_of
+from mutants.jobs.making import add_reading_options, made_of, wish_of, with_path
 from mutants.jobs.sources import Source
 from mutants.operators import NAMES
 from mutants.program.finding import add_mothra_option, find_program
@@ -65,14 +65,14 @@ def names_in(words: Iterable[str]) -> list[Name]:
     names: list[Name] = []
     op = ""
     for part in re.split(r"[\s,]+", " ".join(words).strip(" ,")):
-        found = re.fullmatch(r"(?:([A-Za-z]{3})[-:#]?)?(\d{1,10})|([A-Za-z]{3})", part)
-        op = (found[1] or found[3] or op).upper() if found else ""
-        if not found or op not in NAMES:
+        match = re.fullmatch(r"(?:([A-Za-z]{3})[-:#]?)?(\d{1,10})|([A-Za-z]{3})", part)
+        op = (match[1] or match[3] or op).upper() if match else ""
+        if not match or op not in NAMES:
             raise ValueError(
                 f"{part!r} is neither a code of an operator nor a number behind one, as in ROR 1 or ABS 7 9 12"
             )
-        if found[2]:
-            names.append((op, int(found[2])))
+        if match[2]:
+            names.append((op, int(match[2])))
     return list(dict.fromkeys(names))
 
 
@@ -86,61 +86,61 @@ def chosen_mutants(names: Sequence[Name], present: Present) -> list[Mutant]:
     return [by_name[name] for name in names]
 
 
-def renewed(entries: Sequence[Entry], found: Settled, present: Present) -> list[Entry]:
+def renewed(entries: Sequence[Entry], settled: Settled, present: Present) -> list[Entry]:
     """The entries as they would be written now; one that is refused stays as it is."""
-    now = {each.entry.row: entry_for(each.mutant, each.reason, present) for each in found.declared}
+    now = {each.entry.row: entry_for(each.mutant, each.reason, present) for each in settled.declared}
     return [now.get(entry.row, entry) for entry in entries]
 
 
-def new_entries(given: argparse.Namespace, names: Sequence[Name], found: Settled, present: Present) -> list[Entry]:
+def new_entries(given: argparse.Namespace, names: Sequence[Name], settled: Settled, present: Present) -> list[Entry]:
     """The entries of mutants that are not declared yet, each with those of its twins behind it."""
     chosen = chosen_mutants(names, present)
     for mutant in chosen:
-        if name_of(mutant) in found.names:
+        if name_of(mutant) in settled.names:
             raise ValueError(f"{name_of(mutant)} is declared already")
     others = others_by_name(present.listed)
     all_names = dict.fromkeys(twin for mutant in chosen for twin in [mutant, *others.get(name_of(mutant), [])])
-    wanted = [mutant for mutant in all_names if name_of(mutant) not in found.names]
+    wanted = [mutant for mutant in all_names if name_of(mutant) not in settled.names]
     return [entry_for(mutant, " ".join(given.reason.split()), present) for mutant in wanted]
 
 
-def told_of_proved(left: Sequence[Entry], proofs: Proofs) -> str:
+def needless_text(left: Sequence[Entry], proofs: Proofs) -> str:
     """What is said of mutants that need not be declared; no text where there is none."""
     if not left:
         return ""
     is_one = len(left) == 1
-    told = joined_words(f"{entry.name} ({proofs.whys[entry.name]})" for entry in left)
+    names = joined_words(f"{entry.name} ({proofs.whys[entry.name]})" for entry in left)
     verb, them = ("is", "it") if is_one else ("are", "them")
-    said = f"{told} {verb} proved equivalent and need not be declared (--no-proofs declares {them} all the same)"
+    said = f"{names} {verb} proved equivalent and need not be declared (--no-proofs declares {them} all the same)"
     spare = [entry.name for entry in left if proofs.has_spare(entry.name)]
     return f"{said}; of {joined_words(spare)} {OF_THESE_TESTS}" if spare else said
 
 
-def told_of_new(new: Sequence[Entry], names: Sequence[Name], found: Settled) -> str:
+def new_text(new: Sequence[Entry], names: Sequence[Name], settled: Settled) -> str:
     """What was declared in one call, and which of it was not named."""
     twins = [entry.name for entry in new if (entry.op, entry.place) not in names]
     same = f", {joined_words(twins)} among them as the same program" if twins else ""
-    return f"{plural(len(new), 'mutant')} declared{same}, and {len(found.declared)} before"
+    return f"{plural(len(new), 'mutant')} declared{same}, and {len(settled.declared)} before"
 
 
-def renewed_told(path: Path, entries: Sequence[Entry], found: Settled, present: Present) -> str:
+def renew(path: Path, entries: Sequence[Entry], settled: Settled, present: Present) -> str:
     """Writes the numbers of now; what is told of it."""
-    written(path, entries_text(renewed(entries, found, present)).encode())
-    return f"{len(found.moved)} of {len(entries)} entries with a new number"
+    written(path, entries_text(renewed(entries, settled, present)).encode())
+    return f"{len(settled.moved)} of {len(entries)} entries with a new number"
 
 
-def declared_told(
-    given: argparse.Namespace, names: Sequence[Name], path: Path, source: Source, found: Settled, present: Present
+def declare(
+    given: argparse.Namespace, names: Sequence[Name], path: Path, source: Source, settled: Settled, present: Present
 ) -> str:
     """Writes the entries of these mutants behind those of the file; what is told of it."""
-    wanted = new_entries(given, names, found, present)
+    wanted = new_entries(given, names, settled, present)
     proofs = prover_of(given).proofs([], Job(source.text, []), present.listed)
     new = [entry for entry in wanted if entry.name not in proofs.whys]
     if new:
         text = decoded(path.read_bytes()) if path.exists() else ""
         written(path, appended(text, new).encode())
-    left = told_of_proved([entry for entry in wanted if entry.name in proofs.whys], proofs)
-    return "; ".join(each for each in (told_of_new(new, names, found), left) if each)
+    left = needless_text([entry for entry in wanted if entry.name in proofs.whys], proofs)
+    return "; ".join(each for each in (new_text(new, names, settled), left) if each)
 
 
 def run(given: argparse.Namespace, name: str) -> int:
@@ -151,17 +151,17 @@ def run(given: argparse.Namespace, name: str) -> int:
     made = made_of(given.program, None, wish_of(given))
     path = given.equivalent or path_beside(given.program, made.source.unit)
     program = find_program(given.mothra)
-    with locked(path), program_told(given.program, made.source.text, made.source.shown):
-        entries = told_of(path, lambda: written_entries(path))
+    with locked(path), naming_line(given.program, made.source.text, made.source.shown):
+        entries = with_path(path, lambda: written_entries(path))
         # Twins may be of any operator.
         ops = list(NAMES) if names else sorted({entry.op for entry in entries})
         present = asked_present(program, ops, made.text().encode())
-        found = settled(entries, present)
+        meant = settled(entries, present)
         if given.renew:
-            told = renewed_told(path, entries, found, present)
+            result = renew(path, entries, meant, present)
         else:
-            told = declared_told(given, names, path, made.source, found, present)
-    for remark in found.remarks() if not given.renew else [f"{entry.name}: {why}" for entry, why in found.refused]:
+            result = declare(given, names, path, made.source, meant, present)
+    for remark in meant.remarks() if not given.renew else [f"{entry.name}: {why}" for entry, why in meant.refused]:
         sys.stderr.write(visible(f"{name}: {path}: {remark}\n"))
-    sys.stdout.write(visible(f"{path}: {told}\n"))
+    sys.stdout.write(visible(f"{path}: {result}\n"))
     return SUCCESS

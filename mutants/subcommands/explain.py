@@ -25,8 +25,8 @@ from functools import cache
 from pathlib import Path
 
 from mutants.checks.settings import READING, with_settings
-from mutants.explanations.also import also_told
-from mutants.explanations.told import BAD_LIST, explained, explained_words
+from mutants.explanations.also import other_faults_text
+from mutants.explanations.explanation import BAD_LIST, explained, explained_words
 from mutants.explanations.words import OPTIONS, words_say
 from mutants.jobs.given import Given, job_to_tell
 from mutants.jobs.making import add_making_options
@@ -48,7 +48,7 @@ def add_words(parser: argparse.ArgumentParser) -> None:
     parser.add_argument("words", metavar="WORD", nargs=argparse.REMAINDER, help=text)
 
 
-def told_line(words: list[str]) -> str | None:
+def given_line(words: list[str]) -> str | None:
     """The line that was given, and None where the words are for the program."""
     line = sys.stdin.readline() if words == ["-"] else " ".join(words)
     return line.strip("\r\n ") if words == ["-"] or line.startswith(("FAULT ", BAD_LIST)) else None
@@ -56,8 +56,8 @@ def told_line(words: list[str]) -> str | None:
 
 def asked_line(program: str, words: list[str], text: bytes) -> str | None:
     """What the program says against the job, or None."""
-    told, status = call(program, words, text)
-    return failure_of(told, status) if status else None
+    answer, status = call(program, words, text)
+    return failure_of(answer, status) if status else None
 
 
 def given_words(given: argparse.Namespace) -> tuple[Path | None, list[str]]:
@@ -71,22 +71,22 @@ def given_words(given: argparse.Namespace) -> tuple[Path | None, list[str]]:
     return None, words
 
 
-def row_told(line: str, rows: Sequence[int]) -> str:
+def row_text(line: str, rows: Sequence[int]) -> str:
     """In which row of its table a test stands that a fault names."""
-    found = re.fullmatch(r"FAULT (?:B3|B4|J4) (\d+)", line)
-    place = int(found[1]) - 1 if found else -1
+    of_test = re.fullmatch(r"FAULT (?:B3|B4|J4) (\d+)", line)
+    place = int(of_test[1]) - 1 if of_test else -1
     return f"\nTest {place + 1} stands in row {rows[place]} of its table.\n" if 0 <= place < len(rows) else ""
 
 
 def explanation(line: str, words: list[str], asked: Given, program: str | None, is_asked: bool) -> str:
     """What is told of a line; where the program was asked, all else that keeps the unit from being read as well."""
     if line.startswith("FAULT "):
-        told = explained(line, asked.job, program, words, asked.said.shown)
+        text = explained(line, asked.job, program, words, asked.said.shown)
         if program and is_asked and line[6:7] in "FSC":
             source = read_job(asked.job).source
-            also = also_told(program, source, source if asked.said.shown is None else asked.said.shown)
-            told += f"\n{also}" if also else ""
-        return told + row_told(line, asked.rows)
+            also = other_faults_text(program, source, source if asked.said.shown is None else asked.said.shown)
+            text += f"\n{also}" if also else ""
+        return text + row_text(line, asked.rows)
     if line == BAD_LIST or words and words_say(words):
         return explained_words(line, words)
     raise ValueError(f"no line of a fault: {line[:80]}")
@@ -99,7 +99,7 @@ def run(given: argparse.Namespace, name: str) -> int:
         with_settings(given, given.job, add_options, READING)
     asked = job_to_tell(given, given.job, given.tests, find)
     tell_remarks(name, asked.warnings)
-    line, words = told_line(rest), rest or ["run"]
+    line, words = given_line(rest), rest or ["run"]
     is_asked = line is None
     program: str | None
     if is_asked:

@@ -41,8 +41,8 @@ def run(given: argparse.Namespace, name: str) -> int:
         made, given.program, given.equivalent, lambda: find_program(given.mothra), looks_beside=not given.undeclared
     )
     if given.tests and not made.table:
-        told = f"it does not begin with SUBROUTINE; mutants explain {given.program} says more"
-        raise ValueError(f"{given.program}: {told}")
+        advice = f"it does not begin with SUBROUTINE; mutants explain {given.program} says more"
+        raise ValueError(f"{given.program}: {advice}")
     tell_remarks(name, made.remarks + meant.remarks)
     sys.stdout.write(whole_text(made, meant.names if meant.is_of_file else None))
     return SUCCESS

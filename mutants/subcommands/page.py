@@ -25,7 +25,7 @@ from functools import cache
 from pathlib import Path
 
 from mutants.checks.checking import STEPS
-from mutants.checks.faults import program_told, told_of_run
+from mutants.checks.faults import naming_line, run_fault
 from mutants.checks.outcomes import asked_outcomes
 from mutants.checks.running import Means
 from mutants.checks.settings import READING, with_settings
@@ -91,7 +91,7 @@ def report_of(given: argparse.Namespace, program: str, totals: Mapping[str, int]
     try:
         return asked_report(program, asked_words(given, "every", "steps", "workers"), totals, text, name)
     except Fault as fault:
-        raise told_of_run(read_job(text).equivalent, fault) from None
+        raise run_fault(read_job(text).equivalent, fault) from None
 
 
 def run(given: argparse.Namespace, name: str) -> int:
@@ -105,16 +105,16 @@ def run(given: argparse.Namespace, name: str) -> int:
     tell_remarks(name, asked.warnings)
     chosen = asked_words(given, "ops", "every")
     shown = job.source if asked.said.shown is None else asked.said.shown
-    with program_told(given.job, job.source, shown):
-        name, told = text_from(given.print, program, ["print"], text)
-        printed = read_as(name, read_print, told)
-        name, told = text_from(given.list, program, ["list", *chosen], text)
-        totals, listed = read_as(name, read_list, told)
+    with naming_line(given.job, job.source, shown):
+        name, answer = text_from(given.print, program, ["print"], text)
+        printed = read_as(name, read_print, answer)
+        name, answer = text_from(given.list, program, ["list", *chosen], text)
+        totals, listed = read_as(name, read_list, answer)
     proofs = proofs_of(given, job, listed)
     report = report_of(given, program, totals, declared_text(text, proofs.names), command)
     outcomes = outcomes_of(given, program, job, command)
     # A page is UTF-8 whatever the terminal takes.
     said = asked.said._replace(proofs=proofs, boxes=kept_boxes(program, job.source, int(given.steps or STEPS)))
-    told = report_page(Analysed(job, printed, listed, report), remark_on(program), outcomes, said)
-    sys.stdout.buffer.write(told.encode())
+    answer = report_page(Analysed(job, printed, listed, report), remark_on(program), outcomes, said)
+    sys.stdout.buffer.write(answer.encode())
     return SUCCESS

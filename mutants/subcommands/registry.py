@@ -29,8 +29,8 @@ class Subcommand(NamedTuple):
     line: str
 
     def module(self) -> Module:
-        found: ModuleType = import_module(f"mutants.subcommands.{self.name}")
-        return cast(Module, found)
+        module: ModuleType = import_module(f"mutants.subcommands.{self.name}")
+        return cast(Module, module)
 
 
 SUBCOMMANDS = [

@@ -45,19 +45,19 @@ from mutants.suggestions.box import BoxSearch, box_of
 from mutants.suggestions.clock import Clock
 from mutants.suggestions.suggesting import Suggested, suggested
 from mutants.suggestions.tables import Layout, layout_of, table_with
-from mutants.suggestions.told import summary
+from mutants.suggestions.summary import summary
 from mutants.words import add_mothra_options, number_from_1, read_by, visible
 
 
 def seconds_word(word: str) -> float:
     """A number of seconds above 0, as an option takes it."""
     try:
-        found = float(word)
+        seconds = float(word)
     except ValueError:
-        found = 0.0
-    if not 0 < found < 1e6:
+        seconds = 0.0
+    if not 0 < seconds < 1e6:
         raise ValueError(f"{word} is no number of seconds")
-    return found
+    return seconds
 
 
 def add_search(parser: argparse.ArgumentParser) -> None:
@@ -112,7 +112,7 @@ def tell_box(aim: Aim, start: Checked, name: str) -> None:
     """How many rows of the box will be tried, before they are."""
     if aim.within and start.report.survivors:
         box = box_of(aim.within, start.job.source, dummies_of(start.printed))
-        sys.stderr.write(f"{name}: {plural(box.size, 'row')} of the box {box.told} are tried, in order\n")
+        sys.stderr.write(f"{name}: {plural(box.size, 'row')} of the box {box.text} are tried, in order\n")
 
 
 def assert_table_free(given: argparse.Namespace) -> None:
@@ -122,18 +122,18 @@ def assert_table_free(given: argparse.Namespace) -> None:
     assert_free(outputs, [path for path in reads if path is not None and path.is_file()])
 
 
-def write_table(path: Path, given: argparse.Namespace, table: Table, found: Suggested, layout: Layout) -> str:
+def write_table(path: Path, given: argparse.Namespace, table: Table, suggested: Suggested, layout: Layout) -> str:
     """Writes the table with the rows; a line on it."""
-    lines = [layout.line(row) for row in found.rows]
-    written(path, table_with(given.tests, table, lines, found.needless).encode())
+    lines = [layout.line(row) for row in suggested.rows]
+    written(path, table_with(given.tests, table, lines, suggested.needless).encode())
     return f"The table with the rows: {path}"
 
 
-def keep_box(found: Suggested, program: str, layout: Layout) -> list[str]:
+def keep_box(suggested: Suggested, program: str, layout: Layout) -> list[str]:
     """Keeps what all rows of a box say of the survivors, for the pages of later checks; a line on it."""
-    search = found.search
+    search = suggested.search
     results = search.results(layout) if isinstance(search, BoxSearch) else {}
-    is_kept = results and keep_boxes(program, found.start.job.source, search.steps, results)
+    is_kept = results and keep_boxes(program, suggested.start.job.source, search.steps, results)
     return ["Pages of later checks say this under each survivor, until the program changes."] if is_kept else []
 
 
@@ -148,11 +148,11 @@ def run(given: argparse.Namespace, name: str) -> int:
     assert table
     tell_box(aim, start, name)
     # What comes before, such as proofs, takes nothing of the time of the search.
-    found = suggested(start, aim, begun.means, Clock(aim.seconds), name)
+    result = suggested(start, aim, begun.means, Clock(aim.seconds), name)
     layout = layout_of(given.tests, table, dummies_of(start.printed))
-    more = [write_table(given.table, given, table, found, layout)] if given.table else []
-    more += keep_box(found, begun.means.program, layout)
+    more = [write_table(given.table, given, table, result, layout)] if given.table else []
+    more += keep_box(result, begun.means.program, layout)
     more += checks.end_lines(start.said.proofs, settings, remark_on(begun.means.program))
-    text = summary(found, given.program, given.tests, layout, aim)
+    text = summary(result, given.program, given.tests, layout, aim)
     sys.stdout.write(visible(text + "".join(f"{line}\n" for line in more)))
-    return INTERRUPTED if found.is_cut else SUCCESS
+    return INTERRUPTED if result.is_cut else SUCCESS

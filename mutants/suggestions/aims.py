@@ -28,7 +28,7 @@ class Aim(NamedTuple):
 
 def read_ranges(word: str) -> list[tuple[str, Range]]:
     """The ranges of --ranges, such as 2=0:8,KEY=-1:9."""
-    found = []
+    ranges = []
     for part in word.split(","):
         match = re.fullmatch(rf"\s*(\w+)\s*=\s*({NUMBER})\s*:\s*({NUMBER})\s*", part)
         if not match:
@@ -36,8 +36,8 @@ def read_ranges(word: str) -> list[tuple[str, Range]]:
         low, high = int(match[2]), int(match[3])
         if not LEAST <= low <= high <= GREATEST:
             raise ValueError(f"{part.strip()!r} has no value: a range is from its least value to its greatest")
-        found.append((match[1], (low, high)))
-    return found
+        ranges.append((match[1], (low, high)))
+    return ranges
 
 
 def place_of(word: str, names: Sequence[str]) -> int:
@@ -52,13 +52,13 @@ def place_of(word: str, names: Sequence[str]) -> int:
 
 def ranges_of(aim: Aim, names: Sequence[str], suite: Sequence[Row]) -> dict[int, Range]:
     """The ranges by the places of the arguments; each test keeps them."""
-    found = {}
+    ranges = {}
     for word, (low, high) in aim.ranges:
         place = place_of(word, names)
-        found[place] = (low, high)
+        ranges[place] = (low, high)
     for number, row in enumerate(suite, 1):
-        assert_within(number, row, found, names)
-    return found
+        assert_within(number, row, ranges, names)
+    return ranges
 
 
 def assert_within(number: int, row: Row, ranges: Mapping[int, Range], names: Sequence[str]) -> None:
@@ -74,8 +74,8 @@ def assert_within(number: int, row: Row, ranges: Mapping[int, Range], names: Seq
 def orders_of(aim: Aim, names: Sequence[str], suite: Sequence[Row]) -> dict[int, Order]:
     """The orders of arrays that all tests have, but of those arguments that are free."""
     free = {place_of(word, names) for word in aim.free}
-    found = {place: order_of(values) for place, values in enumerate(zip(*suite)) if place not in free}
-    return {place: order for place, order in found.items() if order is not None}
+    orders = {place: order_of(values) for place, values in enumerate(zip(*suite)) if place not in free}
+    return {place: order for place, order in orders.items() if order is not None}
 
 
 def kept_of(aim: Aim, names: Sequence[str], suite: Sequence[Row]) -> Kept:
@@ -85,8 +85,8 @@ def kept_of(aim: Aim, names: Sequence[str], suite: Sequence[Row]) -> Kept:
 def kept_lines(kept: Kept, names: Sequence[str]) -> Iterable[str]:
     """What all suggested rows keep, in sentences."""
     for place, order in kept.orders.items():
-        told = f"{names[place]} is in {order.told()} order, as in all tests (--free {place + 1} lifts this)"
-        yield f"Kept: {told}."
+        what = f"{names[place]} is in {order.text()} order, as in all tests (--free {place + 1} lifts this)"
+        yield f"Kept: {what}."
     for place, (low, high) in kept.ranges.items():
         yield f"Kept: {names[place]} is from {low} to {high} (--ranges)."
     if kept.is_near:

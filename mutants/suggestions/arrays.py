@@ -82,10 +82,10 @@ def with_flips(values: list[bool], chance: Random) -> list[bool]:
 
 def all_but_few(values: list[bool], chance: Random, most: bool) -> list[bool]:
     """All elements but three at most are the same."""
-    found = [most] * len(values)
+    array = [most] * len(values)
     for _ in range(chance.choice((0, 1, 1, 2, 3))):
-        found[chance.randrange(len(found))] = not most
-    return found
+        array[chance.randrange(len(array))] = not most
+    return array
 
 
 def of_a_share(values: list[bool], chance: Random) -> list[bool]:

@@ -24,14 +24,14 @@ THREADS = 32
 
 def masks_of(report: Report, numbers: Mapping[tuple[str, int], int]) -> list[int]:
     """For each test of a report the mutants that it kills, as bits by their numbers; others are left out."""
-    found = [0] * report.tests
+    masks = [0] * report.tests
     for row in report.rows:
         number = numbers.get((row.op, row.place))
         at = row.bits.find("1") if number is not None else -1
         while number is not None and at >= 0:
-            found[at] |= 1 << number
+            masks[at] |= 1 << number
             at = row.bits.find("1", at + 1)
-    return found
+    return masks
 
 
 class Asker:
@@ -57,15 +57,15 @@ class Asker:
 
     def lines(self) -> list[int]:
         """For each line that has some of the mutants these, as bits."""
-        found: dict[int, int] = {}
+        masks: dict[int, int] = {}
         for number, mutant in enumerate(self.mutants):
-            found[mutant.line] = found.get(mutant.line, 0) | 1 << number
-        return list(found.values())
+            masks[mutant.line] = masks.get(mutant.line, 0) | 1 << number
+        return list(masks.values())
 
     def ops_of(self, mask: int) -> list[str]:
         """The operators of the mutants whose bits are 1, in order."""
-        found = {mutant.op for mutant in self.of_mask(mask)}
-        return [op for op in self.checked.whole.counts if op in found]
+        ops = {mutant.op for mutant in self.of_mask(mask)}
+        return [op for op in self.checked.whole.counts if op in ops]
 
     def report(self, rows: Sequence[Row], words: Sequence[str], source: str | None = None) -> Report:
         self.calls += 1
@@ -82,10 +82,10 @@ class Asker:
 
     def kills(self, rows: Sequence[Row], ops: Sequence[str], steps: int) -> dict[Row, int]:
         """For each row on which the program ends within the limit the mutants that it kills, as bits."""
-        found: dict[Row, int] = {}
+        masks: dict[Row, int] = {}
         for part in self.parts(rows):
-            found.update(self.kills_of_part(part, self.words(ops, steps)))
-        return found
+            masks.update(self.kills_of_part(part, self.words(ops, steps)))
+        return masks
 
     def kills_of_part(self, rows: list[Row], words: Sequence[str]) -> dict[Row, int]:
         while rows:
@@ -140,7 +140,7 @@ class Asker:
 
 def failing_place(fault: Fault) -> int:
     """The place, from 0, of the test on which the program fails; what says something else stays a fault."""
-    found = re.fullmatch(r"FAULT B4 (\d+)", fault.line)
-    if not found:
+    match = re.fullmatch(r"FAULT B4 (\d+)", fault.line)
+    if not match:
         raise fault
-    return int(found[1]) - 1
+    return int(match[1]) - 1

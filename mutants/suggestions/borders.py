@@ -40,13 +40,13 @@ def flat(row: Row) -> list[Scalar]:
 
 def shaped(items: Sequence[Scalar], row: Row) -> Row:
     """The row with these items whose values are as those of another one."""
-    found: list[Value] = []
+    values: list[Value] = []
     at = 0
     for value in row:
         count = len(items_of(value))
-        found.append(tuple(items[at : at + count]) if isinstance(value, tuple) else items[at])
+        values.append(tuple(items[at : at + count]) if isinstance(value, tuple) else items[at])
         at += count
-    return tuple(found)
+    return tuple(values)
 
 
 def is_apart(one: Row, other: Row) -> bool:
@@ -78,16 +78,16 @@ class Borders:
 
     def rows(self, known: Collection[Row], most: int) -> list[Row]:
         """Rows of the ways, about so many."""
-        found: dict[Row, None] = {}
+        made: dict[Row, None] = {}
         self.gone = []
-        while self.ways and len(found) < most - STEPS:
+        while self.ways and len(made) < most - STEPS:
             way = self.ways.pop()
             kept = (self.shape.kept(row) for row in self.between(way.one.row, way.other.row))
-            steps = tuple(row for row in kept if row is not None and row not in known and row not in found)
+            steps = tuple(row for row in kept if row is not None and row not in known and row not in made)
             if steps:
                 self.gone.append(way._replace(between=steps))
-                found.update(dict.fromkeys(steps))
-        return list(found)
+                made.update(dict.fromkeys(steps))
+        return list(made)
 
     def between(self, one: Row, other: Row) -> list[Row]:
         """Rows on the way: where one number differs those with numbers between, else with some of the differences."""

@@ -42,7 +42,7 @@ class Box(NamedTuple):
     """The sides, in the order of the arguments, and in words those that were asked for."""
 
     sides: Sequence[Side]
-    told: str
+    text: str
 
     @property
     def size(self) -> int:
@@ -72,10 +72,10 @@ def box_of(asked: Sequence[tuple[str, Range]], source: str, names: Sequence[str]
     ranges = {names[place_of(word, names)]: limits for word, limits in asked}
     zeros = zeros_of(source, names)
     sides = [side_of(name, dummy, ranges, zeros) for name, dummy in zip(names, read_unit(source)[1])]
-    found = Box(sides, joined_words(f"{name} from {low} to {high}" for name, (low, high) in ranges.items()))
-    if found.size > MOST:
-        raise ValueError(f"the box has {found.size:,} rows, and {MOST:,} are tried at most")
-    return found
+    box = Box(sides, joined_words(f"{name} from {low} to {high}" for name, (low, high) in ranges.items()))
+    if box.size > MOST:
+        raise ValueError(f"the box has {box.size:,} rows, and {MOST:,} are tried at most")
+    return box
 
 
 class BoxSearch(Search):
@@ -98,11 +98,11 @@ class BoxSearch(Search):
 
     def try_rows(self, rows: list[Row]) -> None:
         self.round_number += 1
-        found = self.asker.kills(self.asker.ending(rows, self.steps), self.asker.ops_of(self.alive), self.steps)
+        kills = self.asker.kills(self.asker.ending(rows, self.steps), self.asker.ops_of(self.alive), self.steps)
         self.count += len(rows)
-        self.failed += len(rows) - len(found)
-        self.tried += list(found)[: ASKED - len(self.tried)]
-        for row, mask in found.items():
+        self.failed += len(rows) - len(kills)
+        self.tried += list(kills)[: ASKED - len(self.tried)]
+        for row, mask in kills.items():
             if mask & self.alive:
                 self.exact[row] = mask
                 self.alive &= ~mask
@@ -112,4 +112,4 @@ class BoxSearch(Search):
         killers = {number: row for row, mask in reversed(self.exact.items()) for number in bits_of(mask)}
         rows = {number: layout.line(row) for number, row in killers.items()}
         mutants = enumerate(self.asker.mutants if self.is_whole else [])
-        return {name_of(mutant): Searched(self.box.told, rows.get(number, "")) for number, mutant in mutants}
+        return {name_of(mutant): Searched(self.box.text, rows.get(number, "")) for number, mutant in mutants}

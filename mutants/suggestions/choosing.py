@@ -37,9 +37,9 @@ class Choice:
 
     def choose(self) -> None:
         """Takes the smallest set that is found; that of before only where it is smaller and kills as much."""
-        found = few_rows(self.wanted, self.exact, self.shape.cost)
-        if len(found) <= len(self.chosen) or self.killed() & self.wanted != self.wanted:
-            self.chosen = found
+        rows = few_rows(self.wanted, self.exact, self.shape.cost)
+        if len(rows) <= len(self.chosen) or self.killed() & self.wanted != self.wanted:
+            self.chosen = rows
 
     def killed(self) -> int:
         """What the chosen rows kill."""
@@ -59,11 +59,11 @@ class Choice:
         ops = self.asker.ops_of(self.asker.whole)
         for at in range(0, len(rows), SIZE):
             ending = self.asker.ending(rows[at : at + SIZE], self.search.steps)
-            found = self.asker.kills(ending, ops, self.asker.steps)
-            self.exact.update(found)
-            self.search.tried += [row for row in found if row not in self.search.known]
-            self.search.known.update(found)
-            self.wanted |= union_of(found.values())
+            kills = self.asker.kills(ending, ops, self.asker.steps)
+            self.exact.update(kills)
+            self.search.tried += [row for row in kills if row not in self.search.known]
+            self.search.known.update(kills)
+            self.wanted |= union_of(kills.values())
 
     def simplify(self, tell: Tell) -> None:
         """Makes the chosen rows simpler, as long as there is time."""
@@ -97,6 +97,6 @@ class Choice:
 
     def choose_fewer(self) -> None:
         """Takes another set of rows where it has fewer."""
-        found = few_rows(self.wanted, self.exact, self.shape.cost)
-        if len(found) < len(self.chosen):
-            self.chosen = found
+        rows = few_rows(self.wanted, self.exact, self.shape.cost)
+        if len(rows) < len(self.chosen):
+            self.chosen = rows

@@ -34,12 +34,12 @@ def deciding(kinds: Kinds) -> int:
     """The mutants that decide: whatever kills all of them kills the others too."""
     killers = columns_of(kinds)
     least = set(least_sets(killers.values()))
-    found = 0
+    bits = 0
     for number, places in sorted(killers.items()):
         if places in least:
             least.discard(places)
-            found |= 1 << number
-    return found
+            bits |= 1 << number
+    return bits
 
 
 def few_rows(wanted: int, kills: Mapping[Row, int], cost: Cost) -> list[Row]:

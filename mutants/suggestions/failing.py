@@ -29,8 +29,8 @@ def jumping(text: str, label: str) -> str:
     """A statement that jumps to a label in the place of ending the run."""
     if text in ("RETURN", "STOP"):
         return f"GO TO {label}"
-    found = re.fullmatch(r"(IF \(.*\)) (?:RETURN|STOP)", text)
-    return f"{found[1]} GO TO {label}" if found else text
+    match = re.fullmatch(r"(IF \(.*\)) (?:RETURN|STOP)", text)
+    return f"{match[1]} GO TO {label}" if match else text
 
 
 def free_labels(statements: Iterable[Statement]) -> Iterator[str]:

@@ -31,7 +31,7 @@ class Reached:
 
 def reached_of(search: Search, lines: Collection[int], means: Means, name: str) -> Reached:
     """Asks about as many rows as there is time for. Within the steps of the search the program ends on each of them."""
-    found, at, size, cost = Reached(), 0, FIRST, 0.0
+    reached, at, size, cost = Reached(), 0, FIRST, 0.0
     few_steps = means._replace(steps=str(min(MOST_STEPS, TIMES * search.steps)))
     while lines and at < len(search.tried) and search.clock.has(cost):
         begun = time.monotonic()
@@ -39,7 +39,7 @@ def reached_of(search: Search, lines: Collection[int], means: Means, name: str) 
         start = search.asker.checked
         asked = start._replace(job=Job(start.job.source, part), whole=start.whole._replace(counts={}))
         bits = known_bits(asked, lines, few_steps, name)
-        found.add(len(part), {line: bits[line] for line in lines if line in bits})
+        reached.add(len(part), {line: bits[line] for line in lines if line in bits})
         cost = (time.monotonic() - begun) * AT_ONCE / size
         at, size = at + size, AT_ONCE
-    return found
+    return reached

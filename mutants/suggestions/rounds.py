@@ -99,18 +99,18 @@ class Search:
 
     def made(self) -> list[Row]:
         """The rows of a round."""
-        found = self.at_borders()
-        self.known.update(found)
+        rows = self.at_borders()
+        self.known.update(rows)
         for proposal in range(PROPOSALS * self.size):
             row = self.proposed()
             is_early = proposal < PROPOSALS * self.size // 2
             if row is None or is_early and self.experience.is_hopeless(row) and self.chance.random() > HOPE:
                 continue
             self.known.add(row)
-            found.append(row)
-            if len(found) >= self.size:
+            rows.append(row)
+            if len(rows) >= self.size:
                 break
-        return found
+        return rows
 
     def at_borders(self) -> list[Row]:
         """In every other round rows between those that kill different mutants; in the others, and first, none."""
@@ -129,13 +129,13 @@ class Search:
     def round(self) -> None:
         self.round_number += 1
         rows = self.made()
-        found = self.asker.kills(self.asker.ending(rows, self.steps), self.ops(), self.steps)
-        self.experience.learn(rows, found)
-        self.failed += len(rows) - len(found)
-        self.tried += found
-        self.seen.update((row, mask) for row, mask in found.items() if mask)
-        self.borders.learn(found)
-        if self.settle([row for row, mask in found.items() if mask & self.alive]):
+        kills = self.asker.kills(self.asker.ending(rows, self.steps), self.ops(), self.steps)
+        self.experience.learn(rows, kills)
+        self.failed += len(rows) - len(kills)
+        self.tried += kills
+        self.seen.update((row, mask) for row, mask in kills.items() if mask)
+        self.borders.learn(kills)
+        if self.settle([row for row, mask in kills.items() if mask & self.alive]):
             self.last_round = self.round_number
         self.dry = self.round_number - self.last_round
 

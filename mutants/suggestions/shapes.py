@@ -54,13 +54,13 @@ class Order(NamedTuple):
     is_falling: bool
     is_strict: bool
 
-    def told(self) -> str:
+    def text(self) -> str:
         return f"{'strictly ' if self.is_strict else ''}{'descending' if self.is_falling else 'ascending'}"
 
     def kept(self, value: Value) -> Value | None:
         """The array in this order; None where it cannot be."""
-        found = tuple(sorted(items_of(value), reverse=self.is_falling))
-        return None if self.is_strict and len(set(found)) < len(found) else found
+        ordered = tuple(sorted(items_of(value), reverse=self.is_falling))
+        return None if self.is_strict and len(set(ordered)) < len(ordered) else ordered
 
 
 def argument_of(values: Sequence[Value]) -> Argument:
@@ -120,10 +120,10 @@ class Shape:
         """The row with its arrays in the order that is kept; None where a value is out of what is kept."""
         if self.keeps.orders:
             values = [order.kept(row[at]) if order else row[at] for at, order in self.orders(row)]
-            found = tuple(value for value in values if value is not None)
-            if len(found) < len(row):
+            ordered = tuple(value for value in values if value is not None)
+            if len(ordered) < len(row):
                 return None
-            row = found
+            row = ordered
         for at, (low, high) in self.keeps.ranges.items():
             if any(not low <= item <= high for item in items_of(row[at])):
                 return None
@@ -134,10 +134,10 @@ class Shape:
 
     def cost(self, row: Row) -> int:
         """How unwelcome a row is to who has to check it by hand."""
-        found = self.costs.get(row)
-        if found is None:
-            found = self.costs[row] = sum(map(self.value_cost, range(len(row)), row))
-        return found
+        cost = self.costs.get(row)
+        if cost is None:
+            cost = self.costs[row] = sum(map(self.value_cost, range(len(row)), row))
+        return cost
 
     def value_cost(self, place: int, value: Value) -> int:
         argument, items = self.arguments[place], items_of(value)

@@ -60,7 +60,7 @@ def simpler_rows(shape: Shape, row: Row, chance: Random, most: int) -> list[Row]
         for value in simpler_values(shape, place, row[place])
     )
     here = shape.cost(row)
-    found = [each for each in dict.fromkeys(tries) if each is not None and shape.cost(each) < here]
-    if len(found) > most:
-        chance.shuffle(found)
-    return sorted(found[:most], key=lambda each: (shape.cost(each), each))
+    simpler = [each for each in dict.fromkeys(tries) if each is not None and shape.cost(each) < here]
+    if len(simpler) > most:
+        chance.shuffle(simpler)
+    return sorted(simpler[:most], key=lambda each: (shape.cost(each), each))

@@ -25,9 +25,9 @@ def clamped(value: int) -> int:
 
 def constants_of(printed: Sequence[str]) -> list[int]:
     """The whole numbers in the printed statements of a program that are no labels."""
-    texts = [LABELS.sub("", told) for told in printed]
-    found = {int(word) for text in texts for word in re.findall(r"(?<![A-Z0-9])\d+", text)}
-    return sorted(each for each in found if each <= GREATEST)
+    texts = [LABELS.sub("", statement) for statement in printed]
+    numbers = {int(word) for text in texts for word in re.findall(r"(?<![A-Z0-9])\d+", text)}
+    return sorted(each for each in numbers if each <= GREATEST)
 
 
 class Values:

@@ -73,16 +73,16 @@ def cards_of(source: str) -> list[Card]:
 
 def last_lines(source: str) -> dict[int, int]:
     """The number of the last line of each statement, by the number of its initial line."""
-    found: dict[int, int] = {}
+    ends: dict[int, int] = {}
     initial = 0
     for number, line in enumerate(source_lines(source), 1):
         if is_comment(line):
             continue
         initial = initial if is_continuation(line) else number
-        found[initial] = number
+        ends[initial] = number
     # A continuation line with nothing to continue is of no statement.
-    found.pop(0, None)
-    return found
+    ends.pop(0, None)
+    return ends
 
 
 def action_at(text: str) -> int:

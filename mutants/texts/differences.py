@@ -23,12 +23,12 @@ def pieces(old: str, new: str) -> list[tuple[str, str]]:
     olds, news = WORD.findall(old), WORD.findall(new)
     front = common_front(olds, news)
     back = common_front(olds[front:][::-1], news[front:][::-1])
-    found = [("=", olds[:front])]
+    marked = [("=", olds[:front])]
     middles = olds[front : len(olds) - back], news[front : len(news) - back]
     for what, i, j, k, l in SequenceMatcher(None, *middles, autojunk=False).get_opcodes():
         if what == "equal":
-            found.append(("=", middles[0][i:j]))
+            marked.append(("=", middles[0][i:j]))
         else:
-            found += [("-", middles[0][i:j]), ("+", middles[1][k:l])]
-    found.append(("=", olds[len(olds) - back :] if back else []))
-    return [(mark, "".join(words)) for mark, words in found if words]
+            marked += [("-", middles[0][i:j]), ("+", middles[1][k:l])]
+    marked.append(("=", olds[len(olds) - back :] if back else []))
+    return [(mark, "".join(words)) for mark, words in marked if words]

@@ -56,5 +56,5 @@ def assert_numbered(mutants: Iterable[Named], totals: Mapping[str, int], what: s
 
 def mutant_of(line: str) -> Mutant | None:
     """The mutant that a line names, or None."""
-    found = MUTANT.fullmatch(line)
-    return Mutant(found[1], int(found[2]), int(found[3]), int(found[4]), found[5]) if found else None
+    match = MUTANT.fullmatch(line)
+    return Mutant(match[1], int(match[2]), int(match[3]), int(match[4]), match[5]) if match else None

@@ -7,10 +7,10 @@ from mutants.texts.lines import NUMBER, Mutant, assert_numbered, lines_of_text, 
 
 def read_count(line: str, what: str) -> tuple[str, int]:
     """The operator of a line, and how many mutants it has."""
-    found = re.fullmatch(rf"([A-Z]{{3}}) {NUMBER}", line)
-    if not found:
+    match = re.fullmatch(rf"([A-Z]{{3}}) {NUMBER}", line)
+    if not match:
         raise ValueError(f"{what} has a line that is none: {line[:60]}")
-    return found[1], int(found[2])
+    return match[1], int(match[2])
 
 
 def read_list(text: str) -> tuple[dict[str, int], list[Mutant]]:

@@ -51,11 +51,11 @@ class Proof(NamedTuple):
 
 def proof_of(line: str) -> Proof:
     """The proof that a line tells."""
-    found = LINE.fullmatch(line)
-    mutant = mutant_of(f"{found[1]} {found[5]}") if found else None
-    if not found or not mutant or found[4] not in WHYS and not has_spare(found[4]):
+    match = LINE.fullmatch(line)
+    mutant = mutant_of(f"{match[1]} {match[5]}") if match else None
+    if not match or not mutant or match[4] not in WHYS and not has_spare(match[4]):
         raise ValueError(f"the proofs have a line that is none: {line[:60]}")
-    return Proof(mutant, found[4])
+    return Proof(mutant, match[4])
 
 
 def read_proofs(text: str) -> tuple[list[Proof], int]:

@@ -69,8 +69,8 @@ def read_report(text: str) -> Report:
         raise ValueError("the report is cut short: its last line is not END")
     at = next((at for at, line in enumerate(lines) if line.startswith("TOTAL ")), 5)
     counts = {match[1]: Count(*map(int, match.groups()[1:])) for match in matches(COUNTS, lines[5:at])}
-    told = [line for line in lines[at + 2 : -1] if line.startswith("MUTANT ")]
-    rows = [row_of(*match.groups()) for match in matches(ROW, told)]
+    verdicts = [line for line in lines[at + 2 : -1] if line.startswith("MUTANT ")]
+    rows = [row_of(*match.groups()) for match in matches(ROW, verdicts)]
     rest = lines[at + 2 + len(rows) : -1]
     tests, steps, every = (int(head[key]) for key in ("TESTS", "STEPS", "EVERY"))
     report = Report(head["UNIT"], tests, steps, every, counts, rows, survivors(rest))
@@ -104,9 +104,9 @@ def assert_agrees(report: Report, sums: list[str], rest: list[str]) -> None:
         raise ValueError("the report has a row whose digits do not agree with its tests or its status")
     if counted(report.rows, report.counts) != report.counts or sums != sum_lines(report.counts.values()):
         raise ValueError("the report has counts or a score that are not those of its rows")
-    told = [f"SURVIVOR {name_of(row)}" for row in report.rows if row.status == "S"]
-    told += [f"WRONG {name_of(row)}" for row in report.rows if row.status == "W"]
-    if [line.partition(" LINE ")[0] for line in rest] != told:
+    wanted = [f"SURVIVOR {name_of(row)}" for row in report.rows if row.status == "S"]
+    wanted += [f"WRONG {name_of(row)}" for row in report.rows if row.status == "W"]
+    if [line.partition(" LINE ")[0] for line in rest] != wanted:
         raise ValueError("the report is cut short or mixed: its last lines are not those of its rows")
 
 

@@ -78,11 +78,11 @@ def squeezed(text: str) -> str:
     return text.replace(" ", "")
 
 
-def aligned(told: str, text: str) -> dict[int, int]:
+def aligned(printed: str, text: str) -> dict[int, int]:
     """For each character of the printed text, without blanks, its place in the text of the card, where it has one."""
-    if told == text:
+    if printed == text:
         return {place: place for place in range(len(text))}
-    blocks = SequenceMatcher(None, told, text, autojunk=False).get_matching_blocks()
+    blocks = SequenceMatcher(None, printed, text, autojunk=False).get_matching_blocks()
     return {block.a + step: block.b + step for block in blocks for step in range(block.size)}
 
 
@@ -97,9 +97,9 @@ def is_apart(text: str, first: int, last: int, kept: frozenset[int]) -> bool:
 class Places:
     """Where the pieces of a printed statement stand in the source."""
 
-    def __init__(self, card: Card, told: str) -> None:
-        self.card, self.told = card, squeezed(told)
-        self.at = aligned(self.told, card.text)
+    def __init__(self, card: Card, printed: str) -> None:
+        self.card, self.printed = card, squeezed(printed)
+        self.at = aligned(self.printed, card.text)
         self.kept = frozenset(self.at.values())
 
     def whole(self) -> Span:

@@ -22,7 +22,7 @@ class Subsuming(NamedTuple):
     def counted(self) -> Count:
         return Count(len(self.killed) + self.survivors, len(self.killed), 0)
 
-    def told(self) -> str:
+    def text(self) -> str:
         """The score over the set."""
         count = self.counted
         score = f"{score_of(count)} %: {count.killed} of {count.total} mutants killed"

@@ -44,5 +44,5 @@ def count_of_programs(listed: Iterable[Mutant], rows: Iterable[Row]) -> Count:
     """
     statuses: Mapping[str, str] = {name_of(row): row.status for row in rows}
     groups = [{statuses[name_of(mutant)] for mutant in group} for group in twins_in(listed)]
-    killed = sum(bool(found & {"K", "W"}) for found in groups)
-    return Count(len(groups), killed, sum("E" in found for found in groups))
+    killed = sum(bool(group & {"K", "W"}) for group in groups)
+    return Count(len(groups), killed, sum("E" in group for group in groups))

@@ -35,7 +35,7 @@ class Kept(Room):
         self, ops: str = "SDL", *words: str, suite: list[object] = [[1, 0]], source: str = SURE, anew: bool = False
     ) -> list[str]:
         """The proofs of a program and its tests, as they are found."""
-        found = Prover(EQUIVALENTS, anew=anew).found(["--ops", ops, *words], Job(source, suite))
+        found = Prover(EQUIVALENTS, anew=anew).proved(["--ops", ops, *words], Job(source, suite))
         return [proof.why for proof in found]
 
     def entry(self) -> Path:
@@ -71,7 +71,7 @@ class Kept(Room):
         other = self.put("other", Path(EQUIVALENTS).read_bytes() + b"another build")
         self.whys()
         with self.assertRaises(ValueError):
-            Prover(str(other)).found(["--ops", "SDL"], Job(SURE, []))
+            Prover(str(other)).proved(["--ops", "SDL"], Job(SURE, []))
         self.assertEqual(len(self.asked), 2)
 
     def test_a_damaged_entry_is_made_anew(self) -> None:

@@ -184,17 +184,17 @@ class StepsToSpare(Proving):
     def test_each_batch_of_a_long_suite_has_to_leave_the_room(self) -> None:
         short, long = [[1, 0]] * 300, [100, 0]
         for suite, whys in ((short, ["UNREAD", "SPARE-1"]), ([*short, long], ["UNREAD"]), ([long, *short], ["UNREAD"])):
-            found = Prover(EQUIVALENTS).found(["--ops", "SDL", "--steps", "60"], Job(LOOP, suite))
+            found = Prover(EQUIVALENTS).proved(["--ops", "SDL", "--steps", "60"], Job(LOOP, suite))
             self.assertEqual([proof.why for proof in found], whys)
 
     def test_other_batches_are_asked_only_where_it_matters(self) -> None:
         for source, wanted in ((SURE, 1), (SPARE, 4)):
             with mock.patch.object(proving, "plain_answer", wraps=proving.plain_answer) as asked:
-                Prover(EQUIVALENTS, anew=True).found(["--ops", "SDL"], Job(source, [[1, 0]] * 600))
+                Prover(EQUIVALENTS, anew=True).proved(["--ops", "SDL"], Job(source, [[1, 0]] * 600))
             self.assertEqual(asked.call_count, wanted)
 
     def test_a_list_that_is_thinned(self) -> None:
-        found = Prover(EQUIVALENTS).found(["--ops", "SDL", "--every", "2"], Job(SPARE, []))
+        found = Prover(EQUIVALENTS).proved(["--ops", "SDL", "--every", "2"], Job(SPARE, []))
         self.assertEqual([proof.mutant[:3] for proof in found], [("SDL", 1, 1), ("SDL", 2, 3)])
         # A job names a mutant by its number in the whole list.
         self.assertEqual(proofs_of(found).names, ["SDL 1", "SDL 3"])

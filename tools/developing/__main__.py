@@ -23,7 +23,7 @@ def main() -> int:
     module, name = cast(Module, import_module(f"developing.{word.replace('-', '_')}")), f"tools/{word}"
     raw = argparse.RawDescriptionHelpFormatter
     parser = argparse.ArgumentParser(
-        prog=name, description=text_of_help(module.__doc__), epilog=statuses.told(), formatter_class=raw
+        prog=name, description=text_of_help(module.__doc__), epilog=statuses.meanings(), formatter_class=raw
     )
     add_version(parser)
     module.add_words(parser)

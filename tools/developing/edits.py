@@ -54,17 +54,17 @@ def edits_of(name: str, folder: str) -> list[Path]:
 
 def wanted_edits(crates: Crates, names: Sequence[str], with_gate: bool) -> dict[str, list[Path]]:
     """The edits to try of each crate: of all crates, or those that the names stand for."""
-    found: dict[str, list[Path]] = {}
+    wanted: dict[str, list[Path]] = {}
     for crate in crates:
         gate, more = edits_of(crate, "must-fail"), edits_of(crate, "more-edits")
         is_whole = crate in names or not names
-        found[crate] = (gate if with_gate else []) + more if is_whole else []
-        found[crate] += [path for path in gate + more if f"{crate}/{path.stem}" in names and path not in found[crate]]
-    known = {*crates, *(f"{crate}/{path.stem}" for crate in crates for path in found[crate])}
+        wanted[crate] = (gate if with_gate else []) + more if is_whole else []
+        wanted[crate] += [path for path in gate + more if f"{crate}/{path.stem}" in names and path not in wanted[crate]]
+    known = {*crates, *(f"{crate}/{path.stem}" for crate in crates for path in wanted[crate])}
     unknown = [name for name in names if name not in known]
     if unknown:
         raise ValueError(f"there is no crate and no edit {unknown[0]}")
-    return found
+    return wanted
 
 
 def read_edit(path: Path, folder: Path) -> dict[str, str]:
@@ -85,9 +85,9 @@ def read_edit(path: Path, folder: Path) -> dict[str, str]:
                 raise ValueError("a new text has no old text or no file")
             if file not in texts:
                 texts[file] = (folder / file).read_text(encoding="utf-8")
-            found = texts[file].count(old)
-            if found != 1:
-                raise ValueError(f"an old text is in {file} {found} times, and not once")
+            count = texts[file].count(old)
+            if count != 1:
+                raise ValueError(f"an old text is in {file} {count} times, and not once")
             texts[file] = texts[file].replace(old, text)
             old = None
     if not texts:
@@ -138,12 +138,12 @@ def judge(status: int, lines: Sequence[str], files: Container[str]) -> Tried:
         faults = [line for line in lines if "error" in line] or lines
         return False, f"BAD EDIT: no goal was tried: {faults[0]}"
     # A message goes on in the lines behind it that begin with blanks.
-    told = re.sub("\n +", " ", "\n".join(lines)).split("\n")
-    told = [line for line in told if re.match(r"note: \S+:\d+:\d+: |\S+:\d+:\d+: error", line)]
-    goals = [line.partition("; ")[0] for line in told if "it is not proved" in line]
-    proofs = [line for line in told if not re.match(TAKEN_AWAY, line)]
-    if told and not proofs:
-        return True, f"refused: only because a proof names what the edit took away: {told[0]}"
+    messages = re.sub("\n +", " ", "\n".join(lines)).split("\n")
+    messages = [line for line in messages if re.match(r"note: \S+:\d+:\d+: |\S+:\d+:\d+: error", line)]
+    goals = [line.partition("; ")[0] for line in messages if "it is not proved" in line]
+    proofs = [line for line in messages if not re.match(TAKEN_AWAY, line)]
+    if messages and not proofs:
+        return True, f"refused: only because a proof names what the edit took away: {messages[0]}"
     unproved = [line for line in lines if re.match(r"fn \S+: (not proved|no proof)", line)]
     return True, f"refused: {(goals or proofs or unproved or lines)[0].removeprefix('note: ')}"
 
@@ -266,8 +266,8 @@ def try_on_copy(folder: Path, name: str, waiting: deque[Group]) -> list[bool]:
             break
         said = try_group(group, name, folder) if len(group) > 1 else {}
         for path in group.values():
-            is_refused, told = (True, said[path]) if path in said else try_edit(path, folder)
-            print(f"{name}/{path.stem}: {told[:LONGEST]}", flush=True)
+            is_refused, reason = (True, said[path]) if path in said else try_edit(path, folder)
+            print(f"{name}/{path.stem}: {reason[:LONGEST]}", flush=True)
             refused.append(is_refused)
     return refused if not refused or is_proved(name, folder) else [False for _ in refused]
 

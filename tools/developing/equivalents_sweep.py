@@ -69,7 +69,7 @@ class Killed(NamedTuple):
     test: Row
     steps: int
 
-    def told(self) -> str:
+    def text(self) -> str:
         mutant = self.proof.mutant
         named = f"{mutant.op} {mutant.number} {mutant.place} {self.proof.why} LINE {mutant.line} {mutant.text}"
         return f"{named}: killed by {json.dumps(test_of(self.test))} with --steps {self.steps}"
@@ -109,14 +109,14 @@ def asker_of(case: Case, printed: list[str], proofs: Sequence[Proof], mothra: st
 
 def fitting_rows(case: Case, asker: Asker, printed: Sequence[str], tests: int, chance: Random) -> list[Row]:
     """Rows on which the program ends, about so many."""
-    found: dict[Row, None] = {}
+    fitting: dict[Row, None] = {}
     make = rows_for(read_unit(case.source)[1], constants_of(printed), chance)
     for _ in range(ROUNDS):
-        rows = list(dict.fromkeys(row for row in (next(make) for _ in range(tests)) if row not in found))
-        found.update(dict.fromkeys(asker.ending(rows, STEPS)))
-        if len(found) >= tests:
+        rows = list(dict.fromkeys(row for row in (next(make) for _ in range(tests)) if row not in fitting))
+        fitting.update(dict.fromkeys(asker.ending(rows, STEPS)))
+        if len(fitting) >= tests:
             break
-    return list(found)[:tests]
+    return list(fitting)[:tests]
 
 
 def within(asker: Asker, rows: Sequence[Row], steps: int) -> set[Row]:
@@ -130,12 +130,12 @@ def killed_in(asker: Asker, proofs: Sequence[Proof], rows: Sequence[Row], steps:
     kills = asker.kills(rows, asker.ops_of(asker.whole), steps)
     spares = {spare_of(proof.why) for proof in proofs} - {0}
     fits = {0: set(kills), **{spare: within(asker, list(kills), steps - spare) for spare in spares}}
-    found: dict[int, Killed] = {}
+    killed: dict[int, Killed] = {}
     for row, mask in kills.items():
         for number, proof in enumerate(proofs):
             if mask >> number & 1 and row in fits[spare_of(proof.why)]:
-                found.setdefault(number, Killed(proof, row, steps))
-    return len(kills), list(found.values())
+                killed.setdefault(number, Killed(proof, row, steps))
+    return len(kills), list(killed.values())
 
 
 def tried(programs: Programs, case: Case) -> Tried:
@@ -143,7 +143,7 @@ def tried(programs: Programs, case: Case) -> Tried:
     job = json.dumps({"source": case.source}).encode()
     try:
         listed = asked_list(programs.mothra, [], job)[1]
-        proofs = Prover(programs.equivalents, anew=True).found([], Job(case.source, []))
+        proofs = Prover(programs.equivalents, anew=True).proved([], Job(case.source, []))
     except Fault as fault:
         return Tried(case, 0, [], 0, refused=str(fault))
     assert_listed(proofs, listed)
@@ -158,7 +158,7 @@ def tried(programs: Programs, case: Case) -> Tried:
     return Tried(case, len(listed), proofs, tests, [*killed, *(each for each in more if each.proof not in known)])
 
 
-def told_of(what: str, every: Sequence[Tried]) -> str:
+def line_on(what: str, every: Sequence[Tried]) -> str:
     """A line on some programs."""
     mutants, tests = sum(each.mutants for each in every), sum(each.tests for each in every)
     whys: Counter[str] = sum((each.whys for each in every), Counter())
@@ -168,14 +168,14 @@ def told_of(what: str, every: Sequence[Tried]) -> str:
     return f"{what}: {mutants} mutants, {proved}, {plural(tests, 'test')}, {killed} killed"
 
 
-def faults_of(found: Tried) -> Iterator[str]:
+def faults_of(case: Tried) -> Iterator[str]:
     """What is wrong with a program, and its source where it was made."""
-    if found.refused:
-        yield f"{found.case.name}: {found.refused}"
-    for each in found.killed:
-        yield f"{found.case.name}: {each.told()}"
-    if found.case.is_made and (found.killed or found.refused):
-        yield found.case.source.rstrip("\n")
+    if case.refused:
+        yield f"{case.case.name}: {case.refused}"
+    for each in case.killed:
+        yield f"{case.case.name}: {each.text()}"
+    if case.case.is_made and (case.killed or case.refused):
+        yield case.case.source.rstrip("\n")
 
 
 def examples() -> list[Path]:
@@ -187,11 +187,11 @@ def add_words(parser: argparse.ArgumentParser) -> None:
     parser.add_argument("mothra", metavar="MOTHRA", type=whole_path)
     parser.add_argument("equivalents", metavar="EQUIVALENTS", type=whole_path)
     parser.add_argument("files", metavar="PROGRAM.f", nargs="*", type=Path, help="programs, else the examples")
-    told = f"how many programs are made ({PROGRAMS})"
-    parser.add_argument("--programs", metavar="N", type=int, default=PROGRAMS, help=told)
+    text = f"how many programs are made ({PROGRAMS})"
+    parser.add_argument("--programs", metavar="N", type=int, default=PROGRAMS, help=text)
     parser.add_argument("--seed", metavar="S", type=number_from_1, default=SEED, help=f"where chance begins ({SEED})")
-    told = f"how many tests of each are run at most ({TESTS})"
-    parser.add_argument("--tests", metavar="N", type=number_from_1, default=TESTS, help=told)
+    text = f"how many tests of each are run at most ({TESTS})"
+    parser.add_argument("--tests", metavar="N", type=number_from_1, default=TESTS, help=text)
     parser.add_argument("--jobs", metavar="N", type=number_from_1, default=processors(), help="how many at a time")
 
 
@@ -201,13 +201,13 @@ def run(given: argparse.Namespace, name: str) -> int:
     made = [Case(f"program {number}", program_of(number, given.seed), True) for number in range(1, given.programs + 1)]
     faults: list[str] = []
     with ThreadPoolExecutor(given.jobs) as pool:
-        for found in pool.map(partial(tried, programs), files):
-            print(told_of(found.case.name, [found]), flush=True)
-            faults += faults_of(found)
+        for case in pool.map(partial(tried, programs), files):
+            print(line_on(case.case.name, [case]), flush=True)
+            faults += faults_of(case)
         results = list(pool.map(partial(tried, programs), made))
     if results:
         without = sum(not each.tests for each in results if each.proofs)
-        print(f"{told_of(plural(len(results), 'made program'), results)}, {without} without a test")
-    faults += [line for found in results for line in faults_of(found)]
+        print(f"{line_on(plural(len(results), 'made program'), results)}, {without} without a test")
+    faults += [line for case in results for line in faults_of(case)]
     print("\n".join(faults) or "no mutant is killed that is proved equivalent")
     return FAULT if faults else SUCCESS

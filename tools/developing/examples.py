@@ -92,8 +92,8 @@ def compare_habits(mothra: str) -> Iterator[tuple[str, bool]]:
     """Each example of each habit: its name and its lines, and whether its fault is the one that mothra tells."""
     for name, habit in HABITS.items():
         for example in habit.examples:
-            told = " ".join(["FAULT", *(asked_fault(mothra, example.source) or ())])
-            yield f"{name}: {' | '.join(example.lines)}", told == example.fault
+            fault = " ".join(["FAULT", *(asked_fault(mothra, example.source) or ())])
+            yield f"{name}: {' | '.join(example.lines)}", fault == example.fault
 
 
 def as_in_rows(path: Path) -> str:
@@ -118,10 +118,10 @@ def shown(page: str) -> Iterator[tuple[str, str]]:
             yield command, text
 
 
-def is_shown(text: str, told: str) -> bool:
+def is_shown(text: str, output: str) -> bool:
     """Whether the text told is the one shown, where a line `...` stands for any lines."""
     pieces = [re.escape(piece) for piece in re.split(r"^\.\.\.\n", text, flags=re.M)]
-    return re.fullmatch("(.*\n)*".join(pieces), told) is not None
+    return re.fullmatch("(.*\n)*".join(pieces), output) is not None
 
 
 def compare_pages(mothra: str) -> Iterator[tuple[str, bool]]:

@@ -45,7 +45,7 @@ def look(spent: dict[tuple[str, str], tuple[Task, float]], family: set[int]) -> 
                 spent[pid, stat[19]] = task, sum(map(int, stat[11:15])) / TICKS
 
 
-def told(spent: dict[tuple[str, str], tuple[Task, float]], clock: float) -> str:
+def table(spent: dict[tuple[str, str], tuple[Task, float]], clock: float) -> str:
     tasks: dict[Task, float] = {}
     for task, seconds in spent.values():
         tasks[task] = tasks.get(task, 0.0) + seconds
@@ -68,5 +68,5 @@ def run(given: argparse.Namespace, name: str) -> int:
     while child.poll() is None:
         look(spent, family)
         time.sleep(INTERVAL)
-    print(told(spent, time.monotonic() - begun), flush=True)
+    print(table(spent, time.monotonic() - begun), flush=True)
     return child.returncode

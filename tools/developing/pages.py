@@ -81,17 +81,17 @@ def is_there(link: str, page: Path, names: list[str]) -> bool:
     return ":" not in path and (page.parent / unquote(path)).is_file()
 
 
-def faults_of(page: Path, width: int, told: str) -> Iterator[str]:
+def faults_of(page: Path, width: int, dump: str) -> Iterator[str]:
     """What is wrong with a page, of what the browser wrote."""
-    looked = re.search(r'<pre id="looked">(.*?)</pre>', told, re.S)
+    looked = re.search(r'<pre id="looked">(.*?)</pre>', dump, re.S)
     if not looked:
         yield "the browser has not shown it"
         return
-    found: dict[str, Any] = json.loads(html.unescape(looked[1]))
-    if found["wide"] > width:
-        yield f"it is {found['wide']} pixels wide in a window of {width}"
-    yield from (f"the link {link} leads nowhere" for link in found["links"] if not is_there(link, page, found["names"]))
-    yield from (f"a script fails: {error}" for error in found["errors"])
+    looks: dict[str, Any] = json.loads(html.unescape(looked[1]))
+    if looks["wide"] > width:
+        yield f"it is {looks['wide']} pixels wide in a window of {width}"
+    yield from (f"the link {link} leads nowhere" for link in looks["links"] if not is_there(link, page, looks["names"]))
+    yield from (f"a script fails: {error}" for error in looks["errors"])
 
 
 def output_of(mothra: str, *words: str) -> str:

@@ -49,10 +49,10 @@ def said_by(*words: str) -> str:
 
 def last_line(gate: Path) -> str:
     lines = gate.read_text(encoding="utf-8", errors="replace").split("\n")
-    found = [line for line in lines if re.match(r"\d+ passed, \d+ failed|FAILED ", line)]
-    if not found or not PASSED.fullmatch(found[-1]):
-        raise ValueError(f"{gate}: its last line is no gate's that passed: {found[-1] if found else 'there is none'}")
-    return found[-1]
+    ends = [line for line in lines if re.match(r"\d+ passed, \d+ failed|FAILED ", line)]
+    if not ends or not PASSED.fullmatch(ends[-1]):
+        raise ValueError(f"{gate}: its last line is no gate's that passed: {ends[-1] if ends else 'there is none'}")
+    return ends[-1]
 
 
 def committed() -> str:

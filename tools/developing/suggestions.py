@@ -71,20 +71,20 @@ def killed_by(mothra: str, program: Path, tests: Path, folder: Path) -> tuple[in
 
 def measured(mothra: str, name: str, seed: int, folder: Path) -> tuple[list[object], str]:
     """The cells of a row, and what is not met."""
-    case, start, found = CASES[name], folder / "start.json", folder / "found.json"
+    case, start, table = CASES[name], folder / "start.json", folder / "found.json"
     suite = made_of(case.program, case.full if isinstance(case.start, int) else case.start).suite
     start.write_text(json.dumps(suite[: case.start] if isinstance(case.start, int) else suite))
     begun = time.monotonic()
-    searched = ["--rounds", case.rounds, "--seed", seed, "--drop", "--table", found]
+    searched = ["--rounds", case.rounds, "--seed", seed, "--drop", "--table", table]
     called("suggest", "--mothra", mothra, "--no-proofs", "--undeclared", *searched, case.program, start)
     seconds = time.monotonic() - begun
     (count, before), (_, person), (_, after) = (
-        killed_by(mothra, case.program, tests, folder) for tests in (start, case.full, found)
+        killed_by(mothra, case.program, tests, folder) for tests in (start, case.full, table)
     )
-    tests, missed = len(made_of(case.program, found).suite), person - before - after
+    tests, missed = len(made_of(case.program, table).suite), person - before - after
     is_met = len(missed) <= (1 - case.share) * len(person - before) and tests <= (case.tests or tests)
-    told = "" if is_met else f"NOT MET: {name}, seed {seed}: {len(missed)} mutants are not killed, with {tests} tests"
-    return [name, count, len(before), len(person), f"**{len(after)}**", tests, f"{seconds:.1f}", seed], told
+    fault = "" if is_met else f"NOT MET: {name}, seed {seed}: {len(missed)} mutants are not killed, with {tests} tests"
+    return [name, count, len(before), len(person), f"**{len(after)}**", tests, f"{seconds:.1f}", seed], fault
 
 
 def add_words(parser: argparse.ArgumentParser) -> None:
@@ -100,8 +100,8 @@ def run(given: argparse.Namespace, name: str) -> int:
     with tempfile.TemporaryDirectory() as folder:
         for case in given.only or CASES:
             for seed in given.seed or SEEDS:
-                row, told = measured(given.mothra, case, seed, Path(folder))
+                row, fault = measured(given.mothra, case, seed, Path(folder))
                 print(f"| {' | '.join(map(str, row))} |", flush=True)
-                faults += [told] if told else []
+                faults += [fault] if fault else []
     print("".join(f"{fault}\n" for fault in faults), end="")
     return FAULT if faults else SUCCESS

@@ -95,21 +95,21 @@ def proofs_in(repository: Repository, source: Source) -> Iterator[Node]:
     """What the attributes of a file cite for its proofs."""
     for root, path in PROOF.findall(source.text):
         crate = source.crate if root == "crate" else root
-        yield from repository.found(f"{LIBRARY}.{crate}{path.replace('::', '.')}")
+        yield from repository.named(f"{LIBRARY}.{crate}{path.replace('::', '.')}")
 
 
 def read_crate(repository: Repository, crate: str, calls: Calls) -> Crate:
     sources = sources_of(repository.root, crate)
     visible = visible_in(sources)
-    found = Crate([], {}, set())
+    answer = Crate([], {}, set())
     for source in sources:
-        found.proofs.update(proofs_in(repository, source))
+        answer.proofs.update(proofs_in(repository, source))
         scope = scopes_of(repository, source)
         for part in source.parts:
             is_public = visible.is_public(source.module, part)
             for name, text in texts_of(part):
                 nodes = scope(part.head).nodes(text)
-                found.clauses.append(Clause(kind_of(calls, source, part, name, is_public), nodes))
+                answer.clauses.append(Clause(kind_of(calls, source, part, name, is_public), nodes))
                 if is_of_type(part, name):
-                    found.types.setdefault(Node(crate, "", owner_of(part.head)), set()).update(nodes)
-    return found
+                    answer.types.setdefault(Node(crate, "", owner_of(part.head)), set()).update(nodes)
+    return answer

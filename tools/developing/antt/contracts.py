@@ -54,11 +54,11 @@ def block_at(text: str, at: int) -> str:
 
 def clauses_of(contract: str, pattern: re.Pattern[str] = CLAUSE) -> Clauses:
     """The clauses of a contract: the text of each by its name. Those of one name are one text."""
-    found: Clauses = {}
+    clauses: Clauses = {}
     for head in pattern.finditer(contract):
         name = head[head.lastindex or 0] or ALONE[head[1]]
-        found[name] = found.get(name, "") + block_at(contract, head.end() - 1)
-    return found
+        clauses[name] = clauses.get(name, "") + block_at(contract, head.end() - 1)
+    return clauses
 
 
 def contract_at(lines: Sequence[str], number: int, indent: str) -> str:

@@ -17,31 +17,31 @@ def cited_by_others(reached: Reached) -> set[str]:
 
 
 def names_by_class(reached: Reached, file: File) -> dict[str, list[str]]:
-    found: dict[str, list[str]] = {}
+    names: dict[str, list[str]] = {}
     for definition in file.definitions:
-        found.setdefault(reached.class_of(definition), []).append(definition.node.name)
-    return found
+        names.setdefault(reached.class_of(definition), []).append(definition.node.name)
+    return names
 
 
 def faults_of(file: File, names: Mapping[str, Sequence[str]], is_cited: bool) -> Iterator[str]:
     """What is to be said of a file with these names by class, where another file of specs/ cites it or not."""
     is_in_code, home = FOLDER in file.path.parts[3:-1], f"crates/{file.crate}/specs/"
 
-    def told(*kinds: str) -> str:
+    def listed(*kinds: str) -> str:
         return ", ".join(name for kind in kinds for name in names.get(kind, ()))
 
     if NOTHING in names:
-        yield f"nothing cites {told(NOTHING)}"
+        yield f"nothing cites {listed(NOTHING)}"
     if names.keys() <= {PROOFS, NOTHING} and PROOFS in names and not is_cited:
         yield f"only proofs cite it: it belongs in crates/{file.crate}/proofs/"
     elif is_in_code and names.keys() <= OPEN:
         yield f"public contracts cite it: it belongs in {home}"
     elif is_in_code and names.keys() & OPEN:
-        yield f"public contracts cite {told(*sorted(OPEN))}"
+        yield f"public contracts cite {listed(*sorted(OPEN))}"
     elif not is_in_code and not names.keys() & OPEN and names.keys() & {CODE, PROOFS}:
         yield f"no public contract cites it: it belongs in {home}{FOLDER}/"
     elif not is_in_code and names.keys() & {CODE, PROOFS}:
-        yield f"no public contract cites {told(CODE, PROOFS)}: they belong in {home}{FOLDER}/"
+        yield f"no public contract cites {listed(CODE, PROOFS)}: they belong in {home}{FOLDER}/"
 
 
 def misplaced(reached: Reached) -> Iterator[str]:

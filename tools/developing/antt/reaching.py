@@ -29,12 +29,12 @@ class Reached(NamedTuple):
 
 def closure(graph: Mapping[Node, set[Node]], start: Iterable[Node]) -> set[Node]:
     """All that is cited from here on, with what is cited first."""
-    found, ahead = set(start), list(start)
+    reached, ahead = set(start), list(start)
     while ahead:
-        fresh = graph.get(ahead.pop(), set()) - found
-        found |= fresh
+        fresh = graph.get(ahead.pop(), set()) - reached
+        reached |= fresh
         ahead += fresh
-    return found
+    return reached
 
 
 def cited_by_proofs(repository: Repository, crates: Iterable[Crate]) -> set[Node]:

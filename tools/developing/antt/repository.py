@@ -51,11 +51,11 @@ class File:
     @cached_property
     def by_name(self) -> dict[str, set[Node]]:
         """What each name of the file is of: that of a case may be of several families."""
-        found: dict[str, set[Node]] = {}
+        nodes: dict[str, set[Node]] = {}
         for node, _, unit in self.definitions:
             for name in [*unit.names, *unit.cases]:
-                found.setdefault(name, set()).add(node)
-        return found
+                nodes.setdefault(name, set()).add(node)
+        return nodes
 
 
 def spellings(name: str) -> list[str]:
@@ -75,7 +75,7 @@ class Repository:
     def of(self, folder: str) -> Iterator[File]:
         return (file for file in self.files.values() if file.folder == folder)
 
-    def found(self, path: str) -> set[Node]:
+    def named(self, path: str) -> set[Node]:
         """What a whole path stands for, of what the repository has: definitions, or a type of its crates."""
         parts = path.split(".")
         if parts[0] != LIBRARY or len(parts) < 4 or parts[1] not in self.crates:
@@ -107,10 +107,10 @@ class Scope:
     def nodes_of(self, word: str) -> set[Node]:
         """What a word cites of the repository."""
         head, _, rest = word.partition(".")
-        within = self.repository.found(f"{self.modules[head]}.{rest}") if rest and head in self.modules else set()
+        within = self.repository.named(f"{self.modules[head]}.{rest}") if rest and head in self.modules else set()
         if within or head in self.names:
             return within or self.names[head]
-        return self.repository.found(self.items.get(head, word))
+        return self.repository.named(self.items.get(head, word))
 
     def nodes(self, text: str) -> set[Node]:
         return set[Node]().union(*map(self.nodes_of, set(WORD.findall(NOISE.sub("", text)))))

@@ -45,9 +45,9 @@ def names_of(lines: Sequence[str]) -> tuple[list[str], list[str]]:
         return [name for unit in inner for name in unit.names], [name for unit in inner for name in unit.cases]
     family = FAMILY.match(body[0])
     if not family:
-        return [found[1] for found in [SIGNATURE.match(body[0])] if found], []
-    derived = [found[1] for found in map(DERIVED.match, body[1:]) if found]
-    cases = [found[1] for found in map(CASES.match, body[1:]) if found] if family[1] == "data" else []
+        return [match[1] for match in [SIGNATURE.match(body[0])] if match], []
+    derived = [match[1] for match in map(DERIVED.match, body[1:]) if match]
+    cases = [match[1] for match in map(CASES.match, body[1:]) if match] if family[1] == "data" else []
     return [family[2], *derived], [name for names in cases for name in names.split()]
 
 

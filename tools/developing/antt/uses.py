@@ -20,10 +20,10 @@ class Use(NamedTuple):
 
 def uses_in(text: str) -> Iterator[Use]:
     """The imports of a text, in order."""
-    for found in USE.finditer(text):
-        indent, ghost, path, items, name = found.groups()
+    for use in USE.finditer(text):
+        indent, ghost, path, items, name = use.groups()
         paths = {name or path.split(".")[-1]: path}
         if items is not None:
             pairs = [each.partition(" as ") for each in items.split(",") if each.strip()]
             paths = {(new or old).strip(): path + old.strip() for old, _, new in pairs}
-        yield Use(found.end(), indent, ghost is not None, items is not None, paths)
+        yield Use(use.end(), indent, ghost is not None, items is not None, paths)

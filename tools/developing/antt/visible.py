@@ -47,11 +47,11 @@ class Visible(NamedTuple):
 
 def sources_of(root: Path, crate: str) -> list[Source]:
     """The files of code of a crate."""
-    found = []
+    sources = []
     for path in sorted((root / "crates" / crate / "src").rglob("*.rt")):
         text = path.read_text(encoding="utf-8")
-        found.append(Source(crate, path.stem, path.relative_to(root), text, list(parts_in(text))))
-    return found
+        sources.append(Source(crate, path.stem, path.relative_to(root), text, list(parts_in(text))))
+    return sources
 
 
 def passed_on(text: str) -> Iterator[tuple[str, str]]:
@@ -69,11 +69,11 @@ def visible_in(sources: Iterable[Source]) -> Visible:
     roots = "\n".join(source.text for source in sources if source.module == "lib")
     names = set(passed_on(roots))
     modules = {*MODULE.findall(roots), "lib"} | {module for module, name in names if name == "*"}
-    found = Visible(modules, names, {})
+    visible = Visible(modules, names, {})
     for source in sources:
         for part in source.parts:
             if not part.name and TYPE.match(part.head):
                 name = owner_of(part.head)
-                is_public = part.is_marked and found.is_visible(source.module, name)
-                found.types[name] = is_public or found.types.get(name, False)
-    return found
+                is_public = part.is_marked and visible.is_visible(source.module, name)
+                visible.types[name] = is_public or visible.types.get(name, False)
+    return visible

@@ -19,7 +19,7 @@ ATTRIBUTE = re.compile(r" *#!?\[")
 
 def unquoted(text: str) -> list[str]:
     """The lines of a text without what stands in quotation marks."""
-    return QUOTED.sub(lambda found: found[1] or '""' + "\n" * found[0].count("\n"), text).split("\n")
+    return QUOTED.sub(lambda quote: quote[1] or '""' + "\n" * quote[0].count("\n"), text).split("\n")
 
 
 def widths_in(text: str) -> list[int]:
@@ -28,8 +28,8 @@ def widths_in(text: str) -> list[int]:
 
 def open_lines(reached: Reached) -> set[tuple[Path, int]]:
     """The lines of definitions that public contracts reach."""
-    found = [each for each in reached.definitions() if reached.class_of(each) in OPEN]
-    return {(file, unit.start + at) for _, file, unit in found for at in range(len(unit.lines))}
+    definitions = [each for each in reached.definitions() if reached.class_of(each) in OPEN]
+    return {(file, unit.start + at) for _, file, unit in definitions for at in range(len(unit.lines))}
 
 
 def texts_in(root: Path) -> Iterator[tuple[Path, str]]:

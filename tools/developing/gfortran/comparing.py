@@ -118,7 +118,7 @@ end subroutine
 """
 
 
-def told_by(mothra: str, command: str, job: bytes) -> list[str]:
+def answer_lines(mothra: str, command: str, job: bytes) -> list[str]:
     text = written_by([mothra, command], given=job, seconds=LONGEST)
     if text.startswith(("FAULT", "status")):
         raise ValueError(f"mothra {command}: {text}")
@@ -127,10 +127,10 @@ def told_by(mothra: str, command: str, job: bytes) -> list[str]:
 
 def mutants_of(mothra: str, job: bytes) -> tuple[list[Mutant], str]:
     """The mutants of `mothra list` with the bits of the report of `mothra run`, and the report's limit on steps."""
-    report = [line.split(" ") for line in told_by(mothra, "run", job)]
+    report = [line.split(" ") for line in answer_lines(mothra, "run", job)]
     steps = next(words[1] for words in report if words[0] == "STEPS")
     bits = {" ".join(words[1:3]): words[5] for words in report if words[0] == "MUTANT"}
-    rows = [re.fullmatch(r"(\S+ \d+) \d+ LINE (\d+) (.*)", line) for line in told_by(mothra, "list", job)]
+    rows = [re.fullmatch(r"(\S+ \d+) \d+ LINE (\d+) (.*)", line) for line in answer_lines(mothra, "list", job)]
     mutants = [Mutant(row[1], int(row[2]), row[3], bits.pop(row[1])) for row in rows if row]
     if bits:
         raise ValueError(f"mothra list has no {min(bits)}")
@@ -159,14 +159,14 @@ def refusals(said: str, sources: Sequence[Sequence[str]]) -> dict[int, str]:
     """What gfortran says against the units of a file: a message by the place of the unit."""
     ends = [sum(map(len, sources[: place + 1])) for place in range(len(sources))]
     line: int | None = None
-    found: dict[int, str] = {}
+    by_place: dict[int, str] = {}
     for text in said.split("\n"):
         where = re.match(r"units\.f:(\d+):", text)
         line = int(where[1]) if where else line
         if text.startswith("Error: ") and line:
             place = next(place for place, end in enumerate(ends) if line <= end)
-            found.setdefault(place, re.sub(r" at \(\d\)", "", text.removeprefix("Error: ")))
-    return found
+            by_place.setdefault(place, re.sub(r" at \(\d\)", "", text.removeprefix("Error: ")))
+    return by_place
 
 
 def compile_units(folder: Path, sources: Sequence[list[str]]) -> dict[int, str]:
@@ -179,10 +179,10 @@ def compile_units(folder: Path, sources: Sequence[list[str]]) -> dict[int, str]:
         said = subprocess.run(words, cwd=folder, capture_output=True, text=True, timeout=LONGEST)
         if said.returncode == SUCCESS:
             break
-        found = refusals(said.stderr, empty)
-        if not found:
+        new = refusals(said.stderr, empty)
+        if not new:
             raise ValueError(f"gfortran: {said.stderr}")
-        refused |= found
+        refused |= new
     # A trace of the calls would take the time that a run has.
     compile_in(folder, "-fno-backtrace", "-fno-range-check", "-ffree-line-length-none", "-c", "driver.f90")
     for number, value in enumerate(WITHOUT_A_VALUE):
@@ -255,8 +255,8 @@ def judged_run(compared: Compared, mutant: Mutant, test: int, original: Outcome,
     judgement = judged(original, outcome, bit, lambda: mothra_word(compared, mutant, test))
     if judgement != "differ":
         return judgement, None
-    told = outcome.text or outcome.outside
-    return judgement, f"{mutant.name} LINE {mutant.line} {mutant.text}: test {test} has bit {bit}, gfortran: {told}"
+    other = outcome.text or outcome.outside
+    return judgement, f"{mutant.name} LINE {mutant.line} {mutant.text}: test {test} has bit {bit}, gfortran: {other}"
 
 
 def compare_batch(compared: Compared, batch: Sequence[Mutant], folder: Path, pool: ThreadPoolExecutor) -> list[Judged]:
@@ -291,8 +291,8 @@ def compared_runs(mothra: str, job: bytes, folder: Path, with_mutants: bool) -> 
         raise ValueError("the program has a name ZPUSH of its own")
     mutants, steps = mutants_of(mothra, job) if with_mutants else ([], STEPS)
     compared = Compared(mothra, job, cards, given.get("suite", []), steps)
-    found: list[Judged] = []
+    judged: list[Judged] = []
     with ThreadPoolExecutor(max(len(os.sched_getaffinity(0)) // 2, 1)) as pool:
         for at in range(0, max(len(mutants), 1), TOGETHER):
-            found += compare_batch(compared, mutants[at : at + TOGETHER], folder, pool)
-    return len(mutants), Counter(judgement for judgement, _ in found), [line for _, line in found if line]
+            judged += compare_batch(compared, mutants[at : at + TOGETHER], folder, pool)
+    return len(mutants), Counter(judgement for judgement, _ in judged), [line for _, line in judged if line]

@@ -26,7 +26,7 @@ REFUSES, STOPS = b"\x31\xc0", b"\xcc\xcc"
 
 def places_in(program: bytes) -> list[int]:
     """Where a program compares the number of an allocation."""
-    places = [found.start() for found in PLACE.finditer(program)]
+    places = [place.start() for place in PLACE.finditer(program)]
     if len(places) != 2:
         raise ValueError(f"{len(places)} places of the program refuse memory, and not 2: the kit builds another one")
     return places

@@ -24,15 +24,15 @@ HINT = "That is a hint at equivalence, and no more than that."
 UNTRIED = "No row was tried, so this says nothing of them."
 
 
-def new_number(found: Suggested, place: int) -> int:
+def new_number(result: Suggested, place: int) -> int:
     """The number that a suggested row has as a test behind the others."""
-    return len(found.start.job.suite) + place + 1
+    return len(result.start.job.suite) + place + 1
 
 
-def killed_by(found: Suggested, number: int) -> tuple[list[Mutant], int]:
+def killed_by(result: Suggested, number: int) -> tuple[list[Mutant], int]:
     """The survivors of the tests that a suggested row kills, and how many of them it alone kills."""
-    alive = {mutant[:3] for mutant in found.start.report.survivors}
-    pairs = [pair for pair in zip(found.final.listed, found.final.report.rows) if pair[0][:3] in alive]
+    alive = {mutant[:3] for mutant in result.start.report.survivors}
+    pairs = [pair for pair in zip(result.final.listed, result.final.report.rows) if pair[0][:3] in alive]
     killed = [(mutant, row) for mutant, row in pairs if row.bits[number - 1] == "1"]
     return [mutant for mutant, _ in killed], sum(row.bits.count("1") == 1 for _, row in killed)
 
@@ -48,11 +48,11 @@ def mutants_text(mutants: Iterable[Mutant]) -> str:
     return "; ".join([*alone, *(f"{names_text(twins)} as one" for twins in groups if len(twins) > 1)])
 
 
-def row_lines(found: Suggested, row: Row, place: int, layout: Layout) -> Iterator[str]:
+def row_lines(result: Suggested, row: Row, place: int, layout: Layout) -> Iterator[str]:
     """What a row does: the outcome of the program, and the survivors that it kills, by line."""
-    number = new_number(found, place)
-    killed, alone = killed_by(found, number)
-    yield f"test {number}  {layout.line(row)}: {found.final.outcomes[number - 1]}"
+    number = new_number(result, place)
+    killed, alone = killed_by(result, number)
+    yield f"test {number}  {layout.line(row)}: {result.final.outcomes[number - 1]}"
     yield f"  kills {plural(len(killed), 'survivor')}, {alone} of them alone"
     lines = by_line(killed)
     for line in sorted(lines):
@@ -65,33 +65,33 @@ def block_lines(rows: Sequence[Row], layout: Layout) -> Iterator[str]:
     yield from (",\n".join(lines) if layout.is_json else "\n".join(lines)).split("\n")
 
 
-def suggestion_lines(found: Suggested, layout: Layout, tests: Path) -> Iterator[str]:
+def suggestion_lines(result: Suggested, layout: Layout, tests: Path) -> Iterator[str]:
     """The rows, those with far values apart, and then what each of them does."""
-    shape = found.search.shape
-    near = [row for row in found.rows if shape.is_near(row)]
-    far = found.rows[len(near) :]
-    yield f"{plural(len(found.rows), 'row')} to be put behind those of {tests}."
+    shape = result.search.shape
+    near = [row for row in result.rows if shape.is_near(row)]
+    far = result.rows[len(near) :]
+    yield f"{plural(len(result.rows), 'row')} to be put behind those of {tests}."
     yield LOOK
-    for told, rows in (("values like those", near), ("a value far from those", far)):
+    for values, rows in (("values like those", near), ("a value far from those", far)):
         if rows:
-            yield f"With {told} of the tests:"
+            yield f"With {values} of the tests:"
             yield from block_lines(rows, layout)
     yield ""
-    for place, row in enumerate(found.rows):
-        yield from row_lines(found, row, place, layout)
+    for place, row in enumerate(result.rows):
+        yield from row_lines(result, row, place, layout)
 
 
 def box_text(search: BoxSearch) -> str:
     """How many rows of the box were tried, and on how many the program fails."""
     whole = "all" if search.count == search.box.size else f"{search.count:,} of the"
     fails = f"; on {search.failed:,} of them the program fails, or takes over {search.steps} steps"
-    told = f"Tried: {whole} {search.box.size:,} rows of the box {search.box.told}{fails if search.failed else ''}."
-    return told if search.is_whole else f"{told} The search was cut, so nothing is said of the others."
+    tried = f"Tried: {whole} {search.box.size:,} rows of the box {search.box.text}{fails if search.failed else ''}."
+    return tried if search.is_whole else f"{tried} The search was cut, so nothing is said of the others."
 
 
-def tried_line(found: Suggested, seed: int) -> str:
+def tried_line(result: Suggested, seed: int) -> str:
     """How much was searched."""
-    search = found.search
+    search = result.search
     if isinstance(search, BoxSearch):
         return box_text(search)
     tried = f"{plural(len(search.tried), 'row')}, {plural(search.round_number, 'round')}, seed {seed}"
@@ -99,86 +99,86 @@ def tried_line(found: Suggested, seed: int) -> str:
     return f"Tried: {tried}.{left_out if search.failed else ''}"
 
 
-def which_lines(found: Suggested) -> Iterator[str]:
+def which_lines(result: Suggested) -> Iterator[str]:
     """Of all rows of a box: which of three each mutant is that the tests leave alive."""
-    if not isinstance(found.search, BoxSearch) or not found.search.is_whole:
+    if not isinstance(result.search, BoxSearch) or not result.search.is_whole:
         return
-    start, left = len(found.start.report.survivors), len(found.final.report.survivors)
-    proved = count_of_proved(found.start.report.rows, found.start.said.proofs)
-    told = f"{start - left} killed by a row, {proved} proved equivalent, {left} that no row of this box kills"
-    yield f"Of the {plural(start + proved, 'mutant')} that the tests do not kill: {told}."
+    start, left = len(result.start.report.survivors), len(result.final.report.survivors)
+    proved = count_of_proved(result.start.report.rows, result.start.said.proofs)
+    counts = f"{start - left} killed by a row, {proved} proved equivalent, {left} that no row of this box kills"
+    yield f"Of the {plural(start + proved, 'mutant')} that the tests do not kill: {counts}."
 
 
-def reached_text(found: Suggested, line: int) -> str:
+def reached_text(result: Suggested, line: int) -> str:
     """How many of the rows came to a line, where that is known."""
-    count, asked = found.reached.by_line.get(line), found.reached.asked
+    count, asked = result.reached.by_line.get(line), result.reached.asked
     if count is None:
         return ""
-    of_first = " first" if asked < len(found.search.tried) else ""
+    of_first = " first" if asked < len(result.search.tried) else ""
     return f"; {count} of the{of_first} {asked} rows came here"
 
 
-def left_lines(found: Suggested) -> Iterator[str]:
+def left_lines(result: Suggested) -> Iterator[str]:
     """The survivors that no row killed, by line."""
-    survivors = found.final.report.survivors
+    survivors = result.final.report.survivors
     lines = by_line(survivors)
     if not survivors:
         yield "No mutant survives that is not declared equivalent."
         return
     verb = "is one survivor" if len(survivors) == 1 else f"are {len(survivors)} survivors"
-    is_box = isinstance(found.search, BoxSearch) and found.search.is_whole
-    hint = HINT if found.search.tried else UNTRIED
+    is_box = isinstance(result.search, BoxSearch) and result.search.is_whole
+    hint = HINT if result.search.tried else UNTRIED
     which = f"no row of this box kills. {NO_PROOF}" if is_box else f"no row killed. {hint}"
     yield f"There {verb} on {plural(len(lines), 'line')} that {which}"
     for line in sorted(lines):
-        statement = found.final.statements[line]
-        yield f"line {line}: {statement} ({len(lines[line])} left{reached_text(found, line)})"
+        statement = result.final.statements[line]
+        yield f"line {line}: {statement} ({len(lines[line])} left{reached_text(result, line)})"
         yield from line_lines(lines[line], statement)
 
 
-def needless_lines(found: Suggested) -> Iterator[str]:
+def needless_lines(result: Suggested) -> Iterator[str]:
     """The tests of the table that may be left out once the rows are in it."""
-    if not found.needless:
-        yield "No test of the table becomes needless." if found.rows else "Nothing is new, so no test becomes needless."
+    if not result.needless:
+        yield "No test of the table becomes needless." if result.rows else "No row is new, so no test becomes needless."
         return
-    rest = len(found.final.job.suite) - len(found.needless)
-    which = f"{'Test' if len(found.needless) == 1 else 'Tests'} {joined_words(found.needless)}"
-    told = f"{which} of the table may be left out then: the other {plural(rest, 'test')} kill the same mutants"
-    yield f"{told}{' of those that were asked for' if found.final.left_out else ''}."
+    rest = len(result.final.job.suite) - len(result.needless)
+    which = f"{'Test' if len(result.needless) == 1 else 'Tests'} {joined_words(result.needless)}"
+    sentence = f"{which} of the table may be left out then: the other {plural(rest, 'test')} kill the same mutants"
+    yield f"{sentence}{' of those that were asked for' if result.final.left_out else ''}."
 
 
-def spare_lines(found: Suggested) -> Iterator[str]:
+def spare_lines(result: Suggested) -> Iterator[str]:
     """The mutants with steps to spare that a row kills. The next check does not call them proved."""
-    names = killed_later(found.final.report.rows, found.final.said.proofs)
+    names = killed_later(result.final.report.rows, result.final.said.proofs)
     if names:
         verb, them = ("is", "it") if len(names) == 1 else ("are", "them")
-        told = f"{joined_words(names)} {verb} proved equivalent for the tests as they are, with steps to spare"
-        yield f"{told}. A row below kills {them}: it does not leave that room under the limit on steps."
+        which = f"{joined_words(names)} {verb} proved equivalent for the tests as they are, with steps to spare"
+        yield f"{which}. A row below kills {them}: it does not leave that room under the limit on steps."
 
 
-def head_lines(found: Suggested, program: Path) -> Iterator[str]:
-    start = found.start
+def head_lines(result: Suggested, program: Path) -> Iterator[str]:
+    start = result.start
     yield f"{start.report.unit} of {program}: {plural(len(start.job.suite), 'test')}"
     yield from difference_lines(start) if start.unexpected else ()
     yield from (f"Left out: {each}." for each in start.left_out)
     yield f"The tests: {score_line(start)}"
-    if found.rows:
-        yield f"With the rows below: {score_line(found.final)}"
-    yield from wrong_lines(found.final)
-    yield from spare_lines(found)
+    if result.rows:
+        yield f"With the rows below: {score_line(result.final)}"
+    yield from wrong_lines(result.final)
+    yield from spare_lines(result)
 
 
-def summary(found: Suggested, program: Path, tests: Path, layout: Layout, aim: Aim) -> str:
+def summary(result: Suggested, program: Path, tests: Path, layout: Layout, aim: Aim) -> str:
     """The whole text, but for what is said of files and of the program mothra."""
-    lines = [*head_lines(found, program), ""]
-    if not found.start.report.survivors:
+    lines = [*head_lines(result, program), ""]
+    if not result.start.report.survivors:
         lines += ["No mutant survives that is not declared equivalent: there is nothing to suggest."]
         return "\n".join(lines) + "\n"
-    if found.is_cut:
+    if result.is_cut:
         lines += ["Cut short by Ctrl-C: what follows was found until then."]
-    lines += [tried_line(found, aim.seed), *which_lines(found)]
-    lines += kept_lines(found.search.shape.keeps, dummies_of(found.start.printed))
+    lines += [tried_line(result, aim.seed), *which_lines(result)]
+    lines += kept_lines(result.search.shape.keeps, dummies_of(result.start.printed))
     none = ["No row was found that kills a survivor."]
-    lines += ["", *(suggestion_lines(found, layout, tests) if found.rows else none)]
-    lines += needless_lines(found) if aim.drops else []
-    return "\n".join([*lines, "", *left_lines(found)]) + "\n"
+    lines += ["", *(suggestion_lines(result, layout, tests) if result.rows else none)]
+    lines += needless_lines(result) if aim.drops else []
+    return "\n".join([*lines, "", *left_lines(result)]) + "\n"
