@@ -75,7 +75,7 @@ def parser_for(words: Sequence[str]) -> argparse.ArgumentParser:
 def main(words: Sequence[str] | None = None) -> int:
     """Does what the words say, and gives the exit status."""
     given_words = with_whole_lists(sys.argv[1:] if words is None else words)
-    # A fault is told by the name of the subcommand, and words that are refused by the parser.
+    # A fault has the name of the subcommand in front, and words that are refused that of the parser.
     named = asked_name(given_words)
     name = f"{NAME} {named}" if named else NAME
 

@@ -73,7 +73,7 @@ def ended_by_signals() -> Iterator[None]:
 
 
 def run_tool(name: str, main: Callable[[], int]) -> int:
-    """Does it, and gives its exit status. A fault is told on standard error;
+    """Does it, and gives its exit status. A fault is a line on standard error;
     Ctrl-C, SIGTERM, SIGHUP and a closed pipe end it without more."""
     takes_any_text()
     try:

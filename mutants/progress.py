@@ -29,13 +29,13 @@ class Progress:
             self.width = 0
 
 
-# What takes no longer than so many seconds is not told on the way, but on a terminal; and then so often.
+# What takes no longer than so many seconds is not shown on the way, but on a terminal; and then so often.
 QUIET, OFTEN = 1.0, 2.0
 
 
 @contextmanager
 def telling(progress: Progress, text: str) -> Iterator[None]:
-    """While it holds, what is done is told: on a terminal at once, else where it takes long."""
+    """While it holds, what is done is shown: on a terminal at once, else where it takes long."""
     timer = threading.Timer(0 if progress.is_terminal else QUIET, progress.tell, [text])
     timer.daemon = True
     try:
@@ -57,7 +57,7 @@ def seconds_text(seconds: float) -> str:
 
 
 class Estimate:
-    """How much of some work is done, and how long the rest may take, told by a progress where it takes long."""
+    """How much of some work is done, and how long the rest may take, shown where it takes long."""
 
     def __init__(self, progress: Progress, what: str, whole: int) -> None:
         self.progress, self.what, self.whole, self.done = progress, what, whole, 0
@@ -79,7 +79,7 @@ class Estimate:
         """Tells it, where it is time to."""
         now = time.monotonic()
         if now >= self.next and (self.progress.is_terminal or self.done != self.shown):
-            # Lines that stay, as in the log of a build, are told where something was done since.
+            # Lines that stay, as in the log of a build, are written where something was done since.
             self.next, self.shown = now + (0 if self.progress.is_terminal else OFTEN), self.done
             self.progress.tell(self.text(now))
 

@@ -52,7 +52,7 @@ def with_whole_lists(words: Iterable[str]) -> list[str]:
 
 
 def read_by(read: Callable[[str], Read]) -> Callable[[str], Read]:
-    """What reads a word, for an option: what it says against the word is told as it is."""
+    """What reads a word, for an option: what it says against the word is shown as it is."""
 
     def typed(word: str) -> Read:
         try:

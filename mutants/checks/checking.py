@@ -1,4 +1,4 @@
-"""A check: the program and its tests asked for all that is told of them."""
+"""A check: the program and its tests asked for all that is said of them."""
 
 import time
 from collections.abc import Callable, Sequence
@@ -63,7 +63,7 @@ class Checked(NamedTuple):
     left_out: list[str]
     outcomes: list[str]
     unexpected: list[Difference]
-    # The source as it is shown, the reasons of declared mutants, and what was told.
+    # The source as it is shown, the reasons of declared mutants, and remarks.
     said: Said = NOTHING
     expected: int = 0
     file: str = ""
@@ -90,7 +90,7 @@ def source_alone(job: Job) -> bytes:
 
 
 def printed_of(program: str, path: Path, job: Job, shown: str) -> list[str]:
-    """The printed text of each statement. A fault is told with the line as it is shown."""
+    """The printed text of each statement. A fault has the line as it is shown."""
     with naming_line(path, job.source, shown):
         return asked_print(program, source_alone(job))
 
@@ -179,7 +179,7 @@ class Given(NamedTuple):
 
 
 def check(asked: Asked, given: Given, means: Means, name: str, prover: Prover = NO_PROVER) -> Checked:
-    """Asks the program for all of it. What keeps the program or a test from being run is told before mutants are
+    """Asks the program for all of it. What keeps the program or a test from being run is reported before mutants are
     run."""
     job, said, expected = given
     program, shown = means.program, shown_of(job, said)

@@ -110,7 +110,7 @@ def asked_watches(checked: Checked, means: Means, name: str) -> dict[int, str]:
 
 
 def known_bits(checked: Checked, lines: Collection[int], means: Means, name: str) -> dict[int, str]:
-    """For each of the lines a digit for each test, 1 where it comes there; and for others, as they are told too."""
+    """For each of the lines a digit for each test, 1 where it comes there; and for others that come with them."""
     known = {line: "1" * len(checked.job.suite) for line in lines if checked.statements[line].startswith("DATA ")}
     known |= asked_traps(checked, means, name) if set(lines) - set(known) else {}
     known |= asked_watches(checked, means, name) if set(lines) - set(known) else {}
@@ -120,7 +120,7 @@ def known_bits(checked: Checked, lines: Collection[int], means: Means, name: str
 def covering(checked: Checked, means: Means, name: str) -> dict[int, str]:
     """For each line that has mutants a digit for each test, 1 where it comes to the statement.
 
-    Where this is not known otherwise, the tests that kill a mutant of the line are told.
+    Where this is not known otherwise, these are the tests that kill a mutant of the line.
     """
     lines = {mutant.line for mutant in checked.listed}
     killed = kill_bits(checked.listed, checked.report.rows, len(checked.job.suite))

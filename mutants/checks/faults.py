@@ -23,8 +23,8 @@ def said_of(line: str) -> str:
 def program_fault(path: Path, source: str, shown: str, fault: Fault) -> ValueError:
     """What keeps a program from being read, with its line where the fault has one; other faults stay as they are.
 
-    A habit of other Fortran is told in the place of what the fault means: of the source of the job, where bounds have
-    their values. The line is told as it is shown.
+    A habit of other Fortran is named in the place of what the fault means: of the source of the job, where bounds have
+    their values. The line stands as it is shown.
     """
     code, _, detail = fault.line.removeprefix("FAULT ").partition(" ")
     meaning = MEANINGS.get(code) if fault.line.startswith("FAULT ") else None
@@ -40,7 +40,7 @@ def program_fault(path: Path, source: str, shown: str, fault: Fault) -> ValueErr
 
 @contextmanager
 def naming_line(path: Path, source: str, shown: str) -> Iterator[None]:
-    """While it holds, a fault of a program is told with its line."""
+    """While it holds, a fault of a program has its line."""
     try:
         yield
     except Fault as fault:

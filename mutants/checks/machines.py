@@ -8,7 +8,7 @@ from mutants.program.many import Call, Keep
 from mutants.program.parallel import find_parallel, spread
 from mutants.statuses import SUCCESS
 
-# So much of what parallel says of a failure is told.
+# So much of what parallel says of a failure is shown.
 LONGEST = 200
 
 

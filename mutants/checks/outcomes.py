@@ -40,7 +40,7 @@ def untold() -> None:
 def asked_outcomes(job: Job, means: Means, name: str | None) -> list[str]:
     """The line of the outcome of the program itself on each test; the first test that cannot be run is refused.
 
-    How far it is is told by the name of a command, where there is one.
+    With the name of a command, it is shown how far it is.
     """
     words, plain = ["exec", "--test", "1", *means.step_words], Job(job.source, job.suite)
     calls: list[Call] = [(words, batch_text(plain, at, at + 1)) for at in range(len(job.suite))]

@@ -22,15 +22,15 @@ from mutants.texts.twins import count_of_programs, name_of, names_text, twins_in
 
 # So many survivors of an operator are shown on a line; so wide is a name at least.
 ALIKE, NAME = 8, 8
-# The lines of the program, and the survivors of each, that are told where not all is asked for.
+# The lines of the program, and the survivors of each, that are shown where not all is asked for.
 TOP, FEW = 10, 3
 ABS = "ABS"
-# Where more lines than these are told, the score is told at the end again; and so wide is a long sentence.
+# Where more lines than these are shown, the score stands at the end again; and so wide is a long sentence.
 LONG, WIDTH = 60, 118
 
 
 class Telling(NamedTuple):
-    """How much is told: the survivors of so many lines of the program, or all there is; and each proved mutant."""
+    """How much is shown: the survivors of so many lines of the program, or all there is; and each proved mutant."""
 
     top: int = TOP
     is_all: bool = False

@@ -107,7 +107,7 @@ def tables_in(folder: Path) -> dict[str, Path]:
 
 
 def unread_remarks(folder: Path) -> list[str]:
-    """What is told of files that would declare something or set options where everybody may write."""
+    """Remarks on files that would declare something or set options where everybody may write."""
     paths = [path for path in sorted(suites_folder(folder).iterdir()) if is_declaring(path) or path.name in (INI, TOML)]
     return [f"{path} is not read, since suites are handed in there: {advice_on(path, folder)}" for path in paths]
 

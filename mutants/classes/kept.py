@@ -12,7 +12,7 @@ from mutants.files import written
 
 
 class Summary(NamedTuple):
-    """What is told of a class: lines, which jobs failed, the names of those with a page, and whether a score is below
+    """What is said of a class: lines, which jobs failed, the names of those with a page, and whether a score is below
     what is asked for."""
 
     lines: list[str]
@@ -32,13 +32,13 @@ def digest_of_class(tasks: Sequence[Task], results: Results, remark: str) -> str
 
 
 class KeptClass:
-    """The table and the page of a class, and beside them the digest of what they were made of and what was told."""
+    """The table and the page of a class, and beside them the digest of what they were made of and what was said."""
 
     def __init__(self, out: Path) -> None:
         self.out, self.path = out, out / "course.key"
 
     def summary(self, digest: str, results: Results) -> Summary | None:
-        """What was told of a class with this digest, where all its files are there."""
+        """What was said of a class with this digest, where all its files are there."""
         try:
             kept = json.loads(self.path.read_bytes())
             summary = Summary(kept["lines"], kept["failed"], kept["names"], kept["is_below"])

@@ -10,7 +10,7 @@ from mutants.texts.lines import Mutant
 from mutants.texts.reports import Count, Report, Row, score_of, summed
 
 
-# So many names of jobs that failed are told.
+# So many names of jobs that failed are listed.
 MOST = 5
 # What stands in the place of the code of a fault where there is none.
 NO_CODE = "-"

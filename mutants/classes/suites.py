@@ -31,7 +31,7 @@ class Known(NamedTuple):
 
 
 class Suite(NamedTuple):
-    """A suite: its job, what `mothra run` wrote of it, what is told of it, and where it has a report what the program
+    """A suite: its job, what `mothra run` wrote of it, its result, and where it has a report what the program
     does on each test, and on which it is not what is expected."""
 
     task: Task
@@ -52,7 +52,7 @@ def words_of(task: Task, line: str) -> str:
 
 
 def refused(task: Task, text: str | None) -> Result:
-    """What is told of a job without a report."""
+    """The result of a job without a report."""
     line = text.splitlines()[0] if text and text.strip() else NO_ANSWER
     suite = task.made.suite if task.made else []
     code = line.split(" ")[1] if line.startswith("FAULT ") else NO_CODE

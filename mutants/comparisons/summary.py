@@ -60,7 +60,7 @@ def test_lines(comparison: Comparison) -> Iterator[str]:
 
 
 def comparison_text(comparison: Comparison, old_path: object, new_path: object) -> str:
-    """The whole text. All mutants that were killed and survive are told, and of other lists a part."""
+    """The whole text. All mutants that were killed and survive are listed, and of other lists a part."""
     old, new = comparison.old, comparison.new
     lost, killed, mutants = comparison.newly_surviving, comparison.newly_killed, comparison.matched
     lines = [state_line("OLD", old_path, old), state_line("NEW", new_path, new)]

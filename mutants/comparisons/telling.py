@@ -18,7 +18,7 @@ UNKNOWN = "its text is in neither report"
 
 
 class Item(NamedTuple):
-    """A program that several mutants may be: their names, its line (0: unknown), its change, what is told of it."""
+    """A program that several mutants may be: their names, its line (0: unknown), its change, a remark on it."""
 
     names: str
     line: int
@@ -80,7 +80,7 @@ def test_change_text(change: TestChange) -> str:
 
 
 def value_text(state: State, number: int) -> str:
-    """The values of a test; of a report alone they are unknown, and nothing is told."""
+    """The values of a test; of a report alone they are unknown, and there is no text."""
     values = state.tests[number - 1]
     return "" if values == str(number) else shortened(values)
 
@@ -103,7 +103,7 @@ def kills_in(state: State, number: int) -> int:
 
 def test_changes(comparison: Comparison) -> Iterator[tuple[str, int, str, str]]:
     """The tests that one state has alone, and those with other kills than before: what became of a test, its number,
-    its values, and what is told of its kills."""
+    its values, and what changed in its kills."""
     old, new, (gone, added) = comparison.old, comparison.new, tests_alone(comparison)
     yield from (("new", each, value_text(new, each), f"kills {kills_in(new, each)}") for each in added)
     yield from (("gone", each, value_text(old, each), f"killed {kills_in(old, each)}") for each in gone)

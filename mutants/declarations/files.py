@@ -31,7 +31,7 @@ class Declarations(NamedTuple):
 
 
 class Meant(NamedTuple):
-    """What declarations mean in the program of now: the names for a job, their reasons, and what is told of them.
+    """What declarations mean in the program of now: the names for a job, their reasons, and remarks on them.
 
     Without a file of declarations a job has no key for them at all.
     """

@@ -39,7 +39,7 @@ def with_ops(words: Sequence[str], ops: Iterable[str]) -> list[str]:
 
 
 class Prover(NamedTuple):
-    """The program equivalents, or why it is not asked. Without either there are no proofs, and nothing is told."""
+    """The program equivalents, or why it is not asked. Without either there are no proofs, and no reason is given."""
 
     program: str = ""
     not_asked: str = ""

@@ -15,7 +15,7 @@ NO_REASON = "no reason is given"
 
 
 class Said(NamedTuple):
-    """What is known of a job beside its texts: the source as its file has it, reasons by mutant, what is told, what is
+    """What is known of a job beside its texts: the source as its file has it, reasons by mutant, remarks, what is
     proved of its mutants, the names of its tests, where they have some, and what searches of boxes found of mutants."""
 
     shown: str | None = None

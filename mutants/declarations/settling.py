@@ -76,7 +76,7 @@ class Settled(NamedTuple):
         return {each.name: each.reason for each in self.declared}
 
     def remarks(self) -> list[str]:
-        """What is told of entries that are not taken as they stand, in sentences."""
+        """Remarks on entries that are not taken as they stand, in sentences."""
         return moved_remarks(self.moved) + [f"{entry.name} is not declared: {why}" for entry, why in self.refused]
 
 

@@ -15,7 +15,7 @@ from mutants.statuses import SUCCESS
 from mutants.texts.cards import source_lines
 
 WIDTH, LONGEST = 100, 60
-# So many faults behind the first one are told in words; of others the lines.
+# So many faults behind the first one are explained; of others the lines.
 IN_WORDS = 10
 
 
@@ -38,7 +38,7 @@ def places_if_any(fault: SourceFault, source: str) -> Marked:
 
 
 def line_of(fault: SourceFault, source: str) -> int:
-    """The line of a fault; 0 where it is told of the unit as a whole."""
+    """The line of a fault; 0 where it is one of the unit as a whole."""
     if MEANINGS[fault.code].detail == "line":
         return int(fault.detail)
     marks, _ = places_if_any(fault, source)
@@ -65,7 +65,7 @@ def said_of(fault: SourceFault, source: str) -> str:
 
 
 def fault_lines(faults: Sequence[SourceFault], source: str, first: SourceFault) -> list[str]:
-    """What is told of each fault, by line; what was said before is said once."""
+    """What is said of each fault, by line; what was said before is said once."""
     known = {said_of(first, source): line_of(first, source)}
     lines: list[str] = []
     for each in faults:
@@ -79,7 +79,7 @@ def fault_lines(faults: Sequence[SourceFault], source: str, first: SourceFault) 
 
 
 def rest_lines(faults: Sequence[SourceFault], source: str, is_all: bool) -> list[str]:
-    """What is told of those faults that are not told in words."""
+    """What is said of those faults that are not explained."""
     lines = joined_words(dict.fromkeys(line_of(each, source) for each in faults))
     more = [f"{len(faults)} more stand on the lines {lines}."] if len(faults) > 1 else [f"1 more is on line {lines}."]
     beyond = "What is wrong beyond these can be told when they are mended."
@@ -88,7 +88,7 @@ def rest_lines(faults: Sequence[SourceFault], source: str, is_all: bool) -> list
 
 def other_faults_text(program: str, source: str, shown: str) -> str:
     """The faults behind the first one, by line, as text; empty where there are none.
-    `shown` is the source as it is told."""
+    `shown` is the source as its file has it."""
     faults, is_all = all_faults(source, lambda text: asked_fault(program, text))
     if not faults[1:] and is_all or not faults:
         return "" if is_all else "\n".join(rest_lines([], shown, is_all)) + "\n"

@@ -176,7 +176,7 @@ def notes_on(code: str, kind: str, detail: str, text: bytes, program: str | None
 
 
 def notes_by_number(code: str, detail: str, job: Mapping[str, Any], program: str | None, words: list[str]) -> list[str]:
-    """The notes on a test or a value of a test, told by its number."""
+    """The notes on a test or a value of a test, by its number."""
     if code == "J4":
         return value_notes(item_of(job, "suite", int(detail)), int(detail))
     if code == "B3":

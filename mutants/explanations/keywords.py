@@ -7,7 +7,7 @@ from mutants.explanations.habits import Seen
 from mutants.explanations.names import TYPES
 
 NAME = "[A-Z][A-Z0-9]*"
-# Statements by how they begin without blanks, the longer ones first; the first group that is there is the word told.
+# Statements by how they begin without blanks, the longer ones first; the first group that is there is the word.
 BEGINNINGS = (
     (r"CALL[A-Z]", "CALL"),
     (r"READ[(*A-Z0-9]", "READ"),
@@ -58,7 +58,7 @@ ADDED = (
     (r"(?:INTEGER|LOGICAL|DIMENSION)[A-Z0-9*(),=:_]*::", "colons"),
     (rf"(?:INTEGER|LOGICAL)(?:\*\d+)?{NAME}(?:\([0-9,]+\))?/", "first value"),
 )
-# Words that are told with their blanks.
+# Words that are shown with their blanks.
 BLANKS = {"BLOCKDATA": "BLOCK DATA", "DOCONCURRENT": "DO CONCURRENT"}
 # An assignment to a name that begins like a keyword is none of these.
 ASSIGNMENT = re.compile(rf"{NAME}(?:\([^=]*\))?=(?!=)")

@@ -48,7 +48,7 @@ def behind_72(lines: Sequence[str], marks: Iterable[Mark]) -> list[str]:
 
 
 def line_marks(code: str, number: int, lines: Sequence[str], cards: Sequence[Card]) -> Marked:
-    """The marks of a fault that is told by a line, and notes on them."""
+    """The marks of a fault that names a line, and notes on them."""
     if not 0 < number <= len(lines):
         raise ValueError(f"the source of the job has no line {number}: the fault is of another job")
     if code.startswith("F"):

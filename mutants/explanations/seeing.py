@@ -21,7 +21,7 @@ def statement_habits(text: str) -> list[Seen]:
     if not keywords or keywords[0].habit in ADDED_HABITS:
         bounds = bound_habits(with_plain_type(text))
         return [*seen, *bounds, *([] if keywords or bounds else piece_habits(text))]
-    # What a statement that is to be left out has besides is told no more.
+    # What a statement that is to be left out has besides is passed over.
     return [*seen, *piece_habits(front)]
 
 

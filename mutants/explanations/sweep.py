@@ -1,6 +1,6 @@
 """All that keeps a unit from being read: what the program tells first is taken out of a copy, and it is asked again.
 
-Each fault is the program's own. Lines are told by their numbers in the source.
+Each fault is the program's own. Lines have their numbers in the source.
 """
 
 from collections.abc import Callable, Sequence
@@ -33,7 +33,7 @@ def is_of_source(copy: Copy, code: str, detail: str) -> bool:
 
 
 def all_faults(source: str, ask: Ask) -> tuple[list[SourceFault], bool]:
-    """The faults of a source in the order in which they are told, and whether these are all that can be found."""
+    """The faults of a source in the order in which they are reported, and whether these are all that can be found."""
     copy, faults = Copy(source), dict[tuple[str, str], SourceFault]()
     for _ in range(min(MOST, MOST_BYTES // max(len(source), 1))):
         fault = ask(copy.text())

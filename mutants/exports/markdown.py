@@ -39,7 +39,7 @@ def lines_table(checked: Checked) -> list[str]:
 
 
 def markdown_text(checked: Checked, program: object, remarks: Sequence[str] = ()) -> str:
-    """The whole text; `told` are further lines, on what changed and on the build."""
+    """The whole text; `remarks` are further lines, on what changed and on the build."""
     score = score_line(checked)
     more = [*difference_lines(checked), *(line for line in score_lines(checked) if line != score), *remarks]
     lines = [f"### {cell(checked.report.unit)} of {cell(program)}: {plural(len(checked.job.suite), 'test')}", ""]

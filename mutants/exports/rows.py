@@ -1,4 +1,4 @@
-"""The mutants of a check, each with what other programs are told of it; and as a table in CSV, a row each."""
+"""The mutants of a check, each with what other programs read of it; and as a table in CSV, a row each."""
 
 import csv
 import io
@@ -42,7 +42,7 @@ def status_of(row: Row, covered: str) -> str:
 
 
 def records_of(checked: Checked, covered: Mapping[int, str]) -> Iterator[Record]:
-    """What is told of each mutant, in the order of the report;
+    """The record of each mutant, in the order of the report;
     `covered` has for each line the tests that come to it."""
     others, proofs = others_by_name(checked.listed), checked.said.proofs
     for mutant, row in zip(checked.listed, checked.report.rows):

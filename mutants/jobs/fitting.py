@@ -29,7 +29,7 @@ def filled(value: Any, elements: int) -> list[Any]:
 
 
 def fit(source: Source, table: Table, names: Sequence[str], sizes: Mapping[str, int]) -> list[str]:
-    """Fills the arrays of the tests that have fewer elements than --size gives; what is told of it. An array has no
+    """Fills the arrays of the tests that have fewer elements than --size gives; remarks on it. An array has no
     more elements than its bounds say, and no N is above its value."""
     arrays, short = sized_arrays(source, sizes), set[str]()
     for row, test in zip(table.rows, table.tests):

@@ -15,7 +15,7 @@ MORE = "of a program that is read with options, or with declarations, take PROGR
 
 
 class Given(NamedTuple):
-    """The bytes of a job, and what is known of it beside them. `warnings` are told on standard error as well."""
+    """The bytes of a job, and what is known of it beside them. `warnings` stand on standard error as well."""
 
     job: bytes
     said: Said
@@ -57,7 +57,7 @@ def given_job(given: argparse.Namespace, path: Path, tests: Path | None, mothra:
 
 
 def job_to_tell(given: argparse.Namespace, path: Path, tests: Path | None, mothra: Callable[[], str | None]) -> Given:
-    """The same; where the source has a fault, which is told later, there are no mutants that could be declared."""
+    """The same; where the source has a fault, which is reported later, there are no mutants that could be declared."""
     try:
         return given_job(given, path, tests, mothra)
     except Fault:

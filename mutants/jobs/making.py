@@ -23,7 +23,7 @@ Read = TypeVar("Read")
 
 
 class Made(NamedTuple):
-    """A job before it is written: its source, the table of its tests where there is one, and what is told of them."""
+    """A job before it is written: its source, the table of its tests where there is one, and remarks on them."""
 
     source: Source
     table: Table | None

@@ -6,7 +6,7 @@ from collections.abc import Iterator, Sequence
 from mutants.english import first_words, plural
 from mutants.texts.cards import is_comment, source_lines
 
-# So many lines are told each by itself, and so many characters of one.
+# So many lines have a remark each, and so many characters of one.
 MOST, LONGEST = 5, 50
 # What the columns behind 72 had on cards: a number of the card, or a name and a number.
 CARD_NUMBER = re.compile(r"[A-Z]{0,4} *\d{2,8}")
@@ -65,7 +65,7 @@ def listed(lines: Sequence[tuple[int, str]], one: str, many: str) -> Iterator[st
 
 
 def behind_72(lines: Sequence[str]) -> Iterator[str]:
-    """What is told of text behind column 72. Numbers of cards are told in one sentence."""
+    """Remarks on text behind column 72. Numbers of cards have one."""
     texts = [(number, line[72:].strip()) for number, line in enumerate(lines, 1) if not is_comment(line)]
     numbers = [(number, text) for number, text in texts if CARD_NUMBER.fullmatch(text.upper())]
     others = [(number, text) for number, text in texts if text and not CARD_NUMBER.fullmatch(text.upper())]
@@ -77,7 +77,7 @@ def behind_72(lines: Sequence[str]) -> Iterator[str]:
 
 
 def remarks_on_text(source: str) -> list[str]:
-    """What is told of a source that may have been meant otherwise."""
+    """Remarks on a source that may have been meant otherwise."""
     lines = source_lines(source)
     comments = [(number, line) for number, line in enumerate(lines, 1) if hidden_statement(line)]
     one = "column 1 makes a comment of what looks like a statement: {!r}"

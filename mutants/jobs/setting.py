@@ -1,6 +1,6 @@
 """Which dummy arguments are only set: no run reads what they had before the call.
 
-Read from the texts of the statements, so it is told of fewer arguments than it is true of. An argument is only set
+Read from the texts of the statements, so it is known of fewer arguments than it is true of. An argument is only set
 where it is never read, or where its first statement gives it a value on every way through the program.
 """
 

@@ -32,7 +32,7 @@ class Wish(NamedTuple):
 
 
 class Source(NamedTuple):
-    """A source: the text that the job has, the text as it is shown, line for line, and what is told of it.
+    """A source: the text that the job has, the text as it is shown, line for line, and remarks on it.
 
     The unit is the name of the one that was picked among several; else it is empty. `file` is the whole text of the
     file, with its tabs and its other units.
@@ -61,7 +61,7 @@ def tabs_fault(source: str) -> str:
 
 
 def unit_in(source: str, name: str | None) -> tuple[str, str, list[str]]:
-    """The source with the lines of one unit alone, its name where there are others, and what is told of that."""
+    """The source with the lines of one unit alone, its name where there are others, and a remark on that."""
     units = units_of(source)
     if len(units) < 2 and name is None:
         return source, "", []

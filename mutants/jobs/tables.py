@@ -1,4 +1,4 @@
-"""Tables of tests: JSON or CSV, with or without a row of names, and what is told of a cell that does not serve."""
+"""Tables of tests: JSON or CSV, with or without a row of names, and why a cell does not serve."""
 
 import csv
 import difflib
@@ -21,7 +21,7 @@ Cells = list[Any]
 
 
 class Table(NamedTuple):
-    """The tests; for each the row of the table where it stands; further columns by name; what is told of it all; and
+    """The tests; for each the row of the table where it stands; further columns by name; remarks on it all; and
     the columns that its first row names, if it does."""
 
     tests: list[list[Any]]

@@ -4,7 +4,7 @@ A mutant is a number whose bits are the tests that kill it. A mutant whose kille
 met where that one is, and a test that kills no more than another test is not needed: both are left out first, until
 nothing changes. That alone settles most suites. What is left is searched: branch and bound, from the mutant with the
 fewest killers, with mutants that share no killer as the bound. Up to 2,000 branches the set is a smallest one, and this
-is told. Then the search is given up, and the set is that of the greedy rule: again and again the test that kills the
+is said. Then the search is given up, and the set is that of the greedy rule: again and again the test that kills the
 most of what is left. Settled were 2,543 tests of the triangle, and tables of 25 tests and
 600 mutants drawn at random; not settled were 60 tests and 500 mutants drawn at random.
 """

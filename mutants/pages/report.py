@@ -106,7 +106,7 @@ def survivors_text(survivors: Sequence[Mutant]) -> str:
 
 
 def no_survivor_text(proved: int) -> str:
-    """What is told where no mutant survives that counts."""
+    """What is said where no mutant survives that counts."""
     return f"No mutant survives that is not declared {'or proved ' if proved else ''}equivalent."
 
 
@@ -139,7 +139,7 @@ def operators_part(counts: Mapping[str, Count]) -> str:
     return table(head, rows, total, label="The operators", does_sort=True) + rest
 
 
-# What is told where a test kills a mutant that is proved equivalent.
+# What is said where a test kills a mutant that is proved equivalent.
 DISAGREE = "The programs mothra and equivalents do not agree, which proved builds of the same sources never do."
 
 

@@ -33,7 +33,7 @@ def asked_outcome(program: str, number: int, words: Sequence[str], job: bytes) -
 def asked_report(program: str, words: Sequence[str], totals: Mapping[str, int], job: bytes, name: str) -> Report:
     """The report on the operators of these totals, asked for in batches; the words are other options of `mothra run`.
 
-    How far it is is told on standard error, by the name of the command, where it takes long.
+    Where it takes long, standard error shows how far it is, by the name of the command.
     """
     progress, done, whole, reports = Paced(name), 0, sum(totals.values()), []
     try:

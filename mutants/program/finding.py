@@ -14,7 +14,7 @@ from mutants.program.unproved import find_unproved, is_unproved, said
 BUILT = ROOT / "crates" / "mothra" / "out" / "mothra"
 BUILT_EQUIVALENTS = ROOT / "crates" / "equivalents" / "out" / "equivalents"
 
-# What is told where there is none: how one comes to it, and how long that takes.
+# What is said where there is none: how one comes to it, and how long that takes.
 MISSING = f"""\
 the program mothra is not found: {MOTHRA.option} and {MOTHRA.variable} name none, none is built here, and the path has\
  none.
@@ -40,7 +40,7 @@ def searched_program(kind: Program, word: str | None, built: Path) -> str | None
     """The program of the option's word, of the environment, of the repository, of a release that has one beside the
     package, of the path, or an unproved build.
 
-    That it is an unproved build is told on standard error.
+    That it is an unproved build is said on standard error.
     """
     if word is not None:
         path: str | None = named_program(word, kind.option)

@@ -16,7 +16,7 @@ from mutants.statuses import SUCCESS
 # The words of a call, and the job that is handed to it.
 Call = tuple[Sequence[str], bytes]
 Keep = Callable[[int, str], None]
-# What is told in the place of a fault of the call at a place.
+# What is raised in the place of a fault of the call at a place.
 Refuse = Callable[[int, Fault], Exception]
 # What a call gives, of those that are running, its words and its job.
 Ask = Callable[["Calls", Sequence[str], bytes], str]

@@ -1,6 +1,6 @@
 """The programs of a release: they lie beside the package, with a file that says what the gate said of them.
 
-What is told as proved is a program with the digest of that file: another one in its place is told as nothing.
+Called proved is a program with the digest of that file; nothing is said of another one in its place.
 """
 
 import hashlib

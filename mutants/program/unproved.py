@@ -3,7 +3,7 @@
 A build is kept in the user's folder for caches, with a digest of the sources that it was built from. What lies there
 under its name is a script that says on standard error that the build is unproved, and then runs it: so a call of it is
 marked whoever makes it. Where the package lies beside other sources it is not used. Where it lies beside none, as when
-it was installed, there is nothing to compare with: the build is used, and told with the digest.
+it was installed, there is nothing to compare with: the build is used, and named by the digest.
 """
 
 import hashlib
@@ -22,7 +22,7 @@ CRATES = ROOT / "crates"
 SAID_OF = "an unproved build of {}: nothing that it says is proved"
 SAID = SAID_OF.format(MOTHRA.name)
 MARK = "unproved build: "
-# So many digits of the digest are told.
+# So many digits of the digest are shown.
 DIGITS = 12
 # A job, and for each program the words with which a build of it is tried, and what it has to write of that job.
 JOB = b'{"source": "      SUBROUTINE ADD(I,J,K)\\n      K=I+J\\n      END\\n"}'
@@ -112,7 +112,7 @@ def script_of(digest: str, name: str) -> str:
 
 
 def programs_here() -> list[str]:
-    """The programs that the repository has; mothra where there is no repository, which then is told."""
+    """The programs that the repository has; mothra where there is no repository, which then is the fault."""
     return [name for name in PROGRAMS if (CRATES / name).is_dir()] or [MOTHRA.name]
 
 

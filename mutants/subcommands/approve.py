@@ -3,10 +3,10 @@
     mutants approve [OPTION..] PROGRAM.f TESTS.csv
 
 A cell `expect` that is empty gets the values that the program leaves on the test, as `check` reads them; the column,
-and a row of names, are made where there is none. Each outcome is told: it is the program's own, right or wrong, so read
-it before the table is kept. From then on `check` tells each test on which the program does something else.
+and a row of names, are made where there is none. Each outcome is shown: it is the program's own, right or wrong, so
+read it before the table is kept. From then on `check` tells each test on which the program does something else.
 
-What stands in a cell already stays, and where the program does something else this is told, with status 4. --renew
+What stands in a cell already stays, and where the program does something else this is said, with status 4. --renew
 fills all cells anew. The table takes its own place, or that of FILE of --table.
 """
 

@@ -5,7 +5,7 @@
 
 The program is in fixed form, the table as `mutants job` takes it, of any length: suites of more than 256 tests are run
 in batches, and long jobs in parts, side by side on all processors, or by GNU parallel on the machines of --sshlogin.
-Told are: the score; what changed since the last check that was asked the same, or since the file of --baseline; the
+Shown are: the score; what changed since the last check that was asked the same, or since the file of --baseline; the
 lines of the program with most survivors; and where the page lies, which is that of `mutants page`: PROGRAM.html beside
 the program, or FILE of --page. --all tells all survivors, with what each changes, what the program itself does on each
 test, and the tests that kill nothing which no other kills.
@@ -17,13 +17,13 @@ summary.
 A table in CSV may have a column `expect`, with a header that names the other columns. It says what the program has to
 do on the test: the outcome as `mothra exec` writes it, the word RETURNED left out at will and * for any value, such as
 3 4 5 *, or the values of some arguments, such as ITYPE=1; an empty cell expects nothing. --expect FILE has a line for
-each test in place of it. An outcome that is not as expected is told, and the exit status is 4.
+each test in place of it. An outcome that is not as expected is reported, and the exit status is 4.
 
 Where the program equivalents is there, it is asked which mutants are equivalent by a proof. These are declared by
-themselves, with the reason that they are proved: the score does not count them, and is told with and without them. They
-are folded, on the terminal to one line, which --show-proved unfolds. What a person declares stands apart. --no-proofs
-asks for no proofs. A proof with steps to spare, SPARE-n, is of these tests and this limit on steps: the mutant may take
-n steps more, and each test leaves room for them.
+themselves, with the reason that they are proved: the score does not count them, and is given with and without them.
+They are folded, on the terminal to one line, which --show-proved unfolds. What a person declares stands apart.
+--no-proofs asks for no proofs. A proof with steps to spare, SPARE-n, is of these tests and this limit on steps: the
+mutant may take n steps more, and each test leaves room for them.
 
 Options that are always the same can stand in mutants.ini beside the program (or mutants.toml), in its section
 [mutants], by the same names: `fail-under = 80`. What the command line says comes first. A section of its own for a
@@ -129,7 +129,7 @@ def status_of(checked: Checked, is_below: bool, is_lost: bool) -> int:
 
 
 def end_lines(proofs: Proofs, settings: Path | None, remark: str) -> list[str]:
-    """What is told last: why nothing was proved, a file of options, and that a build is unproved."""
+    """The last lines: why nothing was proved, a file of options, and that a build is unproved."""
     lines = [proofs.not_asked_text(), f"Options are from {settings}, too." if settings else "", proofs.remark, remark]
     return [each for each in lines if each]
 

@@ -11,7 +11,7 @@ Two reports of `mothra run` (or of `mutants check --report`) have no texts of ki
 matched by number, which is refused where the lists are not the same, and their tests by number too. With the jobs that
 the reports are of, mothra is asked for all texts, and reports are compared as files of --json are.
 
-Told are: mutants newly surviving and newly killed; those of one state alone, new and gone; those declared equivalent
+Shown are: mutants newly surviving and newly killed; those of one state alone, new and gone; those declared equivalent
 since then, or no more; and tests that are new, gone, or kill others than before. Where operators are in one file alone,
 their mutants are left out. --markdown writes the same for a review.
 

@@ -22,7 +22,7 @@ VALUES = [*NAMES, *(name.lower() for name in SETS)]
 
 
 class Option(NamedTuple):
-    """An option: its word, what is told of it, what its value is called (no text where it has none), and what kind of
+    """An option: its word, its help, what its value is called (no text where it has none), and what kind of
     value that is."""
 
     word: str

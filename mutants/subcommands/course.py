@@ -21,7 +21,7 @@ those of mutants job, for each program of the folder. --fail-under tells which s
 Each table becomes a job. The jobs are run side by side, N at once (else one for each processor), each as a process with
 one thread. With --sshlogin GNU parallel spreads them over machines, and MOTHRA is then the name of the program on all
 of these. Jobs whose result is there are not run again: so a second call goes on where the first was cut, and does what
-has changed. How many are done is told on standard error.
+has changed. How many are done stands on standard error.
 
 Written are, in FOLDER/out: jobs/NAME.json, .report and .outcomes (the job, what mothra run wrote of it, and what the
 program itself does on each test), jobs/NAME.html (its page), course.html (the page of the class), and course.csv with
@@ -30,7 +30,7 @@ killed), survived, score (in percent, rounded down, or NONE), only_here (mutants
 kills), wrong (declared, but killed), unexpected (tests on which the program does not do what their column expect
 says), fault (its code; - where there was no job or no answer) and told (what it is, in words). A name that a
 spreadsheet would compute has an apostrophe in front. What has not changed is not made again.
-A job without a report is a row with its fault, and stops no other one. Where there are such jobs, it is told how many
+A job without a report is a row with its fault, and stops no other one. Where there are such jobs, a line says how many
 and which, and the exit status is 1. Those that have no answer are asked for again by the next call.
 """
 
@@ -76,7 +76,7 @@ from mutants.words import (
 
 # What a file of options says of the whole class.
 OF_CLASS = ("ops", "without", "steps", "no_proofs", "fail_under")
-# So much of what parallel says of a failure is told.
+# So much of what parallel says of a failure is shown.
 LONGEST = 200
 
 
@@ -196,7 +196,7 @@ def write_class(out: Path, suites: Sequence[Suite], known: Mapping[str, Known], 
 
 
 def summary_of(suites: Sequence[Suite], out: Path, remark: str, least: Fraction | None) -> Summary:
-    """What is told of the class."""
+    """What is said of the class."""
     results = [suite.result for suite in suites]
     below = [each.name for each in reported_of(results) if is_below(summed(each.report.counts.values()), least)]
     names = [each.name for each in reported_of(results)]
@@ -207,7 +207,7 @@ def summary_of(suites: Sequence[Suite], out: Path, remark: str, least: Fraction 
 
 
 def made_anew(given: argparse.Namespace, means: Means, tasks: list[Task], results: Results, remark: str) -> Summary:
-    """All files of the class but for those that are there as they have to be, and what is told of them."""
+    """All files of the class but for those that are there as they have to be, and what is said of them."""
     known, out, asked = known_programs(given, means.program, tasks), given.folder / "out", Asked(means)
     suites = [suite_of(task, known.get(task.program_name), asked, results) for task in tasks]
     write_class(out, suites, known, remark)

@@ -5,8 +5,8 @@
 
 A mutant is a code and a number, as pages and reports name it; further numbers are of the same operator:
 ABS 7 9 12 ROR 1. Where other mutants are the same program, they are declared with it. A mutant that the program
-equivalents proves equivalent need not be declared: it is left out, and this is told; with --no-proofs it is declared
-all the same. Of one that is proved with steps to spare alone it is told that this holds for the tests as they are.
+equivalents proves equivalent need not be declared: it is left out, and this is said; with --no-proofs it is declared
+all the same. Of one that is proved with steps to spare alone it is said that this holds for the tests as they are.
 
 An entry is put behind those of PROGRAM.equivalent.csv beside the program (of a unit that is picked among several,
 PROGRAM.UNIT.equivalent.csv): the mutant, its line before and after the change as mothra writes them, and the reason.
@@ -124,7 +124,7 @@ def new_text(new: Sequence[Entry], names: Sequence[Name], settled: Settled) -> s
 
 
 def renew(path: Path, entries: Sequence[Entry], settled: Settled, present: Present) -> str:
-    """Writes the numbers of now; what is told of it."""
+    """Writes the numbers of now; how many there are."""
     written(path, entries_text(renewed(entries, settled, present)).encode())
     return f"{len(settled.moved)} of {len(entries)} entries with a new number"
 
@@ -132,7 +132,7 @@ def renew(path: Path, entries: Sequence[Entry], settled: Settled, present: Prese
 def declare(
     given: argparse.Namespace, names: Sequence[Name], path: Path, source: Source, settled: Settled, present: Present
 ) -> str:
-    """Writes the entries of these mutants behind those of the file; what is told of it."""
+    """Writes the entries of these mutants behind those of the file; which these are."""
     wanted = new_entries(given, names, settled, present)
     proofs = prover_of(given).proofs([], Job(source.text, []), present.listed)
     new = [entry for entry in wanted if entry.name not in proofs.whys]

@@ -7,12 +7,12 @@
 
 The program is run on the job with these words (`run` where there are none), and its fault is explained; or the line of
 a fault is given, as words or on standard input. For a fault of the suite the test is shown, for one of the words the
-option. A rule of the language is told with its sections of ANSI X3.9-1978. For B4 the program is asked what it does on
+option. A rule of the language is named with its sections of ANSI X3.9-1978. For B4 the program is asked what it does on
 the test, and which step ended its run; for B5 how many mutants there are.
 
 Of a program and its tests a job is made, as by mutants job and with its options. Where the program cannot be read, up
-to ten other faults are told, each with its line: what is told first is taken out of a copy, and mothra is asked again.
-A statement of FORTRAN 77 outside the subset, or of later Fortran, is told as what it is, with what to write instead.
+to ten other faults are listed, each with its line: the first one is taken out of a copy, and mothra is asked again.
+A statement of FORTRAN 77 outside the subset, or of later Fortran, is named, with what to write instead.
 
 The exit status is 0 where a fault was explained, or where there is none.
 """
@@ -79,7 +79,7 @@ def row_text(line: str, rows: Sequence[int]) -> str:
 
 
 def explanation(line: str, words: list[str], asked: Given, program: str | None, is_asked: bool) -> str:
-    """What is told of a line; where the program was asked, all else that keeps the unit from being read as well."""
+    """What is said of a line; where the program was asked, all else that keeps the unit from being read as well."""
     if line.startswith("FAULT "):
         text = explained(line, asked.job, program, words, asked.said.shown)
         if program and is_asked and line[6:7] in "FSC":

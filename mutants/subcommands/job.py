@@ -9,7 +9,7 @@ one element needs a table in JSON. A first row may name the dummy arguments, in 
 
 A program may be in UTF-8 or Latin-1, with ends of lines of either kind. --expand-tabs reads tabs, --unit picks one of
 several units, and --size N=8,LAST=9 gives adjustable bounds their values: those that are made of N, and the last bound
-of the array LAST. Line numbers stay those of the file. What may have been meant otherwise is told on standard error.
+of the array LAST. Line numbers stay those of the file. What may have been meant otherwise is a warning.
 
 Mutants are declared equivalent by PROGRAM.equivalent.csv, if it is there, or by the file of --equivalent. Its entries
 are looked for by their texts, for which mothra is asked; a bare list in JSON, as ["ROR 1", "ABS 7"], is taken as it is.

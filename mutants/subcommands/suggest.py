@@ -6,13 +6,13 @@ The program and the table are those of `mutants check`, and so are the options t
 Rows are made by chance: near those of the table, of constants of the program, of other arguments, and some with values
 far from the table's, on which a mutant may overflow. They are run in rounds of 256, and each kill is a verdict of
 mothra. Rows on which the program itself fails are left out. Few rows that kill all that was found are chosen and made
-simpler. Then the table and they are run once more, and what is told rests on that run.
+simpler. Then the table and they are run once more, and what is said rests on that run.
 
-Told are: the rows, as the table has them, those with far values apart; for each row what the program does on it, to be
+Shown are: the rows, as the table has them, those with far values apart; for each row what the program does on it, to be
 looked at before the row is taken, and the survivors that it kills, by line; and the survivors that no row killed, with
 how many of the rows that were tried came to their lines. A column `expect` of the table stays empty in new rows.
 
-An array of numbers that is in order in all tests stays so in all rows, and this is told; --free lifts it. Nothing else
+An array of numbers that is in order in all tests stays so in all rows, and this is said; --free lifts it. Nothing else
 is known of what the arguments have to be: --ranges says it. --within I=-8:8,J=0:9 tries all rows of a box, in order, a
 million at most, and says of each survivor whether a row of the box kills it; an argument that is only set is 0 there,
 and a LOGICAL one has both values. The pages of check and page say it too, until the program changes. A mutant that the
@@ -20,7 +20,7 @@ program equivalents proves equivalent is no survivor, and is not searched for. W
 steps to spare, this is said.
 
 With --rounds the same seed gives the same text; with --seconds it depends on the machine. Ctrl-C ends the search, and
-what was found until then is told; the exit status is that of an interrupted command.
+what was found until then is shown; the exit status is that of an interrupted command.
 """
 
 import argparse

@@ -6,7 +6,7 @@ A program is built by `rt try`, in a minute or two, without any proof, and kept 
 none is named, both are. Where no other program is found the subcommands take these, and say so on standard error and in
 what they write. They can be called by themselves too: each call writes a line `unproved build: ..` to standard error.
 They are not taken when the sources of the programs have changed: call this again. Where the command is installed away
-from the sources they are taken, and told with the digest of those that they were built from. A proved program, once
+from the sources they are taken, and named by the digest of those that they were built from. A proved program, once
 there is one, comes first.
 """
 

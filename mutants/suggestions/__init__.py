@@ -1,1 +1,1 @@
-"""Tests that kill survivors: rows made, run, chosen, made simpler, and told."""
+"""Tests that kill survivors: rows made, run, chosen, made simpler, and shown."""

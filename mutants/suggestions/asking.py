@@ -92,7 +92,7 @@ class Asker:
             try:
                 report = self.report(rows, words)
             except Fault as fault:
-                # This is told before a mutant is run.
+                # This comes before a mutant is run.
                 del rows[failing_place(fault)]
             else:
                 return dict(zip(rows, masks_of(report, self.numbers)))

@@ -1,4 +1,4 @@
-"""Suggestions: the search, the choice among what it found, and the last run, whose verdicts are told."""
+"""Suggestions: the search, the choice among what it found, and the last run, whose verdicts are shown."""
 
 from random import Random
 from typing import NamedTuple
@@ -66,7 +66,7 @@ def needless_in(checked: Checked) -> list[int]:
 
 
 class Suggesting:
-    """The course of a search, which Ctrl-C cuts short; what was found until then is told all the same."""
+    """The course of a search, which Ctrl-C cuts short; what was found until then is shown all the same."""
 
     def __init__(self, start: Checked, aim: Aim, means: Means, clock: Clock, paced: Paced) -> None:
         self.start, self.aim, self.means, self.paced = start, aim, means, paced

@@ -1,4 +1,4 @@
-"""What is told of suggestions: the rows, what each of them does and kills, and the survivors that none killed."""
+"""What is said of suggestions: the rows, what each of them does and kills, and the survivors that none killed."""
 
 from collections import defaultdict
 from collections.abc import Iterable, Iterator, Sequence

@@ -42,10 +42,10 @@ addEventListener("load", () => {
   for (const button of document.querySelectorAll("thead button")) button.click();
   const links = [...new Set([...document.links].map(link => link.getAttribute("href")))];
   const names = [...document.querySelectorAll("[id]")].map(each => each.id);
-  const found = document.createElement("pre"), wide = document.documentElement.scrollWidth;
-  found.id = "looked";
-  found.textContent = JSON.stringify({ wide, links, names, errors });
-  document.body.append(found);
+  const looked = document.createElement("pre"), wide = document.documentElement.scrollWidth;
+  looked.id = "looked";
+  looked.textContent = JSON.stringify({ wide, links, names, errors });
+  document.body.append(looked);
 });
 </script>
 """

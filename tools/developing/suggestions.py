@@ -71,7 +71,7 @@ def killed_by(mothra: str, program: Path, tests: Path, folder: Path) -> tuple[in
 
 def measured(mothra: str, name: str, seed: int, folder: Path) -> tuple[list[object], str]:
     """The cells of a row, and what is not met."""
-    case, start, table = CASES[name], folder / "start.json", folder / "found.json"
+    case, start, table = CASES[name], folder / "start.json", folder / "table.json"
     suite = made_of(case.program, case.full if isinstance(case.start, int) else case.start).suite
     start.write_text(json.dumps(suite[: case.start] if isinstance(case.start, int) else suite))
     begun = time.monotonic()
