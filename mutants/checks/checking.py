@@ -1,9 +1,9 @@
 """A check: the program and its tests asked for all that is said of them."""
 
 import time
-from collections.abc import Callable, Sequence
+from collections.abc import Sequence
 from pathlib import Path
-from typing import NamedTuple, TypeVar
+from typing import NamedTuple
 
 from mutants.checks.choice import Choice, choose, lines_changed, lines_within, restricted, totals_of
 from mutants.checks.faults import naming_line
@@ -19,7 +19,7 @@ from mutants.jobs.making import made_of
 from mutants.jobs.sources import Wish, source_of
 from mutants.operators import NAMES, chosen_codes
 from mutants.program.asking import asked_list, asked_print
-from mutants.program.calling import Fault
+from mutants.program.calling import naming
 from mutants.progress import Progress, telling
 from mutants.texts.batches import batch_text
 from mutants.texts.jobs import Job
@@ -29,7 +29,6 @@ from mutants.texts.reports import Report
 
 # The limit on steps where none is given.
 STEPS = 10000
-Found = TypeVar("Found")
 
 
 class Asked(NamedTuple):
@@ -148,16 +147,6 @@ def ran(job: Job, printed: Sequence[str], totals: dict[str, int], means: Means, 
     return Report(unit, len(job.suite), int(means.steps or STEPS), 1, {}, [], [])
 
 
-def named(path: Path, find: Callable[[], Found]) -> Found:
-    """What is found; a fault that is not the program's own names the file."""
-    try:
-        return find()
-    except Fault:
-        raise
-    except ValueError as fault:
-        raise ValueError(f"{path}: {fault}") from None
-
-
 def with_proofs(
     words: Sequence[str], job: Job, said: Said, listed: Sequence[Mutant], prover: Prover, name: str
 ) -> tuple[Job, Said]:
@@ -187,8 +176,10 @@ def check(asked: Asked, given: Given, means: Means, name: str, prover: Prover = 
     names = dummies_of(printed)
     totals, listed = listed_of(program, asked, job, shown)
     choice = chosen(program, asked, job, printed, listed)
-    outcomes = named(asked.tests, lambda: asked_outcomes(job, means, name))
-    unexpected = named(expected.path, lambda: differences(expected.texts, outcomes, names))
+    with naming(asked.tests):
+        outcomes = asked_outcomes(job, means, name)
+    with naming(expected.path):
+        unexpected = differences(expected.texts, outcomes, names)
     job, said = with_proofs([*words_of_ops(asked), *means.step_words], job, said, listed, prover, name)
     said = said._replace(boxes=kept_boxes(program, job.source, int(means.steps or STEPS)))
     is_whole, begun = len(choice.listed) == len(listed), time.monotonic()

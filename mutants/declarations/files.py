@@ -12,6 +12,7 @@ from typing import NamedTuple
 from mutants.declarations.entries import Entry, read_entries
 from mutants.declarations.settling import Present, Settled, settled
 from mutants.program.asking import asked_list, asked_print
+from mutants.program.calling import naming
 from mutants.texts.decoding import decoded
 from mutants.texts.jobs import read_job
 from mutants.texts.prints import statements_by_line
@@ -67,13 +68,11 @@ def read_names(text: str) -> list[str]:
 
 def read_declarations(path: Path) -> Declarations:
     """The declarations of a file; ValueError names the file, and why it cannot be read."""
-    try:
+    with naming(path):
         text = decoded(path.read_bytes())
         if path.suffix.lower() == ".csv":
             return Declarations(path, read_entries(text))
         return Declarations(path, [], read_names(text))
-    except (OSError, ValueError, RecursionError) as fault:
-        raise ValueError(f"{path}: {getattr(fault, 'strerror', None) or fault}") from None
 
 
 def asked_present(program: str, ops: Sequence[str], job: bytes) -> Present:

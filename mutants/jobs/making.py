@@ -1,11 +1,10 @@
 """The job of a program in fixed form and a table of its tests, as a value and as a text."""
 
 import argparse
-import csv
 import json
 from collections.abc import Callable, Sequence
 from pathlib import Path
-from typing import Any, NamedTuple, TypeVar
+from typing import Any, NamedTuple
 
 from mutants.declarations.files import NONE_MEANT, Meant, found_beside, meant_by, read_declarations
 from mutants.files import bytes_of
@@ -14,12 +13,12 @@ from mutants.jobs.setting import zeros_of
 from mutants.jobs.sizes import read_sizes
 from mutants.jobs.sources import Source, Wish, source_of
 from mutants.jobs.tables import Table, read_table, titles_of
+from mutants.program.calling import naming
 from mutants.texts.cards import cards_of
 from mutants.texts.dummies import read_head
 
 # The limits of a job: its tests, and its bytes.
 TESTS, BYTES = 256, 1_048_576
-Read = TypeVar("Read")
 
 
 class Made(NamedTuple):
@@ -48,14 +47,6 @@ class Made(NamedTuple):
         return "{" + ",\n".join(members) + "}\n"
 
 
-def with_path(path: Path, read: Callable[[], Read]) -> Read:
-    """What is read of a file; a fault names the file."""
-    try:
-        return read()
-    except (OSError, ValueError, RecursionError, csv.Error) as fault:
-        raise ValueError(f"{path}: {getattr(fault, 'strerror', None) or fault}") from None
-
-
 def dummies_of(source: str) -> list[str] | None:
     """The names of the dummy arguments; None where the source does not begin with SUBROUTINE."""
     cards = cards_of(source)
@@ -70,19 +61,20 @@ def made_of(program: Path, tests: Path | None = None, wish: Wish = Wish()) -> Ma
 
     Of what does not begin with SUBROUTINE the program tells too, so no table is read for it.
     """
-    source = with_path(program, lambda: source_of(bytes_of(program), wish))
+    with naming(program):
+        source = source_of(bytes_of(program), wish)
     made = Made(source, None, [f"{program}: {remark}" for remark in source.remarks])
     return made if tests is None else with_table(made, tests, wish)
 
 
 def with_table(made: Made, path: Path, wish: Wish = Wish()) -> Made:
     """The job of a program with the table of a file."""
-    source, known = made.source, dummies_of(made.source.text)
-    if known is None:
+    source, dummies = made.source, dummies_of(made.source.text)
+    if dummies is None:
         return made
-    dummies: Sequence[str] = known
-    table = with_path(path, lambda: read_table(path, dummies, zeros_of(source.text, dummies)))
-    fitted = with_path(path, lambda: fit(source, table, dummies, wish.sizes)) if wish.sizes else []
+    with naming(path):
+        table = read_table(path, dummies, zeros_of(source.text, dummies))
+        fitted = fit(source, table, dummies, wish.sizes) if wish.sizes else []
     remarks = [*table.remarks, *fitted, *sizes_remarks(source, table, dummies)]
     return Made(source, table, made.remarks + [f"{path}: {each}" for each in remarks])
 

@@ -1,7 +1,9 @@
 """Calls of the programs mothra and equivalents."""
 
+import csv
 import subprocess
-from collections.abc import Callable, Sequence
+from collections.abc import Callable, Iterator, Sequence
+from contextlib import contextmanager
 from pathlib import Path
 from typing import TypeVar
 
@@ -65,6 +67,17 @@ def failure_of(text: str, status: int) -> str:
 def text_of(path: str | Path) -> str:
     """A text that was stored, ends of lines as they are."""
     return Path(path).read_bytes().decode("utf-8", "replace")
+
+
+@contextmanager
+def naming(path: Path) -> Iterator[None]:
+    """While it holds, what is wrong with a file names it; a fault that a program wrote stays as it is."""
+    try:
+        yield
+    except Fault:
+        raise
+    except (OSError, ValueError, RecursionError, csv.Error) as fault:
+        raise ValueError(f"{path}: {getattr(fault, 'strerror', None) or fault}") from None
 
 
 def read_as(name: str | Path, read: Callable[[Text], Read], text: Text) -> Read:

@@ -31,9 +31,10 @@ from mutants.declarations.proving import add_proof_options, prover_of
 from mutants.declarations.settling import Present, Settled, entry_for, settled
 from mutants.english import joined_words, plural
 from mutants.files import locked, written
-from mutants.jobs.making import add_reading_options, made_of, wish_of, with_path
+from mutants.jobs.making import add_reading_options, made_of, wish_of
 from mutants.jobs.sources import Source
 from mutants.operators import NAMES
+from mutants.program.calling import naming
 from mutants.program.finding import add_mothra_option, find_program
 from mutants.statuses import SUCCESS
 from mutants.subcommands.check import add_options
@@ -152,7 +153,8 @@ def run(given: argparse.Namespace, name: str) -> int:
     path = given.equivalent or path_beside(given.program, made.source.unit)
     program = find_program(given.mothra)
     with locked(path), naming_line(given.program, made.source.text, made.source.shown):
-        entries = with_path(path, lambda: written_entries(path))
+        with naming(path):
+            entries = written_entries(path)
         # Twins may be of any operator.
         ops = list(NAMES) if names else sorted({entry.op for entry in entries})
         present = asked_present(program, ops, made.text().encode())
