@@ -65,8 +65,6 @@ class Coverage(unittest.TestCase):
             found,
             {3: (3, "DO 20 J=1/0*"), 5: (6, "IF (1/0.EQ.1.AND."), 6: (7, "ELSE IF (1/0.EQ.1.AND.")},
         )
-        long = coverage.card_lines("10", "K=" + "I+" * 50 + "I")
-        self.assertEqual([card.text for card in cards_of("\n".join(long))], ["K=" + "I+" * 50 + "I"])
 
     def test_what_traps_leave_open_is_asked_of_that_program(self) -> None:
         listed = [Mutant("AOR", n, n, line, text) for n, (line, text) in enumerate([

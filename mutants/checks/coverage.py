@@ -14,15 +14,13 @@ from mutants.checks.running import Means, asked_in_parts
 from mutants.program.asking import asked_list
 from mutants.program.calling import Fault
 from mutants.texts.batches import batch_text
-from mutants.texts.cards import cards_of
+from mutants.texts.cards import cards_of, lines_of
 from mutants.texts.jobs import Job
 from mutants.texts.lines import Mutant
 from mutants.texts.parentheses import commas
 from mutants.texts.reports import Row
 
 TRAP, SAN, AOR = "TRAP", "SAN", "AOR"
-# So many characters of a statement stand on a line.
-WIDTH = 66
 
 
 class Watched(NamedTuple):
@@ -78,12 +76,6 @@ def watched(statement: str) -> Watched | None:
     return Watched(f"{loop[0]}(1-0)*({rest[:end]}){rest[end:]}", f"{loop[0]}1/0*")
 
 
-def card_lines(label: str, statement: str) -> list[str]:
-    """A statement in fixed form."""
-    pieces = [statement[at : at + WIDTH] for at in range(0, len(statement), WIDTH)]
-    return [f"{label:>5} {pieces[0]}", *(f"     +{piece}" for piece in pieces[1:])]
-
-
 def watched_source(checked: Checked) -> tuple[str, dict[int, tuple[int, str]]]:
     """The program with 1-0 in those statements; and by their lines there, their lines and how the mutants begin."""
     lines: list[str] = []
@@ -92,7 +84,7 @@ def watched_source(checked: Checked) -> tuple[str, dict[int, tuple[int, str]]]:
         watch = watched(statement)
         if watch:
             places[len(lines) + 1] = card.line, watch.front
-        lines += card_lines(card.label, watch.statement if watch else statement)
+        lines += lines_of(card.label, watch.statement if watch else statement)
     return "".join(f"{line}\n" for line in lines), places
 
 

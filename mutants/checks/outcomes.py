@@ -8,7 +8,7 @@ from mutants.checks.faults import said_of
 from mutants.checks.running import Means, calls_at_once
 from mutants.pages.suite import values_of
 from mutants.program.calling import Fault
-from mutants.program.many import Call, Handling, ask_many
+from mutants.program.many import Call, Handling, ask_many, nothing
 from mutants.progress import Estimate, Progress
 from mutants.texts.batches import batch_text
 from mutants.texts.jobs import Job
@@ -33,10 +33,6 @@ def test_fault(number: int, fault: Fault) -> ValueError:
     return ValueError(f"test {number}: {said_of(fault.line)}")
 
 
-def untold() -> None:
-    """In the place of what tells how far it is."""
-
-
 def asked_outcomes(job: Job, means: Means, name: str | None) -> list[str]:
     """The line of the outcome of the program itself on each test; the first test that cannot be run is refused.
 
@@ -55,7 +51,7 @@ def asked_outcomes(job: Job, means: Means, name: str | None) -> list[str]:
         return test_fault(place + 1, fault)
 
     try:
-        ask_many(means.program, calls, calls_at_once(means), Handling(keep, estimate.tick if name else untold, refuse))
+        ask_many(means.program, calls, calls_at_once(means), Handling(keep, estimate.tick if name else nothing, refuse))
     finally:
         progress.end()
     for number, outcome in enumerate(outcomes, 1):

@@ -13,6 +13,7 @@ from pathlib import Path
 from typing import NoReturn
 
 from mutants.checks.sections import INI, file_in, read_sections
+from mutants.program.calling import naming
 from mutants.program.programs import PROGRAMS
 
 AddOptions = Callable[[argparse.ArgumentParser], None]
@@ -79,15 +80,13 @@ def words_in(values: Mapping[str, str], parser: Parser, folder: Path) -> list[st
 
 def read_settings(path: Path, program: Path, add_options: AddOptions) -> argparse.Namespace:
     """The options that a file has for a program, as the command line would give them, and its tests."""
-    try:
+    with naming(path):
         sections, parser = read_sections(path), parser_of(add_options)
         own = sections.of(program)
         values = {**sections.common, **(own.values if own else {})}
         settings = parser.parse_args(words_in(values, parser, path.parent))
         settings.tests = own.tests if own else None
         return settings
-    except ValueError as fault:
-        raise ValueError(f"{path}: {fault}") from None
 
 
 def is_open(value: object) -> bool:

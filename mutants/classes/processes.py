@@ -16,13 +16,9 @@ def text_of_call(calls: Calls, words: Sequence[str], job: bytes) -> str:
         return f"{fault.line}\n"
 
 
-def untold() -> None:
-    """In the place of what tells how far it is: each job that ends tells it."""
-
-
 def run_here(
     program: str, words: Sequence[str], jobs: Sequence[bytes], count: int | None, keep: Callable[[int, str], None]
 ) -> None:
     """Runs the jobs; `keep` is called with the place and the text of each as it ends."""
     calls = [(["run", *words], job) for job in jobs]
-    ask_many(program, calls, count or processors(), Handling(keep, untold, ask=text_of_call))
+    ask_many(program, calls, count or processors(), Handling(keep, ask=text_of_call))

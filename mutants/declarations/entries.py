@@ -5,8 +5,6 @@ and `mothra list` write them; `reason`; and `where`. The last one may be absent.
 stand on several lines: on how many, and the digests of the statements up to the one that is meant, and from it on.
 """
 
-import csv
-import io
 import re
 from collections.abc import Iterable, Mapping, Sequence
 from pathlib import Path
@@ -14,6 +12,7 @@ from typing import NamedTuple
 
 from mutants.operators import NAMES
 from mutants.texts.decoding import decoded
+from mutants.texts.separated import row_text, rows_in
 
 COLUMNS = ["mutant", "before", "after", "reason", "where"]
 # Columns that a file has to have.
@@ -67,40 +66,30 @@ def columns_of(row: Sequence[str]) -> list[str]:
 
 def read_entries(text: str) -> list[Entry]:
     """The entries of a file, in its order."""
-    reader = csv.reader(io.StringIO(text, newline=""), strict=True)
     columns: list[str] = []
     entries: list[Entry] = []
-    try:
-        for row in reader:
-            if not any(cell.strip() for cell in row):
-                continue
-            if not columns:
-                columns = columns_of(row)
-            elif len(row) > len(columns):
-                raise ValueError(f"row {reader.line_num} has {len(row)} cells, and there are {len(columns)} columns")
-            else:
-                row += [""] * (len(columns) - len(row))
-                entries.append(entry_of(dict(zip(columns, row)), reader.line_num))
-    except csv.Error as fault:
-        raise ValueError(f"row {reader.line_num}: {fault}") from None
+    for number, row in rows_in(text, strict=True):
+        if not columns:
+            columns = columns_of(row)
+        elif len(row) > len(columns):
+            raise ValueError(f"row {number} has {len(row)} cells, and there are {len(columns)} columns")
+        else:
+            row += [""] * (len(columns) - len(row))
+            entries.append(entry_of(dict(zip(columns, row)), number))
     return entries
 
 
 def entries_text(entries: Iterable[Entry], has_head: bool = True) -> str:
     """The file of entries, or the rows to be put behind one."""
-    kept = io.StringIO()
-    writer = csv.writer(kept, lineterminator="\n")
-    if has_head:
-        writer.writerow(COLUMNS)
-    writer.writerows([entry.name, entry.before, entry.after, entry.reason, entry.where] for entry in entries)
-    return kept.getvalue()
+    rows = [[entry.name, entry.before, entry.after, entry.reason, entry.where] for entry in entries]
+    return "".join(map(row_text, [COLUMNS, *rows] if has_head else rows))
 
 
 def appended(text: str, entries: Sequence[Entry]) -> str:
     """The text of a file with more entries behind those that it has. Its own rows keep their bytes."""
     if not text.strip():
         return entries_text(entries)
-    has_columns = columns_of(next(csv.reader(io.StringIO(text, newline="")))) == COLUMNS
+    has_columns = columns_of(next(rows_in(text))[1]) == COLUMNS
     if not has_columns:
         return entries_text([*read_entries(text), *entries])
     return text + ("" if text.endswith("\n") else "\n") + entries_text(entries, has_head=False)

@@ -15,6 +15,7 @@ from mutants.ending import one_line
 from mutants.exports.outputs import assert_made_here
 from mutants.files import written
 from mutants.pages.index import Entry, index_page
+from mutants.program.calling import naming
 from mutants.statuses import BELOW, FAULT, MEANINGS, SUCCESS, UNEXPECTED
 from mutants.texts.reports import summed
 
@@ -46,10 +47,8 @@ def sections_in(folder: Path) -> Sections:
     path = file_in(folder)
     if path is None:
         raise ValueError(f"{folder}: there is neither {INI} nor {TOML}; give PROGRAM.f and TESTS")
-    try:
+    with naming(path):
         sections = read_sections(path)
-    except ValueError as fault:
-        raise ValueError(f"{path}: {fault}") from None
     if not sections.programs:
         raise ValueError(f"{path}: it names no program: a section has the keys source and tests")
     return sections

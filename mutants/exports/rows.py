@@ -1,7 +1,5 @@
 """The mutants of a check, each with what other programs read of it; and as a table in CSV, a row each."""
 
-import csv
-import io
 from collections.abc import Iterator, Mapping
 from typing import NamedTuple
 
@@ -9,6 +7,7 @@ from mutants.checks.checking import Checked
 from mutants.declarations.proofs import PROVED
 from mutants.texts.lines import Mutant
 from mutants.texts.reports import Row, tests_in
+from mutants.texts.separated import row_text
 from mutants.texts.twins import name_of, names_text, others_by_name
 
 COLUMNS = "mutant operator line status declared proof before after killed_by covered_by twins".split()
@@ -55,12 +54,10 @@ def records_of(checked: Checked, covered: Mapping[int, str]) -> Iterator[Record]
 
 def table_text(checked: Checked, covered: Mapping[int, str]) -> str:
     """The table of the mutants."""
-    kept = io.StringIO()
-    table = csv.writer(kept, lineterminator="\n")
-    table.writerow(COLUMNS)
+    lines = [row_text(COLUMNS)]
     for each in records_of(checked, covered):
         tests = [" ".join(map(str, numbers)) for numbers in (each.killed_by, each.covered_by)]
         declared = PROVED if each.proof else "yes" if each.is_declared else "no"
         row = [each.name, each.mutant.op, each.mutant.line, each.status, declared, each.proof]
-        table.writerow([*row, each.before, each.mutant.text, *tests, each.twins])
-    return kept.getvalue()
+        lines.append(row_text([*row, each.before, each.mutant.text, *tests, each.twins]))
+    return "".join(lines)

@@ -7,6 +7,7 @@ import json
 from pathlib import Path
 from typing import NamedTuple
 
+from mutants.program.calling import naming
 from mutants.texts.decoding import decoded
 
 COLUMN = "expect"
@@ -29,13 +30,11 @@ def lines_for(text: str, tests: int) -> list[str]:
 
 def expected_in_file(path: Path, tests: int) -> Expected:
     """What a file expects: a list of texts in JSON, or a line for each test."""
-    text = decoded(path.read_bytes())
-    try:
+    with naming(path):
+        text = decoded(path.read_bytes())
         texts = json.loads(text) if path.suffix.lower() == ".json" else lines_for(text, tests)
-    except ValueError as fault:
-        raise ValueError(f"{path}: {fault}") from None
-    if not isinstance(texts, list) or not all(isinstance(each, str) for each in texts):
-        raise ValueError(f'{path}: it is no list of texts, as ["RETURNED 1 2 1"]')
-    if len(texts) != tests:
-        raise ValueError(f"{path}: it has {len(texts)} outcomes for {tests} tests")
+        if not isinstance(texts, list) or not all(isinstance(each, str) for each in texts):
+            raise ValueError('it is no list of texts, as ["RETURNED 1 2 1"]')
+        if len(texts) != tests:
+            raise ValueError(f"it has {len(texts)} outcomes for {tests} tests")
     return Expected(path, dict(enumerate(texts, 1)))

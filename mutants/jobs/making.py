@@ -16,6 +16,7 @@ from mutants.jobs.tables import Table, read_table, titles_of
 from mutants.program.calling import naming
 from mutants.texts.cards import cards_of
 from mutants.texts.dummies import read_head
+from mutants.words import read_by
 
 # The limits of a job: its tests, and its bytes.
 TESTS, BYTES = 256, 1_048_576
@@ -103,18 +104,10 @@ def whole_text(made: Made, equivalent: Sequence[str] | None = None) -> str:
     return text
 
 
-def sizes_word(word: str) -> dict[str, int]:
-    """The values of --size, as an option takes them."""
-    try:
-        return read_sizes(word)
-    except ValueError as fault:
-        raise argparse.ArgumentTypeError(str(fault)) from None
-
-
 def add_reading_options(parser: argparse.ArgumentParser) -> None:
     """The options that say how a program is read."""
     parser.add_argument("--unit", metavar="NAME", help="the unit, where the file has several; lines keep their numbers")
-    parser.add_argument("--size", metavar="N=8,..", type=sizes_word, help="values of adjustable bounds")
+    parser.add_argument("--size", metavar="N=8,..", type=read_by(read_sizes), help="values of adjustable bounds")
     text = "read tabs as blanks: the first of a line leads to column 7"
     parser.add_argument("--expand-tabs", action="store_true", help=text)
 

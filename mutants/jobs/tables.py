@@ -1,8 +1,6 @@
 """Tables of tests: JSON or CSV, with or without a row of names, and why a cell does not serve."""
 
-import csv
 import difflib
-import io
 import json
 import re
 from collections.abc import Callable, Iterator, Mapping, Sequence
@@ -13,6 +11,7 @@ from mutants.english import joined_words, plural
 from mutants.files import bytes_of
 from mutants.jobs.cells import LONGEST, TRUTHS, checked_value, is_blank, read_cell
 from mutants.texts.decoding import decoded
+from mutants.texts.separated import rows_in
 
 NAME = re.compile(r"[A-Za-z][A-Za-z0-9]*")
 # A column that means something beside those of the dummy arguments; and those that name the tests, where one is there.
@@ -41,17 +40,6 @@ class Cell(NamedTuple):
 
     def place(self) -> str:
         return f"row {self.row}, column {self.column}" + (f" ({self.name})" if self.name else "")
-
-
-def rows_of_csv(text: str) -> Iterator[tuple[int, Cells]]:
-    """The rows that are not blank, each with the number of the line on which it ends."""
-    reader = csv.reader(io.StringIO(text, newline=""))
-    try:
-        for row in reader:
-            if any(cell.strip() for cell in row):
-                yield reader.line_num, row
-    except csv.Error as fault:
-        raise ValueError(f"row {reader.line_num}: {fault}") from None
 
 
 def rows_of_json(text: str) -> Iterator[tuple[int, Cells]]:
@@ -175,5 +163,5 @@ def read_table(path: Path, dummies: Sequence[str] | None = None, blanks: Mapping
     text = decoded(bytes_of(path))
     reading = Reading(dummies, blanks)
     if path.suffix.lower() == ".csv":
-        return reading.take(rows_of_csv(text), read_cell, True)
+        return reading.take(rows_in(text), read_cell, True)
     return reading.take(rows_of_json(text), checked_value, False)

@@ -1,6 +1,5 @@
 """Calls of the programs mothra and equivalents."""
 
-import csv
 import subprocess
 from collections.abc import Callable, Iterator, Sequence
 from contextlib import contextmanager
@@ -76,7 +75,7 @@ def naming(path: Path) -> Iterator[None]:
         yield
     except Fault:
         raise
-    except (OSError, ValueError, RecursionError, csv.Error) as fault:
+    except (OSError, ValueError, RecursionError) as fault:
         raise ValueError(f"{path}: {getattr(fault, 'strerror', None) or fault}") from None
 
 

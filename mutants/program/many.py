@@ -74,6 +74,10 @@ def answer_of(calls: Calls, words: Sequence[str], job: bytes) -> str:
     return calls.answer(words, job)
 
 
+def nothing() -> None:
+    """In the place of what shows how far it is."""
+
+
 def as_it_is(place: int, fault: Fault) -> Exception:
     return fault
 
@@ -115,7 +119,7 @@ class Handling(NamedTuple):
     with the place of one that fails; and how one is made."""
 
     keep: Keep
-    tick: Callable[[], None]
+    tick: Callable[[], None] = nothing
     refuse: Refuse = as_it_is
     ask: Ask = answer_of
 

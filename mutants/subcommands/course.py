@@ -35,8 +35,6 @@ and which, and the exit status is 1. Those that have no answer are asked for aga
 """
 
 import argparse
-import csv
-import io
 import json
 import sys
 from collections.abc import Collection, Mapping, Sequence
@@ -70,6 +68,7 @@ from mutants.subcommands.check import add_options
 from mutants.texts.jobs import Job, read_job
 from mutants.texts.prints import statements_by_line
 from mutants.texts.reports import summed
+from mutants.texts.separated import row_text
 from mutants.words import (
     add_mothra_options, add_operators, asked_words, number_from_1, percent_text, tell_remarks, visible,
 )  # fmt: skip
@@ -171,15 +170,13 @@ def proof_remarks(tasks: Sequence[Task]) -> list[str]:
 
 def write_table(out: Path, results: list[Result]) -> None:
     """The table of the class, a row for each job."""
-    kept = io.StringIO()
-    table = csv.writer(kept, lineterminator="\n")
-    table.writerow(COLUMNS)
+    rows: list[Sequence[object]] = [COLUMNS]
     for name in dict.fromkeys(result.program for result in results):
         ours = [result for result in results if result.program == name]
         reported = reported_of(ours)
         only = only_here(reported) if reported else {}
-        table.writerows(csv_row(result, only) for result in ours)
-    written(out / "course.csv", kept.getvalue().encode())
+        rows += [csv_row(result, only) for result in ours]
+    written(out / "course.csv", "".join(map(row_text, rows)).encode())
 
 
 def write_class(out: Path, suites: Sequence[Suite], known: Mapping[str, Known], remark: str) -> None:

@@ -1,7 +1,5 @@
 """Rows as the table of the tests has them, and the whole table with them."""
 
-import csv
-import io
 import json
 from collections.abc import Collection, Sequence
 from pathlib import Path
@@ -10,6 +8,7 @@ from typing import NamedTuple
 from mutants.jobs.tables import Table
 from mutants.suggestions.shapes import Row, Scalar, Value, items_of, test_of
 from mutants.texts.decoding import decoded
+from mutants.texts.separated import records_in, row_text
 
 
 class Layout(NamedTuple):
@@ -22,10 +21,7 @@ class Layout(NamedTuple):
         """A row as a line of the table, without its end. Of other columns, such as `expect`, nothing is said."""
         if self.is_json:
             return json.dumps(test_of(row))
-        kept = io.StringIO()
-        writer = csv.writer(kept, lineterminator="")
-        writer.writerow(["" if place is None else cell_of(row[place]) for place in self.places])
-        return kept.getvalue()
+        return row_text(("" if place is None else cell_of(row[place]) for place in self.places), end="")
 
 
 def word_of(item: Scalar) -> str:
@@ -50,15 +46,6 @@ def table_with(path: Path, table: Table, lines: Sequence[str], needless: Collect
         old = [json.dumps(test) for number, test in enumerate(table.tests, 1) if number not in needless]
         return "[\n  " + ",\n  ".join([*old, *lines]) + "\n]\n"
     end = "\r\n" if "\r\n" in text else "\n"
-    kept = without_rows(text, {table.rows[number - 1] for number in needless})
+    ends = {table.rows[number - 1] for number in needless}
+    kept = "".join(row for number, _, row in records_in(text) if number not in ends)
     return kept + ("" if not kept or kept.endswith("\n") else end) + "".join(line + end for line in lines)
-
-
-def without_rows(text: str, ends: Collection[int]) -> str:
-    """The text of a table in CSV without the rows that end on these lines."""
-    lines = list(io.StringIO(text, newline=""))
-    reader, kept, begin = csv.reader(lines), [], 0
-    for _ in reader:
-        kept += lines[begin : reader.line_num] if reader.line_num not in ends else []
-        begin = reader.line_num
-    return "".join(kept)
