@@ -56,14 +56,26 @@ def seconds_text(seconds: float) -> str:
     return f"{minutes} minutes" if minutes < 100 else f"{seconds / 3600:.1f} hours"
 
 
-class Estimate:
-    """How much of some work is done, and how long the rest may take, shown where it takes long."""
+class Paced:
+    """Shows how far work is: on a terminal at once, else now and then where it takes long."""
 
-    def __init__(self, progress: Progress, what: str, whole: int) -> None:
-        self.progress, self.what, self.whole, self.done = progress, what, whole, 0
-        self.begun = time.monotonic()
-        self.next = self.begun + (0 if progress.is_terminal else QUIET)
-        self.shown = -1
+    def __init__(self, name: str) -> None:
+        self.progress, self.begun = Progress(name), time.monotonic()
+        self.next = self.begun + (0 if self.progress.is_terminal else QUIET)
+
+    def tell(self, text: str) -> None:
+        now = time.monotonic()
+        if now >= self.next:
+            self.next = now + (0 if self.progress.is_terminal else OFTEN)
+            self.progress.tell(text)
+
+
+class Estimate(Paced):
+    """Shows how much of some work is done, and how long the rest may take."""
+
+    def __init__(self, name: str, what: str, whole: int) -> None:
+        super().__init__(name)
+        self.what, self.whole, self.done, self.shown = what, whole, 0, -1
 
     def add(self, part: int) -> None:
         self.done += part
@@ -78,21 +90,7 @@ class Estimate:
     def tick(self) -> None:
         """Tells it, where it is time to."""
         now = time.monotonic()
+        # Lines that stay, as in the log of a build, are written where something was done since.
         if now >= self.next and (self.progress.is_terminal or self.done != self.shown):
-            # Lines that stay, as in the log of a build, are written where something was done since.
-            self.next, self.shown = now + (0 if self.progress.is_terminal else OFTEN), self.done
-            self.progress.tell(self.text(now))
-
-
-class Paced:
-    """Tells how far work is that has no known end: on a terminal at once, else now and then where it takes long."""
-
-    def __init__(self, name: str) -> None:
-        self.progress = Progress(name)
-        self.next = time.monotonic() + (0 if self.progress.is_terminal else QUIET)
-
-    def tell(self, text: str) -> None:
-        now = time.monotonic()
-        if now >= self.next:
-            self.next = now + (0 if self.progress.is_terminal else OFTEN)
-            self.progress.tell(text)
+            self.shown = self.done
+            self.tell(self.text(now))

@@ -48,7 +48,7 @@ class Parts(unittest.TestCase):
     def test_a_line_of_a_log_is_not_told_again_where_nothing_was_done(self) -> None:
         errors = io.StringIO()
         with mock.patch.object(sys, "stderr", errors), mock.patch.object(progress, "OFTEN", 0.0):
-            estimate = progress.Estimate(progress.Progress("check"), "work", 2)
+            estimate = progress.Estimate("check", "work", 2)
             estimate.next = 0.0
             for part in (0, 0, 1, 0):
                 estimate.add(part)

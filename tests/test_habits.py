@@ -9,10 +9,11 @@ from unittest import mock
 import running  # noqa: F401  it finds the package
 from developing import examples
 from mutants.checks.faults import program_fault
-from mutants.explanations.habits import HABITS, read_paragraph
-from mutants.explanations.names import called_names, declared_arrays, logical_names
-from mutants.explanations.seeing import advice_of_all, habits_seen, said_of_all, statement_habits
 from mutants.explanations.explanation import explained
+from mutants.explanations.habits import HABITS, PARAGRAPH
+from mutants.explanations.names import called_names, declared_arrays, logical_names
+from mutants.explanations.paragraphs import matched
+from mutants.explanations.seeing import advice_of_all, habits_seen, said_of_all, statement_habits
 from mutants.program.calling import Fault
 
 # Statements, with the name of the habit that is seen in each.
@@ -61,7 +62,7 @@ class Texts(unittest.TestCase):
 
     def test_a_paragraph_without_advice_is_refused(self) -> None:
         with self.assertRaisesRegex(ValueError, "paragraph that is none"):
-            read_paragraph("CALL\nFor: S2 CALL X\nCALL is a call.")
+            matched("CALL\nFor: S2 CALL X\nCALL is a call.", PARAGRAPH)
 
     def test_the_examples_are_held_against_the_program(self) -> None:
         with mock.patch.object(examples, "asked_fault", lambda mothra, source: ("C2", "FOO")):

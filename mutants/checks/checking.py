@@ -70,12 +70,7 @@ class Checked(NamedTuple):
 
     @property
     def shown(self) -> str:
-        return shown_of(self.job, self.said)
-
-
-def shown_of(job: Job, said: Said) -> str:
-    """The source as it is shown."""
-    return job.source if said.shown is None else said.shown
+        return self.said.shown_for(self.job)
 
 
 def dummies_of(printed: Sequence[str]) -> list[str]:
@@ -115,12 +110,11 @@ def changed_of(program: str, asked: Asked, job: Job, printed: Sequence[str]) -> 
 
 def chosen(program: str, asked: Asked, job: Job, printed: Sequence[str], listed: Sequence[Mutant]) -> Choice:
     """The mutants of the lines that are asked about."""
-    choice = choose(listed, None, "")
+    choice = Choice(list(listed), [])
     if asked.ranges is not None:
-        choice = choose(listed, lines_within(job.source, asked.ranges), "of other lines than those of --lines")
+        choice = choose(choice, lines_within(job.source, asked.ranges), "of other lines than those of --lines")
     if asked.old is not None or asked.since is not None:
-        more = choose(choice.listed, *changed_of(program, asked, job, printed))
-        choice = Choice(more.listed, choice.left_out + more.left_out)
+        choice = choose(choice, *changed_of(program, asked, job, printed))
     return choice
 
 
@@ -171,7 +165,7 @@ def check(asked: Asked, given: Given, means: Means, name: str, prover: Prover = 
     """Asks the program for all of it. What keeps the program or a test from being run is reported before mutants are
     run."""
     job, said, expected = given
-    program, shown = means.program, shown_of(job, said)
+    program, shown = means.program, said.shown_for(job)
     printed = printed_of(program, asked.program, job, shown)
     names = dummies_of(printed)
     totals, listed = listed_of(program, asked, job, shown)

@@ -6,6 +6,7 @@ from collections.abc import Collection, Iterable, Mapping, Sequence
 from difflib import SequenceMatcher
 from typing import NamedTuple
 
+from mutants.english import plural
 from mutants.texts.cards import Card, cards_of
 from mutants.texts.lines import Mutant
 from mutants.texts.reports import Report, counted
@@ -58,13 +59,11 @@ def lines_changed(source: str, printed: Sequence[str], old_source: str, old_prin
     return {card.line for place, card in enumerate(cards_of(source)) if place not in kept}
 
 
-def choose(listed: Sequence[Mutant], lines: Collection[int] | None, why: str) -> Choice:
-    """The mutants of these lines, or all where no lines are given."""
-    if lines is None:
-        return Choice(list(listed), [])
-    kept = [mutant for mutant in listed if mutant.line in lines]
-    rest = len(listed) - len(kept)
-    return Choice(kept, [f"{rest} mutant{'s' * (rest != 1)} {why}"] if rest else [])
+def choose(choice: Choice, lines: Collection[int], why: str) -> Choice:
+    """Those of the mutants that are on these lines."""
+    kept = [mutant for mutant in choice.listed if mutant.line in lines]
+    rest = len(choice.listed) - len(kept)
+    return Choice(kept, [*choice.left_out, *([f"{plural(rest, 'mutant')} {why}"] if rest else [])])
 
 
 def totals_of(totals: Mapping[str, int], listed: Iterable[Mutant]) -> dict[str, int]:

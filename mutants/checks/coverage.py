@@ -58,11 +58,6 @@ def kill_bits(listed: Iterable[Mutant], rows: Iterable[Row], tests: int) -> dict
     return {line: f"{bits:0{tests}b}" if tests else "" for line, bits in by_line.items()}
 
 
-def first_parameter(text: str) -> int:
-    """How long the first of some expressions is that are joined by commas."""
-    return next(iter(commas(text)), len(text))
-
-
 def watched(statement: str) -> Watched | None:
     """A block IF, ELSE IF or DO that does the same and has 1-0 in it; None for another statement."""
     block = re.fullmatch(r"((?:ELSE )?IF )\((.*)\) THEN", statement)
@@ -72,7 +67,8 @@ def watched(statement: str) -> Watched | None:
     if not loop:
         return None
     rest = statement[loop.end() :]
-    end = first_parameter(rest)
+    # The first parameter goes up to the first comma.
+    end = next(iter(commas(rest)), len(rest))
     return Watched(f"{loop[0]}(1-0)*({rest[:end]}){rest[end:]}", f"{loop[0]}1/0*")
 
 

@@ -8,8 +8,8 @@ from mutants.checks.faults import said_of
 from mutants.checks.running import Means, calls_at_once
 from mutants.pages.suite import values_of
 from mutants.program.calling import Fault
-from mutants.program.many import Call, Handling, ask_many, nothing
-from mutants.progress import Estimate, Progress
+from mutants.program.many import Call, Handling, ask_many
+from mutants.progress import Estimate
 from mutants.texts.batches import batch_text
 from mutants.texts.jobs import Job
 
@@ -40,8 +40,8 @@ def asked_outcomes(job: Job, means: Means, name: str | None) -> list[str]:
     """
     words, plain = ["exec", "--test", "1", *means.step_words], Job(job.source, job.suite)
     calls: list[Call] = [(words, batch_text(plain, at, at + 1)) for at in range(len(job.suite))]
-    outcomes, progress = [""] * len(calls), Progress(name or "")
-    estimate = Estimate(progress, f"the program itself on {len(calls)} tests", len(calls))
+    outcomes = [""] * len(calls)
+    estimate = Estimate(name or "", f"the program itself on {len(calls)} tests", len(calls))
 
     def keep(place: int, text: str) -> None:
         outcomes[place] = text.rstrip("\n")
@@ -50,10 +50,11 @@ def asked_outcomes(job: Job, means: Means, name: str | None) -> list[str]:
     def refuse(place: int, fault: Fault) -> ValueError:
         return test_fault(place + 1, fault)
 
+    handling = Handling(keep, estimate.tick, refuse) if name else Handling(keep, refuse=refuse)
     try:
-        ask_many(means.program, calls, calls_at_once(means), Handling(keep, estimate.tick if name else nothing, refuse))
+        ask_many(means.program, calls, calls_at_once(means), handling)
     finally:
-        progress.end()
+        estimate.progress.end()
     for number, outcome in enumerate(outcomes, 1):
         if outcome.split(" ")[0] not in ENDS:
             ending = f"test {number}: the program itself ends as {outcome} on {values_of(job.suite[number - 1])}"

@@ -8,7 +8,7 @@ from mutants.checks.machines import ask_machines
 from mutants.checks.parts import Part, group_size, parts_of, whole_report
 from mutants.program.calling import Fault, read_as
 from mutants.program.many import Call, Handling, ask_many, processors
-from mutants.progress import Estimate, Progress
+from mutants.progress import Estimate
 from mutants.texts.batches import batch_text, batches, groups_of
 from mutants.texts.jobs import Job
 from mutants.texts.reports import Report, read_report
@@ -62,8 +62,7 @@ def asked_in_parts(job: Job, totals: Mapping[str, int], means: Means, name: str)
     groups = groups_of(totals, group_size(totals, len(sizes), at_once))
     parts = parts_of(totals, groups, sizes)
     calls, reports = part_calls(job, means, groups, parts), dict[tuple[int, int], Report]()
-    progress = Progress(name)
-    estimate = Estimate(progress, f"{sum(totals.values())} mutants, {len(job.suite)} tests", sum(p.runs for p in parts))
+    estimate = Estimate(name, f"{sum(totals.values())} mutants, {len(job.suite)} tests", sum(p.runs for p in parts))
 
     def keep(place: int, text: str) -> None:
         part = parts[place]
@@ -78,5 +77,5 @@ def asked_in_parts(job: Job, totals: Mapping[str, int], means: Means, name: str)
     except Fault as fault:
         raise run_fault(job.equivalent, fault) from None
     finally:
-        progress.end()
+        estimate.progress.end()
     return whole_report(reports)

@@ -5,7 +5,7 @@ import configparser
 from collections.abc import Callable, Mapping
 from importlib import import_module
 from pathlib import Path
-from typing import NamedTuple, NoReturn
+from typing import NamedTuple
 
 SECTION = "mutants"
 INI, TOML = "mutants.ini", "mutants.toml"
@@ -70,11 +70,6 @@ def read_toml(path: Path) -> dict[str, Values]:
     }  # fmt: skip
 
 
-def no_section() -> NoReturn:
-    # To pass it over would leave out options that a build relies on, without a word.
-    raise ValueError(f"it has neither a section [{SECTION}] nor one with a {SOURCE}")
-
-
 def program_of(name: str, section: Mapping[str, str], folder: Path) -> Program:
     if SOURCE not in section:
         raise ValueError(f"[{name}] has {TESTS}, and no {SOURCE}")
@@ -93,7 +88,8 @@ def read_sections(path: Path) -> Sections:
     common = sections.pop(SECTION, None)
     named = {name: section for name, section in sections.items() if {SOURCE, TESTS} & set(section)}
     if common is None and not named:
-        no_section()
+        # To pass it over would leave out options that a build relies on, without a word.
+        raise ValueError(f"it has neither a section [{SECTION}] nor one with a {SOURCE}")
     return Sections(path, common or {}, [program_of(*each, path.parent) for each in named.items()])
 
 

@@ -8,7 +8,7 @@ from mutants.checks.running import Means
 from mutants.declarations.files import NONE_MEANT, Meant
 from mutants.declarations.proving import Prover, prover_of
 from mutants.declarations.said import Said
-from mutants.jobs.expecting import COLUMN, Expected, expected_in_file
+from mutants.jobs.expecting import Expected, expected_in_file
 from mutants.jobs.making import Made, made_of, meant_for, wish_of
 from mutants.program.calling import Fault
 from mutants.program.finding import find_program
@@ -38,10 +38,9 @@ def expected_of(given: argparse.Namespace, made: Made) -> Expected:
     """What is expected of each test: what a file says comes before the column of the table."""
     if not made.table:
         return Expected(given.tests, {})
-    column = made.table.others.get(COLUMN.upper(), [])
-    texts = {number: "" if text is None else str(text) for number, text in enumerate(column, 1)}
-    table = Expected(given.tests, texts)
-    return expected_in_file(given.expect, len(made.suite)) if given.expect else table
+    if given.expect:
+        return expected_in_file(given.expect, len(made.suite))
+    return Expected(given.tests, made.table.expected)
 
 
 def declared_of(given: argparse.Namespace, made: Made, means: Means) -> Meant:

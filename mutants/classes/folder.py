@@ -21,7 +21,6 @@ from mutants.checks.sections import INI, TOML
 from mutants.declarations.files import NONE_MEANT, Meant, found_beside
 from mutants.declarations.proofs import NO_PROOFS, Proofs
 from mutants.files import written
-from mutants.jobs.expecting import COLUMN
 from mutants.jobs.making import Made, made_of, meant_for, with_table
 from mutants.jobs.sources import Wish, is_program
 from mutants.program.calling import Fault
@@ -64,8 +63,7 @@ class Task(NamedTuple):
     @property
     def expected(self) -> dict[int, str]:
         """What the table expects of the program, by test, from 1."""
-        column = self.made.table.others.get(COLUMN.upper(), []) if self.made and self.made.table else []
-        return {number: "" if text is None else str(text) for number, text in enumerate(column, 1)}
+        return self.made.table.expected if self.made and self.made.table else {}
 
     @property
     def rows(self) -> Sequence[int]:

@@ -80,10 +80,15 @@ def newly_surviving(pairs: Sequence[Pair]) -> list[Pair]:
     return [(before, now) for before, now in pairs if before.is_killed and not now.is_killed and not now.is_proved]
 
 
+def in_common(old: State, new: State) -> tuple[State, State]:
+    """What both states say of the operators that both have."""
+    ops = [op for op in new.ops if op in old.ops]
+    return with_ops(old, ops), with_ops(new, ops)
+
+
 def compared(old: State, new: State) -> Comparison:
     """The comparison of two states, by the operators that both have."""
-    ops = [op for op in new.ops if op in old.ops]
-    one, other = with_ops(old, ops), with_ops(new, ops)
+    one, other = in_common(old, new)
     mutants = matched(one, other)
     # Survivors before and now.
     alive: list[tuple[Verdict, Verdict]] = [(b, n) for b, n in mutants.pairs if not b.is_killed and not n.is_killed]
@@ -102,5 +107,5 @@ def compared(old: State, new: State) -> Comparison:
         [n.mutant for b, n in alive if b.is_proved and not n.is_proved],
         [change for change in changes if change.gained or change.lost],
         tests,
-        remarks_on(old, new, ops),
+        remarks_on(old, new, one.ops),
     )

@@ -13,7 +13,7 @@ from typing import NamedTuple
 
 from mutants import __version__
 from mutants.checks.checking import Checked
-from mutants.comparisons.comparing import newly_killed, newly_surviving, with_ops
+from mutants.comparisons.comparing import in_common, newly_killed, newly_surviving
 from mutants.comparisons.matching import Matched, matched, tests_matched
 from mutants.comparisons.states import State, Verdict, count_of
 from mutants.comparisons.telling import mutants_text, score_text
@@ -69,9 +69,7 @@ class Since(NamedTuple):
 
 def since(what: str, old: State, checked: Checked) -> Since:
     """The comparison of an older state with a check, by the operators that both have."""
-    new = state_of(checked)
-    ops = [op for op in new.ops if op in old.ops]
-    one, other = with_ops(old, ops), with_ops(new, ops)
+    one, other = in_common(old, state_of(checked))
     return Since(what, one, other, matched(one, other))
 
 

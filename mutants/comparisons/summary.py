@@ -65,12 +65,8 @@ def comparison_text(comparison: Comparison, old_path: object, new_path: object) 
     lost, killed, mutants = comparison.newly_surviving, comparison.newly_killed, comparison.matched
     lines = [state_line("OLD", old_path, old), state_line("NEW", new_path, new)]
     lines += [f"{plural(len(mutants.pairs), 'mutant')} in both, matched {mutants.how}.", *comparison.remarks, ""]
-    lines += part(
-        f"NEWLY SURVIVING: {plural(len(lost), 'mutant')}; behind each the tests that killed it.",
-        items_of_changes(lost, new),
-        new,
-        is_whole=True,
-    )
+    title = f"NEWLY SURVIVING: {plural(len(lost), 'mutant')}; behind each the tests that killed it."
+    lines += part(title, items_of_changes(lost, new), new, is_whole=True)
     lines += [] if lost else ["No mutant survives that was killed.", ""]
     title = f"Newly killed: {plural(len(killed), 'mutant')}; behind each the tests that kill it."
     lines += part(title, items_of_changes(killed, new), new)

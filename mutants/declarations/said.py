@@ -7,6 +7,7 @@ from typing import NamedTuple
 from mutants.declarations.boxes import Searched
 from mutants.declarations.proofs import NO_PROOFS, Proofs
 from mutants.english import plural
+from mutants.texts.jobs import Job
 from mutants.texts.lines import Mutant
 from mutants.texts.reports import Row
 from mutants.texts.twins import name_of, twins_in
@@ -24,6 +25,10 @@ class Said(NamedTuple):
     proofs: Proofs = NO_PROOFS
     titles: Sequence[str] = ()
     boxes: Mapping[str, Searched] = MappingProxyType({})
+
+    def shown_for(self, job: Job) -> str:
+        """The source of a job as it is shown."""
+        return job.source if self.shown is None else self.shown
 
     @property
     def all_reasons(self) -> dict[str, str]:

@@ -5,10 +5,10 @@ The tests see to it that each is seen in its examples, and tools/examples that m
 
 import re
 from collections.abc import Mapping
-from pathlib import Path
 from types import MappingProxyType
 from typing import NamedTuple
 
+from mutants.explanations.paragraphs import paragraphs_of
 from mutants.texts.cards import is_continuation
 
 
@@ -54,7 +54,6 @@ class Seen(NamedTuple):
 
 # What stands before the lines of an example.
 FRONT = ["      SUBROUTINE ADD(I,J,K)", "      LOGICAL P,Q", "      INTEGER M(3)"]
-FILE = Path(__file__).with_name("habits.txt")
 EXAMPLE = re.compile(r"For: (?P<code>[SFC]\d+)(?:(?<=C[23]) (?P<name>[A-Z0-9]+):)? (?P<lines>.+)\n")
 PARAGRAPH = re.compile(r"(?P<habit>.+)\n(?P<examples>(?:For: .+\n)+)(?P<says>.+)\nDo: (?P<advice>.+)")
 
@@ -65,23 +64,11 @@ def in_columns(line: str) -> str:
     return line[1:] if line.startswith(">") else f"{label[1]:>5} {line[label.end():]}" if label else f"      {line}"
 
 
-def example_of(match: "re.Match[str]") -> Example:
-    return Example(match["code"], match["name"] or "", match["lines"].split("|"))
+def habit_of(paragraph: "re.Match[str]") -> Habit:
+    """What a paragraph says of a habit."""
+    examples = EXAMPLE.finditer(paragraph["examples"])
+    read = [Example(each["code"], each["name"] or "", each["lines"].split("|")) for each in examples]
+    return Habit(read, paragraph["says"], paragraph["advice"])
 
 
-def read_paragraph(text: str) -> tuple[str, Habit]:
-    """The name of a habit, and what a paragraph says of it."""
-    match = PARAGRAPH.fullmatch(text)
-    if not match:
-        raise ValueError(f"{FILE.name} has a paragraph that is none: {text[:40]!r}")
-    examples = [example_of(each) for each in EXAMPLE.finditer(match["examples"])]
-    return match["habit"], Habit(examples, match["says"], match["advice"])
-
-
-def read_habits() -> dict[str, Habit]:
-    """The habits by name. The first paragraph of the file says what the others are."""
-    _, *paragraphs = FILE.read_text(encoding="utf-8").replace("\n  ", " ").rstrip("\n").split("\n\n")
-    return dict(map(read_paragraph, paragraphs))
-
-
-HABITS = read_habits()
+HABITS = {paragraph["habit"]: habit_of(paragraph) for paragraph in paragraphs_of("habits.txt", PARAGRAPH)}

@@ -4,8 +4,9 @@ The tests see to it that there is a paragraph for every code that the program ha
 """
 
 import re
-from pathlib import Path
 from typing import NamedTuple
+
+from mutants.explanations.paragraphs import paragraphs_of
 
 
 class Meaning(NamedTuple):
@@ -18,7 +19,6 @@ class Meaning(NamedTuple):
     advice: str
 
 
-FILE = Path(__file__).with_name("faults.txt")
 PARAGRAPH = re.compile(
     r"(?P<code>[A-Z]\d+)(?: (?P<detail>[a-z]+))?\n(?P<says>.+)\n"
     r"(?:(?P<kind>Rule|Job|Limit)(?: (?P<sections>[\d., to]+))?: (?P<rule>.+)\n)?Do: (?P<advice>.+)"
@@ -30,19 +30,10 @@ KINDS = {
 }
 
 
-def read_paragraph(text: str) -> tuple[str, Meaning]:
-    """The code and the meaning that a paragraph has."""
-    match = PARAGRAPH.fullmatch(text)
-    if not match:
-        raise ValueError(f"{FILE.name} has a paragraph that is none: {text[:40]!r}")
-    rule = KINDS[match["kind"]] + match["rule"] if match["kind"] else "No rule is broken."
-    return match["code"], Meaning(match["detail"] or "", match["says"], match["sections"] or "", rule, match["advice"])
+def meaning_of(paragraph: "re.Match[str]") -> Meaning:
+    detail, says, kind, sections, rule, advice = paragraph.groups()[1:]
+    whole_rule = KINDS[kind] + rule if kind else "No rule is broken."
+    return Meaning(detail or "", says, sections or "", whole_rule, advice)
 
 
-def read_meanings() -> dict[str, Meaning]:
-    """The meaning of each code. The first paragraph of the file says what the others are."""
-    _, *paragraphs = FILE.read_text(encoding="utf-8").replace("\n  ", " ").rstrip("\n").split("\n\n")
-    return dict(map(read_paragraph, paragraphs))
-
-
-MEANINGS = read_meanings()
+MEANINGS = {paragraph["code"]: meaning_of(paragraph) for paragraph in paragraphs_of("faults.txt", PARAGRAPH)}

@@ -2,7 +2,6 @@
 
 from collections.abc import Mapping, Sequence
 
-from mutants.jobs.expecting import COLUMN
 from mutants.jobs.tables import EXPECT, Cells, Table
 from mutants.texts.separated import records_in, row_text
 
@@ -19,11 +18,11 @@ def filled(text: str, table: Table, dummies: Sequence[str], outcomes: Mapping[in
     columns = table.columns or list(dummies)
     place = columns.index(EXPECT) if EXPECT in columns else len(columns)
     by_row = {row: outcomes.get(number, "") for number, row in enumerate(table.rows, 1)}
-    lines = [] if table.columns else [row_text([*columns, COLUMN], newline)]
+    lines = [] if table.columns else [row_text([*columns, EXPECT.lower()], newline)]
     for row, cells, line in records_in(text):
         is_head = bool(table.columns) and any(map(str.strip, cells)) and row < min(table.rows, default=row + 1)
         if is_head and place == len(columns):
-            line = row_text([*cells, COLUMN], newline)
+            line = row_text([*cells, EXPECT.lower()], newline)
         elif row in by_row and (by_row[row] or place == len(cells)):
             line = row_text(with_cell(cells, place, by_row[row]), newline)
         lines.append(line)

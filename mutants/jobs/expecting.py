@@ -10,8 +10,6 @@ from typing import NamedTuple
 from mutants.program.calling import naming
 from mutants.texts.decoding import decoded
 
-COLUMN = "expect"
-
 
 class Expected(NamedTuple):
     """Where it is from, and what is expected by test, from 1."""

@@ -29,6 +29,12 @@ class Table(NamedTuple):
     remarks: list[str]
     columns: list[str] = []
 
+    @property
+    def expected(self) -> dict[int, str]:
+        """What is expected of the program, by test, from 1."""
+        cells = enumerate(self.others.get(EXPECT, []), 1)
+        return {number: "" if cell is None else str(cell) for number, cell in cells}
+
 
 class Cell(NamedTuple):
     """Where a cell stands: its row and its column, from 1, and the dummy argument that it is for,

@@ -26,26 +26,22 @@ def bar(part: int, whole: int, said: str = "") -> str:
     return f'<svg class="full" {label}><rect width="{share:.3g}%" height="100%"/></svg>'
 
 
-def row(cells: Iterable[Cell], tag: str = "td") -> str:
-    """A row of a table: pairs of a class and what stands in the cell, HTML as it is."""
-    marks = [(f' class="{mark}"' if mark else "", inner) for mark, inner in cells]
-    return "<tr>" + "".join(f"<{tag}{mark}>{inner}</{tag}>" for mark, inner in marks) + "</tr>\n"
+def cell_part(cell: Cell, scope: str = "") -> str:
+    """A cell, or the head of what the scope says."""
+    (mark, inner), tag = cell, f'th scope="{scope}"' if scope else "td"
+    kind = f' class="{mark}"' if mark else ""
+    return f"<{tag}{kind}>{inner}</{tag[:2]}>"
 
 
 def headed_row(cells: Iterable[Cell]) -> str:
     """A row whose first cell is its head."""
-    (mark, inner), *rest = cells
-    kind = f' class="{mark}"' if mark else ""
-    return row(rest).replace("<tr>", f'<tr><th scope="row"{kind}>{inner}</th>', 1)
+    first, *rest = cells
+    return f"<tr>{cell_part(first, 'row')}{''.join(map(cell_part, rest))}</tr>\n"
 
 
 def head_row(cells: Iterable[Cell]) -> str:
     """The row of the heads of columns; one without a word is a cell as others."""
-    parts = []
-    for mark, inner in cells:
-        kind = f' class="{mark}"' if mark else ""
-        parts.append(f'<th scope="col"{kind}>{inner}</th>' if inner else f"<td{kind}></td>")
-    return f"<tr>{''.join(parts)}</tr>"
+    return f"<tr>{''.join(cell_part(cell, 'col' if cell[1] else '') for cell in cells)}</tr>"
 
 
 def numbers(*values: object) -> list[Cell]:
@@ -60,7 +56,7 @@ def table(
     label: str = "",
     does_sort: bool = False,
 ) -> str:
-    """A table of rows as `row` takes them; the first cell of each is its head. It says whether a script may sort it."""
+    """A table of rows, whose cells are HTML as it is; the first cell of each is its head. A script may sort it."""
     feet = f"<tfoot>{headed_row(foot)}</tfoot>\n" if foot else ""
     kind = (' class="sorts"' if does_sort else "") + (f' aria-label="{text(label)}"' if label else "")
     inner = f"<thead>{head_row(head)}</thead>\n<tbody>\n{''.join(map(headed_row, rows))}</tbody>\n{feet}"

@@ -19,7 +19,7 @@ from mutants.pages.suite import tests_part
 from mutants.texts.jobs import Job
 from mutants.texts.lines import Mutant
 from mutants.texts.prints import statements_by_line
-from mutants.texts.reports import Count, Report, Row, assert_same_mutants, score_of, summed, with_status
+from mutants.texts.reports import Count, Report, Row, assert_same_mutants, counts_by, score_of, summed, with_status
 from mutants.texts.subsuming import subsuming
 from mutants.texts.twins import name_of, twins_in
 
@@ -29,12 +29,8 @@ KIND = "kills and survivors"
 
 def counts_by_line(listed: Sequence[Mutant], rows: Iterable[Row]) -> dict[int, Count]:
     """How many mutants each line has, how many are killed, and how many are declared and survived."""
-    count = Counter((mutant.line, row.status) for mutant, row in zip(listed, rows))
     lines = dict.fromkeys(mutant.line for mutant in listed)
-    return {
-        line: Count(sum(count[line, s] for s in "KSEW"), count[line, "K"] + count[line, "W"], count[line, "E"])
-        for line in lines
-    }
+    return counts_by(((mutant.line, row.status) for mutant, row in zip(listed, rows)), lines)
 
 
 def by_line(mutants: Iterable[Mutant]) -> dict[int, list[Mutant]]:
@@ -200,10 +196,9 @@ def report_page(analysed: Analysed, remark: str = "", outcomes: Outcomes = Outco
 
 def listing_part(job: Job, statements: Mapping[int, str], listed: Sequence[Mutant], report: Report, said: Said) -> str:
     """The program with its survivors, and the declared and proved mutants that survived."""
-    source = job.source if said.shown is None else said.shown
     marked = at_lines(listed, report.rows, report.survivors, said.proofs)
     remarks = {**{name: each.text for name, each in said.boxes.items()}, **said.all_reasons}
-    return program_part(source, statements, marked._replace(remarks=remarks), has_links=True)
+    return program_part(said.shown_for(job), statements, marked._replace(remarks=remarks), has_links=True)
 
 
 def filter_part(survivors: Iterable[Mutant]) -> str:

@@ -7,7 +7,6 @@ import subprocess
 import threading
 from collections.abc import Callable, Sequence
 from concurrent.futures import Future, ThreadPoolExecutor, wait
-from functools import partial
 from typing import NamedTuple
 
 from mutants.program.calling import Fault, failure_of
@@ -70,18 +69,6 @@ class Calls:
                 begun.kill()
 
 
-def answer_of(calls: Calls, words: Sequence[str], job: bytes) -> str:
-    return calls.answer(words, job)
-
-
-def nothing() -> None:
-    """In the place of what shows how far it is."""
-
-
-def as_it_is(place: int, fault: Fault) -> Exception:
-    return fault
-
-
 def first_failed(calls: "Sequence[Future[str]]", place: int) -> int:
     """The place of the first call that fails, where the one at this place did: earlier ones have begun before it."""
     earlier = [each for each in calls[:place] if not each.cancel()]
@@ -90,15 +77,11 @@ def first_failed(calls: "Sequence[Future[str]]", place: int) -> int:
     return min([*failed, place])
 
 
-def put_place(ended: "queue.SimpleQueue[int]", place: int, _: "Future[str]") -> None:
-    ended.put(place)
-
-
 def keep_each(calls: "Sequence[Future[str]]", handling: "Handling") -> None:
     """Keeps what comes of each call as it ends."""
     ended: queue.SimpleQueue[int] = queue.SimpleQueue()
     for place, each in enumerate(calls):
-        each.add_done_callback(partial(put_place, ended, place))
+        each.add_done_callback(lambda _, place=place: ended.put(place))
     left = len(calls)
     while left:
         handling.tick()
@@ -119,18 +102,18 @@ class Handling(NamedTuple):
     with the place of one that fails; and how one is made."""
 
     keep: Keep
-    tick: Callable[[], None] = nothing
-    refuse: Refuse = as_it_is
-    ask: Ask = answer_of
+    tick: Callable[[], None] = lambda: None
+    refuse: Refuse = lambda place, fault: fault
+    ask: Ask = lambda calls, words, job: calls.answer(words, job)
 
 
 def ask_many(program: str, calls: Sequence[Call], at_once: int, handling: Handling) -> None:
     """Makes these calls. The first fault ends all of them; so does Ctrl-C."""
     running = Calls(program)
     with ThreadPoolExecutor(at_once) as pool:
-        begun = [pool.submit(handling.ask, running, *call) for call in calls]
         try:
-            keep_each(begun, handling)
+            # A signal may come as soon as the first of them runs.
+            keep_each([pool.submit(handling.ask, running, *call) for call in calls], handling)
         finally:
             running.stop()
             pool.shutdown(cancel_futures=True)

@@ -22,7 +22,6 @@ from mutants.english import plural
 from mutants.files import written
 from mutants.jobs.approving import filled
 from mutants.jobs.making import Made, add_reading_options, made_of, wish_of
-from mutants.jobs.tables import EXPECT
 from mutants.pages.suite import titled
 from mutants.program.finding import add_mothra_option, find_program
 from mutants.statuses import SUCCESS, UNEXPECTED
@@ -46,8 +45,8 @@ def add_words(parser: argparse.ArgumentParser) -> None:
 
 def cells_of(made: Made, is_anew: bool) -> dict[int, str]:
     """What stands in the cells already, by the numbers of the tests."""
-    column = made.table.others.get(EXPECT, []) if made.table and not is_anew else []
-    return {number: cell for number, cell in enumerate(column, 1) if cell.strip()}
+    expected = made.table.expected if made.table and not is_anew else {}
+    return {number: cell for number, cell in expected.items() if cell.strip()}
 
 
 def run(given: argparse.Namespace, name: str) -> int:

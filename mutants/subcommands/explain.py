@@ -83,8 +83,8 @@ def explanation(line: str, words: list[str], asked: Given, program: str | None, 
     if line.startswith("FAULT "):
         text = explained(line, asked.job, program, words, asked.said.shown)
         if program and is_asked and line[6:7] in "FSC":
-            source = read_job(asked.job).source
-            also = other_faults_text(program, source, source if asked.said.shown is None else asked.said.shown)
+            job = read_job(asked.job)
+            also = other_faults_text(program, job.source, asked.said.shown_for(job))
             text += f"\n{also}" if also else ""
         return text + row_text(line, asked.rows)
     if line == BAD_LIST or words and words_say(words):

@@ -104,8 +104,7 @@ def run(given: argparse.Namespace, name: str) -> int:
     program = find() if None in needed else ""
     tell_remarks(name, asked.warnings)
     chosen = asked_words(given, "ops", "every")
-    shown = job.source if asked.said.shown is None else asked.said.shown
-    with naming_line(given.job, job.source, shown):
+    with naming_line(given.job, job.source, asked.said.shown_for(job)):
         name, answer = text_from(given.print, program, ["print"], text)
         printed = read_as(name, read_print, answer)
         name, answer = text_from(given.list, program, ["list", *chosen], text)

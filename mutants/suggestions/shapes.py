@@ -119,7 +119,8 @@ class Shape:
     def kept(self, row: Row) -> Row | None:
         """The row with its arrays in the order that is kept; None where a value is out of what is kept."""
         if self.keeps.orders:
-            values = [order.kept(row[at]) if order else row[at] for at, order in self.orders(row)]
+            orders = map(self.keeps.orders.get, range(len(row)))
+            values = [order.kept(value) if order else value for order, value in zip(orders, row)]
             ordered = tuple(value for value in values if value is not None)
             if len(ordered) < len(row):
                 return None
@@ -128,9 +129,6 @@ class Shape:
             if any(not low <= item <= high for item in items_of(row[at])):
                 return None
         return row if not self.keeps.is_near or self.is_near(row) else None
-
-    def orders(self, row: Row) -> Iterable[tuple[int, Order | None]]:
-        return ((at, self.keeps.orders.get(at)) for at in range(len(row)))
 
     def cost(self, row: Row) -> int:
         """How unwelcome a row is to who has to check it by hand."""

@@ -1,5 +1,7 @@
 """Suggestions: the search, the choice among what it found, and the last run, whose verdicts are shown."""
 
+from collections.abc import Iterator
+from contextlib import contextmanager
 from random import Random
 from typing import NamedTuple
 
@@ -88,25 +90,28 @@ class Suggesting:
         self.paced.tell(f"{text}{of_time}")
 
     def rows(self) -> list[Row]:
-        """The rows that are chosen. Ctrl-C, and a call that takes too long, end what is going on."""
-        try:
+        """The rows that are chosen."""
+        with self.cut_short():
             self.search.begin(self.tests, self.start.seconds / max(len(self.tests), 1))
             self.search.go(self.tell)
-        except KeyboardInterrupt:
-            self.is_cut = True
-        except OutOfTime:
-            pass
         choice = Choice(self.search)
         try:
-            if not self.is_cut:
-                self.better(choice)
-        except KeyboardInterrupt:
-            self.is_cut = True
-        except OutOfTime:
-            pass
+            with self.cut_short():
+                if not self.is_cut:
+                    self.better(choice)
         finally:
             self.paced.progress.end()
         return self.in_order(choice)
+
+    @contextmanager
+    def cut_short(self) -> Iterator[None]:
+        """Ctrl-C, and a call that takes too long, end what is going on, and no more."""
+        try:
+            yield
+        except KeyboardInterrupt:
+            self.is_cut = True
+        except OutOfTime:
+            pass
 
     def in_order(self, choice: Choice) -> list[Row]:
         """The chosen rows, those with far values last, and of others those first that kill most."""

@@ -3,11 +3,12 @@
 import re
 from collections import Counter
 from collections.abc import Iterable, Sequence
-from typing import NamedTuple
+from typing import NamedTuple, TypeVar
 
 from mutants.texts.lines import NUMBER, Mutant, Named, assert_numbered, lines_of_text, mutant_of
 
 VERSION = "REPORT 2"
+Key = TypeVar("Key", str, int)
 
 
 class Row(NamedTuple):
@@ -119,13 +120,18 @@ def name_of(mutant: Named) -> str:
     return f"{mutant.op} {mutant.number} {mutant.place}"
 
 
+def counts_by(statuses: Iterable[tuple[Key, str]], keys: Iterable[Key]) -> dict[Key, Count]:
+    """For each of these keys how many statuses it has, how many of them of killed mutants, and of declared ones."""
+    count = Counter(statuses)
+    return {
+        key: Count(sum(count[key, status] for status in "KSEW"), count[key, "K"] + count[key, "W"], count[key, "E"])
+        for key in keys
+    }
+
+
 def counted(rows: Iterable[Row], ops: Iterable[str]) -> dict[str, Count]:
     """The counts of each of these operators, by the rows."""
-    count = Counter((row.op, row.status) for row in rows)
-    return {
-        op: Count(sum(count[op, status] for status in "KSEW"), count[op, "K"] + count[op, "W"], count[op, "E"])
-        for op in ops
-    }
+    return counts_by(((row.op, row.status) for row in rows), ops)
 
 
 def summed(counts: Iterable[Count]) -> Count:
