@@ -5,7 +5,7 @@ import os
 import stat
 import sys
 import tempfile
-from collections.abc import Iterator
+from collections.abc import Callable, Iterator
 from contextlib import contextmanager
 from pathlib import Path
 
@@ -13,10 +13,10 @@ from pathlib import Path
 LARGEST = 1 << 26
 
 
-def is_standard_output(path: Path) -> bool:
-    """Whether a path names what standard output is, whatever that is."""
+def is_open_as(path: Path, handle: Callable[[], int]) -> bool:
+    """Whether a path names what is open as a handle, whatever that is."""
     try:
-        return os.path.samestat(path.stat(), os.fstat(sys.stdout.fileno()))
+        return os.path.samestat(path.stat(), os.fstat(handle()))
     except (OSError, ValueError):
         return False
 
@@ -41,7 +41,7 @@ def written(path: Path, data: bytes) -> None:
 
     A file whose place it takes leaves it its mode. The place of a link is taken: nobody can have another file written.
     """
-    if is_standard_output(path):
+    if is_open_as(path, sys.stdout.fileno):
         sys.stdout.flush()
         sys.stdout.buffer.write(data)
     elif takes_bytes(path):
@@ -58,7 +58,7 @@ def locked(path: Path) -> Iterator[None]:
         handle = os.open(lock, os.O_CREAT | os.O_RDWR | os.O_NOFOLLOW, 0o666)
         fcntl.flock(handle, fcntl.LOCK_EX)
         # Who held it before has taken the file away.
-        if lock.exists() and os.path.samestat(lock.stat(), os.fstat(handle)):
+        if is_open_as(lock, lambda: handle):
             break
         os.close(handle)
     try:

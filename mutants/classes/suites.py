@@ -1,11 +1,10 @@
 """What came of each suite of a class, in words, and its page, which is written where something in it has changed."""
 
-import hashlib
 import json
 from collections.abc import Mapping, Sequence
 from typing import NamedTuple
 
-from mutants.caches import tool_digest
+from mutants.caches import digest_of, tool_digest
 from mutants.checks.checking import dummies_of
 from mutants.checks.faults import said_of, program_fault
 from mutants.checks.outcomes import Difference, asked_outcomes, differences
@@ -100,23 +99,20 @@ def suite_of(task: Task, known: Known | None, asked: Asked, results: Results) ->
     return Suite(task, text, result, outcomes, unexpected)
 
 
-def digest_of(*made_of: object) -> str:
+def digest_of_all(*made_of: object) -> str:
     """The digest of what a page is made of."""
-    digest = hashlib.sha256()
-    for each in made_of:
-        digest.update(repr(each).encode("utf-8", "replace") + b"\0")
-    return digest.hexdigest()
+    return digest_of(*(repr(each).encode("utf-8", "replace") for each in made_of))
 
 
 def digest_of_page(suite: Suite, shared: str) -> str:
     """The digest of a page: of what it shares with the others of its program, and of what is its own."""
-    return digest_of(shared, suite.task.text, suite.task.remarks, suite.text, suite.outcomes, suite.unexpected)
+    return digest_of_all(shared, suite.task.text, suite.task.remarks, suite.text, suite.outcomes, suite.unexpected)
 
 
 def digest_of_program(task: Task, known: Known, remark: str) -> str:
     """The digest of what the pages of a program share, and of what makes them."""
     proofs = sorted(task.proofs.whys.items()), task.proofs.remark
-    return digest_of(tool_digest(), known, task.shown, task.meant, proofs, remark)
+    return digest_of_all(tool_digest(), known, task.shown, task.meant, proofs, remark)
 
 
 def page_of(suite: Suite, known: Known, report: Report, remark: str) -> str:

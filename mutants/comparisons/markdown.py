@@ -1,6 +1,6 @@
 """A comparison in Markdown, for a review."""
 
-from collections.abc import Iterator, Sequence
+from collections.abc import Sequence
 
 from mutants.comparisons.comparing import Comparison
 from mutants.comparisons.states import State, Verdict, count_of
@@ -55,11 +55,6 @@ def alone_part(title: str, verdicts: Sequence[Verdict], state: State) -> list[st
     return items_part(f"{counted}; the survivors", items_of(alive, state)) or [f"{counted}.", ""]
 
 
-def test_rows(comparison: Comparison) -> Iterator[list[object]]:
-    for what, number, values, kills in test_changes(comparison):
-        yield [what, number, code(values), cell(kills)]
-
-
 def comparison_markdown(comparison: Comparison) -> str:
     """The whole text, without the paths of the files."""
     old, new, mutants = comparison.old, comparison.new, comparison.matched
@@ -75,7 +70,7 @@ def comparison_markdown(comparison: Comparison) -> str:
     lines += items_part("Declared equivalent since then", items_of(comparison.declared, new))
     lines += items_part("Declared equivalent no more", items_of(comparison.undeclared, new))
     lines += proof_lines(comparison)
-    rows = list(test_rows(comparison))
+    rows = [[what, number, code(values), cell(kills)] for what, number, values, kills in test_changes(comparison)]
     lines += folded("Tests", table(["", "Test", "Values", "What it kills"], rows), len(rows)) if rows else []
     counted = f"{plural(len(mutants.pairs), 'mutant')} in both, matched {mutants.how}."
     lines += [f"{counted} Tests are matched {comparison.how_of_tests}."]

@@ -5,13 +5,13 @@ What is kept is this tool's own, so a file that is damaged, or of another versio
 """
 
 import gzip
-import hashlib
 import json
 from collections.abc import Iterator, Sequence
 from pathlib import Path
 from typing import NamedTuple
 
 from mutants import __version__
+from mutants.caches import digest_of
 from mutants.checks.checking import Checked
 from mutants.comparisons.comparing import in_common, newly_killed, newly_surviving
 from mutants.comparisons.matching import Matched, matched, tests_matched
@@ -75,8 +75,7 @@ def since(what: str, old: State, checked: Checked) -> Since:
 
 def kept_path(folder: Path, asked: Sequence[object]) -> Path:
     """Where the state of a check that is asked these things is kept."""
-    key = json.dumps([__version__, *map(str, asked)])
-    return folder / f"{hashlib.sha256(key.encode()).hexdigest()[:32]}.json.gz"
+    return folder / f"{digest_of(json.dumps([__version__, *map(str, asked)]).encode())}.json.gz"
 
 
 def kept_state(path: Path) -> State | None:

@@ -33,13 +33,9 @@ def without_remark(text: str) -> tuple[str, bool]:
     return text, False
 
 
-def without_texts(text: str) -> str:
-    return QUOTED.sub("", text)
-
-
 def piece_habits(text: str) -> Iterator[Seen]:
     """The pieces that a part of a statement holds, each once."""
-    plain = without_texts(text)
+    plain = QUOTED.sub("", text)
     if plain != text or HOLLERITH.search(plain):
         yield Seen("text")
     number = NUMBER.search(plain)

@@ -46,7 +46,6 @@ from mutants.checks.summary import TOP, Telling, summary
 from mutants.colours import painted
 from mutants.comparisons.reading import read_state
 from mutants.comparisons.since import KEPT, Since, bytes_of, kept_path, kept_state, since, state_of
-from mutants.comparisons.states import State
 from mutants.declarations.proofs import Proofs
 from mutants.declarations.proving import add_proofs_switch
 from mutants.exports.folder import Done, Folder, assert_for_many
@@ -148,11 +147,6 @@ def last_check(start: Start, checked: Checked) -> list[Since]:
     return [each for each in changes if each.changes]
 
 
-def changes_of(start: Start, baseline: Path | None, old: State | None, checked: Checked) -> list[Since]:
-    """What changed since the file of --baseline, else since the last check."""
-    return [since(str(baseline), old, checked)] if old else last_check(start, checked)
-
-
 def done_of(given: argparse.Namespace, name: str) -> Done:
     """The check of one program, with all files that are asked for."""
     settings = with_settings(given, given.program, add_options)
@@ -161,7 +155,7 @@ def done_of(given: argparse.Namespace, name: str) -> Done:
     baseline = read_state(given.baseline) if given.baseline else None
     start = start_of(given, name)
     checked = start.checked(name)
-    changes = changes_of(start, given.baseline, baseline, checked)
+    changes = [since(str(given.baseline), baseline, checked)] if baseline else last_check(start, checked)
     remark = remark_on(start.means.program)
     covered = covering(checked, start.means, name) if any(output.needs_cover for output in outputs) else {}
     changed = [line for each in changes for line in each.lines()]

@@ -24,11 +24,6 @@ HINT = "That is a hint at equivalence, and no more than that."
 UNTRIED = "No row was tried, so this says nothing of them."
 
 
-def new_number(result: Suggested, place: int) -> int:
-    """The number that a suggested row has as a test behind the others."""
-    return len(result.start.job.suite) + place + 1
-
-
 def killed_by(result: Suggested, number: int) -> tuple[list[Mutant], int]:
     """The survivors of the tests that a suggested row kills, and how many of them it alone kills."""
     alive = {mutant[:3] for mutant in result.start.report.survivors}
@@ -48,9 +43,8 @@ def mutants_text(mutants: Iterable[Mutant]) -> str:
     return "; ".join([*alone, *(f"{names_text(twins)} as one" for twins in groups if len(twins) > 1)])
 
 
-def row_lines(result: Suggested, row: Row, place: int, layout: Layout) -> Iterator[str]:
-    """What a row does: the outcome of the program, and the survivors that it kills, by line."""
-    number = new_number(result, place)
+def row_lines(result: Suggested, row: Row, number: int, layout: Layout) -> Iterator[str]:
+    """What a row does as a test of this number: its outcome, and the survivors that it kills, by line."""
     killed, alone = killed_by(result, number)
     yield f"test {number}  {layout.line(row)}: {result.final.outcomes[number - 1]}"
     yield f"  kills {plural(len(killed), 'survivor')}, {alone} of them alone"
@@ -77,8 +71,8 @@ def suggestion_lines(result: Suggested, layout: Layout, tests: Path) -> Iterator
             yield f"With {values} of the tests:"
             yield from block_lines(rows, layout)
     yield ""
-    for place, row in enumerate(result.rows):
-        yield from row_lines(result, row, place, layout)
+    for number, row in enumerate(result.rows, len(result.start.job.suite) + 1):
+        yield from row_lines(result, row, number, layout)
 
 
 def box_text(search: BoxSearch) -> str:
