@@ -21,9 +21,11 @@ def boxed_text(count: int) -> str:
 
 
 class Searched(NamedTuple):
-    """A box all rows of which were tried, and the first row that kills the mutant; no text where none does."""
+    """A box all rows of which were tried, how many these are, and the first that kills the mutant; no text where none
+    does."""
 
     box: str
+    rows: int
     row: str = ""
 
     @property
@@ -42,7 +44,9 @@ def kept_boxes(program: str, source: str, steps: int) -> dict[str, Searched]:
 
 
 def keep_boxes(program: str, source: str, steps: int, results: Mapping[str, Searched]) -> bool:
-    """Keeps what a search found. Whether there is a place for it."""
-    path = path_for(program, source, steps)
-    keep_answer(path, json.dumps({**kept_boxes(program, source, steps), **results}), MOST, MOST_BYTES)
+    """Keeps what a search found, of each mutant a row that kills it, else the largest box. Whether there is a place."""
+    path, known = path_for(program, source, steps), kept_boxes(program, source, steps)
+    for name, result in results.items():
+        known[name] = max(result, known.get(name, result), key=lambda each: (bool(each.row), each.rows))
+    keep_answer(path, json.dumps(known), MOST, MOST_BYTES)
     return path is not None

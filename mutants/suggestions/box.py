@@ -111,5 +111,5 @@ class BoxSearch(Search):
         """Where all rows were tried, what they say of each survivor, by its name: the first row that kills it."""
         killers = {number: row for row, mask in reversed(self.exact.items()) for number in bits_of(mask)}
         rows = {number: layout.line(row) for number, row in killers.items()}
-        mutants = enumerate(self.asker.mutants if self.is_whole else [])
-        return {name_of(mutant): Searched(self.box.text, rows.get(number, "")) for number, mutant in mutants}
+        box, mutants = (self.box.text, self.box.size), self.asker.mutants if self.is_whole else []
+        return {name_of(mutant): Searched(*box, rows.get(number, "")) for number, mutant in enumerate(mutants)}

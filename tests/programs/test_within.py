@@ -50,8 +50,9 @@ class Within(Room):
             self.assertEqual((page.count(none), page.count("a row that kills it: 1,0,0</span>")), (1, killed))
         status, page, _ = mutants("page", self.program, self.tests)
         self.assertEqual((status, page.count(none)), (0, 1))
-        self.within("--within", "I=1:1,J=1:2")
-        has(self, self.page()[1], "no row of this box kills it: I from 1 to 1 and J from 1 to 2</span>")
+        for ranges, largest in (("I=1:1,J=1:2", "I from -1 to 2"), ("I=0:9,J=0:9", "I from 0 to 9 and J from 0 to 9")):
+            self.within("--within", ranges)
+            has(self, self.page()[1], f"no row of this box kills it: {largest}", "a row that kills it: 1,0,0</span>")
         self.assertNotIn("of a box", "".join(self.page("--steps", "9999")))
         self.program.write_text(LEAST + "C     ANOTHER PROGRAM\n")
         self.assertNotIn("of a box", "".join(self.page()))
