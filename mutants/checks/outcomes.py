@@ -1,9 +1,11 @@
 """What the program itself does on each test, and whether that is what is expected of it."""
 
+import json
 import re
 from collections.abc import Mapping, Sequence
 from typing import NamedTuple
 
+from mutants.caches import keep_answer, kept_answer, path_of_answer
 from mutants.checks.faults import said_of
 from mutants.checks.running import Means, calls_at_once
 from mutants.pages.suite import values_of
@@ -13,6 +15,8 @@ from mutants.progress import Estimate
 from mutants.texts.batches import batch_text
 from mutants.texts.jobs import Job
 
+# So many sources have outcomes that are kept, each of so many tests, in so many bytes.
+KIND, MOST, MOST_TESTS, MOST_BYTES = "outcomes", 500, 10_000, 1 << 25
 # The outcomes on which a test can be run at all: others are faults of the program itself.
 ENDS = ("RETURNED", "STOPPED")
 TRUTHS = {"TRUE": "T", ".TRUE.": "T", "FALSE": "F", ".FALSE.": "F"}
@@ -33,33 +37,45 @@ def test_fault(number: int, fault: Fault) -> ValueError:
     return ValueError(f"test {number}: {said_of(fault.line)}")
 
 
-def asked_outcomes(job: Job, means: Means, name: str | None) -> list[str]:
-    """The line of the outcome of the program itself on each test; the first test that cannot be run is refused.
-
-    With the name of a command, it is shown how far it is.
-    """
+def ask_outcomes(job: Job, places: Sequence[int], means: Means, name: str | None) -> list[str]:
+    """The line of the outcome of the program itself on each of the tests at these places; the first of them that
+    cannot be run is refused. With the name of a command, it is shown how far it is."""
     words, plain = ["exec", "--test", "1", *means.step_words], Job(job.source, job.suite)
-    calls: list[Call] = [(words, batch_text(plain, at, at + 1)) for at in range(len(job.suite))]
+    calls: list[Call] = [(words, batch_text(plain, at, at + 1)) for at in places]
     outcomes = [""] * len(calls)
     estimate = Estimate(name or "", f"the program itself on {len(calls)} tests", len(calls))
 
-    def keep(place: int, text: str) -> None:
-        outcomes[place] = text.rstrip("\n")
+    def keep(at: int, text: str) -> None:
+        outcomes[at] = text.rstrip("\n")
         estimate.add(1)
 
-    def refuse(place: int, fault: Fault) -> ValueError:
-        return test_fault(place + 1, fault)
+    def refuse(at: int, fault: Fault) -> ValueError:
+        return test_fault(places[at] + 1, fault)
 
     handling = Handling(keep, estimate.tick, refuse) if name else Handling(keep, refuse=refuse)
     try:
         ask_many(means.program, calls, calls_at_once(means), handling)
     finally:
         estimate.progress.end()
-    for number, outcome in enumerate(outcomes, 1):
-        if outcome.split(" ")[0] not in ENDS:
-            ending = f"test {number}: the program itself ends as {outcome} on {values_of(job.suite[number - 1])}"
-            raise ValueError(f"{ending}; it has to return or stop on each test")
     return outcomes
+
+
+def asked_outcomes(job: Job, means: Means, name: str | None) -> list[str]:
+    """The line of each outcome. A call costs more than the runs of most mutants, so what was asked before is kept; a
+    test on which the program does not end is refused."""
+    path = path_of_answer(KIND, means.program, means.step_words, job.source.encode())
+    known: dict[str, str] = {} if means.anew else json.loads(kept_answer(path) or "{}")
+    keys = list(map(json.dumps, job.suite))
+    new = {key: place for place, key in reversed([*enumerate(keys)]) if key not in known}
+    places = sorted(new.values())
+    known |= zip((keys[place] for place in places), ask_outcomes(job, places, means, name))
+    for number, key in enumerate(keys, 1):
+        if known[key].split(" ")[0] not in ENDS:
+            ending = f"test {number}: the program itself ends as {known[key]} on {values_of(job.suite[number - 1])}"
+            raise ValueError(f"{ending}; it has to return or stop on each test")
+    if places:
+        keep_answer(path, json.dumps(dict([*known.items()][-MOST_TESTS:])), MOST, MOST_BYTES)
+    return [known[key] for key in keys]
 
 
 def values_in(outcome: str) -> list[str]:

@@ -1,6 +1,7 @@
 """The parts of a job: batches of its tests by groups of its operators, and the report that their reports make."""
 
 from collections.abc import Mapping, Sequence
+from itertools import product
 from typing import NamedTuple
 
 from mutants.texts.joining import joined_batches, joined_operators
@@ -28,11 +29,8 @@ def group_size(totals: Mapping[str, int], batches: int, at_once: int) -> int:
 def parts_of(totals: Mapping[str, int], groups: Sequence[Sequence[str]], sizes: Sequence[int]) -> list[Part]:
     """All parts of a job whose batches have these numbers of tests, the longest first."""
     mutants = [sum(totals[op] for op in group) for group in groups]
-    parts = [
-        Part(batch, group, count * max(size, 1))
-        for batch, size in enumerate(sizes)
-        for group, count in enumerate(mutants)
-    ]
+    pairs = product(enumerate(sizes), enumerate(mutants))
+    parts = [Part(batch, group, count * max(size, 1)) for (batch, size), (group, count) in pairs]
     return sorted(parts, key=lambda part: (-part.runs, part))
 
 

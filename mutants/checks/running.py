@@ -16,7 +16,7 @@ from mutants.texts.reports import Report, read_report
 
 class Means(NamedTuple):
     """What the runs are made with: the program, the options of the user, how many calls at once, and machines with
-    the name that the program has on all of them."""
+    the name that the program has on all of them; and whether outcomes that are kept are asked for anew."""
 
     program: str
     steps: str | None = None
@@ -24,6 +24,7 @@ class Means(NamedTuple):
     jobs: int | None = None
     logins: Sequence[str] = ()
     remote: str = ""
+    anew: bool = False
 
     @property
     def step_words(self) -> list[str]:

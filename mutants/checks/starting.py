@@ -56,7 +56,8 @@ def declared_of(given: argparse.Namespace, made: Made, means: Means) -> Meant:
 def means_of(given: argparse.Namespace) -> Means:
     # With other machines the word is one that each of them knows.
     program = find_program(given.mothra)
-    return Means(program, given.steps, given.workers, given.jobs, given.sshlogin, given.mothra or program)
+    remote = given.mothra or program
+    return Means(program, given.steps, given.workers, given.jobs, given.sshlogin, remote, given.anew)
 
 
 def start_of(given: argparse.Namespace, name: str) -> Start:

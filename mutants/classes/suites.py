@@ -7,7 +7,7 @@ from typing import NamedTuple
 from mutants.caches import digest_of, tool_digest
 from mutants.checks.checking import dummies_of
 from mutants.checks.faults import said_of, program_fault
-from mutants.checks.outcomes import Difference, asked_outcomes, differences
+from mutants.checks.outcomes import Difference, ask_outcomes, differences
 from mutants.checks.running import Means
 from mutants.classes.batched import OF_TEST
 from mutants.classes.folder import Results, Task
@@ -78,7 +78,7 @@ class Asked:
         keys = [(task.program_name, json.dumps(test)) for test in job.suite]
         new = list(dict.fromkeys(key for key in keys if key not in self.known))
         tests = [json.loads(text) for _, text in new]
-        self.known.update(zip(new, asked_outcomes(Job(job.source, tests), self.means, None)))
+        self.known.update(zip(new, ask_outcomes(Job(job.source, tests), range(len(tests)), self.means, None)))
         results.keep_outcomes(task, [self.known[key] for key in keys])
         return [self.known[key] for key in keys]
 

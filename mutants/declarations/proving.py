@@ -23,7 +23,7 @@ NOT_WANTED = "--no-proofs was given"
 
 def add_proofs_switch(parser: argparse.ArgumentParser) -> None:
     parser.add_argument("--no-proofs", action="store_true", help=f"do not ask {NAME} which mutants are equivalent")
-    parser.add_argument("--anew", action="store_true", help=f"ask {NAME} also what it has answered before")
+    parser.add_argument("--anew", action="store_true", help="ask the programs also what they have answered before")
 
 
 def add_proof_options(parser: argparse.ArgumentParser) -> None:

@@ -70,7 +70,7 @@ def text_from(path: str | None, program: str, words: Sequence[str], job: bytes) 
 def outcomes_of(given: argparse.Namespace, program: str, job: Job, name: str) -> Outcomes:
     """What the program itself does on each test: from a file, or asked of it; none where there is neither."""
     if not given.outcomes:
-        return Outcomes(asked_outcomes(job, Means(program, given.steps), name) if program else ())
+        return Outcomes(asked_outcomes(job, Means(program, given.steps, anew=given.anew), name) if program else ())
     lines = read_as(given.outcomes, lambda text: lines_of_text(text, "the outcomes"), text_of(given.outcomes))
     if len(lines) != len(job.suite):
         raise ValueError(f"{given.outcomes}: it has {len(lines)} outcomes, and the job {len(job.suite)} tests")

@@ -8,7 +8,6 @@ from __future__ import annotations
 
 import argparse
 from importlib import import_module
-from types import ModuleType
 from typing import NamedTuple, Protocol, cast
 
 
@@ -17,11 +16,9 @@ class Module(Protocol):
 
     __doc__: str | None
 
-    def add_words(self, parser: argparse.ArgumentParser) -> None:
-        ...
+    def add_words(self, parser: argparse.ArgumentParser) -> None: ...
 
-    def run(self, given: argparse.Namespace, name: str) -> int:
-        ...
+    def run(self, given: argparse.Namespace, name: str) -> int: ...
 
 
 class Subcommand(NamedTuple):
@@ -29,8 +26,7 @@ class Subcommand(NamedTuple):
     line: str
 
     def module(self) -> Module:
-        module: ModuleType = import_module(f"mutants.subcommands.{self.name}")
-        return cast(Module, module)
+        return cast(Module, import_module(f"mutants.subcommands.{self.name}"))
 
 
 SUBCOMMANDS = [

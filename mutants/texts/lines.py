@@ -26,16 +26,13 @@ class Named(Protocol):
     """What names a mutant: a mutant of a list, or a row of a report."""
 
     @property
-    def op(self) -> str:
-        ...
+    def op(self) -> str: ...
 
     @property
-    def number(self) -> int:
-        ...
+    def number(self) -> int: ...
 
     @property
-    def place(self) -> int:
-        ...
+    def place(self) -> int: ...
 
 
 def lines_of_text(text: str, what: str) -> list[str]:

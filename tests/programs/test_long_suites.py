@@ -46,7 +46,7 @@ class Parts(Room):
 
     def test_a_long_job_tells_how_far_it_is(self) -> None:
         with mock.patch.object(progress, "QUIET", 0.0), mock.patch.object(progress, "OFTEN", 0.0):
-            status, _, errors = self.check("--no-page")
+            status, _, errors = self.check("--no-page", "--anew")
         self.assertEqual(status, 0)
         self.assertRegex(errors, r"(?m)^mutants check: the program itself on 2 tests: 0 % done$")
         self.assertRegex(errors, r"(?m)^mutants check: 16 mutants, 2 tests: \d+ % done")
