@@ -18,7 +18,7 @@ from pathlib import Path
 from typing import NamedTuple
 
 from mutants.checks.sections import INI, TOML
-from mutants.declarations.files import NONE_MEANT, Meant, found_beside
+from mutants.declarations.files import NONE_MEANT, Meant, existing_beside
 from mutants.declarations.proofs import NO_PROOFS, Proofs
 from mutants.files import written
 from mutants.jobs.making import Made, made_of, meant_for, with_table
@@ -127,7 +127,7 @@ def declared_for(program: Path, unit: str, programs: Sequence[Path]) -> Path | N
     if suites_folder(program.parent) == program.parent:
         return None
     common = [program.with_name(f"equivalent{ending}") for ending in (".csv", ".json")] if len(programs) == 1 else []
-    return found_beside(program, unit) or next((path for path in common if path.exists()), None)
+    return existing_beside(program, unit) or next((path for path in common if path.exists()), None)
 
 
 # How a program is read, by its path.

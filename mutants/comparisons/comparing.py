@@ -64,9 +64,9 @@ def remarks_on(old: State, new: State, ops: Sequence[str]) -> list[str]:
     return lines + list(dict.fromkeys(state.remark for state in (old, new) if state.remark))
 
 
-def change_of_test(old: int, new: int, matched: Matched) -> TestChange:
-    gained = [now.mutant for before, now in matched.pairs if new in now.killers and old not in before.killers]
-    lost = [now.mutant for before, now in matched.pairs if old in before.killers and new not in now.killers]
+def change_of_test(old: int, new: int, mutants: Matched) -> TestChange:
+    gained = [now.mutant for before, now in mutants.pairs if new in now.killers and old not in before.killers]
+    lost = [now.mutant for before, now in mutants.pairs if old in before.killers and new not in now.killers]
     return TestChange(old, new, gained, lost)
 
 

@@ -52,7 +52,7 @@ def path_beside(program: Path, unit: str = "") -> Path:
     return program.with_name(f"{program.stem}{middle}.equivalent.csv")
 
 
-def found_beside(program: Path, unit: str = "") -> Path | None:
+def existing_beside(program: Path, unit: str = "") -> Path | None:
     """The file of declarations beside a program: entries, else a bare list, else None."""
     path = path_beside(program, unit)
     return next((each for each in (path, path.with_suffix(".json")) if each.exists()), None)
@@ -94,5 +94,5 @@ def meant_by(declarations: Declarations, program: str | None, job: bytes) -> Mea
         return Meant(declarations.bare, {}, [BARE.format(declarations.path)] if declarations.bare else [])
     if program is None:
         raise ValueError(f"{declarations.path}: its entries are looked for in the list of mothra, which is not there")
-    settled = asked_settled(program, declarations.entries, job)
-    return Meant(settled.names, settled.reasons, [f"{declarations.path}: {remark}" for remark in settled.remarks()])
+    meant = asked_settled(program, declarations.entries, job)
+    return Meant(meant.names, meant.reasons, [f"{declarations.path}: {remark}" for remark in meant.remarks()])

@@ -33,8 +33,8 @@ def form_marks(code: str, number: int, lines: Sequence[str]) -> Marked:
 
 def name_marks(code: str, name: str, cards: Sequence[Card]) -> list[Mark]:
     """Where a name stands: its first place, or, where it is declared twice, those of its declarations."""
-    places = [(card, find_name(card.text, name)) for card in cards]
-    marks = [(card, span(card, at, at + len(name))) for card, at in places if at is not None]
+    begins = [(card, find_name(card.text, name)) for card in cards]
+    marks = [(card, span(card, at, at + len(name))) for card, at in begins if at is not None]
     if code == "C3":
         declared = [marked for card, marked in marks if card.text.startswith(tuple(KEYWORDS[:4]))]
         return sum(declared, []) or sum([marked for _, marked in marks[:1]], [])

@@ -6,7 +6,7 @@ from collections.abc import Callable, Sequence
 from pathlib import Path
 from typing import Any, NamedTuple
 
-from mutants.declarations.files import NONE_MEANT, Meant, found_beside, meant_by, read_declarations
+from mutants.declarations.files import NONE_MEANT, Meant, existing_beside, meant_by, read_declarations
 from mutants.files import bytes_of
 from mutants.jobs.fitting import fit, sizes_remarks
 from mutants.jobs.setting import zeros_of
@@ -85,7 +85,7 @@ def meant_for(
 ) -> Meant:
     """What is declared for a job: by a file that is named, else by the one beside the program.
     Mothra is asked if needed."""
-    path = equivalent or (found_beside(program, made.source.unit) if looks_beside else None)
+    path = equivalent or (existing_beside(program, made.source.unit) if looks_beside else None)
     if path is None:
         return NONE_MEANT
     declarations = read_declarations(path)

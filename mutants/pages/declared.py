@@ -71,5 +71,5 @@ def proved_part(listed: Iterable[Mutant], rows: Sequence[Row], statements: Mappi
 
 
 def remarks_part(remarks: Iterable[str]) -> str:
-    """Remarks on declarations and of the making of the job, at the top of a page."""
+    """Remarks on declarations and on the making of the job, at the top of a page."""
     return "".join(f'<p class="warn">{text(remark)}</p>\n' for remark in remarks)

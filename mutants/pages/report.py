@@ -97,8 +97,8 @@ def first_look(survivors: Sequence[Mutant], proved: int, said: Said) -> str:
 def survivors_text(survivors: Sequence[Mutant]) -> str:
     """How many survivors there are, on how many lines, and how many programs they are."""
     different, lines = len(twins_in(survivors)), {mutant.line for mutant in survivors}
-    text = f"{plural(len(survivors), 'survivor')} on {plural(len(lines), 'line')}"
-    return f"{text}, {plural(different, 'different program')}" if different < len(survivors) else text
+    count = f"{plural(len(survivors), 'survivor')} on {plural(len(lines), 'line')}"
+    return f"{count}, {plural(different, 'different program')}" if different < len(survivors) else count
 
 
 def no_survivor_text(proved: int) -> str:
@@ -150,8 +150,8 @@ def unexpected_part(unexpected: Mapping[int, str]) -> str:
     if not unexpected:
         return ""
     which = f"Test {joined_words(unexpected)}" if len(unexpected) == 1 else f"Tests {joined_words(sorted(unexpected))}"
-    warning = f"<b>{which}: the program does not do what is expected.</b> The score is that of a wrong program."
-    return f'<p class="warn">{warning}</p>\n'
+    sentence = f"<b>{which}: the program does not do what is expected.</b> The score is that of a wrong program."
+    return f'<p class="warn">{sentence}</p>\n'
 
 
 class Analysed(NamedTuple):

@@ -28,8 +28,8 @@ def alone_of(rows: Iterable[Row], tests: int) -> list[int]:
     return list(map(len, alone_by_test(rows, tests)))
 
 
-def shortened(text: str) -> str:
-    return text if len(text) <= LONGEST else text[: LONGEST - 2] + " .."
+def shortened(whole: str) -> str:
+    return whole if len(whole) <= LONGEST else whole[: LONGEST - 2] + " .."
 
 
 def values_of(test: object) -> str:
@@ -42,8 +42,8 @@ def least_set_text(kept: Sequence[int], is_least: bool, killed: int, noun: str =
         return f"The {noun} kills no mutant"
     if is_least:
         return f"The smallest set that kills all {killed} that the {noun} kills has {plural(len(kept), 'test')}"
-    text = f"A set of {plural(len(kept), 'test')} kills all {killed} that the {noun} kills"
-    return f"{text}, by the greedy rule; the search for a smallest one was given up, and a smaller one may be there"
+    sentence = f"A set of {plural(len(kept), 'test')} kills all {killed} that the {noun} kills"
+    return f"{sentence}, by the greedy rule; the search for a smallest one was given up, and a smaller one may be there"
 
 
 def needless_text(alone: Iterable[int]) -> str:

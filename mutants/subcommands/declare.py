@@ -87,21 +87,21 @@ def chosen_mutants(names: Sequence[Name], present: Present) -> list[Mutant]:
     return [by_name[name] for name in names]
 
 
-def renewed(entries: Sequence[Entry], settled: Settled, present: Present) -> list[Entry]:
+def renewed(entries: Sequence[Entry], meant: Settled, present: Present) -> list[Entry]:
     """The entries as they would be written now; one that is refused stays as it is."""
-    now = {each.entry.row: entry_for(each.mutant, each.reason, present) for each in settled.declared}
+    now = {each.entry.row: entry_for(each.mutant, each.reason, present) for each in meant.declared}
     return [now.get(entry.row, entry) for entry in entries]
 
 
-def new_entries(given: argparse.Namespace, names: Sequence[Name], settled: Settled, present: Present) -> list[Entry]:
+def new_entries(given: argparse.Namespace, names: Sequence[Name], meant: Settled, present: Present) -> list[Entry]:
     """The entries of mutants that are not declared yet, each with those of its twins behind it."""
     chosen = chosen_mutants(names, present)
     for mutant in chosen:
-        if name_of(mutant) in settled.names:
+        if name_of(mutant) in meant.names:
             raise ValueError(f"{name_of(mutant)} is declared already")
     others = others_by_name(present.listed)
     all_names = dict.fromkeys(twin for mutant in chosen for twin in [mutant, *others.get(name_of(mutant), [])])
-    wanted = [mutant for mutant in all_names if name_of(mutant) not in settled.names]
+    wanted = [mutant for mutant in all_names if name_of(mutant) not in meant.names]
     return [entry_for(mutant, " ".join(given.reason.split()), present) for mutant in wanted]
 
 
@@ -117,31 +117,31 @@ def needless_text(left: Sequence[Entry], proofs: Proofs) -> str:
     return f"{said}; of {joined_words(spare)} {OF_THESE_TESTS}" if spare else said
 
 
-def new_text(new: Sequence[Entry], names: Sequence[Name], settled: Settled) -> str:
+def new_text(new: Sequence[Entry], names: Sequence[Name], meant: Settled) -> str:
     """What was declared in one call, and which of it was not named."""
     twins = [entry.name for entry in new if (entry.op, entry.place) not in names]
     same = f", {joined_words(twins)} among them as the same program" if twins else ""
-    return f"{plural(len(new), 'mutant')} declared{same}, and {len(settled.declared)} before"
+    return f"{plural(len(new), 'mutant')} declared{same}, and {len(meant.declared)} before"
 
 
-def renew(path: Path, entries: Sequence[Entry], settled: Settled, present: Present) -> str:
+def renew(path: Path, entries: Sequence[Entry], meant: Settled, present: Present) -> str:
     """Writes the numbers of now; how many there are."""
-    written(path, entries_text(renewed(entries, settled, present)).encode())
-    return f"{len(settled.moved)} of {len(entries)} entries with a new number"
+    written(path, entries_text(renewed(entries, meant, present)).encode())
+    return f"{len(meant.moved)} of {len(entries)} entries with a new number"
 
 
 def declare(
-    given: argparse.Namespace, names: Sequence[Name], path: Path, source: Source, settled: Settled, present: Present
+    given: argparse.Namespace, names: Sequence[Name], path: Path, source: Source, meant: Settled, present: Present
 ) -> str:
     """Writes the entries of these mutants behind those of the file; which these are."""
-    wanted = new_entries(given, names, settled, present)
+    wanted = new_entries(given, names, meant, present)
     proofs = prover_of(given).proofs([], Job(source.text, []), present.listed)
     new = [entry for entry in wanted if entry.name not in proofs.whys]
     if new:
         text = decoded(path.read_bytes()) if path.exists() else ""
         written(path, appended(text, new).encode())
     left = needless_text([entry for entry in wanted if entry.name in proofs.whys], proofs)
-    return "; ".join(each for each in (new_text(new, names, settled), left) if each)
+    return "; ".join(each for each in (new_text(new, names, meant), left) if each)
 
 
 def run(given: argparse.Namespace, name: str) -> int:

@@ -105,15 +105,15 @@ def run(given: argparse.Namespace, name: str) -> int:
     tell_remarks(name, asked.warnings)
     chosen = asked_words(given, "ops", "every")
     with naming_line(given.job, job.source, asked.said.shown_for(job)):
-        name, answer = text_from(given.print, program, ["print"], text)
-        printed = read_as(name, read_print, answer)
-        name, answer = text_from(given.list, program, ["list", *chosen], text)
-        totals, listed = read_as(name, read_list, answer)
+        name, written = text_from(given.print, program, ["print"], text)
+        printed = read_as(name, read_print, written)
+        name, written = text_from(given.list, program, ["list", *chosen], text)
+        totals, listed = read_as(name, read_list, written)
     proofs = proofs_of(given, job, listed)
     report = report_of(given, program, totals, declared_text(text, proofs.names), command)
     outcomes = outcomes_of(given, program, job, command)
     # A page is UTF-8 whatever the terminal takes.
     said = asked.said._replace(proofs=proofs, boxes=kept_boxes(program, job.source, int(given.steps or STEPS)))
-    answer = report_page(Analysed(job, printed, listed, report), remark_on(program), outcomes, said)
-    sys.stdout.buffer.write(answer.encode())
+    page = report_page(Analysed(job, printed, listed, report), remark_on(program), outcomes, said)
+    sys.stdout.buffer.write(page.encode())
     return SUCCESS

@@ -122,18 +122,18 @@ def assert_table_free(given: argparse.Namespace) -> None:
     assert_free(outputs, [path for path in reads if path is not None and path.is_file()])
 
 
-def write_table(path: Path, given: argparse.Namespace, table: Table, suggested: Suggested, layout: Layout) -> str:
+def write_table(path: Path, given: argparse.Namespace, table: Table, result: Suggested, layout: Layout) -> str:
     """Writes the table with the rows; a line on it."""
-    lines = [layout.line(row) for row in suggested.rows]
-    written(path, table_with(given.tests, table, lines, suggested.needless).encode())
+    lines = [layout.line(row) for row in result.rows]
+    written(path, table_with(given.tests, table, lines, result.needless).encode())
     return f"The table with the rows: {path}"
 
 
-def keep_box(suggested: Suggested, program: str, layout: Layout) -> list[str]:
+def keep_box(result: Suggested, program: str, layout: Layout) -> list[str]:
     """Keeps what all rows of a box say of the survivors, for the pages of later checks; a line on it."""
-    search = suggested.search
+    search = result.search
     results = search.results(layout) if isinstance(search, BoxSearch) else {}
-    is_kept = results and keep_boxes(program, suggested.start.job.source, search.steps, results)
+    is_kept = results and keep_boxes(program, result.start.job.source, search.steps, results)
     return ["Pages of later checks say this under each survivor, until the program changes."] if is_kept else []
 
 
