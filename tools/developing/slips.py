@@ -61,8 +61,8 @@ def failed_in(copy: Path) -> str:
             ended = subprocess.run(call, cwd=copy, env=os.environ | there, capture_output=True, text=True, timeout=SLOW)
         except subprocess.TimeoutExpired:
             return "no end"
-        if found := re.search(r"^(?:FAIL|ERROR): (\w+)", ended.stderr, re.M):
-            return found[1]
+        if failure := re.search(r"^(?:FAIL|ERROR): (\w+)", ended.stderr, re.M):
+            return failure[1]
     return ""
 
 

@@ -27,8 +27,8 @@ Rows = Iterator[Sequence[str]]
 def first_sentence(text: str) -> str:
     """What a comment or a docstring says first, as the cell of a table."""
     paragraph = " ".join(text.strip().split("\n\n")[0].split())
-    found = re.match(r".*?\.(?= |$)", paragraph)
-    return (found[0] if found else paragraph).rstrip(".").replace("|", "\\|")
+    sentence = re.match(r".*?\.(?= |$)", paragraph)
+    return (sentence[0] if sentence else paragraph).rstrip(".").replace("|", "\\|")
 
 
 def docstring(path: Path) -> str:
