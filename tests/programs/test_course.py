@@ -188,7 +188,7 @@ class ManyPrograms(Class):
         suite = SUITES["anna.json"]
         self.hand_in({"least.f": LEAST, "great.f": GREAT, "great-anna.json": suite, "great.json": "[]"})
         self.hand_in({"suite.csv": "2,1,0\n"})
-        self.hand_in({"other-bert.json": suite, "wrong.f": "      SUBROUTINE W\n      CALL X\n      END\n"})
+        self.hand_in({"other-bert.json": suite, "wrong.f": "      SUBROUTINE W(I,J,K)\n      CALL X\n      END\n"})
         status, _, errors = self.course()
         self.assertEqual(status, 1)
         self.assertIn("2 of 5 jobs failed: other-bert and wrong", errors)
