@@ -32,6 +32,12 @@ class Units(Room):
             with self.subTest(what, tool="job"):
                 refuses(self, mutants("job", self.program, self.tests), "does not begin with SUBROUTINE")
 
+    def test_a_page_tells_the_line_that_keeps_a_subroutine_from_being_read(self) -> None:
+        self.put("tests.csv", "3\n")
+        self.program.write_text("C     A\n      SUBROUTINE F(N)\n      N=1\n      NO STATEMENT\n      END\n")
+        told = ["least.f, line 4: This line holds no statement of the subset", "(FAULT S2 4): NO STATEMENT"]
+        refuses(self, mutants("page", self.program, self.tests), *told)
+
     def test_utf_16_is_told_of_programs_and_tables(self) -> None:
         self.tests.write_bytes(TABLE.encode("utf-16"))
         refuses(self, self.check(), "tests.csv: it is a text in UTF-16: save it in UTF-8")

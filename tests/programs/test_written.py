@@ -2,11 +2,16 @@
 
 import json
 import os
+import time
 import unittest
+from collections.abc import Callable
+from functools import partial
+from pathlib import Path
 from unittest import mock
 
 from proved import MOTHRA, OPS, mutants
 from room import DECLARED, TWO, Room
+from mutants import files
 from mutants.declarations.entries import read_entries
 from running import LEAST, Copy, refuses, run_apart
 
@@ -31,10 +36,17 @@ class Written(Room):
         self.assertEqual(self.check()[0], 0)
 
 
+def replace_late(replace: Callable[[Path, bytes], None], path: Path, data: bytes) -> None:
+    """Leaves others the time to read what is replaced then."""
+    time.sleep(0.05)
+    replace(path, data)
+
+
 class Declared(Room):
     def test_those_who_declare_at_once_lose_no_entry(self) -> None:
         words = ["--mothra", MOTHRA, "--no-proofs", "--reason", "so", self.program]
-        copies = [Copy("declare", [*words, "ROR", number]) for number in range(1, 8)]
+        with mock.patch.object(files, "replaced", partial(replace_late, files.replaced)):
+            copies = [Copy("declare", [*words, "ROR", number]) for number in range(1, 8)]
         ended = [copy.ended() for copy in copies]
         self.assertEqual([(status, errors) for status, _, errors in ended], [(0, "")] * 7)
         entries = read_entries((self.folder / "least.equivalent.csv").read_text())
