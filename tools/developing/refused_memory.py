@@ -8,8 +8,8 @@ to give the undisturbed answer, or a fault of want of memory that this command m
 with status 1. Of a crate of tests the tests that are about refused memory are run so, and have to pass, but where there
 was none for what the test itself is made of. Without a name it is mothra, and each crate that has such tests.
 
-Programs are built by `rt try --fail-alloc`, which proves nothing and takes a minute or two a crate. How many allocations
-a call makes is found by programs that stop at one. With threads that differs, so a few more are refused than were found.
+Programs are built by `rt try --fail-alloc`, unproved, in a minute or two a crate. How many allocations a call makes is
+found by programs that stop at one. With threads that differs, so a few more are refused than were found.
 
 There is a line for each call and round: how many calls gave which answer. The exit status is 1 where one gave another.
 """
