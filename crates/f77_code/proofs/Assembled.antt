@@ -11,7 +11,8 @@ use Rattle.f77_code.specs.declared.instruction.Operation.{Operation}
 use Rattle.f77_code.specs.Instructions.{StandsForIncrement, AreCode}
 use Rattle.f77_code.specs.Compiled.{IsInstruction, IsIncrement, AreCompiled}
 use Rattle.f77_code.specs.code.Compiled.{AreExecuted, AreFollowed, HaveActions}
-use Rattle.f77_code.specs.Constants.{GrowsPlan, BeginsPlan}
+use Rattle.f77_code.specs.Constants.{BeginsPlan}
+use Rattle.f77_code.specs.code.Constants.{GrowsPlan}
 use Rattle.f77_code.specs.Holds.{Plan, loop_count, do_rank, is_loop_at}
 use Rattle.f77_code.specs.Moves.{is_loop}
 use Rattle.f77_code.proofs.Instructed.{instruction_later}

@@ -12,11 +12,11 @@ use Rattle.f77_actions.specs.declared.resolved.Resolved.{Resolved}
 use Rattle.f77_actions.specs.declared.finish.Fault.{Fault}
 use Rattle.f77_actions.specs.declared.value.Value.TheVariants as held
 use Rattle.f77_code.specs.declared.control.Turn.{Turn}
-use Rattle.f77_code.specs.declared.instruction.Operation.{Operation, SetMatrix}
+use Rattle.f77_code.specs.declared.instruction.Operation.{Operation, SetElement, SetMatrix}
 use Rattle.f77_code.specs.declared.term.Term.{Term}
-use Rattle.f77_code.specs.Instructions.{Giving, giving, Storing, storing, StandsForAssignment, onward}
+use Rattle.f77_code.specs.Instructions.{Giving, giving, StandsForAssignment, onward}
 use Rattle.f77_code.specs.Evaluation.{slot_in, number_in, truth_in}
-use Rattle.f77_code.specs.Holds.{Plan, HoldsRegisters, HoldsCounters, IsSlot, AreSlots}
+use Rattle.f77_code.specs.Holds.{Plan, HoldsRegisters, HoldsCounters, IsSlot}
 use Rattle.f77_code.specs.Moves as moves
 use Rattle.f77_code.specs.Moves.{Cells, TurnList, Move, go_on}
 use Rattle.f77_code.specs.Operation.{point, put_in_register, put_at, ran}
@@ -29,7 +29,7 @@ use Rattle.f77_actions.specs.Value.{given, element}
 use Rattle.f77_code.proofs.Alike.{fits_of, go_on_alike, used_alike, truth_alike}
 use Rattle.f77_code.proofs.Fitting.{term_fits}
 use Rattle.f77_code.proofs.SameValue.{same_term, same_test}
-use Rattle.f77_code.proofs.Shorter.{giving_is, storing_is}
+use Rattle.f77_code.proofs.Shorter.{giving_is}
 use Rattle.f77_code.proofs.Written.{number_written, truth_written}
 
 pub vector_below : (bound : ℕ) (r : Result ℤ Fault) (k : ℕ) → vector_place bound r ≡ Ok k → k < bound
@@ -92,32 +92,27 @@ module _ (plan : Plan) (statements : List Resolved) (registers : List ℤ) (coun
       (sym (giving_is next registers counters o v is ∙ ap (λ j. put_in_register j (term_value registers v.term) next registers counters) h.0))
       (puts k v.term h.1 h.2)
 
-  vector : (kind : Kind) (stands : Term → Type 0) (g : ℕ → Move) → Puts kind stands g → (first bound : ℕ) (x : Number) (o : Operation) (v : Option Storing) → storing o ≡ v
-      → MatchOption v ⊥ (λ v. (v.first ≡ first) × (v.bound ≡ bound) × AreSlots plan kind first bound × IsTerm plan x v.subscript × stands v.term)
-      → IsMove plan statements (ran o next registers counters) (moves.used (vector_place bound (number_in cells x)) cells (λ k. g (first + k)))
-  vector kind stands g puts first bound x o None is h = absurd h
-  vector kind stands g puts first bound x o (Some v) is h =
-      subst (λ p. IsMove plan statements p (moves.used place cells (λ k. g (first + k))))
-      (sym (storing_is next registers counters o v is ∙ ap (λ f. put_at f here (term_value registers v.term) next registers counters) h.0))
-      (used_alike plan statements registers counters cells holds here place same (λ k. put_in_register (first + k) (term_value registers v.term) next registers counters)
-      (λ k. g (first + k)) (λ k e. puts (first + k) v.term (h.2 k (vector_below bound (number_in cells x) k (sym same ∙ e))) h.4))
+  -- an element is given what a term has for a value
+  pub assigned : (kind : Kind) (stands : Term → Type 0) (g : ℕ → Move) → Puts kind stands g → (e : Element) (o : Operation) → StandsForAssignment plan kind stands e o
+      → IsMove plan statements (ran o next registers counters) (moves.used (slot_in cells e) cells g)
+  assigned kind stands g puts (Variable k) o h = variable kind stands g puts k o (giving o) refl h
+  assigned kind stands g puts (Vector' first bound b x) (SetElement start count pair) h =
+      subst (λ m. IsMove plan statements (ran (SetElement start count pair) next registers counters) m)
+      (sym (vector_used cells first g bound (number_in cells x)))
+      (subst (λ p. IsMove plan statements p (moves.used place cells (λ k. g (first + k))))
+      (sym (ap (λ f. put_at f here (term_value registers pair.value.right) next registers counters) h.0))
+      (used_alike plan statements registers counters cells holds here place same (λ k. put_in_register (first + k) (term_value registers pair.value.right) next registers counters)
+      (λ k. g (first + k)) (λ k e. puts (first + k) pair.value.right (h.2 k (vector_below bound (number_in cells x) k (sym same ∙ e))) h.4)))
     where
       here : Result ℕ Fault
-      here = vector_place v.bound (term_value registers v.subscript)
+      here = vector_place count (term_value registers pair.value.left)
 
       place : Result ℕ Fault
       place = vector_place bound (number_in cells x)
 
       same : here ≡ place
-      same = λ i. vector_place (h.1 i) (same_term plan registers cells holds x v.subscript h.3 i)
-
-  -- an element is given what a term has for a value
-  pub assigned : (kind : Kind) (stands : Term → Type 0) (g : ℕ → Move) → Puts kind stands g → (e : Element) (o : Operation) → StandsForAssignment plan kind stands e o
-      → IsMove plan statements (ran o next registers counters) (moves.used (slot_in cells e) cells g)
-  assigned kind stands g puts (Variable k) o h = variable kind stands g puts k o (giving o) refl h
-  assigned kind stands g puts (Vector' first bound b x) o h =
-      subst (λ m. IsMove plan statements (ran o next registers counters) m) (sym (vector_used cells first g bound (number_in cells x)))
-      (vector kind stands g puts first bound x o (storing o) refl h)
+      same = λ i. vector_place (h.1 i) (same_term plan registers cells holds x pair.value.left h.3 i)
+  assigned kind stands g puts (Vector' first bound b x) _ h = absurd h
   assigned kind stands g puts (Matrix' first rows columns b x c y) (SetMatrix start height width pair term) h =
       subst (λ m. IsMove plan statements (ran (SetMatrix start height width pair term) next registers counters) m)
       (sym (matrix_used cells first g rows columns (number_in cells x) (number_in cells y)))

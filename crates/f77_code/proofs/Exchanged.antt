@@ -1,9 +1,7 @@
 -- The code of a program where one statement is exchanged for another of the same frame.
-use Rattle.std.proofs.Common.{◌≡◌, ◌≢◌, ◌<◌, ◌≤◌, ◌⊎◌, inl, inr, ℕ, zero, suc, ◌+◌, true, false, List, [], ◌∷◌, length, take, Some, refl, sym, ap, ◌∙◌, subst, arith}
+use Rattle.std.proofs.Common.{◌≡◌, ◌≢◌, ◌<◌, ◌≤◌, ◌⊎◌, inl, inr, ℕ, zero, suc, ◌+◌, true, List, [], ◌∷◌, length, take, Some, refl, sym, ap, ◌∙◌, subst, arith}
 use Rattle.std.specs.Prelude.{slice_get}
 use Rattle.std.proofs.lemmas.Option.{same_Some, slice_get_within}
-use Rattle.std.proofs.lemmas.List.{length-set}
-use Rattle.std.proofs.Math.ListN.{set}
 use Rattle.f77_actions.specs.declared.action.Action.{Action, Branch, Loop}
 use Rattle.f77_actions.specs.declared.expression.Number.{Number}
 use Rattle.f77_actions.specs.declared.resolved.Resolved.{Resolved}
@@ -12,19 +10,20 @@ use Rattle.f77_code.specs.declared.instruction.Instruction.{Instruction}
 use Rattle.f77_code.specs.declared.instruction.Operation.{Operation, Do, Count, Next}
 use Rattle.f77_code.specs.declared.places.Places.{Places}
 use Rattle.f77_code.specs.Instructions.{Beginning, BeginsDo, onward, round, IsLeftDone, Tests, StandsForStatement, StandsForIncrement}
-use Rattle.f77_code.specs.Compiled.{IsInstruction, IsIncrement, AreCompiled, HasOneFrame, IsExchanged}
-use Rattle.f77_code.specs.code.Compiled.{IsIncrementExchanged}
-use Rattle.f77_code.specs.Constants.{GrowsPlan}
+use Rattle.f77_code.specs.Compiled.{IsInstruction, IsIncrement, AreCompiled, HasOneFrame}
+use Rattle.f77_code.specs.code.Compiled.{IsExchanged}
+use Rattle.f77_code.specs.code.Compiled.{HaveSameFrames}
+use Rattle.f77_code.specs.code.Constants.{GrowsPlan}
 use Rattle.f77_code.specs.Holds.{Plan, loop_count, do_rank, is_loop_at}
 use Rattle.f77_code.specs.Moves.{is_loop}
 use Rattle.f77_code.specs.Places.{ArePlaces}
 use Rattle.f77_code.proofs.Assembled.{all_ranked}
 use Rattle.f77_code.proofs.Instructed.{instruction_later}
 use Rattle.f77_code.proofs.Counters.{weight, more, rank_rises}
-use Rattle.f77_code.proofs.Listed.{item_at, loop_is, loop_within, one_if, order, set_here, set_there}
+use Rattle.f77_code.proofs.Listed.{item_at, loop_is, loop_within, one_if, order}
 
 -- two numbers are one, or are not
-same_or_apart : (j i : ℕ) → (j ≡ i) ⊎ (j ≢ i)
+pub same_or_apart : (j i : ℕ) → (j ≡ i) ⊎ (j ≢ i)
 same_or_apart zero zero = inl refl
 same_or_apart zero (suc i) = inr (λ e. absurd (omega (arith, e)))
 same_or_apart (suc j) zero = inr (λ e. absurd (omega (arith, e)))
@@ -34,12 +33,14 @@ same_or_apart (suc j) (suc i) = by (same_or_apart j i)
     by (inl e) = inl (ap suc e)
     by (inr apart) = inr (λ e. apart (omega (arith, e)))
 
--- the same frame at each place
-pub record HaveOneFrame (before after : List Resolved) : Type 0 where
-  pub count : length after ≡ length before
-  pub each : (j : ℕ) (r s : Resolved) → slice_get before j ≡ Some r → slice_get after j ≡ Some s → HasOneFrame r s
+-- a program has its own frame
+pub own_frame : (statements : List Resolved) → HaveSameFrames statements statements
+own_frame statements = record {
+  count = refl;
+  each = λ j r s old new. subst (HasOneFrame r) (same_Some _ _ (sym old ∙ new)) (record { next = refl; ends = refl; loop = refl });
+}
 
-pub one_frame : (before : List Resolved) (i : ℕ) (after : List Resolved) → IsExchanged before i after → HaveOneFrame before after
+pub one_frame : (before : List Resolved) (i : ℕ) (after : List Resolved) → IsExchanged before i after → HaveSameFrames before after
 one_frame before i after change = record {
   count = change.count;
   each = λ j r s old new. by j r s old new (same_or_apart j i);
@@ -67,7 +68,7 @@ ranked_same (r ∷ rs) (s ∷ ss) count each (suc d) =
     let new = more s (take d ss) in
     omega (arith, one, rest, old, new)
 
-module _ (before after : List Resolved) (same : HaveOneFrame before after) where
+module _ (before after : List Resolved) (same : HaveSameFrames before after) where
   pub rank_same : (d : ℕ) → do_rank after d ≡ do_rank before d
   rank_same = ranked_same before after same.count (λ j r s old new. (same.each j r s old new).loop)
 
@@ -78,7 +79,7 @@ module _ (before after : List Resolved) (same : HaveOneFrame before after) where
   onward_same [] next = refl
   onward_same (d ∷ ends) next = λ i. same.count i + rank_same d i
 
-  left_same : (d t next : ℕ) → IsLeftDone before d t next → IsLeftDone after d t next
+  pub left_same : (d t next : ℕ) → IsLeftDone before d t next → IsLeftDone after d t next
   left_same d t next h end at =
       let below : t < length before = subst (λ n. t < n) same.count (slice_get_within after t end at) in
       let w = item_at before t below in
@@ -129,7 +130,7 @@ module _ (before after : List Resolved) (same : HaveOneFrame before after) where
     each = λ d k at. are.each d k at ∙ (λ i. sym same.count i + sym (rank_same d) i);
   }
 
-  loop_kept : (d : ℕ) → is_loop_at after d ≡ true → is_loop_at before d ≡ true
+  pub loop_kept : (d : ℕ) → is_loop_at after d ≡ true → is_loop_at before d ≡ true
   loop_kept d loop =
       let below : d < length after = loop_within after d loop in
       let s = item_at after d below in
@@ -158,7 +159,7 @@ exchanged_code t u before i after code new g change within are long here next ot
   incremented = λ d x loop is. incremented_at d x loop is (same_or_apart d i);
 }
   where
-    same : HaveOneFrame before after
+    same : HaveSameFrames before after
     same = one_frame before i after change
 
     executed_at : (j : ℕ) (x : Instruction) → j < length after → slice_get new j ≡ Some x → (j ≡ i) ⊎ (j ≢ i) → IsInstruction u after j x
@@ -180,33 +181,3 @@ exchanged_code t u before i after code new g change within are long here next ot
         let place : length before + do_rank before d ≡ length after + do_rank after d = λ k. sym same.count k + sym (rank_same before after same d) k in
         increment_same before after same d x (change.others d apart)
         (are.incremented d x (loop_kept before after same d loop) (ap (slice_get code) place ∙ sym kept ∙ is))
-
--- the incrementation is exchanged where it stands
-pub increment_set : (statements : List Resolved) (i place : ℕ) (list : List Instruction) (x : Instruction) → is_loop_at statements i ≡ true
-    → place ≡ length statements + do_rank statements i → IsIncrement statements i x → IsIncrementExchanged statements i list (set list place x)
-increment_set statements i place list x loop at h = record {
-  count = length-set list place x;
-  next = λ _ y is.
-      let same : x ≡ y = set_here list place x y (subst (λ k. slice_get (set list place x) k ≡ Some y) (sym at) is) in
-      subst (IsIncrement statements i) same h;
-  others = λ j apart. set_there list place j x (λ e. apart loop (sym e ∙ at));
-}
-
-pub none_set : (statements : List Resolved) (i : ℕ) (list : List Instruction) → is_loop_at statements i ≡ false → IsIncrementExchanged statements i list list
-none_set statements i list other = record {
-  count = refl;
-  next = λ loop y is. absurd (cc (sym loop ∙ other));
-  others = λ j apart. refl;
-}
-
-pub changed_code : (t u : Constants) (before : List Resolved) (i : ℕ) (after : List Resolved) (code : List Instruction) (x : Instruction) (new : List Instruction)
-    → GrowsPlan t u → IsExchanged before i after → i < length after → AreCompiled t before code → IsInstruction u after i x
-    → IsIncrementExchanged after i (set code i x) new → AreCompiled u after new
-changed_code t u before i after code x new g change within are h set_next =
-    exchanged_code t u before i after code new g change within are (set_next.count ∙ length-set code i x)
-    (λ y is.
-    let kept = set_next.others i (λ loop e. absurd (omega (arith, e, within))) in
-    let same : x ≡ y = set_here code i x y (sym kept ∙ is) in
-    subst (IsInstruction u after i) same h)
-    set_next.next
-    (λ j apart away. set_next.others j away ∙ set_there code i j x (λ e. apart (sym e)))

@@ -12,8 +12,7 @@ use Rattle.f77_actions.specs.Number.{fits, in_range, exact_power, negated, witho
 use Rattle.f77_actions.specs.Told.{is_fitting, negation}
 use Rattle.f77_actions.specs.Value.{given, both, pushed}
 use Rattle.f77_actions.proofs.Bounds.{fits_truth}
-use Rattle.f77_code.specs.declared.term.Term.{Term, Register, Element, ElementAtSum, ElementAtDifference}
-use Rattle.f77_code.specs.declared.term.Term.{Sum, Difference, Product, Compared, TooLarge, Vector', Matrix'}
+use Rattle.f77_code.specs.declared.term.Term.{Term, Register, Element, MatrixAt, Sum, Difference, Product, Compared, TooLarge, Vector', Matrix'}
 use Rattle.f77_code.specs.declared.term.Term.{Add', Subtract', Multiply', Calculated', Negated', Absolute', ZeroPush', Related', Connected', Not'}
 use Rattle.f77_code.specs.Evaluation.{calculated, compared}
 use Rattle.f77_code.specs.Registers.{is_held, are_held, register, vector_place, matrix_place, element_at}
@@ -89,12 +88,7 @@ module _ (registers : List ℤ) (held : are_held registers ≡ true) where
   pub term_fits : (t : Term) → is_fitting (term_value registers t) ≡ true
   term_fits (Register r) = register_fits registers r held
   term_fits (Element first bound s) = element_fits first (vector_place bound (register registers s))
-  term_fits (ElementAtSum first bound a b) =
-      element_fits first
-      (vector_place bound (both (calculated arithmetic.Add) (register registers a) (register registers b)))
-  term_fits (ElementAtDifference first bound a b) =
-      element_fits first
-      (vector_place bound (both (calculated arithmetic.Subtract) (register registers a) (register registers b)))
+  term_fits (MatrixAt first rows columns row column) = element_fits first (matrix_place rows columns (register registers row) (register registers column))
   term_fits (Sum a b) = both_fit (calculated arithmetic.Add) (calculated_fits arithmetic.Add) (register registers a) (register registers b)
       (register_fits registers a held) (register_fits registers b held)
   term_fits (Difference a b) = both_fit (calculated arithmetic.Subtract) (calculated_fits arithmetic.Subtract) (register registers a)

@@ -16,7 +16,8 @@ use Rattle.f77_code.specs.Compiled.{is_ready, IsInstruction, IsIncrement}
 use Rattle.f77_code.specs.code.Compiled.{HaveParameters, Advances, IsNext}
 use Rattle.f77_code.specs.Compiling.{can_compile}
 use Rattle.f77_code.specs.code.Compiling.{IsTesting, IsCompiled}
-use Rattle.f77_code.specs.Constants.{GrowsPlan, BeginsPlan}
+use Rattle.f77_code.specs.Constants.{BeginsPlan}
+use Rattle.f77_code.specs.code.Constants.{GrowsPlan}
 use Rattle.f77_code.specs.Holds.{Plan, do_rank}
 use Rattle.f77_code.specs.Moves.{is_loop}
 use Rattle.f77_code.specs.Typing.{HasAction}

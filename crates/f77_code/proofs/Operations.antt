@@ -1,7 +1,6 @@
 -- Operations stand for actions when the terms in them stand for expressions.
 use Rattle.std.proofs.Common.{◌≡◌, ℕ, map, refl, sym, ◌∙◌, subst}
-use Rattle.std.specs.Prelude.{Box, Vec, Option, Some, None, MatchOption, Result, Ok, Err}
-use Rattle.std.specs.Result.{IfOk}
+use Rattle.std.specs.Prelude.{Box, Vec, Option, Some, None, MatchOption}
 use Rattle.std.specs.declared.alloc.Global.{Global}
 use Rattle.f77_tree.specs.declared.tree.Kind.{Kind}
 use Rattle.f77_tree.specs.declared.tree.Kind.TheVariants.{Integer, Logical}
@@ -16,24 +15,19 @@ use Rattle.f77_actions.specs.declared.expression.Element.TheViews as views
 use Rattle.f77_actions.specs.declared.expression.Number.{Number}
 use Rattle.f77_actions.specs.declared.expression.Relation.{Relation}
 use Rattle.f77_code.specs.declared.constants.Constants.{Constants}
-use Rattle.f77_code.specs.declared.instruction.Operation.{Operation, SetMatrix, IfTrue, When'}
+use Rattle.f77_code.specs.declared.instruction.Operation.{Operation, SetElement, SetMatrix, IfTrue, When'}
 use Rattle.f77_code.specs.declared.instruction.Operation as form
 use Rattle.f77_code.specs.declared.instruction.Operation.TheViews as operations
 use Rattle.f77_code.specs.declared.term.Pair.{Pair}
 use Rattle.f77_code.specs.declared.term.Term.{Term, Register, Compared, Related'}
-use Rattle.f77_code.specs.Instructions.{Comparing, giving, storing, comparing, StandsForAssignment, Tests, IsOperation}
+use Rattle.f77_code.specs.Instructions.{Comparing, giving, comparing, StandsForAssignment, Tests, IsOperation}
 use Rattle.f77_code.specs.code.Compile.{IsNumberTerm, IsTestTerm, ArePair, IsRelationOf}
-use Rattle.f77_code.specs.code.Compiling.{IsGiving, IsStoring, IsTesting, IsAssigning, IsConditional, IsCompiled, IsLogicalIf}
-use Rattle.f77_code.specs.Constants.{GrowsPlan}
-use Rattle.f77_code.specs.Holds.{Plan, IsSlot, AreSlots}
+use Rattle.f77_code.specs.code.Compiling.{IsGiving, IsTesting, IsAssigning, IsConditional, IsCompiled, IsLogicalIf}
+use Rattle.f77_code.specs.code.Constants.{GrowsPlan}
+use Rattle.f77_code.specs.Holds.{Plan, IsSlot}
 use Rattle.f77_code.specs.Standing.{IsTerm, IsTest}
 use Rattle.f77_code.specs.Typing.{HasNumbers, HasAction}
 use Rattle.f77_code.proofs.Terms.{begins_before}
-
--- what two clauses say of a result
-pub ok_both : {X Y : Type 0} (r : Result X Y) (P Q R : X → Type 0) → ((x : X) → P x → Q x → R x) → IfOk r P → IfOk r Q → IfOk r R
-ok_both (Ok x) P Q R each p q = each x p q
-ok_both (Err e) P Q R each p q = tt
 
 of_some : {A : Type 0} (P : A → Type 0) (o : Option A) (x : A) → o ≡ Some x → P x → MatchOption o ⊥ P
 of_some P o x is h = rw is h
@@ -48,12 +42,8 @@ assigns_as : (plan : Plan) (kind : Kind) (P : Term → Type 0) (term : Term) →
 assigns_as plan kind P term p (Variable k) operation h =
     of_all (λ g. (g.to ≡ k) × IsSlot plan kind k × (g.term ≡ term)) (λ g. (g.to ≡ k) × IsSlot plan kind k × P g.term) (giving operation)
     (λ g at. (at.0, at.1, subst P (sym at.2) p)) h
-assigns_as plan kind P term p (Vector' first bound q x) operation h =
-    of_all
-    (λ s. (s.first ≡ first) × (s.bound ≡ bound) × AreSlots plan kind first bound × IsTerm plan x s.subscript × (s.term ≡ term))
-    (λ s. (s.first ≡ first) × (s.bound ≡ bound) × AreSlots plan kind first bound × IsTerm plan x s.subscript × P s.term)
-    (storing operation)
-    (λ s at. (at.0, at.1, at.2, at.3, subst P (sym at.4) p)) h
+assigns_as plan kind P term p (Vector' first bound q x) (SetElement start count pair) h = (h.0, h.1, h.2, h.3, subst P (sym h.4) p)
+assigns_as plan kind P term p (Vector' first bound q x) _ h = absurd h
 assigns_as plan kind P term p (Matrix' first rows columns q x r y) (SetMatrix start height width pair value) h =
     (h.0, h.1, h.2, h.3, h.4, h.5, subst P (sym h.6) p)
 assigns_as plan kind P term p (Matrix' first rows columns q x r y) _ h = absurd h
@@ -66,16 +56,18 @@ variable_assigned t e slot to term operation is at h =
           of_some (λ g. (g.to ≡ slot) × IsSlot plan kind slot × (g.term ≡ term)) (giving operation) _ h (at, has, refl);
     })
 
-pub vector_assigned : (t : Constants) (e : Element) (first bound start : ℕ) (a : Box Number Global) (x : Number) (s term : Term) (operation : Operation)
-    → e ≡ views.Vector first bound a → x ≡ a.value → start ≡ first → IsNumberTerm t x s → IsStoring start bound s term operation
-    → IsAssigning t e term operation
-vector_assigned t e first bound start a x s term operation is at same h stores =
+pub vector_assigned : (t : Constants) (e : Element) (first bound start : ℕ) (a : Box Number Global) (x : Number) (pair : Box Pair Global) (s term : Term)
+    → e ≡ views.Vector first bound a → x ≡ a.value → start ≡ first → IsNumberTerm t x s → pair.value.left ≡ s → pair.value.right ≡ term
+    → IsAssigning t e term (SetElement start bound pair)
+vector_assigned t e first bound start a x pair s term is at same h left right =
     rw is (record {
-      assigns = λ plan kind b has.
-          of_some
-          (λ s. (s.first ≡ first) × (s.bound ≡ bound) × AreSlots plan kind first bound × IsTerm plan a.value s.subscript × (s.term ≡ term))
-          (storing operation) _ stores
-          (same, refl, has.0, subst (λ x. IsTerm plan x s) at (h.stands plan b (subst (HasNumbers plan) (sym at) has.1)), refl);
+      assigns = λ plan kind b has. (
+        same,
+        refl,
+        has.0,
+        subst (IsTerm plan a.value) (sym left) (subst (λ x. IsTerm plan x s) at (h.stands plan b (subst (HasNumbers plan) (sym at) has.1))),
+        right,
+      );
     })
 
 pub matrix_assigned : (t : Constants) (e : Element) (first rows columns start : ℕ) (a b : Box Number Global) (x y : Number) (pair : Box Pair Global)

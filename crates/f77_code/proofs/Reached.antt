@@ -17,20 +17,17 @@ use Rattle.f77_actions.specs.declared.action.Action as action
 use Rattle.f77_actions.specs.declared.expression.Relation.{Relation}
 use Rattle.f77_actions.specs.declared.resolved.Resolved.{Resolved}
 use Rattle.f77_code.specs.declared.instruction.Instruction.{Instruction}
-use Rattle.f77_code.specs.declared.instruction.Operation.{Operation, Set, SetElement, SetMatrix, IfTrue, IfRelated, Do, Count, Next, Sign, Select, When'}
+use Rattle.f77_code.specs.declared.instruction.Operation.{Operation, Set, SetElement, SetMatrix, IfTrue, IfRelated, IfCompared, Do, Count, Next, Sign, Select, When'}
 use Rattle.f77_code.specs.declared.instruction.Operation.{Continue, Goto, Return, Stop, Trap, Move, Add, Subtract, Multiply, Load}
-use Rattle.f77_code.specs.declared.instruction.Operation.{Store, StoreSum, StoreDifference}
-use Rattle.f77_code.specs.declared.instruction.Operation.{IfLess, IfLessOrEqual, IfEqual, IfNotEqual, IfGreaterOrEqual, IfGreater}
-use Rattle.f77_code.specs.declared.term.Term.{Term, Register, Element, ElementAtSum, ElementAtDifference}
-use Rattle.f77_code.specs.declared.term.Term.{Sum, Difference, Product, Compared, TooLarge, Vector', Matrix'}
+use Rattle.f77_code.specs.declared.term.Term.{Term, Register, Element, MatrixAt, Sum, Difference, Product, Compared, TooLarge, Vector', Matrix'}
 use Rattle.f77_code.specs.declared.term.Term.{Add', Subtract', Multiply', Calculated', Negated', Absolute', ZeroPush', Related', Connected', Not'}
 use Rattle.f77_code.specs.Block.{code_within}
-use Rattle.f77_code.specs.Instructions.{Beginning, BeginsDo, registers_for, Giving, Storing, Comparing, giving, storing, comparing}
+use Rattle.f77_code.specs.Instructions.{Beginning, BeginsDo, registers_for, Giving, Comparing, giving, comparing}
 use Rattle.f77_code.specs.Instructions.{StandsForAssignment, Tests, IsOperation, StandsForStatement, StandsForIncrement, AreCode, onward}
 use Rattle.f77_code.specs.Compiled.{is_ready, are_ready}
 use Rattle.f77_code.specs.Compiling.{can_compile}
 use Rattle.f77_code.specs.Evaluation.{element_within, number_within, condition_within}
-use Rattle.f77_code.specs.Holds.{Plan, IsSlot, AreSlots, IsConstant, loop_count, do_rank}
+use Rattle.f77_code.specs.Holds.{Plan, IsSlot, IsConstant, loop_count, do_rank}
 use Rattle.f77_code.specs.Moves.{is_loop}
 use Rattle.f77_code.specs.Operation.{operation_within}
 use Rattle.f77_code.specs.Standing.{ReadsElement, IsTerm, IsTest}
@@ -39,7 +36,7 @@ use Rattle.f77_code.proofs.Assembled.{all_ranked}
 use Rattle.f77_code.proofs.Counters.{weight, more, rank_rises}
 use Rattle.f77_code.proofs.Listed.{all_at, item_at, loop_is, one_if, order}
 
-at_most : (n m : ℕ) → not (nat_lt n m) ≡ true → m ≤ n
+pub at_most : (n m : ℕ) → not (nat_lt n m) ≡ true → m ≤ n
 at_most n m h = by (nat_lt n m) refl h
   where
     by : (b : Bool) → nat_lt n m ≡ b → not b ≡ true → m ≤ n
@@ -72,14 +69,13 @@ module _ (plan : Plan) (n : ℕ) (room : n ≡ plan.slots + length plan.constant
   number_there (number.Element (Variable k)) (Register r) h w = slot_there r k h.0 h.1.0
   number_there (number.Element (slots.Vector' first bound p x)) (Element start count s) h w =
       let parts = and_parts _ _ w in and_from _ _ (array_there start first count bound h.0 h.1 parts.0) (number_there x (Register s) h.3 parts.1)
-  number_there (number.Element (slots.Vector' first bound p x)) (ElementAtSum start count l r) h w =
-      let parts = and_parts _ _ w in
-      and_from _ _ (array_there start first count bound h.0 h.1 parts.0) (number_there x (Sum l r) h.3 parts.1)
-  number_there (number.Element (slots.Vector' first bound p x)) (ElementAtDifference start count l r) h w =
-      let parts = and_parts _ _ w in
-      and_from _ _ (array_there start first count bound h.0 h.1 parts.0) (number_there x (Difference l r) h.3 parts.1)
   number_there (number.Element (slots.Vector' first bound p x)) (Vector' start count q s) h w =
       let parts = and_parts _ _ w in and_from _ _ (array_there start first count bound h.0 h.1 parts.0) (number_there x s h.3 parts.1)
+  number_there (number.Element (slots.Matrix' first rows columns p x q y)) (MatrixAt start height width row column) h w =
+      let parts = and_parts _ _ w in
+      let both = and_parts _ _ parts.1 in
+      and_from _ _ (matrix_there start first height rows width columns h.0 h.1 h.2 parts.0)
+      (and_from _ _ (number_there x (Register row) h.4 both.0) (number_there y (Register column) h.5 both.1))
   number_there (number.Element (slots.Matrix' first rows columns p x q y)) (Matrix' start height width o row column) h w =
       let parts = and_parts _ _ w in
       let both = and_parts _ _ parts.1 in
@@ -109,14 +105,13 @@ module _ (plan : Plan) (n : ℕ) (room : n ≡ plan.slots + length plan.constant
   element_there kind (Variable k) (Register r) h w = slot_there r k h.0 h.1.0
   element_there kind (slots.Vector' first bound p x) (Element start count s) h w =
       let parts = and_parts _ _ w in and_from _ _ (array_there start first count bound h.0 h.1 parts.0) (number_there x (Register s) h.3 parts.1)
-  element_there kind (slots.Vector' first bound p x) (ElementAtSum start count l r) h w =
-      let parts = and_parts _ _ w in
-      and_from _ _ (array_there start first count bound h.0 h.1 parts.0) (number_there x (Sum l r) h.3 parts.1)
-  element_there kind (slots.Vector' first bound p x) (ElementAtDifference start count l r) h w =
-      let parts = and_parts _ _ w in
-      and_from _ _ (array_there start first count bound h.0 h.1 parts.0) (number_there x (Difference l r) h.3 parts.1)
   element_there kind (slots.Vector' first bound p x) (Vector' start count q s) h w =
       let parts = and_parts _ _ w in and_from _ _ (array_there start first count bound h.0 h.1 parts.0) (number_there x s h.3 parts.1)
+  element_there kind (slots.Matrix' first rows columns p x q y) (MatrixAt start height width row column) h w =
+      let parts = and_parts _ _ w in
+      let both = and_parts _ _ parts.1 in
+      and_from _ _ (matrix_there start first height rows width columns h.0 h.1 h.2 parts.0)
+      (and_from _ _ (number_there x (Register row) h.4 both.0) (number_there y (Register column) h.5 both.1))
   element_there kind (slots.Matrix' first rows columns p x q y) (Matrix' start height width o row column) h w =
       let parts = and_parts _ _ w in
       let both = and_parts _ _ parts.1 in
@@ -137,7 +132,7 @@ module _ (plan : Plan) (n : ℕ) (room : n ≡ plan.slots + length plan.constant
       let parts = and_parts _ _ w in and_from _ _ (test_there x l h.1 parts.0) (test_there y r h.2 parts.1)
   test_there _ _ h w = absurd h
 
-  -- what an operation gives, stores or compares
+  -- what an operation gives or compares
   giving_there : (loops : ℕ) (operation : Operation) (g : Giving) → giving operation ≡ Some g → nat_lt g.to n ≡ true → term_within n g.term ≡ true
       → operation_within n loops operation ≡ true
   giving_there loops (Set to term) g e a b =
@@ -154,41 +149,11 @@ module _ (plan : Plan) (n : ℕ) (room : n ≡ plan.slots + length plan.constant
       let same = same_Some _ _ e in and_from _ _ (subst (λ g. nat_lt g.to n ≡ true) (sym same) a) (subst (λ g. term_within n g.term ≡ true) (sym same) b)
   giving_there loops _ g e a b = absurd (cc (e))
 
-  storing_there : (loops : ℕ) (operation : Operation) (s : Storing) → storing operation ≡ Some s → not (nat_lt n (s.first + s.bound)) ≡ true
-      → term_within n s.subscript ≡ true → term_within n s.term ≡ true → operation_within n loops operation ≡ true
-  storing_there loops (SetElement first bound pair) s e a b c =
-      let same = same_Some _ _ e in
-      and_from _ _ (subst (λ s. not (nat_lt n (s.first + s.bound)) ≡ true) (sym same) a)
-      (and_from _ _ (subst (λ s. term_within n s.subscript ≡ true) (sym same) b) (subst (λ s. term_within n s.term ≡ true) (sym same) c))
-  storing_there loops (Store first bound subscript from) s e a b c =
-      let same = same_Some _ _ e in
-      and_from _ _ (subst (λ s. not (nat_lt n (s.first + s.bound)) ≡ true) (sym same) a)
-      (and_from _ _ (subst (λ s. term_within n s.subscript ≡ true) (sym same) b) (subst (λ s. term_within n s.term ≡ true) (sym same) c))
-  storing_there loops (StoreSum first bound subscript left right) s e a b c =
-      let same = same_Some _ _ e in
-      and_from _ _ (subst (λ s. not (nat_lt n (s.first + s.bound)) ≡ true) (sym same) a)
-      (and_from _ _ (subst (λ s. term_within n s.subscript ≡ true) (sym same) b) (subst (λ s. term_within n s.term ≡ true) (sym same) c))
-  storing_there loops (StoreDifference first bound subscript left right) s e a b c =
-      let same = same_Some _ _ e in
-      and_from _ _ (subst (λ s. not (nat_lt n (s.first + s.bound)) ≡ true) (sym same) a)
-      (and_from _ _ (subst (λ s. term_within n s.subscript ≡ true) (sym same) b) (subst (λ s. term_within n s.term ≡ true) (sym same) c))
-  storing_there loops _ s e a b c = absurd (cc (e))
-
   comparing_there : (loops : ℕ) (operation : Operation) (c : Comparing) → comparing operation ≡ Some c → term_within n c.left ≡ true
       → term_within n c.right ≡ true → operation_within n loops operation ≡ true
   comparing_there loops (IfRelated op there pair) c e a b =
       let same = same_Some _ _ e in and_from _ _ (subst (λ c. term_within n c.left ≡ true) (sym same) a) (subst (λ c. term_within n c.right ≡ true) (sym same) b)
-  comparing_there loops (IfLess left right there) c e a b =
-      let same = same_Some _ _ e in and_from _ _ (subst (λ c. term_within n c.left ≡ true) (sym same) a) (subst (λ c. term_within n c.right ≡ true) (sym same) b)
-  comparing_there loops (IfLessOrEqual left right there) c e a b =
-      let same = same_Some _ _ e in and_from _ _ (subst (λ c. term_within n c.left ≡ true) (sym same) a) (subst (λ c. term_within n c.right ≡ true) (sym same) b)
-  comparing_there loops (IfEqual left right there) c e a b =
-      let same = same_Some _ _ e in and_from _ _ (subst (λ c. term_within n c.left ≡ true) (sym same) a) (subst (λ c. term_within n c.right ≡ true) (sym same) b)
-  comparing_there loops (IfNotEqual left right there) c e a b =
-      let same = same_Some _ _ e in and_from _ _ (subst (λ c. term_within n c.left ≡ true) (sym same) a) (subst (λ c. term_within n c.right ≡ true) (sym same) b)
-  comparing_there loops (IfGreaterOrEqual left right there) c e a b =
-      let same = same_Some _ _ e in and_from _ _ (subst (λ c. term_within n c.left ≡ true) (sym same) a) (subst (λ c. term_within n c.right ≡ true) (sym same) b)
-  comparing_there loops (IfGreater left right there) c e a b =
+  comparing_there loops (IfCompared op left right there) c e a b =
       let same = same_Some _ _ e in and_from _ _ (subst (λ c. term_within n c.left ≡ true) (sym same) a) (subst (λ c. term_within n c.right ≡ true) (sym same) b)
   comparing_there loops _ c e a b = absurd (cc (e))
 
@@ -198,19 +163,14 @@ module _ (plan : Plan) (n : ℕ) (room : n ≡ plan.slots + length plan.constant
   given_there loops kind P k each operation None e h = absurd h
   given_there loops kind P k each operation (Some g) e h = giving_there loops operation g e (slot_there g.to k h.0 h.1.0) (each g.term h.2)
 
-  stored_there : (loops : ℕ) (kind : Kind) (P : Term → Type 0) (first bound : ℕ) (x : Number) → ((t : Term) → P t → term_within n t ≡ true)
-      → not (nat_lt plan.slots (first + bound)) ≡ true → number_within plan.slots x ≡ true → (operation : Operation) (o : Option Storing) → storing operation ≡ o
-      → MatchOption o ⊥ (λ s. (s.first ≡ first) × (s.bound ≡ bound) × AreSlots plan kind first bound × IsTerm plan x s.subscript × P s.term)
-      → operation_within n loops operation ≡ true
-  stored_there loops kind P first bound x each fits within operation None e h = absurd h
-  stored_there loops kind P first bound x each fits within operation (Some s) e h =
-      storing_there loops operation s e (array_there s.first first s.bound bound h.0 h.1 fits) (number_there x s.subscript h.3 within) (each s.term h.4)
-
   assigns_there : (loops : ℕ) (kind : Kind) (P : Term → Type 0) → ((t : Term) → P t → term_within n t ≡ true) → (e : slots.Element) (operation : Operation)
       → StandsForAssignment plan kind P e operation → element_within plan.slots e ≡ true → operation_within n loops operation ≡ true
   assigns_there loops kind P each (Variable k) operation h w = given_there loops kind P k each operation (giving operation) refl h
-  assigns_there loops kind P each (slots.Vector' first bound p x) operation h w =
-      let parts = and_parts _ _ w in stored_there loops kind P first bound x each parts.0 parts.1 operation (storing operation) refl h
+  assigns_there loops kind P each (slots.Vector' first bound p x) (SetElement start count pair) h w =
+      let parts = and_parts _ _ w in
+      and_from _ _ (array_there start first count bound h.0 h.1 parts.0)
+      (and_from _ _ (number_there x pair.value.left h.3 parts.1) (each pair.value.right h.4))
+  assigns_there loops kind P each (slots.Vector' first bound p x) _ h w = absurd h
   assigns_there loops kind P each (slots.Matrix' first rows columns p x q y) (SetMatrix start height width pair term) h w =
       let parts = and_parts _ _ w in
       let both = and_parts _ _ parts.1 in
@@ -291,14 +251,14 @@ module _ (plan : Plan) (n : ℕ) (room : n ≡ plan.slots + length plan.constant
   increments_there statements d _ _ next h loops below = absurd (cc (loops))
 
 -- the DO of a counter
-record Counted (statements : List Resolved) (k : ℕ) : Type 0 where
-  place : ℕ
-  resolved : Resolved
-  at : slice_get statements place ≡ Some resolved
-  loop : is_loop resolved.action ≡ true
-  ranked : do_rank statements place ≡ k
+pub record Counted (statements : List Resolved) (k : ℕ) : Type 0 where
+  pub place : ℕ
+  pub resolved : Resolved
+  pub at : slice_get statements place ≡ Some resolved
+  pub loop : is_loop resolved.action ≡ true
+  pub ranked : do_rank statements place ≡ k
 
-counted_at : (statements : List Resolved) (k : ℕ) → k < loop_count statements → Counted statements k
+pub counted_at : (statements : List Resolved) (k : ℕ) → k < loop_count statements → Counted statements k
 counted_at [] k h = absurd (omega (arith, h))
 counted_at (r ∷ rs) k h = by (is_loop r.action) refl (counted_at rs) k h
   where

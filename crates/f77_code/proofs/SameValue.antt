@@ -19,7 +19,7 @@ use Rattle.f77_actions.specs.declared.finish.Fault.{Fault}
 use Rattle.f77_actions.specs.Number.{in_range, negated, without_sign}
 use Rattle.f77_actions.specs.Told.{truth_number, of_truth, negation}
 use Rattle.f77_actions.specs.Value.{given, both, logic, element, pushed}
-use Rattle.f77_code.specs.declared.term.Term.{Term, Register, Element, ElementAtSum, ElementAtDifference}
+use Rattle.f77_code.specs.declared.term.Term.{Term, Register, Element, MatrixAt}
 use Rattle.f77_code.specs.declared.term.Term.{Sum, Difference, Product, Compared, TooLarge, Vector', Matrix'}
 use Rattle.f77_code.specs.declared.term.Term.{Add', Subtract', Multiply', Calculated', Negated', Absolute', ZeroPush', Related', Connected', Not'}
 use Rattle.f77_code.specs.Evaluation.{held_in, slot_in, number_in, truth_in, calculated, compared, joined}
@@ -31,7 +31,7 @@ use Rattle.f77_code.specs.Term.{related_number, connected_number, term_value}
 use Rattle.f77_code.proofs.Reading.{in_matrix}
 
 -- the place of an element is among those of its array
-place_below : (bound : ℕ) (z : ℤ) (k : ℕ) → element (bound ∷ []) (z ∷ []) ≡ Ok k → k < bound
+pub place_below : (bound : ℕ) (z : ℤ) (k : ℕ) → element (bound ∷ []) (z ∷ []) ≡ Ok k → k < bound
 place_below bound (pos zero) k e = absurd (cc (e))
 place_below bound (negsuc n) k e = absurd (cc (e))
 place_below bound (pos (suc n)) k e = by (nat_lt n bound) refl
@@ -40,7 +40,7 @@ place_below bound (pos (suc n)) k e = by (nat_lt n bound) refl
     by true t = let whole = rw t at e in let same : n + bound * 0 ≡ k = cc (whole) in let below = ltb-true n bound t in omega (arith, same)
     by false t = let whole = rw t at e in absurd (cc (whole))
 
-matrix_place_below : (rows columns : ℕ) (z w : ℤ) (k : ℕ) → element (rows ∷ (columns ∷ [])) (z ∷ (w ∷ [])) ≡ Ok k → k < rows * columns
+pub matrix_place_below : (rows columns : ℕ) (z w : ℤ) (k : ℕ) → element (rows ∷ (columns ∷ [])) (z ∷ (w ∷ [])) ≡ Ok k → k < rows * columns
 matrix_place_below rows columns (pos zero) w k e = absurd (cc (e))
 matrix_place_below rows columns (negsuc n) w k e = absurd (cc (e))
 matrix_place_below rows columns (pos (suc n)) w k e = by (nat_lt n rows) refl
@@ -132,14 +132,11 @@ module _ (plan : Plan) (registers : List ℤ) (cells : Cells) (holds : HoldsRegi
     reads_same kind (Variable k) (Register r) h = ap (register registers) h.0 ∙ slot_same kind k h.1
     reads_same kind (slots.Vector' first bound p x) (Element start count s) h =
         (λ i. element_at registers (h.0 i) (vector_place (h.1 i) (same_term x (Register s) h.3 i))) ∙ vector_same kind first bound h.2 (number_in cells x)
-    reads_same kind (slots.Vector' first bound p x) (ElementAtSum start count a b) h =
-        (λ i. element_at registers (h.0 i) (vector_place (h.1 i) (same_term x (Sum a b) h.3 i)))
-        ∙ vector_same kind first bound h.2 (number_in cells x)
-    reads_same kind (slots.Vector' first bound p x) (ElementAtDifference start count a b) h =
-        (λ i. element_at registers (h.0 i) (vector_place (h.1 i) (same_term x (Difference a b) h.3 i)))
-        ∙ vector_same kind first bound h.2 (number_in cells x)
     reads_same kind (slots.Vector' first bound p x) (Vector' start count q t) h =
         (λ i. element_at registers (h.0 i) (vector_place (h.1 i) (same_term x t h.3 i))) ∙ vector_same kind first bound h.2 (number_in cells x)
+    reads_same kind (slots.Matrix' first rows columns p x q y) (MatrixAt start height width row column) h =
+        (λ i. element_at registers (h.0 i) (matrix_place (h.1 i) (h.2 i) (same_term x (Register row) h.4 i) (same_term y (Register column) h.5 i)))
+        ∙ matrix_same kind first rows columns h.3 (number_in cells x) (number_in cells y)
     reads_same kind (slots.Matrix' first rows columns p x q y) (Matrix' start height width o row column) h =
         (λ i. element_at registers (h.0 i) (matrix_place (h.1 i) (h.2 i) (same_term x row h.4 i) (same_term y column h.5 i)))
         ∙ matrix_same kind first rows columns h.3 (number_in cells x) (number_in cells y)

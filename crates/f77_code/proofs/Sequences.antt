@@ -35,11 +35,11 @@ stays code (suc n) p none =
     ap (code_after code n) same ∙ stays code n p none
 
 -- so many instructions, and so many behind them
-after_more : (code : List Instruction) (a b : ℕ) (p : Point) → code_after code (a + b) p ≡ code_after code b (code_after code a p)
+pub after_more : (code : List Instruction) (a b : ℕ) (p : Point) → code_after code (a + b) p ≡ code_after code b (code_after code a p)
 after_more code zero b p = ap (λ n. code_after code n p) (zero-add b)
 after_more code (suc a) b p = let more : suc a + b ≡ suc (a + b) = omega arith in ap (λ n. code_after code n p) more ∙ after_more code a b (one code p)
 
-after_last : (code : List Instruction) (n : ℕ) (p : Point) → code_after code (n + 1) p ≡ one code (code_after code n p)
+pub after_last : (code : List Instruction) (n : ℕ) (p : Point) → code_after code (n + 1) p ≡ one code (code_after code n p)
 after_last code zero p = refl
 after_last code (suc n) p = let more : suc n + 1 ≡ suc (n + 1) = omega arith in ap (λ k. code_after code k p) more ∙ after_last code n (one code p)
 
@@ -80,14 +80,14 @@ end_beyond StepLimit = omega arith
 
 module _ (plan : Plan) (statements : List Resolved) (code : List Instruction) (are : AreCode plan statements code) where
   -- where the code has ended it stays
-  ends : (n : ℕ) (p : Point) (finish : Finish) → p.place ≡ ended_point finish → code_after code n p ≡ p
+  pub ends : (n : ℕ) (p : Point) (finish : Finish) → p.place ≡ ended_point finish → code_after code n p ≡ p
   ends n p finish at =
       let far = end_beyond finish in
       let few = are.few in
       stays code n p (slice_get_past code p.place (omega (arith, far, few, at)))
 
   -- what is known of a state holds of those behind its first move
-  nested_on : (n : ℕ) (s t : State) → moved statements s ≡ Some (Goes t) → AreStatesNested statements (suc n) s → AreStatesNested statements n t
+  pub nested_on : (n : ℕ) (s t : State) → moved statements s ≡ Some (Goes t) → AreStatesNested statements (suc n) s → AreStatesNested statements n t
   nested_on n s t e nested = λ k u below is.
       nested (suc k) u (omega arith) (ap (λ o. option_and_then (then_moved (moved_by statements k)) o) e ∙ is)
 

@@ -1,13 +1,10 @@
 -- Short operations are general ones.
 use Rattle.std.proofs.Common.{◌≡◌, ℕ, List, Some, ℤ, ap}
 use Rattle.f77_code.specs.declared.control.Turn.{Turn}
-use Rattle.f77_code.specs.declared.instruction.Operation.{Operation, Set, SetElement, IfRelated}
+use Rattle.f77_code.specs.declared.instruction.Operation.{Operation, Set, IfRelated, IfCompared}
 use Rattle.f77_code.specs.declared.instruction.Operation.{Move, Add, Subtract, Multiply, Load}
-use Rattle.f77_code.specs.declared.instruction.Operation.{Store, StoreSum, StoreDifference}
-use Rattle.f77_code.specs.declared.instruction.Operation.{IfLess, IfLessOrEqual, IfEqual, IfNotEqual, IfGreaterOrEqual, IfGreater}
-use Rattle.f77_code.specs.Instructions.{Giving, giving, Storing, storing, Comparing, comparing}
-use Rattle.f77_code.specs.Operation.{Point, ran, put_in_register, put_at, branch}
-use Rattle.f77_code.specs.Registers.{vector_place}
+use Rattle.f77_code.specs.Instructions.{Giving, giving, Comparing, comparing}
+use Rattle.f77_code.specs.Operation.{Point, ran, put_in_register, branch}
 use Rattle.f77_code.specs.Term.{related_number, term_value}
 use Rattle.f77_actions.specs.Value.{both}
 
@@ -17,9 +14,6 @@ held a b e = cc (e)
 -- what an operation that gives a register a value does, and the others
 abbrev pub given : Giving → ℕ → List ℤ → List Turn → Point
 given g next registers turns = put_in_register g.to (term_value registers g.term) next registers turns
-
-abbrev pub stored : Storing → ℕ → List ℤ → List Turn → Point
-stored s next registers turns = put_at s.first (vector_place s.bound (term_value registers s.subscript)) (term_value registers s.term) next registers turns
 
 abbrev pub tested : Comparing → ℕ → List ℤ → List Turn → Point
 tested c next registers turns = branch (both (related_number c.relation) (term_value registers c.left) (term_value registers c.right)) c.there next registers turns
@@ -34,19 +28,7 @@ module _ (next : ℕ) (registers : List ℤ) (turns : List Turn) where
   giving_is (Load to first bound subscript) g e = ap (λ g. given g next registers turns) (held _ g e)
   giving_is _ g e = absurd (cc (e))
 
-  pub storing_is : (o : Operation) (s : Storing) → storing o ≡ Some s → ran o next registers turns ≡ stored s next registers turns
-  storing_is (SetElement first bound pair) s e = ap (λ s. stored s next registers turns) (held _ s e)
-  storing_is (Store first bound subscript from) s e = ap (λ s. stored s next registers turns) (held _ s e)
-  storing_is (StoreSum first bound subscript left right) s e = ap (λ s. stored s next registers turns) (held _ s e)
-  storing_is (StoreDifference first bound subscript left right) s e = ap (λ s. stored s next registers turns) (held _ s e)
-  storing_is _ s e = absurd (cc (e))
-
   pub comparing_is : (o : Operation) (c : Comparing) → comparing o ≡ Some c → ran o next registers turns ≡ tested c next registers turns
   comparing_is (IfRelated relation there pair) c e = ap (λ c. tested c next registers turns) (held _ c e)
-  comparing_is (IfLess left right there) c e = ap (λ c. tested c next registers turns) (held _ c e)
-  comparing_is (IfLessOrEqual left right there) c e = ap (λ c. tested c next registers turns) (held _ c e)
-  comparing_is (IfEqual left right there) c e = ap (λ c. tested c next registers turns) (held _ c e)
-  comparing_is (IfNotEqual left right there) c e = ap (λ c. tested c next registers turns) (held _ c e)
-  comparing_is (IfGreaterOrEqual left right there) c e = ap (λ c. tested c next registers turns) (held _ c e)
-  comparing_is (IfGreater left right there) c e = ap (λ c. tested c next registers turns) (held _ c e)
+  comparing_is (IfCompared relation left right there) c e = ap (λ c. tested c next registers turns) (held _ c e)
   comparing_is _ c e = absurd (cc (e))

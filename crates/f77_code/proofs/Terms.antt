@@ -1,5 +1,5 @@
 -- Terms stand for expressions when their operands do.
-use Rattle.std.proofs.Common.{◌≡◌, ℕ, ◌+◌, ℤ, refl, sym, ap, ◌∙◌, subst}
+use Rattle.std.proofs.Common.{◌≡◌, ℕ, ◌+◌, ℤ, sym, ap, ◌∙◌, subst}
 use Rattle.std.specs.Prelude.{Box}
 use Rattle.std.specs.declared.alloc.Global.{Global}
 use Rattle.f77_tree.specs.declared.tree.Kind.{Kind}
@@ -10,13 +10,14 @@ use Rattle.f77_actions.specs.declared.expression.Number.{Number, Constant, TooLa
 use Rattle.f77_actions.specs.declared.expression.Number as number
 use Rattle.f77_code.specs.declared.constants.Constants.{Constants}
 use Rattle.f77_code.specs.declared.term.Pair.{Pair}
-use Rattle.f77_code.specs.declared.term.Term.{Term, Register, Element, ElementAtSum, ElementAtDifference, Sum}
-use Rattle.f77_code.specs.declared.term.Term.{Difference, Product, Vector', Add', Subtract', Multiply', Calculated'}
+use Rattle.f77_code.specs.declared.term.Term.{Term, Register, Element, MatrixAt, Sum}
+use Rattle.f77_code.specs.declared.term.Term.{Difference, Product, Vector', Matrix', Add', Subtract', Multiply', Calculated'}
 use Rattle.f77_code.specs.declared.term.Term as term
 use Rattle.f77_code.specs.declared.term.Term.TheViews as terms
-use Rattle.f77_code.specs.code.Compile.{IsReadTerm, IsNumberTerm, ArePair, IsVectorOf, IsCalculationOf}
+use Rattle.f77_code.specs.code.Compile.{IsReadTerm, IsNumberTerm, ArePair, IsVectorOf, IsMatrixOf, IsCalculationOf}
 use Rattle.f77_code.specs.code.Constants.{HasRegister}
-use Rattle.f77_code.specs.Constants.{GrowsPlan, BeginsPlan}
+use Rattle.f77_code.specs.Constants.{BeginsPlan}
+use Rattle.f77_code.specs.code.Constants.{GrowsPlan}
 use Rattle.f77_code.specs.Holds.{Plan, IsConstant}
 use Rattle.f77_code.specs.Standing.{ReadsElement, IsTerm}
 use Rattle.f77_code.specs.Typing.{HasSlots, HasNumbers}
@@ -80,12 +81,17 @@ module _ (plan : Plan) where
   vector_reads : (kind : Kind) (first bound : ℕ) (a : Box Number Global) (s t : Term) → IsVectorOf first bound s t → HasSlots plan kind (views.Vector first bound a)
       → IsTerm plan a.value s → ReadsElement plan kind (views.Vector first bound a) t
   vector_reads kind first bound a s (Element start count r) h has stands = (h.0, h.1, has.0, subst (IsTerm plan a.value) h.2 stands)
-  vector_reads kind first bound a s (ElementAtSum start count l r) h has stands =
-      (h.0, h.1, has.0, subst (IsTerm plan a.value) h.2 stands)
-  vector_reads kind first bound a s (ElementAtDifference start count l r) h has stands =
-      (h.0, h.1, has.0, subst (IsTerm plan a.value) h.2 stands)
   vector_reads kind first bound a s (Vector' start count q r) h has stands = (h.0, h.1, has.0, subst (IsTerm plan a.value) h.2 stands)
   vector_reads kind first bound a s _ h has stands = absurd h
+
+  matrix_reads : (kind : Kind) (first rows columns : ℕ) (a b : Box Number Global) (r s t : Term) → IsMatrixOf first rows columns r s t
+      → HasSlots plan kind (views.Matrix first rows columns a b) → IsTerm plan a.value r → IsTerm plan b.value s
+      → ReadsElement plan kind (views.Matrix first rows columns a b) t
+  matrix_reads kind first rows columns a b r s (MatrixAt start height width i j) h has left right =
+      (h.0, h.1, h.2, has.0, subst (IsTerm plan a.value) h.3 left, subst (IsTerm plan b.value) h.4 right)
+  matrix_reads kind first rows columns a b r s (Matrix' start height width o i j) h has left right =
+      (h.0, h.1, h.2, has.0, subst (IsTerm plan a.value) h.3 left, subst (IsTerm plan b.value) h.4 right)
+  matrix_reads kind first rows columns a b r s _ h has left right = absurd h
 
 pub binary_term : (t u : Constants) (e x y : Number) (op : Arithmetic) (a b : Box Number Global) (l r : Term) (made : Term)
     → e ≡ views.Binary op a b → x ≡ a.value → y ≡ b.value → GrowsPlan t u → IsNumberTerm t x l → IsNumberTerm u y r → IsCalculationOf op l r made
@@ -110,17 +116,13 @@ vector_term t e first bound start a x s made is at same h c =
           (subst (λ x. IsTerm plan x s) at (h.stands plan b (subst (HasNumbers plan) (sym at) has.1)));
     })
 
-pub matrix_term : (t : Constants) (e : slots.Element) (first rows columns start : ℕ) (a b : Box Number Global) (x y : Number) (pair : Box Pair Global)
-    → e ≡ views.Matrix first rows columns a b → x ≡ a.value → y ≡ b.value → start ≡ first → ArePair t x y pair.value
-    → IsReadTerm t e (terms.Matrix start rows columns pair)
-matrix_term t e first rows columns start a b x y pair is row column same h =
+pub matrix_term : (t u : Constants) (e : slots.Element) (first rows columns start : ℕ) (a b : Box Number Global) (x y : Number) (l r made : Term)
+    → e ≡ views.Matrix first rows columns a b → x ≡ a.value → y ≡ b.value → start ≡ first → GrowsPlan t u → IsNumberTerm t x l → IsNumberTerm u y r
+    → IsMatrixOf start rows columns l r made → IsReadTerm u e made
+matrix_term t u e first rows columns start a b x y l r made is row column same g h k c =
     rw is (record {
-      reads = λ plan kind begins has. (
-        same,
-        refl,
-        refl,
-        has.0,
-        subst (λ x. IsTerm plan x pair.value.left) row (h.left.stands plan begins (subst (HasNumbers plan) (sym row) has.1)),
-        subst (λ y. IsTerm plan y pair.value.right) column (h.right.stands plan begins (subst (HasNumbers plan) (sym column) has.2)),
-      );
+      reads = λ plan kind begins has.
+          matrix_reads plan kind first rows columns a b l r made (subst (λ n. IsMatrixOf n rows columns l r made) same c) has
+          (subst (λ x. IsTerm plan x l) row (h.stands plan (begins_before t u plan g begins) (subst (HasNumbers plan) (sym row) has.1)))
+          (subst (λ y. IsTerm plan y r) column (k.stands plan begins (subst (HasNumbers plan) (sym column) has.2)));
     })

@@ -16,7 +16,7 @@ use Rattle.f77_code.specs.declared.term.Term.{Term, Register, Compared, Related'
 use Rattle.f77_code.specs.declared.term.Term.TheViews as terms
 use Rattle.f77_code.specs.code.Compile.{IsReadTerm, IsNumberTerm, IsTestTerm, IsRelationOf}
 use Rattle.f77_code.specs.code.Constants.{HasRegister}
-use Rattle.f77_code.specs.Constants.{GrowsPlan}
+use Rattle.f77_code.specs.code.Constants.{GrowsPlan}
 use Rattle.f77_code.specs.Holds.{Plan}
 use Rattle.f77_code.specs.Standing.{IsTerm, IsTest}
 use Rattle.f77_code.specs.Typing.{HasTruths}

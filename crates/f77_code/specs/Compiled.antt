@@ -55,10 +55,3 @@ pub record HasOneFrame (r s : Resolved) : Type 0 where
   pub next : s.next ≡ r.next
   pub ends : s.ends.items ≡ r.ends.items
   pub loop : is_loop s.action ≡ is_loop r.action
-
--- the statements differ in the one at i alone, which has the same frame in both
-pub record IsExchanged (before : List Resolved) (i : ℕ) (after : List Resolved) : Type 0 where
-  pub count : length after ≡ length before
-  pub others : (j : ℕ) → j ≢ i → slice_get after j ≡ slice_get before j
-  pub changed : (r s : Resolved)
-      → slice_get before i ≡ Some r → slice_get after i ≡ Some s → HasOneFrame r s

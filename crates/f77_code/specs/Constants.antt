@@ -3,12 +3,6 @@ use Rattle.std.specs.Prelude.{◌≡◌, ℕ, ℤ, Some, slice_get}
 use Rattle.f77_code.specs.declared.constants.Constants.{Constants}
 use Rattle.f77_code.specs.Holds.{Plan}
 
--- the later table has each constant of the earlier one in the same register
-pub record GrowsPlan (earlier later : Constants) : Type 0 where
-  pub slots : later.slots ≡ earlier.slots
-  pub values : (k : ℕ) (z : ℤ)
-      → slice_get earlier.values.items k ≡ Some z → slice_get later.values.items k ≡ Some z
-
 -- the plan has these slots, and each of these constants in the same register
 pub record BeginsPlan (plan : Plan) (table : Constants) : Type 0 where
   pub slots : plan.slots ≡ table.slots

@@ -11,16 +11,13 @@ use Rattle.f77_actions.specs.declared.expression.Condition.{Condition, Related}
 use Rattle.f77_actions.specs.declared.expression.Element.{Element, Variable, Vector', Matrix'}
 use Rattle.f77_actions.specs.declared.expression.Number.{Number}
 use Rattle.f77_actions.specs.declared.expression.Relation.{Relation}
-use Rattle.f77_actions.specs.declared.expression.Relation.TheVariants as relation
 use Rattle.f77_actions.specs.declared.resolved.Resolved.{Resolved}
 use Rattle.f77_code.specs.declared.control.Place.{Place}
 use Rattle.f77_code.specs.declared.control.Place.TheVariants.{Execute, Increment}
 use Rattle.f77_code.specs.declared.instruction.Instruction.{Instruction}
 use Rattle.f77_code.specs.declared.instruction.Operation.{Operation, Set, SetElement, SetMatrix, IfTrue, IfRelated}
-use Rattle.f77_code.specs.declared.instruction.Operation.{Do, Count, Next, Sign, Select, When', Continue, Goto, Return}
-use Rattle.f77_code.specs.declared.instruction.Operation.{Stop, Trap, Move, Add, Subtract, Multiply, Load, Store}
-use Rattle.f77_code.specs.declared.instruction.Operation.{StoreSum, StoreDifference, IfLess, IfLessOrEqual}
-use Rattle.f77_code.specs.declared.instruction.Operation.{IfEqual, IfNotEqual, IfGreaterOrEqual, IfGreater}
+use Rattle.f77_code.specs.declared.instruction.Operation.{IfCompared, Do, Count, Next, Sign, Select, When', Continue}
+use Rattle.f77_code.specs.declared.instruction.Operation.{Goto, Return, Stop, Trap, Move, Add, Subtract, Multiply, Load}
 use Rattle.f77_code.specs.declared.instruction.Parameters.{Parameters}
 use Rattle.f77_code.specs.declared.term.Term.{Term}
 use Rattle.f77_code.specs.declared.term.Term as term
@@ -58,39 +55,6 @@ giving (Load to first bound subscript) =
     Some (record { to = to; term = term.Element first bound subscript })
 giving _ = None
 
--- an operation that gives an element of an array of one dimension the value of a term
-pub record Storing : Type 0 where
-  pub first : ℕ
-  pub bound : ℕ
-  pub subscript : Term
-  pub term : Term
-
-abbrev pub storing : Operation → Option Storing
-storing (SetElement first bound pair) = Some
-    (record { first = first; bound = bound; subscript = pair.value.left; term = pair.value.right })
-storing (Store first bound subscript from) =
-    Some (record {
-      first = first;
-      bound = bound;
-      subscript = term.Register subscript;
-      term = term.Register from;
-    })
-storing (StoreSum first bound subscript left right) =
-    Some (record {
-      first = first;
-      bound = bound;
-      subscript = term.Register subscript;
-      term = term.Sum left right;
-    })
-storing (StoreDifference first bound subscript left right) =
-    Some (record {
-      first = first;
-      bound = bound;
-      subscript = term.Register subscript;
-      term = term.Difference left right;
-    })
-storing _ = None
-
 -- an operation that begins a DO
 pub record Beginning : Type 0 where
   pub variable : ℕ
@@ -120,33 +84,27 @@ pub record Comparing : Type 0 where
   pub right : Term
   pub there : ℕ
 
--- the same of two registers
-abbrev pub registers_compared : Relation → ℕ → ℕ → ℕ → Comparing
-registers_compared op left right there =
-    record { relation = op; left = term.Register left; right = term.Register right; there = there }
-
 abbrev pub comparing : Operation → Option Comparing
 comparing (IfRelated op there pair) =
     Some (record { relation = op; left = pair.value.left; right = pair.value.right; there = there })
-comparing (IfLess left right there) = Some (registers_compared relation.Less left right there)
-comparing (IfLessOrEqual left right there) =
-    Some (registers_compared relation.LessOrEqual left right there)
-comparing (IfEqual left right there) = Some (registers_compared relation.Equal left right there)
-comparing (IfNotEqual left right there) =
-    Some (registers_compared relation.NotEqual left right there)
-comparing (IfGreaterOrEqual left right there) =
-    Some (registers_compared relation.GreaterOrEqual left right there)
-comparing (IfGreater left right there) = Some (registers_compared relation.Greater left right there)
+comparing (IfCompared op left right there) = Some (record {
+  relation = op;
+  left = term.Register left;
+  right = term.Register right;
+  there = there;
+})
 comparing _ = None
 
 -- An operation stands for an assignment to an element of this kind, of what a term stands for.
 abbrev pub StandsForAssignment : Plan → Kind → (Term → Type 0) → Element → Operation → Type 0
 StandsForAssignment plan kind stands (Variable k) operation =
     MatchOption (giving operation) ⊥ (λ g. (g.to ≡ k) × IsSlot plan kind k × stands g.term)
-StandsForAssignment plan kind stands (Vector' first bound p x) operation =
-    MatchOption (storing operation) ⊥
-    (λ s. (s.first ≡ first) × (s.bound ≡ bound)
-    × AreSlots plan kind first bound × IsTerm plan x s.subscript × stands s.term)
+StandsForAssignment plan kind stands (Vector' first bound p x) (SetElement start count pair) =
+    (start ≡ first)
+    × (count ≡ bound)
+    × AreSlots plan kind first bound
+    × IsTerm plan x pair.value.left
+    × stands pair.value.right
 StandsForAssignment plan kind stands (Matrix' first rows columns p x q y)
     (SetMatrix start height width pair term) =
     (start ≡ first)

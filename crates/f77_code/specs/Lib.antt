@@ -4,8 +4,12 @@ pub mod Compiled
 pub mod Compiling
 pub mod Constants
 pub mod Evaluation
+pub mod Exchange
+pub mod Follow
+pub mod Frame
 pub mod Holds
 pub mod Instructions
+pub mod KeptStep
 pub mod Moves
 pub mod Operation
 pub mod Places
@@ -15,5 +19,7 @@ pub mod Sequences
 pub mod Simulation
 pub mod Standing
 pub mod Term
+pub mod Together
+pub mod Twins
 pub mod Typing
 pub mod code

@@ -4,18 +4,14 @@ use Rattle.std.specs.Prelude.{◌+◌, ◌*◌, ◌+ℤ◌, ◌&&◌, if◌then�
 use Rattle.std.specs.Prelude.{List, slice_get, slice_set, unwrap_or, ℤ, pos, negsuc, Result, Ok, Err}
 use Rattle.std.specs.Option.{option_map_or}
 use Rattle.f77_actions.specs.declared.expression.Arithmetic.TheVariants as arithmetic
-use Rattle.f77_actions.specs.declared.expression.Relation.{Relation}
-use Rattle.f77_actions.specs.declared.expression.Relation.TheVariants as relation
 use Rattle.f77_actions.specs.declared.finish.Fault.{Fault}
 use Rattle.f77_actions.specs.declared.finish.Fault.TheVariants.{ZeroStep, Trapped}
 use Rattle.f77_actions.specs.declared.finish.Finish.{Finish}
 use Rattle.f77_actions.specs.declared.finish.Finish.TheVariants.{Returned, Stopped, Failed, StepLimit}
 use Rattle.f77_code.specs.declared.control.Turn.{Turn}
 use Rattle.f77_code.specs.declared.instruction.Operation.{Operation, Set, SetElement, SetMatrix, IfTrue, IfRelated}
-use Rattle.f77_code.specs.declared.instruction.Operation.{Do, Count, Next, Sign, Select, When', Continue, Goto, Return}
-use Rattle.f77_code.specs.declared.instruction.Operation.{Stop, Trap, Move, Add, Subtract, Multiply, Load, Store}
-use Rattle.f77_code.specs.declared.instruction.Operation.{StoreSum, StoreDifference, IfLess, IfLessOrEqual}
-use Rattle.f77_code.specs.declared.instruction.Operation.{IfEqual, IfNotEqual, IfGreaterOrEqual, IfGreater}
+use Rattle.f77_code.specs.declared.instruction.Operation.{IfCompared, Do, Count, Next, Sign, Select, When', Continue}
+use Rattle.f77_code.specs.declared.instruction.Operation.{Goto, Return, Stop, Trap, Move, Add, Subtract, Multiply, Load}
 use Rattle.f77_code.specs.Choice.{by_sign, item_chosen}
 use Rattle.f77_code.specs.Evaluation.{calculated}
 use Rattle.f77_code.specs.Registers.{register, vector_place, matrix_place, element_at}
@@ -100,12 +96,6 @@ incremented_in_code variable counter body next turn registers turns =
     (λ z. passed counter body next (one_less turn.passes) turn.step
     (slice_set registers variable z) turns)
 
--- two registers are compared
-abbrev pub compares : Relation → ℕ → ℕ → ℕ → ℕ → List ℤ → List Turn → Point
-compares relation left right there next registers turns =
-    branch (both (related_number relation) (register registers left) (register registers right))
-    there next registers turns
-
 abbrev pub ran : Operation → ℕ → List ℤ → List Turn → Point
 ran (Set to term) next registers turns =
     put_in_register to (term_value registers term.value) next registers turns
@@ -121,6 +111,9 @@ ran (IfTrue there term) next registers turns =
 ran (IfRelated relation there pair) next registers turns =
     branch (both (related_number relation) (term_value registers pair.value.left)
     (term_value registers pair.value.right)) there next registers turns
+ran (IfCompared relation left right there) next registers turns =
+    branch (both (related_number relation) (register registers left) (register registers right))
+    there next registers turns
 ran (Do variable counter body parameters) next registers turns =
     begun_with variable counter body next (term_value registers parameters.value.first)
     (term_value registers parameters.value.last) (term_value registers parameters.value.step)
@@ -163,29 +156,6 @@ ran (Load to first bound subscript) next registers turns =
     put_in_register
     to (element_at registers first (vector_place bound (register registers subscript)))
     next registers turns
-ran (Store first bound subscript from) next registers turns =
-    put_at first (vector_place bound (register registers subscript)) (register registers from)
-    next registers turns
-ran (StoreSum first bound subscript left right) next registers turns =
-    put_at first (vector_place bound (register registers subscript))
-    (both (calculated arithmetic.Add) (register registers left) (register registers right))
-    next registers turns
-ran (StoreDifference first bound subscript left right) next registers turns =
-    put_at first (vector_place bound (register registers subscript))
-    (both (calculated arithmetic.Subtract) (register registers left) (register registers right))
-    next registers turns
-ran (IfLess left right there) next registers turns =
-    compares relation.Less left right there next registers turns
-ran (IfLessOrEqual left right there) next registers turns =
-    compares relation.LessOrEqual left right there next registers turns
-ran (IfEqual left right there) next registers turns =
-    compares relation.Equal left right there next registers turns
-ran (IfNotEqual left right there) next registers turns =
-    compares relation.NotEqual left right there next registers turns
-ran (IfGreaterOrEqual left right there) next registers turns =
-    compares relation.GreaterOrEqual left right there next registers turns
-ran (IfGreater left right there) next registers turns =
-    compares relation.Greater left right there next registers turns
 
 -- the registers from the first one on, so many, are among n
 abbrev pub array_within : ℕ → ℕ → ℕ → Bool
@@ -202,6 +172,7 @@ operation_within n loops (SetMatrix first rows columns pair term) =
 operation_within n loops (IfTrue there term) = term_within n term.value
 operation_within n loops (IfRelated relation there pair) =
     term_within n pair.value.left && term_within n pair.value.right
+operation_within n loops (IfCompared relation left right there) = nat_lt left n && nat_lt right n
 operation_within n loops (Do variable counter body parameters) =
     nat_lt variable n
     && (nat_lt counter loops
@@ -226,15 +197,3 @@ operation_within n loops (Subtract to left right) = nat_lt to n && (nat_lt left 
 operation_within n loops (Multiply to left right) = nat_lt to n && (nat_lt left n && nat_lt right n)
 operation_within n loops (Load to first bound subscript) =
     nat_lt to n && (array_within n first bound && nat_lt subscript n)
-operation_within n loops (Store first bound subscript from) =
-    array_within n first bound && (nat_lt subscript n && nat_lt from n)
-operation_within n loops (StoreSum first bound subscript left right) =
-    array_within n first bound && (nat_lt subscript n && (nat_lt left n && nat_lt right n))
-operation_within n loops (StoreDifference first bound subscript left right) =
-    array_within n first bound && (nat_lt subscript n && (nat_lt left n && nat_lt right n))
-operation_within n loops (IfLess left right there) = nat_lt left n && nat_lt right n
-operation_within n loops (IfLessOrEqual left right there) = nat_lt left n && nat_lt right n
-operation_within n loops (IfEqual left right there) = nat_lt left n && nat_lt right n
-operation_within n loops (IfNotEqual left right there) = nat_lt left n && nat_lt right n
-operation_within n loops (IfGreaterOrEqual left right there) = nat_lt left n && nat_lt right n
-operation_within n loops (IfGreater left right there) = nat_lt left n && nat_lt right n

@@ -9,10 +9,10 @@ use Rattle.f77_actions.specs.declared.expression.Number.{Number, Constant, Binar
 use Rattle.f77_actions.specs.declared.expression.Number as number
 use Rattle.f77_actions.specs.declared.expression.Condition.{Condition, Related}
 use Rattle.f77_actions.specs.declared.expression.Condition as condition
-use Rattle.f77_code.specs.declared.term.Term.{Term, Register, Element, ElementAtSum, ElementAtDifference}
-use Rattle.f77_code.specs.declared.term.Term.{Sum, Difference, Product, Compared, TooLarge, Vector'}
-use Rattle.f77_code.specs.declared.term.Term.{Matrix', Add', Subtract', Multiply', Calculated', Negated'}
-use Rattle.f77_code.specs.declared.term.Term.{Absolute', ZeroPush', Related', Connected', Not'}
+use Rattle.f77_code.specs.declared.term.Term.{Term, Register, Element, MatrixAt, Sum, Difference, Product}
+use Rattle.f77_code.specs.declared.term.Term.{Compared, TooLarge, Vector', Matrix'}
+use Rattle.f77_code.specs.declared.term.Term.{Add', Subtract', Multiply', Calculated'}
+use Rattle.f77_code.specs.declared.term.Term.{Negated', Absolute', ZeroPush', Related', Connected', Not'}
 use Rattle.f77_code.specs.Holds.{Plan, IsSlot, AreSlots, IsConstant}
 use Rattle.f77_actions.specs.Told.{truth_number}
 
@@ -23,15 +23,16 @@ abbrev mutual
   ReadsElement plan kind (slots.Vector' first bound p x) (Element start count subscript) =
       (start ≡ first)
       × (count ≡ bound) × AreSlots plan kind first bound × IsTerm plan x (Register subscript)
-  ReadsElement plan kind (slots.Vector' first bound p x) (ElementAtSum start count left right) =
-      (start ≡ first)
-      × (count ≡ bound) × AreSlots plan kind first bound × IsTerm plan x (Sum left right)
-  ReadsElement plan kind (slots.Vector' first bound p x)
-      (ElementAtDifference start count left right) =
-      (start ≡ first)
-      × (count ≡ bound) × AreSlots plan kind first bound × IsTerm plan x (Difference left right)
   ReadsElement plan kind (slots.Vector' first bound p x) (Vector' start count q subscript) =
       (start ≡ first) × (count ≡ bound) × AreSlots plan kind first bound × IsTerm plan x subscript
+  ReadsElement plan kind (slots.Matrix' first rows columns p x q y)
+      (MatrixAt start height width row column) =
+      (start ≡ first)
+      × (height ≡ rows)
+      × (width ≡ columns)
+      × AreSlots plan kind first (rows * columns)
+      × IsTerm plan x (Register row)
+      × IsTerm plan y (Register column)
   ReadsElement plan kind (slots.Matrix' first rows columns p x q y)
       (Matrix' start height width o row column) =
       (start ≡ first)

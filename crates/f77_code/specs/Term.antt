@@ -6,10 +6,10 @@ use Rattle.f77_actions.specs.declared.expression.Connective.TheVariants as conne
 use Rattle.f77_actions.specs.declared.expression.Relation.{Relation}
 use Rattle.f77_actions.specs.declared.finish.Fault.{Fault}
 use Rattle.f77_actions.specs.declared.finish.Fault.TheVariants.{Overflow}
-use Rattle.f77_code.specs.declared.term.Term.{Term, Register, Element, ElementAtSum, ElementAtDifference}
-use Rattle.f77_code.specs.declared.term.Term.{Sum, Difference, Product, Compared, TooLarge, Vector'}
-use Rattle.f77_code.specs.declared.term.Term.{Matrix', Add', Subtract', Multiply', Calculated', Negated'}
-use Rattle.f77_code.specs.declared.term.Term.{Absolute', ZeroPush', Related', Connected', Not'}
+use Rattle.f77_code.specs.declared.term.Term.{Term, Register, Element, MatrixAt, Sum, Difference, Product}
+use Rattle.f77_code.specs.declared.term.Term.{Compared, TooLarge, Vector', Matrix'}
+use Rattle.f77_code.specs.declared.term.Term.{Add', Subtract', Multiply', Calculated'}
+use Rattle.f77_code.specs.declared.term.Term.{Negated', Absolute', ZeroPush', Related', Connected', Not'}
 use Rattle.f77_code.specs.Evaluation.{calculated, compared}
 use Rattle.f77_code.specs.Registers.{register, vector_place, matrix_place, element_at}
 use Rattle.f77_actions.specs.Number.{in_range, negated, without_sign}
@@ -31,14 +31,9 @@ abbrev pub term_value : List ℤ → Term → Result ℤ Fault
 term_value registers (Register r) = register registers r
 term_value registers (Element first bound subscript) =
     element_at registers first (vector_place bound (register registers subscript))
-term_value registers (ElementAtSum first bound left right) =
+term_value registers (MatrixAt first rows columns row column) =
     element_at registers first
-    (vector_place bound
-    (both (calculated arithmetic.Add) (register registers left) (register registers right)))
-term_value registers (ElementAtDifference first bound left right) =
-    element_at registers first
-    (vector_place bound (both (calculated arithmetic.Subtract) (register registers left)
-    (register registers right)))
+    (matrix_place rows columns (register registers row) (register registers column))
 term_value registers (Sum left right) =
     both (calculated arithmetic.Add) (register registers left) (register registers right)
 term_value registers (Difference left right) =
@@ -76,10 +71,8 @@ term_value registers (Not' p operand) = given (term_value registers operand) (λ
 abbrev pub term_within : ℕ → Term → Bool
 term_within n (Register r) = nat_lt r n
 term_within n (Element first bound subscript) = not (nat_lt n (first + bound)) && nat_lt subscript n
-term_within n (ElementAtSum first bound left right) =
-    not (nat_lt n (first + bound)) && (nat_lt left n && nat_lt right n)
-term_within n (ElementAtDifference first bound left right) =
-    not (nat_lt n (first + bound)) && (nat_lt left n && nat_lt right n)
+term_within n (MatrixAt first rows columns row column) =
+    not (nat_lt n (first + rows * columns)) && (nat_lt row n && nat_lt column n)
 term_within n (Sum left right) = nat_lt left n && nat_lt right n
 term_within n (Difference left right) = nat_lt left n && nat_lt right n
 term_within n (Product left right) = nat_lt left n && nat_lt right n

@@ -2,5 +2,5 @@ pub mod Compile
 pub mod Compiled
 pub mod Compiling
 pub mod Constants
-pub mod Moves
+pub mod Follow
 pub mod Registers

@@ -8,7 +8,6 @@ ghost use Rattle.f77_code.specs.Registers.{are_held};
 use crate::control::Turn;
 use crate::instruction::Instruction;
 use crate::operation::perform;
-use f77_tree::Shared;
 
 /// Where so many instructions lead.
 #[derive(Clone, Copy)]
@@ -22,7 +21,7 @@ pub struct Stand {
 /// So many instructions at most.
 #[inline(never)]
 pub fn block(
-    code: &[Shared<Instruction>],
+    code: &[Instruction],
     registers: &mut [i64],
     turns: &mut [Turn],
     start: usize,
@@ -42,10 +41,9 @@ pub fn block(
 {
     let mut place = start;
     'instructions: for made in 0..steps {
-        let Some(shared) = code.get(place) else {
+        let Some(instruction) = code.get(place) else {
             return Stand { place, made };
         };
-        let instruction: &Instruction = shared;
         place = step(instruction, registers, turns);
     }
     Stand { place, made: steps }

@@ -4,8 +4,9 @@ ghost use Rattle.std.specs.Prelude.{◌≡◌, ◌<◌, ◌+◌, ◌≤ℤ◌, p
 ghost use Rattle.f77_actions.specs.declared.finish.Fault.{Fault};
 ghost use Rattle.f77_code.specs.Choice as choice;
 ghost use Rattle.f77_code.specs.declared.control.Turn.{Turn};
+ghost use Rattle.f77_code.specs.declared.instruction.Operation as operation;
 ghost use Rattle.f77_code.specs.Operation as meaning;
-ghost use Rattle.f77_code.specs.Operation.{point, used_in_code};
+ghost use Rattle.f77_code.specs.Operation.{point, ran, used_in_code};
 ghost use Rattle.f77_code.specs.Registers.{are_held};
 ghost use Rattle.f77_code.specs.Term.{related_number, term_value, term_within};
 ghost use Rattle.f77_actions.specs.Told.{TellsResult, IsValueOrFault};
@@ -80,7 +81,8 @@ pub(crate) fn compare(
     requires left { left < length registers.now }
     requires right { right < length registers.now }
     ensures { (turns : List Turn)
-        → point result registers.now turns ≡ meaning.compares relation left right there next registers.now turns }
+        → point result registers.now turns
+        ≡ ran (operation.IfCompared relation left right there) next registers.now turns }
 {
     branch(compared_at(registers, relation, left, right), there, next)
 }

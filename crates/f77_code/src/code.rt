@@ -1,12 +1,10 @@
 //! The code of programs.
 
 ghost use Rattle.std.specs.Prelude.{◌≡◌, ◌<◌, ◌+◌, List, length, true, Some, slice_get, IfOk};
-ghost use Rattle.f77_code.specs.Compiled.{is_ready, are_ready, IsExchanged};
-ghost use Rattle.f77_code.specs.code.Compiled.{AreExecuted, AreFollowed, IsIncrementExchanged};
+ghost use Rattle.f77_code.specs.Compiled.{is_ready, are_ready};
+ghost use Rattle.f77_code.specs.code.Compiled.{AreExecuted, AreFollowed};
 ghost use Rattle.f77_code.specs.declared.constants.Constants.{Constants};
 ghost use Rattle.f77_actions.specs.declared.resolved.Resolved.{Resolved};
-ghost use Rattle.f77_code.specs.Constants.{GrowsPlan};
-ghost use Rattle.f77_code.specs.Holds.{loop_count};
 ghost use Rattle.f77_code.specs.Instructions.{place_at};
 ghost use Rattle.f77_code.specs.Places.{ArePlaces, have_places, is_place_among};
 ghost use Rattle.f77_code.specs.Program.{IsCode};
@@ -23,13 +21,12 @@ use f77_tree::Shared;
 use std::alloc::Global;
 
 /// The code of a program: an instruction for each statement, behind them one for the
-/// incrementation of each DO, and the constants that they name. Its instructions and
-/// its places are shared with the code of programs that differ in one statement.
+/// incrementation of each DO, and the constants that they name.
 #[derive(Drop)]
 pub struct Code {
-    instructions: Vec<Shared<Instruction>>,
-    places: Shared<Places>,
-    constants: Constants,
+    pub(crate) instructions: Vec<Instruction>,
+    pub(crate) places: Places,
+    pub(crate) constants: Constants,
 }
 
 /// The instructions of all statements, in order.
@@ -38,7 +35,7 @@ fn executed(
     places: &Places,
     statements: &[Shared<Resolved>],
     constants: &mut Constants,
-) -> Result<Vec<Shared<Instruction>>, CodeFault>
+) -> Result<Vec<Instruction>, CodeFault>
     requires places { ArePlaces statements.now places.now }
     requires have { have_places statements.now ≡ true }
     requires few { length statements.now < 2147483648 }
@@ -50,7 +47,7 @@ fn executed(
     let mut list = Vec::with_capacity(alloc, statements.len())?;
     for i in 0..statements.len() {
         let instruction = constants.instruction(alloc, places, statements, i, &statements[i])?;
-        list.push(Shared::new(alloc, instruction)?)?;
+        list.push(instruction)?;
     }
     Ok(list)
 }
@@ -63,7 +60,7 @@ fn add_increment(
     statements: &[Shared<Resolved>],
     d: usize,
     resolved: &Resolved,
-    list: &mut Vec<Shared<Instruction>>,
+    list: &mut Vec<Instruction>,
 ) -> Result<(), CodeFault>
     requires places { ArePlaces statements.now places.now }
     requires have { have_places statements.now ≡ true }
@@ -83,7 +80,7 @@ fn add_increment(
         } => {
             let variable = register_of(*variable, slots);
             let next = increment(places, statements, d, variable, *terminal);
-            list.push(Shared::new(alloc, next)?)?;
+            list.push(next)?;
             Ok(())
         }
         _ => Ok(()),
@@ -118,49 +115,14 @@ pub fn compiled(
     }
     Ok(Code {
         instructions,
-        places: Shared::new(alloc, places)?,
+        places,
         constants,
     })
 }
 
-/// The incrementation of the statement `i` is exchanged, where it is a DO.
-fn exchange_increment(
-    alloc: Global,
-    slots: u32,
-    places: &Places,
-    statements: &[Shared<Resolved>],
-    i: usize,
-    resolved: &Resolved,
-    list: &mut Vec<Shared<Instruction>>,
-) -> Result<(), CodeFault>
-    requires places { ArePlaces statements.now places.now }
-    requires have { have_places statements.now ≡ true }
-    requires few { length statements.now < 2147483648 }
-    requires i { i < length statements.now }
-    requires is { slice_get statements.now i ≡ Some resolved.now }
-    requires ready { is_ready slots (length statements.now) resolved.now.action ≡ true }
-    requires room { length list.old.items ≡ length statements.now + loop_count statements.now }
-    ensures { IfOk result (λ _. IsIncrementExchanged statements.now i list.old.items list.new.items) }
-{
-    match &resolved.action {
-        Action::Loop {
-            variable,
-            terminal,
-            ..
-        } => {
-            let variable = register_of(*variable, slots);
-            let next = increment(places, statements, i, variable, *terminal);
-            let place = places.increment(i) as usize;
-            list[place] = Shared::new(alloc, next)?;
-            Ok(())
-        }
-        _ => Ok(()),
-    }
-}
-
 impl Code {
     /// The instructions: those of the statements in order, and behind them the incrementations of the DOs in order.
-    pub fn instructions(&self) -> &[Shared<Instruction>]
+    pub fn instructions(&self) -> &[Instruction]
         ensures { result.now ≡ self.now.instructions.items }
     {
         &self.instructions
@@ -184,46 +146,5 @@ impl Code {
             Place::Execute(i) => i,
             Place::Increment(d) => self.places.increment(d) as usize,
         }
-    }
-
-    /// The code of the statements that differ in the statement `i` alone: its instruction is compiled anew,
-    /// and that of its incrementation where it is a DO. All others are shared, and so are their constants.
-    pub fn changed(
-        &self,
-        alloc: Global,
-        statements: &[Shared<Resolved>],
-        i: usize,
-    ) -> Result<Code, CodeFault>
-        ghost before: { List Resolved }
-        requires code { IsCode before self.now }
-        requires exchanged { IsExchanged before i statements.now }
-        requires i { i < length statements.now }
-        requires have { have_places statements.now ≡ true }
-        requires few { length statements.now < 2147483648 }
-        requires ready { are_ready self.now.constants.slots statements.now ≡ true }
-        ensures code { IfOk result (λ code. IsCode statements.now code) }
-        ensures grown { IfOk result (λ code. GrowsPlan self.now.constants code.constants) }
-    {
-        let places: &Places = &self.places;
-        let resolved: &Resolved = &statements[i];
-        let mut constants = self.constants.copied(alloc)?;
-        let mut instructions = self.instructions.to_vec(alloc)?;
-        let instruction = constants.instruction(alloc, places, statements, i, resolved)?;
-        instructions[i] = Shared::new(alloc, instruction)?;
-        let slots = constants.slots();
-        exchange_increment(
-            alloc,
-            slots,
-            places,
-            statements,
-            i,
-            resolved,
-            &mut instructions,
-        )?;
-        Ok(Code {
-            instructions,
-            places: self.places.clone()?,
-            constants,
-        })
     }
 }

@@ -2,8 +2,8 @@
 
 ghost use Rattle.std.specs.Prelude.{◌≡◌, ◌≤◌, true, IfOk, IfSome};
 ghost use Rattle.f77_code.specs.code.Compile.{IsReadTerm, IsNumberTerm, IsTestTerm};
-ghost use Rattle.f77_code.specs.code.Compile.{IsVectorOf, IsCalculationOf, IsRelationOf};
-ghost use Rattle.f77_code.specs.Constants.{GrowsPlan};
+ghost use Rattle.f77_code.specs.code.Compile.{IsVectorOf, IsMatrixOf, IsCalculationOf, IsRelationOf};
+ghost use Rattle.f77_code.specs.code.Constants.{GrowsPlan};
 ghost use Rattle.f77_code.specs.Evaluation.{element_within, number_within, condition_within};
 ghost use Rattle.f77_actions.specs.Told as meaning;
 
@@ -37,8 +37,7 @@ pub(crate) fn paired(alloc: Global, left: Term, right: Term) -> Result<Box<Pair>
     Ok(Box::new(alloc, Pair { left, right })?)
 }
 
-/// An element of an array of one dimension, without a box where its subscript is a register, or the sum or difference
-/// of two.
+/// An element of an array of one dimension, without a box where its subscript is a register.
 fn vector(alloc: Global, first: u32, bound: u32, subscript: Term) -> Result<Term, CodeFault>
     ensures { IfOk result (λ term. IsVectorOf first bound subscript term) }
 {
@@ -48,22 +47,38 @@ fn vector(alloc: Global, first: u32, bound: u32, subscript: Term) -> Result<Term
             bound,
             subscript: *subscript,
         }),
-        Term::Sum { left, right } => Ok(Term::ElementAtSum {
-            first,
-            bound,
-            left: *left,
-            right: *right,
-        }),
-        Term::Difference { left, right } => Ok(Term::ElementAtDifference {
-            first,
-            bound,
-            left: *left,
-            right: *right,
-        }),
         _ => Ok(Term::Vector {
             first,
             bound,
             subscript: Box::new(alloc, subscript)?,
+        }),
+    }
+}
+
+/// An element of an array of two dimensions, without a box where its row and its column are registers.
+fn matrix(
+    alloc: Global,
+    first: u32,
+    rows: u32,
+    columns: u32,
+    row: Term,
+    column: Term,
+) -> Result<Term, CodeFault>
+    ensures { IfOk result (λ term. IsMatrixOf first rows columns row column term) }
+{
+    match (&row, &column) {
+        (Term::Register(row), Term::Register(column)) => Ok(Term::MatrixAt {
+            first,
+            rows,
+            columns,
+            row: *row,
+            column: *column,
+        }),
+        _ => Ok(Term::Matrix {
+            first,
+            rows,
+            columns,
+            pair: paired(alloc, row, column)?,
         }),
     }
 }
@@ -140,7 +155,7 @@ impl Constants {
     pub(crate) fn element(&mut self, alloc: Global, element: &Element) -> Result<Term, CodeFault>
         requires { element_within self.old.slots element.now ≡ true }
         ensures reads { IfOk result (λ term. IsReadTerm self.new element.now term) }
-        ensures grown { IfOk result (λ term. GrowsPlan self.old self.new) }
+        ensures grown { GrowsPlan self.old self.new }
     {
         match element {
             Element::Variable(slot) => Ok(Term::Register(register_of(*slot, self.slots()))),
@@ -163,12 +178,7 @@ impl Constants {
                 let first = register_of(*first, self.slots());
                 let row = self.number(alloc, row)?;
                 let column = self.number(alloc, column)?;
-                Ok(Term::Matrix {
-                    first,
-                    rows: *rows,
-                    columns: *columns,
-                    pair: paired(alloc, row, column)?,
-                })
+                matrix(alloc, first, *rows, *columns, row, column)
             }
         }
     }
@@ -178,7 +188,7 @@ impl Constants {
     pub(crate) fn number(&mut self, alloc: Global, number: &Number) -> Result<Term, CodeFault>
         requires { number_within self.old.slots number.now ≡ true }
         ensures stands { IfOk result (λ term. IsNumberTerm self.new number.now term) }
-        ensures grown { IfOk result (λ term. GrowsPlan self.old self.new) }
+        ensures grown { GrowsPlan self.old self.new }
     {
         match number {
             Number::Constant(value) => Ok(Term::Register(self.register(*value)?)),
@@ -200,7 +210,7 @@ impl Constants {
     pub(crate) fn boxed(&mut self, alloc: Global, number: &Number) -> Result<Box<Term>, CodeFault>
         requires { number_within self.old.slots number.now ≡ true }
         ensures stands { IfOk result (λ term. IsNumberTerm self.new number.now term.value) }
-        ensures grown { IfOk result (λ term. GrowsPlan self.old self.new) }
+        ensures grown { GrowsPlan self.old self.new }
     {
         Ok(Box::new(alloc, self.number(alloc, number)?)?)
     }
@@ -214,7 +224,7 @@ impl Constants {
     ) -> Result<Term, CodeFault>
         requires { condition_within self.old.slots condition.now ≡ true }
         ensures tests { IfOk result (λ term. IsTestTerm self.new condition.now term) }
-        ensures grown { IfOk result (λ term. GrowsPlan self.old self.new) }
+        ensures grown { GrowsPlan self.old self.new }
     {
         match condition {
             Condition::Constant(value) => Ok(Term::Register(self.register(truth(*value))?)),
@@ -245,7 +255,7 @@ impl Constants {
     ) -> Result<Box<Term>, CodeFault>
         requires { condition_within self.old.slots condition.now ≡ true }
         ensures tests { IfOk result (λ term. IsTestTerm self.new condition.now term.value) }
-        ensures grown { IfOk result (λ term. GrowsPlan self.old self.new) }
+        ensures grown { GrowsPlan self.old self.new }
     {
         Ok(Box::new(alloc, self.condition(alloc, condition)?)?)
     }

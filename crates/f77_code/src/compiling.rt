@@ -2,10 +2,9 @@
 
 ghost use Rattle.std.specs.Prelude.{◌≡◌, ◌<◌, true, IfOk, map};
 ghost use Rattle.std.specs.List.{list_all};
-ghost use Rattle.f77_code.specs.Instructions.{comparing, registers_compared};
 ghost use Rattle.f77_code.specs.Compiling.{is_of_32_bits, can_compile};
-ghost use Rattle.f77_code.specs.code.Compiling.{IsGiving, IsStoring, IsTesting, IsAssigning, IsConditional, IsCompiled};
-ghost use Rattle.f77_code.specs.Constants.{GrowsPlan};
+ghost use Rattle.f77_code.specs.code.Compiling.{IsGiving, IsTesting, IsAssigning, IsConditional, IsCompiled};
+ghost use Rattle.f77_code.specs.code.Constants.{GrowsPlan};
 ghost use Rattle.f77_code.specs.Evaluation.{element_within, condition_within};
 
 use crate::compile::{paired, register_of};
@@ -13,7 +12,7 @@ use crate::constants::Constants;
 use crate::fault::CodeFault;
 use crate::instruction::Operation;
 use crate::term::Term;
-use f77_actions::{Action, Condition, Element, Jump, Relation};
+use f77_actions::{Action, Condition, Element, Jump};
 use std::alloc::Global;
 
 /// The place of a statement.
@@ -63,61 +62,6 @@ fn given(alloc: Global, to: u32, term: Term) -> Result<Operation, CodeFault>
     }
 }
 
-/// An element of an array of one dimension is given the value of a term.
-fn stored(
-    alloc: Global,
-    first: u32,
-    bound: u32,
-    subscript: Term,
-    term: Term,
-) -> Result<Operation, CodeFault>
-    ensures { IfOk result (λ operation. IsStoring first bound subscript term operation) }
-{
-    match (&subscript, &term) {
-        (Term::Register(subscript), Term::Register(from)) => Ok(Operation::Store {
-            first,
-            bound,
-            subscript: *subscript,
-            from: *from,
-        }),
-        (Term::Register(subscript), Term::Sum { left, right }) => Ok(Operation::StoreSum {
-            first,
-            bound,
-            subscript: *subscript,
-            left: *left,
-            right: *right,
-        }),
-        (Term::Register(subscript), Term::Difference { left, right }) => {
-            Ok(Operation::StoreDifference {
-                first,
-                bound,
-                subscript: *subscript,
-                left: *left,
-                right: *right,
-            })
-        }
-        _ => Ok(Operation::SetElement {
-            first,
-            bound,
-            pair: paired(alloc, subscript, term)?,
-        }),
-    }
-}
-
-/// Control goes to a place where a relation of two registers holds.
-fn compared(relation: Relation, left: u32, right: u32, then: u32) -> Operation
-    ensures { comparing result ≡ Some (registers_compared relation left right then) }
-{
-    match relation {
-        Relation::Less => Operation::IfLess { left, right, then },
-        Relation::LessOrEqual => Operation::IfLessOrEqual { left, right, then },
-        Relation::Equal => Operation::IfEqual { left, right, then },
-        Relation::NotEqual => Operation::IfNotEqual { left, right, then },
-        Relation::GreaterOrEqual => Operation::IfGreaterOrEqual { left, right, then },
-        Relation::Greater => Operation::IfGreater { left, right, then },
-    }
-}
-
 /// Control goes to a place where a term is true.
 pub(crate) fn tested(alloc: Global, then: u32, term: Term) -> Result<Operation, CodeFault>
     ensures { IfOk result (λ operation. IsTesting then term operation) }
@@ -127,7 +71,12 @@ pub(crate) fn tested(alloc: Global, then: u32, term: Term) -> Result<Operation, 
             relation,
             left,
             right,
-        } => Ok(compared(relation, left, right, then)),
+        } => Ok(Operation::IfCompared {
+            relation,
+            left,
+            right,
+            then,
+        }),
         Term::Related { relation, pair } => Ok(Operation::IfRelated {
             relation,
             then,
@@ -162,7 +111,7 @@ impl Constants {
     ) -> Result<Operation, CodeFault>
         requires { element_within self.old.slots target.now ≡ true }
         ensures assigns { IfOk result (λ operation. IsAssigning self.new target.now term operation) }
-        ensures grown { IfOk result (λ operation. GrowsPlan self.old self.new) }
+        ensures grown { GrowsPlan self.old self.new }
     {
         match target {
             Element::Variable(slot) => given(alloc, register_of(*slot, self.slots()), term),
@@ -173,7 +122,11 @@ impl Constants {
             } => {
                 let first = register_of(*first, self.slots());
                 let subscript = self.number(alloc, subscript)?;
-                stored(alloc, first, *bound, subscript, term)
+                Ok(Operation::SetElement {
+                    first,
+                    bound: *bound,
+                    pair: paired(alloc, subscript, term)?,
+                })
             }
             Element::Matrix {
                 first,
@@ -207,7 +160,7 @@ impl Constants {
         requires condition { condition_within self.old.slots condition.now ≡ true }
         requires action { can_compile self.old.slots action.now ≡ true }
         ensures stands { IfOk result (λ operation. IsConditional self.new condition.now action.now operation) }
-        ensures grown { IfOk result (λ operation. GrowsPlan self.old self.new) }
+        ensures grown { GrowsPlan self.old self.new }
     {
         let term = self.condition(alloc, condition)?;
         if let Action::Goto(jump) = action {
@@ -229,7 +182,7 @@ impl Constants {
     ) -> Result<Operation, CodeFault>
         requires { can_compile self.old.slots action.now ≡ true }
         ensures stands { IfOk result (λ operation. IsCompiled self.new action.now operation) }
-        ensures grown { IfOk result (λ operation. GrowsPlan self.old self.new) }
+        ensures grown { GrowsPlan self.old self.new }
     {
         match action {
             Action::AssignNumber(target, value) => {

@@ -1,6 +1,6 @@
 //! The constants that code names, in the registers behind those of slots.
 
-ghost use Rattle.std.specs.Prelude.{◌≡◌, ◌≤◌, ◌<◌, [], length, Some, IfOk, slice_get};
+ghost use Rattle.std.specs.Prelude.{◌≡◌, ◌≤◌, ◌<◌, [], length, take, Some, IfOk, slice_get};
 
 use crate::fault::CodeFault;
 use std::alloc::Global;
@@ -27,7 +27,7 @@ fn place(values: &[i32], value: i32) -> usize
 
 impl Constants {
     ghost use Rattle.f77_code.specs.code.Constants.{HasRegister};
-    ghost use Rattle.f77_code.specs.Constants.{GrowsPlan};
+    ghost use Rattle.f77_code.specs.code.Constants.{GrowsPlan};
 
     /// No constants behind so many slots.
     pub fn new(alloc: Global, slots: u32) -> Constants
@@ -66,10 +66,18 @@ impl Constants {
         })
     }
 
+    /// The first ones alone, so many, are there.
+    pub(crate) fn forget(&mut self, count: usize)
+        ensures slots { self.new.slots ≡ self.old.slots }
+        ensures values { self.new.values.items ≡ take count self.old.values.items }
+    {
+        self.values.truncate(count);
+    }
+
     /// The register of a constant, which is a new one where no register has it.
     pub(crate) fn register(&mut self, value: i32) -> Result<u32, CodeFault>
         ensures kept { IfOk result (λ r. HasRegister self.new r value) }
-        ensures grown { IfOk result (λ r. GrowsPlan self.old self.new) }
+        ensures grown { GrowsPlan self.old self.new }
     {
         let place = place(&self.values, value);
         if place == self.values.len() {

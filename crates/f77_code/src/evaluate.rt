@@ -28,6 +28,20 @@ pub(crate) fn element_of(registers: &[i64], first: u32, bound: u32, subscript: u
 }
 
 #[inline(always)]
+fn matrix_at(registers: &[i64], first: u32, rows: u32, columns: u32, row: u32, column: u32) -> i64
+    requires held { are_held registers.now ≡ true }
+    requires array { first + rows * columns ≤ length registers.now }
+    requires row { row < length registers.now }
+    requires column { column < length registers.now }
+    ensures { TellsResult result (element_at registers.now first
+        (matrix_place rows columns (register registers.now row) (register registers.now column))) }
+{
+    let row = read(registers, row);
+    let column = read(registers, column);
+    matrix_element(registers, first, rows, columns, row, column)
+}
+
+#[inline(always)]
 pub(crate) fn sum_at(registers: &[i64], left: u32, right: u32) -> i64
     requires held { are_held registers.now ≡ true }
     requires left { left < length registers.now }
@@ -47,82 +61,6 @@ pub(crate) fn difference_at(registers: &[i64], left: u32, right: u32) -> i64
         (both (meaning.calculated arithmetic.Subtract) (register registers.now left) (register registers.now right)) }
 {
     told::difference(read(registers, left), read(registers, right))
-}
-
-/// The number is a value of INTEGER.
-#[inline(always)]
-fn is_value(x: i64) -> bool
-    ensures { result ≡ fits x }
-{
-    i32::try_from(x).is_ok()
-}
-
-/// An element by the sum of two registers. A sum without a value is left to a function of its
-/// own: `evaluated` then ends with each call that it makes, and saves no register for one.
-#[inline(always)]
-fn element_at_sum(registers: &[i64], first: u32, bound: u32, left: u32, right: u32) -> i64
-    requires held { are_held registers.now ≡ true }
-    requires array { first + bound ≤ length registers.now }
-    requires left { left < length registers.now }
-    requires right { right < length registers.now }
-    ensures { TellsResult result (element_at registers.now first (vector_place bound
-        (both (meaning.calculated arithmetic.Add) (register registers.now left) (register registers.now right)))) }
-{
-    if !is_value(read(registers, left) + read(registers, right)) {
-        return element_at_no_sum(registers, first, bound, left, right);
-    }
-    let subscript = sum_at(registers, left, right);
-    element(registers, first, bound, subscript)
-}
-
-#[cold]
-#[inline(never)]
-fn element_at_no_sum(registers: &[i64], first: u32, bound: u32, left: u32, right: u32) -> i64
-    requires held { are_held registers.now ≡ true }
-    requires array { first + bound ≤ length registers.now }
-    requires left { left < length registers.now }
-    requires right { right < length registers.now }
-    ensures { TellsResult result (element_at registers.now first (vector_place bound
-        (both (meaning.calculated arithmetic.Add) (register registers.now left) (register registers.now right)))) }
-{
-    element(registers, first, bound, sum_at(registers, left, right))
-}
-
-/// The same by their difference.
-#[inline(always)]
-fn element_at_difference(registers: &[i64], first: u32, bound: u32, left: u32, right: u32) -> i64
-    requires held { are_held registers.now ≡ true }
-    requires array { first + bound ≤ length registers.now }
-    requires left { left < length registers.now }
-    requires right { right < length registers.now }
-    ensures { TellsResult result (element_at registers.now first (vector_place bound
-        (both (meaning.calculated arithmetic.Subtract) (register registers.now left) (register registers.now right)))) }
-{
-    let x = read(registers, left);
-    let y = read(registers, right);
-    if UNDEFINED <= y || !is_value(x - y) {
-        return element_at_no_difference(registers, first, bound, left, right);
-    }
-    let subscript = difference_at(registers, left, right);
-    element(registers, first, bound, subscript)
-}
-
-#[cold]
-#[inline(never)]
-fn element_at_no_difference(registers: &[i64], first: u32, bound: u32, left: u32, right: u32) -> i64
-    requires held { are_held registers.now ≡ true }
-    requires array { first + bound ≤ length registers.now }
-    requires left { left < length registers.now }
-    requires right { right < length registers.now }
-    ensures { TellsResult result (element_at registers.now first (vector_place bound
-        (both (meaning.calculated arithmetic.Subtract) (register registers.now left) (register registers.now right)))) }
-{
-    element(
-        registers,
-        first,
-        bound,
-        difference_at(registers, left, right),
-    )
 }
 
 #[inline(always)]
@@ -163,18 +101,13 @@ pub(crate) fn evaluated(term: &Term, registers: &[i64]) -> i64
             bound,
             subscript,
         } => element_of(registers, *first, *bound, *subscript),
-        Term::ElementAtSum {
+        Term::MatrixAt {
             first,
-            bound,
-            left,
-            right,
-        } => element_at_sum(registers, *first, *bound, *left, *right),
-        Term::ElementAtDifference {
-            first,
-            bound,
-            left,
-            right,
-        } => element_at_difference(registers, *first, *bound, *left, *right),
+            rows,
+            columns,
+            row,
+            column,
+        } => matrix_at(registers, *first, *rows, *columns, *row, *column),
         Term::Sum { left, right } => sum_at(registers, *left, *right),
         Term::Difference { left, right } => difference_at(registers, *left, *right),
         Term::Product { left, right } => product_at(registers, *left, *right),

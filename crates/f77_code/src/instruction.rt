@@ -37,6 +37,13 @@ pub enum Operation {
         then: u32,
         pair: Box<Pair>,
     },
+    /// `IfRelated`, where both terms are registers.
+    IfCompared {
+        relation: Relation,
+        left: u32,
+        right: u32,
+        then: u32,
+    },
     /// A DO begins: control goes to `body` where it has a pass to make (11.10.3).
     Do {
         variable: u32,
@@ -117,65 +124,6 @@ pub enum Operation {
         first: u32,
         bound: u32,
         subscript: u32,
-    },
-    /// `SetElement`, where both terms are registers.
-    Store {
-        first: u32,
-        bound: u32,
-        subscript: u32,
-        from: u32,
-    },
-    /// `SetElement`, where the value is a sum of registers, and the subscript is one.
-    StoreSum {
-        first: u32,
-        bound: u32,
-        subscript: u32,
-        left: u32,
-        right: u32,
-    },
-    /// `SetElement`, where the value is a difference of registers, and the subscript is one.
-    StoreDifference {
-        first: u32,
-        bound: u32,
-        subscript: u32,
-        left: u32,
-        right: u32,
-    },
-    /// `IfRelated`, where both terms are registers: `.LT.`
-    IfLess {
-        left: u32,
-        right: u32,
-        then: u32,
-    },
-    /// `.LE.`
-    IfLessOrEqual {
-        left: u32,
-        right: u32,
-        then: u32,
-    },
-    /// `.EQ.`
-    IfEqual {
-        left: u32,
-        right: u32,
-        then: u32,
-    },
-    /// `.NE.`
-    IfNotEqual {
-        left: u32,
-        right: u32,
-        then: u32,
-    },
-    /// `.GE.`
-    IfGreaterOrEqual {
-        left: u32,
-        right: u32,
-        then: u32,
-    },
-    /// `.GT.`
-    IfGreater {
-        left: u32,
-        right: u32,
-        then: u32,
     },
 }
 

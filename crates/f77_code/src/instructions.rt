@@ -1,9 +1,10 @@
 //! Statements are compiled to instructions.
 
-ghost use Rattle.std.specs.Prelude.{◌≡◌, ◌<◌, ◌+◌, length, true, Some, slice_get, IfOk};
+ghost use Rattle.std.specs.Prelude.{◌≡◌, ◌<◌, ◌+◌, List, length, true, Some, slice_get, IfOk};
+ghost use Rattle.f77_actions.specs.declared.resolved.Resolved.{Resolved};
 ghost use Rattle.f77_code.specs.Compiled.{is_ready, IsInstruction};
-ghost use Rattle.f77_code.specs.code.Compiled.{HaveParameters, IsNext};
-ghost use Rattle.f77_code.specs.Constants.{GrowsPlan};
+ghost use Rattle.f77_code.specs.code.Compiled.{HaveParameters, HaveSameFrames, IsNext};
+ghost use Rattle.f77_code.specs.code.Constants.{GrowsPlan};
 ghost use Rattle.f77_code.specs.Instructions.{beginning};
 ghost use Rattle.f77_code.specs.Evaluation.{number_within};
 ghost use Rattle.f77_code.specs.Places.{ArePlaces, has_places, have_places};
@@ -89,7 +90,7 @@ impl Constants {
         requires step { number_within self.old.slots step.now ≡ true }
         ensures stand { IfOk result
             (λ parameters. HaveParameters self.new first.now last.now step.now parameters) }
-        ensures grown { IfOk result (λ parameters. GrowsPlan self.old self.new) }
+        ensures grown { GrowsPlan self.old self.new }
     {
         let first = self.number(alloc, first)?;
         let last = self.number(alloc, last)?;
@@ -97,7 +98,8 @@ impl Constants {
         Ok(Parameters { first, last, step })
     }
 
-    /// The instruction of the statement `i`.
+    /// The instruction of a statement with the number `i`, in each program of the same
+    /// frame that has this statement there.
     pub(crate) fn instruction(
         &mut self,
         alloc: Global,
@@ -110,11 +112,12 @@ impl Constants {
         requires have { have_places statements.now ≡ true }
         requires few { length statements.now < 2147483648 }
         requires i { i < length statements.now }
-        requires is { slice_get statements.now i ≡ Some resolved.now }
         requires here { has_places (length statements.now) resolved.now ≡ true }
         requires ready { is_ready self.old.slots (length statements.now) resolved.now.action ≡ true }
-        ensures stands { IfOk result (λ instruction. IsInstruction self.new statements.now i instruction) }
-        ensures grown { IfOk result (λ instruction. GrowsPlan self.old self.new) }
+        ensures stands { IfOk result (λ instruction. (after : List Resolved)
+            → HaveSameFrames statements.now after → slice_get after i ≡ Some resolved.now
+            → IsInstruction self.new after i instruction) }
+        ensures grown { GrowsPlan self.old self.new }
     {
         let onward = places.onward(&resolved.ends, resolved.next);
         match &resolved.action {

@@ -7,10 +7,7 @@ ghost use Rattle.f77_code.specs.Registers.{are_held};
 ghost use Rattle.f77_code.specs.Term.{term_value, term_within};
 ghost use Rattle.f77_actions.specs.Number.{is_same};
 
-use crate::assignment::{
-    add, copy, load, multiply, set, set_element, set_matrix, store, store_difference, store_sum,
-    subtract,
-};
+use crate::assignment::{add, copy, load, multiply, set, set_element, set_matrix, subtract};
 use crate::branching::{compare, if_related, if_true, select, sign};
 use crate::control::Turn;
 use crate::ending::{RETURNED, STOPPED, TRAPPED, failed};
@@ -18,7 +15,6 @@ use crate::evaluate::condition;
 use crate::instruction::Operation;
 use crate::looping::{begin, count, increment};
 use crate::term::Term;
-use f77_actions::Relation;
 use f77_actions::told::UNDEFINED;
 
 /// An operation, from which control goes on to `next`. It is in place where instructions follow one another, which the
@@ -54,6 +50,12 @@ pub(crate) fn perform(
             then,
             pair,
         } => if_related(*relation, *then, pair, next, registers),
+        Operation::IfCompared {
+            relation,
+            left,
+            right,
+            then,
+        } => compare(*relation, *left, *right, *then, next, registers),
         Operation::Do {
             variable,
             counter,
@@ -100,74 +102,6 @@ pub(crate) fn perform(
             bound,
             subscript,
         } => load(*to, *first, *bound, *subscript, next, registers),
-        Operation::Store {
-            first,
-            bound,
-            subscript,
-            from,
-        } => store(*first, *bound, *subscript, *from, next, registers),
-        Operation::StoreSum {
-            first,
-            bound,
-            subscript,
-            left,
-            right,
-        } => store_sum(*first, *bound, *subscript, *left, *right, next, registers),
-        Operation::StoreDifference {
-            first,
-            bound,
-            subscript,
-            left,
-            right,
-        } => store_difference(*first, *bound, *subscript, *left, *right, next, registers),
-        Operation::IfLess { left, right, then } => compare(
-            Relation::Less,
-            *left,
-            *right,
-            *then,
-            next,
-            registers,
-        ),
-        Operation::IfLessOrEqual { left, right, then } => compare(
-            Relation::LessOrEqual,
-            *left,
-            *right,
-            *then,
-            next,
-            registers,
-        ),
-        Operation::IfEqual { left, right, then } => compare(
-            Relation::Equal,
-            *left,
-            *right,
-            *then,
-            next,
-            registers,
-        ),
-        Operation::IfNotEqual { left, right, then } => compare(
-            Relation::NotEqual,
-            *left,
-            *right,
-            *then,
-            next,
-            registers,
-        ),
-        Operation::IfGreaterOrEqual { left, right, then } => compare(
-            Relation::GreaterOrEqual,
-            *left,
-            *right,
-            *then,
-            next,
-            registers,
-        ),
-        Operation::IfGreater { left, right, then } => compare(
-            Relation::Greater,
-            *left,
-            *right,
-            *then,
-            next,
-            registers,
-        ),
     }
 }
 

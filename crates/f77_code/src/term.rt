@@ -15,19 +15,13 @@ pub enum Term {
         bound: u32,
         subscript: u32,
     },
-    /// An element of an array of one dimension, by the sum of two registers.
-    ElementAtSum {
+    /// An element of an array of two dimensions, by the row and the column in two registers.
+    MatrixAt {
         first: u32,
-        bound: u32,
-        left: u32,
-        right: u32,
-    },
-    /// The same by their difference.
-    ElementAtDifference {
-        first: u32,
-        bound: u32,
-        left: u32,
-        right: u32,
+        rows: u32,
+        columns: u32,
+        row: u32,
+        column: u32,
     },
     /// The sum of two registers.
     Sum {
@@ -58,7 +52,7 @@ pub enum Term {
         bound: u32,
         subscript: Box<Term>,
     },
-    /// An element of an array of two dimensions, by its row and its column.
+    /// An element of an array of two dimensions, by any row and column.
     Matrix {
         first: u32,
         rows: u32,

@@ -1,6 +1,6 @@
 //! Instructions one after another, up to a place.
 
-ghost use Rattle.std.specs.Prelude.{◌≡◌, ◌≤◌, ◌<◌, true, length};
+ghost use Rattle.std.specs.Prelude.{◌≡◌, ◌≤◌, ◌<◌, true, length, ℕ};
 ghost use Rattle.f77_code.specs.Block.{code_after, code_within};
 ghost use Rattle.f77_code.specs.Operation.{point};
 ghost use Rattle.f77_code.specs.Registers.{are_held};
@@ -8,12 +8,11 @@ ghost use Rattle.f77_code.specs.Registers.{are_held};
 use crate::blocks::{Stand, step};
 use crate::control::Turn;
 use crate::instruction::Instruction;
-use f77_tree::Shared;
 
 /// So many instructions at most, up to the next time that control comes to the place `watched`.
 #[inline(never)]
 pub fn block_to(
-    code: &[Shared<Instruction>],
+    code: &[Instruction],
     registers: &mut [i64],
     turns: &mut [Turn],
     start: usize,
@@ -26,14 +25,15 @@ pub fn block_to(
         ≡ code_after code.now result.made (point start registers.old turns.old) }
     ensures made { result.made ≤ steps }
     ensures some { start < length code.now → 0 < steps → 0 < result.made }
+    ensures there { (k : ℕ)
+        → k < result.made → (code_after code.now k (point start registers.old turns.old)).place < length code.now }
     ensures held { are_held registers.new ≡ true }
 {
     let mut place = start;
     'instructions: for made in 0..steps {
-        let Some(shared) = code.get(place) else {
+        let Some(instruction) = code.get(place) else {
             return Stand { place, made };
         };
-        let instruction: &Instruction = shared;
         place = step(instruction, registers, turns);
         if place == watched {
             return Stand {

@@ -19,11 +19,12 @@ use Rattle.f77_meaning.specs.declared.outcome.Outcome.TheVariants as outcome
 use Rattle.f77_meaning.specs.Control.{Comes}
 use Rattle.f77_meaning.specs.Endless.{Reaches}
 use Rattle.f77_meaning.specs.Interpreter.{AreFitting, AreArguments, IsOutcomeOf, Tells, told_outcome, values_in}
-use Rattle.f77_meaning.specs.States.{config_of, values_of}
+use Rattle.f77_meaning.specs.States.{values_of}
+use Rattle.f77_meaning.proofs.StateDefinitions.{config_of}
 use Rattle.f77_meaning.specs.Outcome.{IsOutcome}
-use Rattle.f77_meaning.specs.Running.{RunSite}
-use Rattle.f77_meaning.specs.code.InRun.{IsRunningIn, stands_for, values_at}
-use Rattle.f77_meaning.specs.Site.{site_of}
+use Rattle.f77_meaning.specs.code.Running.{RunSite}
+use Rattle.f77_meaning.proofs.InRun.{IsRunningIn, stands_for, values_at}
+use Rattle.f77_meaning.specs.code.Running.{site_of}
 use Rattle.f77_meaning.specs.Start.{IsStart, argument_values}
 use Rattle.f77_meaning.specs.Step.{Config}
 use Rattle.f77_meaning.specs.Value.{Store}

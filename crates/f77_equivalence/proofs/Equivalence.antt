@@ -10,9 +10,9 @@ use Rattle.f77_facts.specs.Entries.{IsInductive}
 use Rattle.f77_meaning.specs.declared.argument.Arg.{Arg}
 use Rattle.f77_meaning.specs.Interpreter.{AreFitting, values_in}
 use Rattle.f77_meaning.specs.Outcome.{IsOutcome}
-use Rattle.f77_meaning.specs.Site.{site_of}
+use Rattle.f77_meaning.specs.code.Running.{site_of}
 use Rattle.f77_meaning.proofs.OneAnswer.{one_start}
-use Rattle.f77_meaning.specs.code.InRun.{stands_for}
+use Rattle.f77_meaning.proofs.InRun.{stands_for}
 use Rattle.f77_meaning.proofs.Unreached.{starts_same, tells_same}
 use Rattle.f77_equivalence.specs.Changed.{IsChange, IsEnding, SameWhereChanged, EquivalentWhereSame}
 use Rattle.f77_equivalence.specs.Equivalent.{KeepsEnds}

@@ -15,18 +15,19 @@ use Rattle.f77_code.specs.Moves.{State, state, Move, Goes, Ends, moved}
 use Rattle.f77_facts.specs.declared.entries.Entry.{Entry}
 use Rattle.f77_facts.specs.Entries.{IsAmong, IsInductive}
 use Rattle.f77_meaning.specs.declared.argument.Arg.{Arg}
-use Rattle.f77_meaning.specs.States.{config_of, placed_in_run}
+use Rattle.f77_meaning.specs.States.{placed_in_run}
+use Rattle.f77_meaning.proofs.StateDefinitions.{config_of}
 use Rattle.f77_meaning.proofs.StateDefinitions.{next_of}
 use Rattle.f77_meaning.specs.Outcome.{IsOutcome}
 use Rattle.f77_meaning.specs.Reached.{statement_number}
-use Rattle.f77_meaning.specs.Running.{RunSite}
-use Rattle.f77_meaning.specs.Site.{site_of}
+use Rattle.f77_meaning.specs.code.Running.{RunSite}
+use Rattle.f77_meaning.specs.code.Running.{site_of}
 use Rattle.f77_meaning.specs.Step as run
 use Rattle.f77_meaning.specs.Step.{Next, Step}
 use Rattle.f77_meaning.specs.Value.{Store}
 use Rattle.f77_meaning.proofs.Moving.{moves_in, step_in}
 use Rattle.f77_meaning.proofs.OneWay.{one_successor}
-use Rattle.f77_meaning.specs.code.InRun.{IsRunningIn, stands_for}
+use Rattle.f77_meaning.proofs.InRun.{IsRunningIn, stands_for}
 use Rattle.f77_meaning.proofs.Simulation.{simulates}
 use Rattle.f77_meaning.proofs.Unreached.{step_same}
 use Rattle.f77_equivalence.specs.Changed.{IsChange, SameWhereChanged}

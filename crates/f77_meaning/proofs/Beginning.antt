@@ -22,9 +22,11 @@ use Rattle.f77_check.proofs.Unpreset.{unpreset}
 use Rattle.f77_meaning.specs.declared.argument.Arg.{Arg}
 use Rattle.f77_actions.specs.declared.value.Value.{Value}
 use Rattle.f77_meaning.specs.Interpreter.{AreFitting, AreArguments, values_in}
-use Rattle.f77_meaning.specs.States.{values_of, turns_of, turn_of, placed_in_run}
+use Rattle.f77_meaning.specs.States.{values_of, placed_in_run}
+use Rattle.f77_meaning.proofs.StateDefinitions.{turns_of, turn_of}
 use Rattle.f77_code.specs.Moves.{Cells, State, turn_at}
-use Rattle.f77_meaning.specs.Site.{site_of, held}
+use Rattle.f77_meaning.specs.Site.{held}
+use Rattle.f77_meaning.specs.code.Running.{site_of}
 use Rattle.f77_meaning.specs.code.Spans.{HaveRoom, AreWithin, AllHold, span}
 use Rattle.f77_meaning.specs.Spans.{size_of, all_filled}
 use Rattle.f77_meaning.specs.Start.{IsStart, constant_value, start_values}
@@ -32,7 +34,7 @@ use Rattle.f77_actions.specs.declared.finish.Finish.{Finish}
 use Rattle.f77_code.specs.declared.control.Place.TheVariants as places
 use Rattle.f77_meaning.specs.Control.{Comes}
 use Rattle.f77_meaning.specs.Outcome.{IsOutcome}
-use Rattle.f77_meaning.specs.code.InRun.{IsRunningIn, stands_for}
+use Rattle.f77_meaning.proofs.InRun.{IsRunningIn, stands_for}
 use Rattle.f77_meaning.specs.Step.{Config, config}
 use Rattle.f77_meaning.specs.Step as run
 use Rattle.f77_meaning.specs.code.Typed.{IsTyped}

@@ -1,3 +1,5 @@
+pub mod InRun
+pub mod Asking
 pub mod StateDefinitions
 pub mod OneWay
 mod Stepping

@@ -22,7 +22,8 @@ use Rattle.f77_code.specs.declared.control.Place.TheVariants.{Execute}
 use Rattle.f77_code.specs.declared.control.Turn.{Turn}
 use Rattle.f77_actions.specs.declared.value.Value.{Value}
 use Rattle.f77_actions.specs.declared.value.Value.TheVariants as held
-use Rattle.f77_meaning.specs.States.{values_of, turn_of, turns_of}
+use Rattle.f77_meaning.specs.States.{values_of}
+use Rattle.f77_meaning.proofs.StateDefinitions.{turn_of, turns_of}
 use Rattle.f77_meaning.proofs.StateDefinitions.{next_of}
 use Rattle.f77_code.specs.Moves as moves
 use Rattle.f77_code.specs.Moves.{Cells, TurnList, Move, state, used, passing, passing_at, begun, incremented}

@@ -35,8 +35,8 @@ use Rattle.f77_meaning.specs.Control.{Comes}
 use Rattle.f77_meaning.specs.Endless.{Reaches}
 use Rattle.f77_meaning.proofs.StateDefinitions.{next_of}
 use Rattle.f77_meaning.specs.Outcome.{IsOutcome}
-use Rattle.f77_meaning.specs.Running.{RunSite}
-use Rattle.f77_meaning.specs.code.InRun.{IsRunningIn, stands_for, values_at}
+use Rattle.f77_meaning.specs.code.Running.{RunSite}
+use Rattle.f77_meaning.proofs.InRun.{IsRunningIn, stands_for, values_at}
 use Rattle.f77_meaning.specs.Step.{Config, Step}
 use Rattle.f77_meaning.proofs.NeverLost.{leads_on}
 use Rattle.f77_meaning.proofs.Simulation.{simulates, moves_on}

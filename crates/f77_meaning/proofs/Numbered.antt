@@ -7,7 +7,7 @@ use Rattle.f77_program.specs.Program.{LineFields}
 use Rattle.f77_actions.specs.declared.action.Jump.{Jump}
 use Rattle.f77_check.specs.Action.{IsJump, AreJumps}
 use Rattle.f77_code.specs.Choice.{item_chosen}
-use Rattle.f77_code.specs.code.Moves.{jump_within}
+use Rattle.f77_meaning.proofs.Asking.{jump_within}
 
 label_among : (labels : List ℕ) (k label : ℕ) → slice_get labels k ≡ Some label → list_any (λ x. x == label) labels ≡ true
 label_among [] k label e = absurd (cc (e))

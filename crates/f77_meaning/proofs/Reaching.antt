@@ -24,7 +24,7 @@ use Rattle.f77_check.specs.Resolved.{IsResolved, AreResolved}
 use Rattle.f77_check.specs.Slots.{slot_count}
 use Rattle.f77_code.specs.Evaluation.{number_within}
 use Rattle.f77_code.specs.Moves.{are_below}
-use Rattle.f77_code.specs.code.Moves.{jump_within, action_within, resolved_within, all_within}
+use Rattle.f77_meaning.proofs.Asking.{jump_within, action_within, resolved_within, all_within}
 use Rattle.f77_meaning.proofs.Within.{number_fits, element_fits, condition_fits}
 use Rattle.f77_meaning.proofs.Looping.{terminal_within}
 use Rattle.f77_meaning.proofs.Simulation.{statement_of, legal_fits, no_bounds}

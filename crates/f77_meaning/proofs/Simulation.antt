@@ -35,7 +35,8 @@ use Rattle.f77_actions.specs.declared.value.Value.{Value}
 use Rattle.f77_actions.specs.declared.value.Value.TheVariants as held
 use Rattle.f77_code.specs.Choice.{by_sign, item_chosen}
 use Rattle.f77_code.specs.Evaluation.{slot_in, number_in}
-use Rattle.f77_meaning.specs.States.{values_of, turn_of, turns_of, placed_in_run, config_of}
+use Rattle.f77_meaning.specs.States.{values_of, placed_in_run}
+use Rattle.f77_meaning.proofs.StateDefinitions.{turn_of, turns_of, config_of}
 use Rattle.f77_meaning.proofs.StateDefinitions.{next_of}
 use Rattle.f77_code.specs.Moves.{Cells, TurnList, State, Move, state, used, turn_at, go_on, without, jump_to, jump_chosen, acted, incremented, is_executed, is_loop, moved}
 use Rattle.f77_meaning.specs.Step as run

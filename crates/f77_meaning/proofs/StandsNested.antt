@@ -26,7 +26,8 @@ use Rattle.f77_code.specs.Simulation.{are_active, only_round, MayLeave, IsNested
 use Rattle.f77_code.proofs.Written.{at_other}
 use Rattle.f77_meaning.specs.Active.{is_active_at}
 use Rattle.f77_meaning.specs.Control.{Comes}
-use Rattle.f77_meaning.specs.States.{turn_of, placed_in_run, config_of}
+use Rattle.f77_meaning.specs.States.{placed_in_run}
+use Rattle.f77_meaning.proofs.StateDefinitions.{turn_of, config_of}
 use Rattle.f77_meaning.proofs.Active.{active_by_place}
 use Rattle.f77_meaning.proofs.Looping.{row_at, terminal_within}
 use Rattle.f77_meaning.proofs.Nested.{range_of, ends_behind}

@@ -1,11 +1,22 @@
--- What the answer of a step over slots stands for in a run.
+-- The configuration that a state over slots stands for, and what the answer of a step over slots does.
 -- Proofs alone cite what stands here.
-use Rattle.std.specs.Prelude.{ℕ, List}
+use Rattle.std.specs.Prelude.{ℕ, List, option_map}
 use Rattle.f77_legal.specs.Names.{Symbol}
-use Rattle.f77_code.specs.Moves.{Move, Goes, Ends}
+use Rattle.f77_code.specs.declared.control.Turn.{Turn}
+use Rattle.f77_code.specs.Moves.{TurnList, State, Move, Goes, Ends, turn_at}
+use Rattle.f77_meaning.specs.States.{placed_in_run, values_of}
 use Rattle.f77_meaning.specs.Step as run
-use Rattle.f77_meaning.specs.Step.{Next}
-use Rattle.f77_meaning.specs.States.{values_of, config_of}
+use Rattle.f77_meaning.specs.Step.{Config, Next, config}
+
+abbrev pub turn_of : Turn → run.Turn
+turn_of turn = record { passes = turn.passes; step = turn.step }
+
+abbrev pub turns_of : TurnList → run.Turns
+turns_of turns d = option_map turn_of (turn_at turns d)
+
+abbrev pub config_of : (Symbol → List ℕ) → List Symbol → State → Config
+config_of bounds names s =
+    config (placed_in_run s.place) (values_of bounds names s.cells) (turns_of s.turns)
 
 abbrev pub next_of : (Symbol → List ℕ) → List Symbol → Move → Next
 next_of bounds names (Goes s) = run.Goes (config_of bounds names s)

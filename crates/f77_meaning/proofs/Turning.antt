@@ -19,7 +19,8 @@ use Rattle.f77_legal.specs.Names.{Symbol}
 use Rattle.f77_check.specs.Resolved.{IsResolved}
 use Rattle.f77_code.specs.declared.control.Place.TheVariants.{Execute, Increment}
 use Rattle.f77_code.specs.declared.control.Turn.{Turn}
-use Rattle.f77_meaning.specs.States.{turn_of, turns_of, placed_in_run}
+use Rattle.f77_meaning.specs.States.{placed_in_run}
+use Rattle.f77_meaning.proofs.StateDefinitions.{turn_of, turns_of}
 use Rattle.f77_code.specs.Moves.{TurnList, turn_at, innermost, place_behind, without}
 use Rattle.f77_meaning.specs.Step as run
 use Rattle.f77_meaning.specs.Step.{config, with_turn, left_behind, GoesOn}

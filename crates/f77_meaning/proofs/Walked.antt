@@ -3,8 +3,8 @@ use Rattle.std.proofs.Common.{arith, ◌+◌, ◌-◌, ◌≤◌, ℕ, refl}
 use Rattle.f77_actions.specs.declared.finish.Finish.{Finish}
 use Rattle.f77_code.specs.Moves.{Cells}
 use Rattle.f77_meaning.specs.Endless.{Reaches}
-use Rattle.f77_meaning.specs.Running.{RunSite}
-use Rattle.f77_meaning.specs.code.InRun.{ComesToCells}
+use Rattle.f77_meaning.specs.code.Running.{RunSite}
+use Rattle.f77_meaning.proofs.InRun.{ComesToCells}
 use Rattle.f77_meaning.specs.Step.{Config}
 use Rattle.f77_meaning.proofs.Endless.{whole}
 

@@ -6,7 +6,6 @@ pub mod Control
 pub mod States
 pub mod Interpreter
 pub mod Spans
-pub mod Running
 pub mod Site
 pub mod Endless
 pub mod Reached

@@ -6,16 +6,9 @@ use Rattle.f77_legal.specs.Names.{bounds_of}
 use Rattle.f77_meaning.specs.declared.argument.Arg.{Arg}
 use Rattle.f77_code.specs.Moves.{Cells}
 use Rattle.f77_meaning.specs.Interpreter.{values_in}
-use Rattle.f77_meaning.specs.Running.{RunSite}
+use Rattle.f77_meaning.specs.code.Running.{RunSite}
 use Rattle.f77_meaning.specs.States.{values_of}
 use Rattle.f77_meaning.specs.Value.{Store}
-
-abbrev pub site_of : CheckedFields → List Arg → RunSite
-site_of checked arguments = record {
-  program = map line_of checked.program;
-  names = checked.names;
-  given = map values_in arguments;
-}
 
 -- what the names of the program hold in these slots
 abbrev pub held : CheckedFields → Cells → Store

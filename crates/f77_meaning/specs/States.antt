@@ -21,16 +21,6 @@ values_of bounds names cells name =
     map (λ k. option_and_then (λ first. held_in cells (first + k)) (first_slot bounds names name))
     (first_numbers (product (bounds name)))
 
-abbrev pub turn_of : Turn → run.Turn
-turn_of turn = record { passes = turn.passes; step = turn.step }
-
-abbrev pub turns_of : TurnList → run.Turns
-turns_of turns d = option_map turn_of (turn_at turns d)
-
 abbrev pub placed_in_run : Place → run.Place
 placed_in_run (Execute i) = run.Execute i
 placed_in_run (Increment d) = run.Increment d
-
-abbrev pub config_of : (Symbol → List ℕ) → List Symbol → State → Config
-config_of bounds names s =
-    config (placed_in_run s.place) (values_of bounds names s.cells) (turns_of s.turns)

@@ -1,3 +1,3 @@
-pub mod Typed
+pub mod Running
 pub mod Spans
-pub mod InRun
+pub mod Typed

@@ -1,65 +1,352 @@
--- Runs of two programs go together until they part.
-use Rattle.std.proofs.Common.{arith, ◌≡◌, ◌≢◌, ◌+◌, ◌<◌, ◌≤◌, ℕ, zero, suc, inl, inr, Bool, false, List, [], ◌∷◌, Some, refl, sym, subst}
-use Rattle.std.specs.Prelude.{slice_get}
-use Rattle.std.proofs.lemmas.Bool.{cases_lt}
+-- The run of a changed program beside that of the program: what it comes to where the two do not part, and where they do.
+use Rattle.std.proofs.Common.{arith, ◌≡◌, ◌∙◌, ◌+◌, ◌-◌, ◌≤◌, ◌<◌, ◌⊎◌, ◌++◌, ◌&&◌, ℕ, suc, ℤ, Bool, true, false, List, [], ◌∷◌, drop, length, map, inl, inr}
+use Rattle.std.proofs.Common.{refl, sym, ap, subst, append_assoc, length-append}
+use Rattle.std.specs.Prelude.{Some, None, IfSome, slice_get}
+use Rattle.std.specs.Bool.{Decides}
+use Rattle.std.proofs.Math.Seq.{drop-append_seam}
+use Rattle.std.proofs.lemmas.Bool.{and_parts}
+use Rattle.std.proofs.lemmas.List.Folds.{list_all-append}
 use Rattle.std.proofs.lemmas.Option.{same_Some}
-use Rattle.f77_program.specs.Program.{LineFields}
-use Rattle.f77_legal.specs.Frames.{HaveOneFrame}
-use Rattle.f77_run.specs.declared.visits.Visit.{Visit}
-use Rattle.f77_meaning.specs.Endless.{Reaches}
-use Rattle.f77_meaning.specs.Reached.{statement_number, AreSameBut}
-use Rattle.f77_meaning.specs.Running.{RunSite}
-use Rattle.f77_meaning.specs.Step.{Config}
-use Rattle.f77_meaning.specs.Together.{DoesAlikeFrom}
-use Rattle.f77_run.specs.Visits.{AreVisits, IsVisit, config_in}
-use Rattle.f77_meaning.proofs.Endless.{determined}
-use Rattle.f77_meaning.proofs.Unreached.{step_same}
+use Rattle.f77_tree.specs.declared.tree.Kind.{Kind}
+use Rattle.f77_program.specs.Program.{LineFields, line_of}
+use Rattle.f77_check.specs.Checked.{CheckedFields, IsChecked}
+use Rattle.f77_actions.specs.declared.finish.Finish.{Finish}
+use Rattle.f77_actions.specs.declared.finish.Finish.TheVariants.{StepLimit}
+use Rattle.f77_code.specs.declared.code.Code.{Code}
+use Rattle.f77_code.specs.declared.control.Turn.{Turn}
+use Rattle.f77_code.specs.declared.instruction.Instruction.{Instruction}
+use Rattle.f77_code.specs.declared.kept_step.KeptStep.{KeptStep}
+use Rattle.f77_code.specs.Block.{code_after, code_within}
+use Rattle.f77_code.specs.Follow.{HasSizes, first_time}
+use Rattle.f77_code.specs.Frame.{AllWriteBelow, with_more}
+use Rattle.f77_code.specs.KeptStep.{IsKept, PartedRuns, kept_time}
+use Rattle.f77_code.specs.Moves.{Cells}
+use Rattle.f77_code.specs.Operation.{Point, point, ended_point}
+use Rattle.f77_code.specs.Registers.{are_held, is_held, told_by_register}
+use Rattle.f77_code.specs.Together.{AreTimes, MayPart, TwoRuns, time_of}
+use Rattle.f77_code.proofs.Listed.{get_left}
+use Rattle.f77_code.proofs.Together.{never_part}
+use Rattle.f77_code.proofs.Writes.{writes_slots}
+use Rattle.f77_meaning.specs.declared.outcome.Outcome.{Outcome}
+use Rattle.f77_meaning.specs.Interpreter.{IsOutcomeOf, Tells}
+use Rattle.f77_meaning.specs.Site.{held}
+use Rattle.f77_meaning.proofs.OneAnswer.{one_answer}
+use Rattle.f77_run.specs.declared.registers.Registers.{Registers}
+use Rattle.f77_run.specs.Registers.{AreLoaded, loaded}
+use Rattle.f77_run.specs.code.Registers.{shown_as, shown_cells}
+use Rattle.f77_run.specs.Visits.{AreAtStart, cells_at_start}
+use Rattle.f77_run.specs.code.Ends.{RunOf, TellsOf}
+use Rattle.f77_run.specs.code.Parting.{IsParting, Parting}
+use Rattle.f77_run.specs.code.Running.{CameBack}
+use Rattle.f77_run.specs.code.Runs.{HasCode}
+use Rattle.f77_run.specs.code.Site.{HoldDummies, shown_by}
+use Rattle.f77_run.proofs.Ends as ends
+use Rattle.f77_run.proofs.Finished.{finish_of, finish_told, finish_limit}
+use Rattle.f77_run.proofs.Loaded.{loaded_count, loaded_room}
+use Rattle.f77_run.proofs.Starting.{initial_cells, own_run as run_itself, own_compiled as compiled_itself, slots_counted}
+use Rattle.f77_run.proofs.Telling.{tells_one}
 
--- a program that is another in the statement i alone goes with this one, but at the times when control is there
-module _ (at : RunSite) (q : List LineFields) (same : HaveOneFrame at.program q) (i : ℕ) (others : AreSameBut i at.program q) (start : Config) (n : ℕ) where
-  elsewhere : (c : Config) → statement_number c.place ≢ i → DoesAlikeFrom at.program q c
-  elsewhere c apart next step = step_same at.program q same i others c next apart step
+-- two runs of registers with the same of each slot show the same
+shown_alike : (kinds : List Kind) (xs ys : List ℤ) → length kinds ≤ length xs → ((k : ℕ) → k < length kinds → slice_get ys k ≡ slice_get xs k)
+    → shown_cells kinds ys ≡ shown_cells kinds xs
+shown_alike [] xs ys room each = refl
+shown_alike (kind ∷ kinds) [] ys room each = absurd (omega (arith, room))
+shown_alike (kind ∷ kinds) (x ∷ xs) [] room each = absurd (cc (each 0 (omega arith)))
+shown_alike (kind ∷ kinds) (x ∷ xs) (y ∷ ys) room each =
+    let first : y ≡ x = same_Some y x (each 0 (omega arith)) in
+    let rest = shown_alike kinds xs ys (omega (arith, room)) (λ k below. each (suc k) (omega (arith, below))) in
+    λ i. shown_as kind (told_by_register (first i)) ∷ rest i
 
-  -- one of the times
-  now : (u : Visit) → IsVisit at i start u → DoesAlikeFrom at.program q (config_in at u) → (k : ℕ) (c : Config) → k ≡ u.made → Reaches at.program k start c
-      → DoesAlikeFrom at.program q c
-  now u is alike k c made reaches =
-      let one : config_in at u ≡ c = determined at.program u.made start (config_in at u) c is.reaches (subst (λ j. Reaches at.program j start c) made reaches) in
-      subst (DoesAlikeFrom at.program q) one alike
+-- registers are as many as slots and constants
+loaded_length : (kinds : List Kind) (cells : Cells) (constants registers : List ℤ) → AreLoaded kinds cells constants registers
+    → length registers ≡ length kinds + length constants
+loaded_length kinds cells constants registers are =
+    ap length are.items ∙ length-append (loaded kinds cells) constants ∙ ap (λ n. n + length constants) (loaded_count kinds cells are.count)
 
-  -- the times before one of them
-  pub before : (m : ℕ) (visits : List Visit) (more : Bool) (j : ℕ) (visit : Visit) → AreVisits at i start m n visits more → slice_get visits j ≡ Some visit
-      → ((a : ℕ) (u : Visit) → a < j → slice_get visits a ≡ Some u → DoesAlikeFrom at.program q (config_in at u))
-      → (k : ℕ) (c : Config) → m ≤ k → k < visit.made → Reaches at.program k start c → DoesAlikeFrom at.program q c
-  before m [] more j visit are there alike k c from below reaches = absurd (cc (there))
-  before m (u ∷ visits) more zero visit are there alike k c from below reaches =
-      let one : u ≡ visit = same_Some u visit there in
-      let within : k < u.made = subst (λ (v : Visit). k < v.made) (sym one) below in
-      elsewhere c (are.2 k c from within reaches)
-  before m (u ∷ visits) more (suc j) visit are there alike k c from below reaches = elim (cases_lt k u.made) [
-    | inl early ↦ elsewhere c (are.2 k c from early reaches)
-    | inr late ↦ elim (cases_lt u.made k) [
-      | inl later ↦
-          before (u.made + 1) visits more j visit are.4 there (λ a v earlier at. alike (suc a) v (omega (arith, earlier)) at) k c (omega (arith, later)) below reaches
-      | inr not_later ↦ now u are.3 (alike 0 u (omega arith) refl) k c (omega (arith, late, not_later)) reaches
-    ]
-  ]
+-- behind the slots there are the constants
+loaded_behind : (kinds : List Kind) (cells : Cells) (constants registers : List ℤ) (n : ℕ) → AreLoaded kinds cells constants registers → length kinds ≡ n
+    → drop n registers ≡ constants
+loaded_behind kinds cells constants registers n are many =
+    ap (drop n) are.items ∙ ap (λ n. drop n (loaded kinds cells ++ constants)) (sym (loaded_count kinds cells are.count ∙ many))
+    ∙ drop-append_seam (loaded kinds cells) constants
 
-  -- all times
-  pub throughout : (m : ℕ) (visits : List Visit) → AreVisits at i start m n visits false
-      → ((a : ℕ) (u : Visit) → slice_get visits a ≡ Some u → DoesAlikeFrom at.program q (config_in at u))
-      → (k : ℕ) (c : Config) → m ≤ k → k < n → Reaches at.program k start c → DoesAlikeFrom at.program q c
-  throughout m [] are alike k c from below reaches = elsewhere c (are k c from below reaches)
-  throughout m (u ∷ visits) are alike k c from below reaches = elim (cases_lt k u.made) [
-    | inl early ↦ elsewhere c (are.2 k c from early reaches)
-    | inr late ↦ elim (cases_lt u.made k) [
-      | inl later ↦ throughout (u.made + 1) visits are.4 (λ a v at. alike (suc a) v at) k c (omega (arith, later)) below reaches
-      | inr not_later ↦ now u are.3 (alike 0 u refl) k c (omega (arith, late, not_later)) reaches
-    ]
-  ]
+pub loaded_constants : (kinds : List Kind) (cells : Cells) (constants registers : List ℤ) → AreLoaded kinds cells constants registers → are_held constants ≡ true
+loaded_constants kinds cells constants registers are =
+    (and_parts (are_held (loaded kinds cells)) (are_held constants)
+    (sym (list_all-append is_held (loaded kinds cells) constants) ∙ ap are_held (sym are.items) ∙ are.held)).1
 
-  pub visit_of : (m : ℕ) (visits : List Visit) (more : Bool) (j : ℕ) (visit : Visit) → AreVisits at i start m n visits more → slice_get visits j ≡ Some visit
-      → IsVisit at i start visit × (visit.made < n)
-  visit_of m [] more j visit are there = absurd (cc (there))
-  visit_of m (u ∷ visits) more zero visit are there = subst (λ (v : Visit). IsVisit at i start v × (v.made < n)) (same_Some u visit there) (are.3, are.1)
-  visit_of m (u ∷ visits) more (suc j) visit are there = visit_of (u.made + 1) visits more j visit are.4 there
+-- the checked program is that of the run
+pub as_run : (parting : Parting) (checked : CheckedFields) (code : Code) (image : Registers) → IsParting parting checked code image
+    → IsParting parting parting.run.checked code image
+as_run parting checked code image is = subst (λ ch. IsParting parting ch code image) (sym is.checked_is) is
+
+module _ (parting : Parting) (code : Code) (image : Registers) (is : IsParting parting parting.run.checked code image) where
+  abbrev run : RunOf
+  run = parting.run
+
+  abbrev checked : CheckedFields
+  checked = parting.run.checked
+
+  abbrev p : List LineFields
+  p = map line_of parting.run.checked.program
+
+  abbrev changed : List Instruction
+  changed = code.instructions.items
+
+  -- the start of the run of the changed program
+  abbrev pub start : Point
+  start = point checked.start.entry (is.start.registers ++ is.extra) is.start.turns
+
+  start_is : with_more is.start is.extra ≡ start
+  start_is = λ i. point (is.starts.place i) (is.start.registers ++ is.extra) is.start.turns
+
+  is_checked : IsChecked checked
+  is_checked = is.compiled.of.checked
+
+  slots_are : length checked.start.kinds.items ≡ checked.slots
+  slots_are = sym (slots_counted checked is_checked checked.slots refl)
+
+  extra_held : are_held is.extra ≡ true
+  extra_held =
+      let values = loaded_constants checked.start.kinds.items (initial_cells checked is_checked) code.constants.values.items
+      image.items.items is.begins.registers in
+      let all = sym (list_all-append is_held is.own.constants.values.items is.extra) ∙ ap are_held (sym is.constants) ∙ values in
+      (and_parts (are_held is.own.constants.values.items) (are_held is.extra) all).1
+
+  pub begun : AreAtStart checked run.arguments code.constants.values.items start.registers start.turns
+  begun = record {
+    loaded = record {
+      count = is.starts.begins.loaded.count;
+      items = ap (λ list. list ++ is.extra) is.starts.begins.loaded.items
+          ∙ append_assoc (loaded checked.start.kinds.items (cells_at_start checked run.arguments)) is.own.constants.values.items is.extra
+          ∙ ap (λ rest. loaded checked.start.kinds.items (cells_at_start checked run.arguments) ++ rest) (sym is.constants);
+      held = list_all-append is_held is.start.registers is.extra ∙ (λ i. is.starts.begins.loaded.held i && extra_held i);
+      values = is.starts.begins.loaded.values;
+      numbers = is.begins.registers.numbers;
+    };
+    counters = is.starts.begins.counters;
+  }
+
+  -- The registers at the start of all runs: as many, and behind the slots the same.
+  image_length : length image.items.items ≡ length start.registers
+  image_length =
+      loaded_length checked.start.kinds.items (initial_cells checked is_checked) code.constants.values.items image.items.items is.begins.registers
+      ∙ sym (loaded_length checked.start.kinds.items (cells_at_start checked run.arguments) code.constants.values.items start.registers begun.loaded)
+
+  turns_many : length image.counters.items ≡ length is.start.turns
+  turns_many = ap length (is.begins.counters ∙ sym is.starts.begins.counters)
+
+  pub within_image : code_within (length image.items.items) (length image.counters.items) changed ≡ true
+  within_image =
+      (λ i. code_within (image_length i) (turns_many i) changed)
+      ∙ ends.within run is.statements code is.compiled start.registers start.turns begun
+
+  pub slots_room : checked.slots ≤ length image.items.items
+  slots_room =
+      let many = loaded_room checked.start.kinds.items (initial_cells checked is_checked) code.constants.values.items
+      image.items.items is.begins.registers in
+      omega (arith, many, slots_are)
+
+  behind : drop checked.slots image.items.items ≡ drop checked.slots is.start.registers ++ is.extra
+  behind =
+      loaded_behind checked.start.kinds.items (initial_cells checked is_checked) code.constants.values.items image.items.items
+      checked.slots is.begins.registers slots_are
+      ∙ is.constants
+      ∙ ap (λ list. list ++ is.extra)
+      (sym (loaded_behind checked.start.kinds.items (cells_at_start checked run.arguments) is.own.constants.values.items is.start.registers checked.slots is.starts.begins.loaded
+      slots_are))
+
+  -- The run of the program itself.
+  abbrev own_run : RunOf
+  own_run = run_itself checked is_checked run.arguments is.compiled.of.fitting
+
+  own_compiled : HasCode own_run checked.statements is.own
+  own_compiled = compiled_itself checked is_checked run.arguments is.compiled.of.fitting is.own is.starts.compiled is.starts.slots
+
+  -- the two runs
+  abbrev runs : TwoRuns
+  runs = record {
+    code = is.own.instructions.items;
+    other = changed;
+    i = parting.place;
+    loops = length is.start.turns;
+    start = is.start;
+    extra = is.extra;
+  }
+
+  abbrev parted : PartedRuns
+  parted = record { runs = runs; behind = drop checked.slots is.start.registers }
+
+  may : MayPart runs
+  may = record {
+    within = ends.within own_run checked.statements is.own own_compiled is.start.registers is.start.turns is.starts.begins;
+    agree = is.agree;
+  }
+
+  -- the first time that is kept
+  module _ (kept : KeptStep) (first : parting.passed.first ≡ Some kept) where
+    pub sizes : HasSizes checked.slots (length is.start.turns) kept
+    sizes = subst (λ o. IfSome o (HasSizes checked.slots (length is.start.turns))) first is.sizes
+
+    times : AreTimes is.own.instructions.items parting.place is.start 0 parting.steps (time_of parting.place parted.behind (kept_time kept) ∷ []) parting.passed.more
+    times =
+        subst (λ o. AreTimes is.own.instructions.items parting.place is.start 0 parting.steps (map (time_of parting.place parted.behind) (first_time o)) parting.passed.more)
+        first is.passed_is
+
+    pub kept_within : kept.made < parting.steps
+    kept_within = times.1
+
+    is_kept : (more : Bool) → parting.passed.more ≡ more → IsKept parted kept more parting.steps image.items.items
+    is_kept more same = record {
+      may = may;
+      times = subst (AreTimes is.own.instructions.items parting.place is.start 0 parting.steps (time_of parting.place parted.behind (kept_time kept) ∷ [])) same times;
+      behind = ap (λ n. drop n image.items.items) sizes.before ∙ behind;
+      writes = subst (λ n. AllWriteBelow n changed) (slots_are ∙ sym sizes.before)
+          (writes_slots _ is.statements changed (ends.code_is run is.statements code is.compiled start.registers start.turns begun));
+    }
+
+  -- the changed code stands where the code of the program stands behind all steps
+  abbrev pub StayTogether : Type 0
+  StayTogether = code_after changed parting.steps start ≡ with_more (code_after is.own.instructions.items parting.steps is.start) is.extra
+
+  pub never_there : parting.passed.first ≡ None → parting.passed.more ≡ false → StayTogether
+  never_there first more =
+      ap (code_after changed parting.steps) (sym start_is)
+      ∙ never_part runs parting.steps parting.steps [] may
+      (subst (AreTimes is.own.instructions.items parting.place is.start 0 parting.steps []) more
+      (subst (λ o. AreTimes is.own.instructions.items parting.place is.start 0 parting.steps (map (time_of parting.place parted.behind) (first_time o)) parting.passed.more)
+      first is.passed_is))
+      (λ j time none at. absurd (omega (arith, none))) (omega arith)
+
+  -- where its code stands behind all steps
+  abbrev last : Point
+  last = code_after is.own.instructions.items parting.steps is.start
+
+  last_is : last ≡ code_after is.own.instructions.items parting.steps (point checked.start.entry is.start.registers is.start.turns)
+  last_is = λ i. code_after is.own.instructions.items parting.steps (point (is.starts.place i) is.start.registers is.start.turns)
+
+  abbrev finish : Finish
+  finish = finish_of last.place
+
+  own_room : length checked.start.kinds.items ≤ length last.registers
+  own_room =
+      ends.room own_run checked.statements is.own own_compiled is.start.registers is.start.turns is.starts.begins
+      parting.steps parting.steps last.place last.registers last.turns last_is (omega arith) (λ less. absurd (omega (arith, less)))
+      finish (finish_told last.place) (finish_limit last.place)
+
+  own_dummies : HoldDummies checked (shown_by checked last.registers)
+  own_dummies =
+      ends.dummies own_run checked.statements is.own own_compiled is.start.registers is.start.turns is.starts.begins
+      parting.steps parting.steps last.place last.registers last.turns last_is (omega arith) (λ less. absurd (omega (arith, less)))
+      finish (finish_told last.place) (finish_limit last.place)
+
+  own_tells : (answer : Outcome) → Tells p finish (held checked (shown_by checked last.registers)) answer → IsOutcomeOf p run.arguments parting.steps answer
+  own_tells =
+      ends.tells own_run checked.statements is.own own_compiled is.start.registers is.start.turns is.starts.begins
+      parting.steps parting.steps last.place last.registers last.turns last_is (omega arith) (λ less. absurd (omega (arith, less)))
+      finish (finish_told last.place) (finish_limit last.place)
+
+  -- the outcome of the program is told of it
+  outcome_told : (outcome : Outcome) → IsOutcomeOf p run.arguments parting.steps outcome → Tells p finish (held checked (shown_by checked last.registers)) outcome
+  outcome_told outcome given =
+      let some = tells_one p finish (held checked (shown_by checked last.registers)) own_dummies.typed in
+      subst (Tells p finish (held checked (shown_by checked last.registers)))
+      (one_answer p run.arguments parting.steps some.0 outcome (own_tells some.0 some.1) given) some.1
+
+  -- so it is told of the run of the changed program, which stands there too
+  module _ (together : StayTogether) where
+    abbrev there : Point
+    there = code_after changed parting.steps start
+
+    place_is : there.place ≡ last.place
+    place_is = ap (λ (q : Point). q.place) together
+
+    same_slots : (k : ℕ) → k < length checked.start.kinds.items → slice_get there.registers k ≡ slice_get last.registers k
+    same_slots k below =
+        let many = own_room in
+        ap (λ (q : Point). slice_get q.registers k) together ∙ get_left last.registers is.extra k (omega (arith, below, many))
+
+    comes_to_same : (outcome : Outcome) → IsOutcomeOf p run.arguments parting.steps outcome → IsOutcomeOf run.program run.arguments parting.steps outcome
+    comes_to_same outcome given =
+        ends.tells run is.statements code is.compiled start.registers start.turns begun
+        parting.steps parting.steps there.place there.registers there.turns refl (omega arith) (λ less. absurd (omega (arith, less)))
+        finish (λ f at. finish_told last.place f (sym place_is ∙ at)) (λ below. finish_limit last.place (subst (λ n. n < 4294967296) place_is below))
+        outcome
+        (subst (λ cells. Tells p finish (held checked cells) outcome) (sym (shown_alike checked.start.kinds.items last.registers there.registers own_room same_slots))
+        (outcome_told outcome given))
+
+    pub told_alike : (program : CheckedFields) → run.checked ≡ program → (steps : ℕ) → steps ≡ parting.steps → (outcome : Outcome)
+        → IsOutcomeOf (map line_of program.program) run.arguments steps outcome
+        → (other : Outcome) × IsOutcomeOf run.program run.arguments steps other × Decides true (outcome ≡ other)
+    told_alike program is_it steps many outcome given =
+        let here = subst (λ n. IsOutcomeOf p run.arguments n outcome) many
+        (subst (λ (program : CheckedFields). IsOutcomeOf (map line_of program.program) run.arguments steps outcome) (sym is_it) given) in
+        (outcome, subst (λ n. IsOutcomeOf run.program run.arguments n outcome) (sym many) (comes_to_same outcome here), (λ e. refl, λ e. refl))
+
+  -- a step was made from the first time that is kept, and the changed code went on from there
+  module _ (kept : KeptStep) (more : Bool) (first : parting.passed.first ≡ Some kept) (once : parting.passed.more ≡ more) (place : ℕ) (place_is : place ≡ parting.place)
+      (registers : List ℤ) (loads : registers ≡ image.items.items) (list : List Instruction) (listed : list ≡ changed) where
+    kept_there : IsKept parted kept more parting.steps registers
+    kept_there = subst (IsKept parted kept more parting.steps) (sym loads) (is_kept kept first more once)
+
+    pub same_run : ((parted : PartedRuns) (steps : ℕ) → list ≡ parted.runs.other → place ≡ parted.runs.i → IsKept parted kept more steps registers
+        → code_after list steps (with_more parted.runs.start parted.runs.extra) ≡ with_more (code_after parted.runs.code steps parted.runs.start) parted.runs.extra)
+        → StayTogether
+    same_run same =
+        ap (code_after changed parting.steps) (sym start_is) ∙ ap (λ list. code_after list parting.steps (with_more is.start is.extra)) (sym listed)
+        ∙ same parted parting.steps listed place_is kept_there
+
+    pub leads : (q : Point) → ((parted : PartedRuns) (steps : ℕ) → list ≡ parted.runs.other → place ≡ parted.runs.i → IsKept parted kept more steps registers
+        → (m : ℕ) → code_after list m q ≡ code_after list (kept.made + 1 + m) (with_more parted.runs.start parted.runs.extra))
+        → (m : ℕ) → code_after changed m q ≡ code_after changed (kept.made + 1 + m) start
+    leads q other m =
+        subst (λ list. code_after list m q ≡ code_after list (kept.made + 1 + m) (with_more is.start is.extra)) listed
+        (other parted parting.steps listed place_is kept_there m)
+        ∙ ap (code_after changed (kept.made + 1 + m)) start_is
+
+  -- the run of the changed program stands behind some steps where another point stands, and goes on from there
+  module _ (before : ℕ) (below : before < parting.steps) (q r : Point) (same : r ≡ q) (list : List Instruction) (listed : list ≡ changed)
+      (leads : (m : ℕ) → code_after changed m q ≡ code_after changed (before + 1 + m) start)
+      (steps : ℕ) (steps_are : steps ≡ parting.steps) (made place : ℕ) (registers : List ℤ) (turns : List Turn)
+      (stands : point place registers turns ≡ code_after list made r) (few : made ≤ steps - before - 1)
+      (rest : made < steps - before - 1 → (length list ≤ place) ⊎ CameBack list r made)
+      (finish : Finish) (told : (f : Finish) → place ≡ ended_point f → finish ≡ f) (limit : place < 4294967296 → finish ≡ StepLimit) where
+    -- what came back on the way from there came back on the way from the start
+    back : CameBack changed q made → CameBack changed start (before + 1 + made)
+    back b = record {
+      before = before + 1 + b.before;
+      since = b.since;
+      sum = omega (arith, b.sum);
+      there = subst (λ (r : Point). r.place < length changed) (leads b.before) b.there;
+      back = subst (λ (r : Point). code_after changed (suc b.since) r ≡ r) (leads b.before) b.back;
+    }
+
+    rest_of_all : before + 1 + made < parting.steps → (length changed ≤ place) ⊎ CameBack changed start (before + 1 + made)
+    rest_of_all less =
+        by (subst (λ list. (length list ≤ place) ⊎ CameBack list q made) listed
+        (subst (λ r. (length list ≤ place) ⊎ CameBack list r made) same (rest (omega (arith, less, below, steps_are)))))
+      where
+        by : (length changed ≤ place) ⊎ CameBack changed q made → (length changed ≤ place) ⊎ CameBack changed start (before + 1 + made)
+        by (inl out) = inl out
+        by (inr b) = inr (back b)
+
+    stands_so : point place registers turns ≡ code_after changed (before + 1 + made) start
+    stands_so = stands ∙ (λ i. code_after (listed i) made (same i)) ∙ leads made
+
+    few_of_all : before + 1 + made ≤ parting.steps
+    few_of_all = omega (arith, few, below, steps_are)
+
+    -- so how it has ended is told of the registers
+    pub shown : (length checked.start.kinds.items ≤ length registers) × HoldDummies checked (shown_by checked registers)
+        × ((answer : Outcome) (same : Bool) → Decides same (TellsOf run finish registers answer)
+        → (other : Outcome) × IsOutcomeOf run.program run.arguments steps other × Decides same (answer ≡ other))
+    shown = (
+      ends.room run is.statements code is.compiled start.registers start.turns begun
+          parting.steps (before + 1 + made) place registers turns stands_so few_of_all rest_of_all finish told limit,
+      ends.dummies run is.statements code is.compiled start.registers start.turns begun
+          parting.steps (before + 1 + made) place registers turns stands_so few_of_all rest_of_all finish told limit,
+      λ answer same decided.
+          subst (λ n. (other : Outcome) × IsOutcomeOf run.program run.arguments n other × Decides same (answer ≡ other)) (sym steps_are)
+          (ends.decides run is.statements code is.compiled start.registers start.turns begun
+          parting.steps (before + 1 + made) place registers turns stands_so few_of_all rest_of_all finish told limit answer same decided),
+    )

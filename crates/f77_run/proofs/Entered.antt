@@ -24,7 +24,8 @@ use Rattle.f77_code.specs.Moves.{Cells}
 use Rattle.f77_code.specs.Registers.{is_held, told_at, told_by_register}
 use Rattle.f77_meaning.specs.declared.argument.Arg.{Arg}
 use Rattle.f77_meaning.specs.Interpreter.{values_in}
-use Rattle.f77_run.specs.code.Registers.{AreLoaded, loaded, shown_as, shown_cells, values_fit}
+use Rattle.f77_run.specs.Registers.{AreLoaded, loaded, values_fit}
+use Rattle.f77_run.specs.code.Registers.{shown_as, shown_cells}
 use Rattle.f77_meaning.specs.code.Spans.{span}
 use Rattle.f77_meaning.specs.Spans.{all_filled, filled}
 use Rattle.f77_meaning.proofs.Cells.{get_or-table}

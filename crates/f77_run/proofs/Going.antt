@@ -33,18 +33,19 @@ use Rattle.f77_code.proofs.Assembled.{code_stands}
 use Rattle.f77_code.proofs.Listed.{item_at, order}
 use Rattle.f77_code.proofs.Reached.{code_there}
 use Rattle.f77_code.proofs.Sequences.{blocks_alike, goes_round}
-use Rattle.f77_meaning.specs.States.{turn_of}
+use Rattle.f77_meaning.proofs.StateDefinitions.{turn_of}
 use Rattle.f77_meaning.specs.Outcome.{IsOutcome}
-use Rattle.f77_run.specs.code.Registers.{AreLoaded, plan_of, loaded, shown_cells, counters_of, values_fit}
-use Rattle.f77_meaning.specs.Running.{RunSite}
-use Rattle.f77_run.specs.declared.registers.Registers.{Registers}
-use Rattle.f77_run.specs.code.Running.{IsBegun, CameBack}
-use Rattle.f77_meaning.specs.code.InRun.{IsRunningIn, AgreeOnDummies, ComesToCells, stands_for, values_at}
+use Rattle.f77_meaning.specs.Value.{Store}
+use Rattle.f77_run.specs.Registers.{loaded, counters_of, values_fit}
+use Rattle.f77_run.specs.code.Registers.{plan_of, shown_cells}
+use Rattle.f77_meaning.specs.code.Running.{RunSite}
+use Rattle.f77_run.specs.code.Running.{CameBack}
+use Rattle.f77_meaning.proofs.InRun.{IsRunningIn, AgreeOnDummies, ComesToCells, stands_for, values_at}
 use Rattle.f77_meaning.specs.code.Typed.{IsTyped}
 use Rattle.f77_run.proofs.Advancing.{after_more}
 use Rattle.f77_meaning.proofs.Endless.{limit_met}
 use Rattle.f77_run.proofs.Kinded.{have_actions}
-use Rattle.f77_run.proofs.Loaded.{loaded_count, loaded_holds, counters_count, counters_hold, shown_count}
+use Rattle.f77_run.proofs.Loaded.{loaded_count, loaded_holds, counters_count, counters_hold}
 use Rattle.f77_meaning.proofs.Moving.{ComesIn, moves_by, moves_in, all_nested, ends_later, place_below}
 use Rattle.f77_meaning.proofs.PassesLeft.{active_is_loop, passes_left}
 use Rattle.f77_run.proofs.Readiness.{few_statements, all_ready}
@@ -63,7 +64,7 @@ end_far StepLimit = omega arith
 module _ (at : RunSite) (statements : List Resolved) (s : State) (is : IsRunningIn at statements s) (kinds : List Kind)
     (kinds_are : kinds ≡ slot_kinds (kind_of at.program) (bounds_of at.program) at.names) (code : Code) (compiled : IsCode statements code)
     (slots : code.constants.slots ≡ length kinds) where
-  abbrev plan : Plan
+  abbrev pub plan : Plan
   plan = plan_of kinds code.constants
 
   many_kinds : length kinds ≡ slot_count (bounds_of at.program) at.names
@@ -75,10 +76,10 @@ module _ (at : RunSite) (statements : List Resolved) (s : State) (is : IsRunning
   pub long : length s.turns ≡ length statements
   long = is.turns ∙ sym is.resolved.count
 
-  begins : BeginsPlan plan code.constants
+  pub begins : BeginsPlan plan code.constants
   begins = record { slots = sym slots; values = λ k z e. e }
 
-  are : AreCode plan statements code.instructions.items
+  pub are : AreCode plan statements code.instructions.items
   are = code_stands plan code.constants statements code.instructions.items compiled.compiled
       (few_statements at.program at.names statements is.legal is.resolved) begins
       (subst (λ list. HaveActions (plan_of list code.constants) statements) (sym kinds_are)
@@ -98,7 +99,7 @@ module _ (at : RunSite) (statements : List Resolved) (s : State) (is : IsRunning
   module _ (registers : List ℤ) (loads : registers ≡ loaded kinds s.cells ++ code.constants.values.items) (held : are_held registers ≡ true)
       (fit : values_fit kinds s.cells ≡ true) (constants_fit : list_all fits code.constants.values.items ≡ true) (counters : List Turn)
       (counts : counters ≡ counters_of statements s.turns) where
-    abbrev begin : Point
+    abbrev pub begin : Point
     begin = point (place_at statements s.place) registers counters
 
     pub within : code_within (length registers) (length counters) code.instructions.items ≡ true
@@ -127,21 +128,58 @@ module _ (at : RunSite) (statements : List Resolved) (s : State) (is : IsRunning
           passes_left at.program at.given (stands_for at s) is.comes d (turn_of turn) (ap (option_map turn_of) active),
         )))
 
-    starts : IsAt plan statements begin s
+    pub starts : IsAt plan statements begin s
     starts = record { place = refl; holds = holds; counts = counted }
+
+    -- the run comes to something behind each number of steps, and so does the code
+    pub moves : (n : ℕ) → (move : Move) × (moved_by statements n s ≡ Some move) × ComesIn at statements n (stands_for at s) move
+    moves n = moves_by at statements n s is
+
+    pub did : (n : ℕ) (move : Move) → moved_by statements n s ≡ Some move → IsMove plan statements (code_after code.instructions.items n begin) move
+    did n move e =
+        blocks_alike plan statements code.instructions.items begin s n move are starts (all_nested at statements n s is) e
+
+    -- an end has no instruction
+    far_there : (n : ℕ) (o : Finish) (cells : Cells) → moved_by statements n s ≡ Some (Ends o cells)
+        → slice_get code.instructions.items (code_after code.instructions.items n begin).place ≡ None
+    far_there n o cells e =
+        let is_end = did n (Ends o cells) e in
+        let far = end_far o in
+        let few = are.few in
+        let place = is_end.0 in
+        slice_get_past code.instructions.items (code_after code.instructions.items n begin).place (omega (arith, far, few, place))
+
+    -- while the code is at an instruction the run goes on
+    pub still_goes : (n : ℕ) → (code_after code.instructions.items n begin).place < length code.instructions.items
+        → (values : Store) × IsOutcome at.program n (stands_for at s) StepLimit values
+    still_goes n below = by now.0 now.1 now.2
+      where
+        now : (move : Move) × (moved_by statements n s ≡ Some move) × ComesIn at statements n (stands_for at s) move
+        now = moves n
+
+        by : (move : Move) → moved_by statements n s ≡ Some move → ComesIn at statements n (stands_for at s) move
+            → (values : Store) × IsOutcome at.program n (stands_for at s) StepLimit values
+        by (Goes t) e comes = (values_at at t.cells, limit_met at.program n (stands_for at s) (stands_for at t) comes.0)
+        by (Ends o cells) e comes =
+            let found = item_at code.instructions.items (code_after code.instructions.items n begin).place below in
+            absurd (cc (far_there n o cells e, found.1))
+
+    -- there is a register for each slot, behind all steps
+    pub room_then : (n : ℕ) → length kinds ≤ length (code_after code.instructions.items n begin).registers
+    room_then n = by now.0 now.1
+      where
+        now : (move : Move) × (moved_by statements n s ≡ Some move) × ComesIn at statements n (stands_for at s) move
+        now = moves n
+
+        by : (move : Move) → moved_by statements n s ≡ Some move → length kinds ≤ length (code_after code.instructions.items n begin).registers
+        by (Goes t) e = let is_at = did n (Goes t) e in is_at.holds.room
+        by (Ends o cells) e = let is_end = did n (Ends o cells) e in is_end.1.room
 
     -- where the code stands behind so many instructions, the run stands, or ended there
     module _ (typed : IsTyped at.program (values_at at s.cells)) (steps made place : ℕ) (after_registers : List ℤ) (after_counters : List Turn)
         (stands : point place after_registers after_counters ≡ code_after code.instructions.items made begin) (few : made ≤ steps)
         (rest : made < steps → (length code.instructions.items ≤ place) ⊎ CameBack code.instructions.items begin made)
         (finish : Finish) (told : (f : Finish) → place ≡ ended_point f → finish ≡ f) (limit : place < 4294967296 → finish ≡ StepLimit) where
-      moves : (n : ℕ) → (move : Move) × (moved_by statements n s ≡ Some move) × ComesIn at statements n (stands_for at s) move
-      moves n = moves_by at statements n s is
-
-      did : (n : ℕ) (move : Move) → moved_by statements n s ≡ Some move → IsMove plan statements (code_after code.instructions.items n begin) move
-      did n move e =
-          blocks_alike plan statements code.instructions.items begin s n move are starts (all_nested at statements n s is) e
-
       -- the registers behind them, and what the dummy arguments hold
       agree : (cells : Cells) → HoldsRegisters plan (code_after code.instructions.items made begin).registers cells → IsTyped at.program (values_at at cells)
           → AgreeOnDummies at.program (values_at at cells) (values_at at (shown_cells kinds after_registers))
@@ -177,15 +215,6 @@ module _ (at : RunSite) (statements : List Resolved) (s : State) (is : IsRunning
           }
 
       -- it goes on: all steps were made, or it comes back, and never ends
-      far_there : (n : ℕ) (o : Finish) (cells : Cells) → moved_by statements n s ≡ Some (Ends o cells)
-          → slice_get code.instructions.items (code_after code.instructions.items n begin).place ≡ None
-      far_there n o cells e =
-          let is_end = did n (Ends o cells) e in
-          let far = end_far o in
-          let few = are.few in
-          let place = is_end.0 in
-          slice_get_past code.instructions.items (code_after code.instructions.items n begin).place (omega (arith, far, few, place))
-
       never_back : CameBack code.instructions.items begin made → (o : Finish) (cells : Cells) → moved_by statements steps s ≢ Some (Ends o cells)
       never_back b o cells = λ e.
           let sum = b.sum in
@@ -263,34 +292,3 @@ module _ (at : RunSite) (statements : List Resolved) (s : State) (is : IsRunning
               → ComesToCells at steps (stands_for at s) made finish (shown_cells kinds after_registers)
           by (Goes t) e comes = meets_limit t e comes (did made (Goes t) e)
           by (Ends o cells) e comes = ends_there o cells e comes (did made (Ends o cells) e)
-
-  -- as many slots are shown as there are
-  pub cells_shown : (registers : List ℤ) → registers ≡ loaded kinds s.cells ++ code.constants.values.items → (new : List ℤ)
-      → length new ≡ length registers → length (shown_cells kinds new) ≡ slot_count (bounds_of at.program) at.names
-  cells_shown registers loads new same =
-      let size = ap length loads ∙ length-append (loaded kinds s.cells) code.constants.values.items in
-      let slots = loaded_count kinds s.cells sized in
-      shown_count kinds new (omega (arith, same, size, slots)) ∙ many_kinds
-
-  -- there is a register for each slot
-  pub room_shown : (registers : List ℤ) → registers ≡ loaded kinds s.cells ++ code.constants.values.items → (new : List ℤ)
-      → length new ≡ length registers → length kinds ≤ length new
-  room_shown registers loads new same =
-      let size = ap length loads ∙ length-append (loaded kinds s.cells) code.constants.values.items in
-      let slots = loaded_count kinds s.cells sized in
-      omega (arith, same, size, slots)
-
-  -- registers and counters that are loaded of the state are at the start of its run
-  pub run_begun : IsTyped at.program (values_at at s.cells) → (registers : Registers) → registers.items.items ≡ loaded kinds s.cells ++ code.constants.values.items
-      → are_held registers.items.items ≡ true → values_fit kinds s.cells ≡ true → list_all fits code.constants.values.items ≡ true
-      → registers.counters.items ≡ counters_of statements s.turns → IsBegun (record { site = at; statements = statements; state = s }) code s.place registers
-  run_begun typed registers loads held values numbers counts = record {
-    running = is;
-    typed = typed;
-    compiled = compiled;
-    slots = slots ∙ ap length kinds_are;
-    place = refl;
-    loaded = subst (λ kinds. AreLoaded kinds s.cells code.constants.values.items registers.items.items) kinds_are
-        (record { count = sized; items = loads; held = held; values = values; numbers = numbers });
-    counters = counts;
-  }

@@ -22,7 +22,8 @@ use Rattle.f77_code.specs.Registers.{register, told_by_register, told_at, are_he
 use Rattle.f77_code.proofs.Counters.{weight, more}
 use Rattle.f77_code.proofs.Listed.{all_at, get_behind, one_if}
 use Rattle.f77_code.proofs.Written.{told_fits}
-use Rattle.f77_run.specs.code.Registers.{AreLoaded, values_fit, plan_of, loaded, shown_as, shown_cells, counter_of, counters_of}
+use Rattle.f77_run.specs.Registers.{AreLoaded, values_fit, loaded, counter_of, counters_of}
+use Rattle.f77_run.specs.code.Registers.{plan_of, shown_as, shown_cells}
 use Rattle.f77_meaning.specs.code.Typed.{has_kind}
 
 -- a register for each slot
@@ -81,7 +82,7 @@ one_counter true turn = refl
 one_counter false turn = refl
 
 -- the counter of a DO that is not active
-abbrev idle : Turn
+abbrev pub idle : Turn
 idle = record { passes = 0; step = pos 0 }
 
 counter_count : (r : Resolved) (turn : Option Turn) → length (counter_of r turn) ≡ weight r

@@ -25,7 +25,7 @@ use Rattle.f77_code.specs.Compiled.{is_ready, are_ready}
 use Rattle.f77_code.specs.Compiling.{is_of_32_bits, can_compile}
 use Rattle.f77_code.specs.Evaluation.{number_within, condition_within}
 use Rattle.f77_code.specs.Moves.{are_below}
-use Rattle.f77_code.specs.code.Moves.{action_within, resolved_within}
+use Rattle.f77_meaning.proofs.Asking.{action_within, resolved_within}
 use Rattle.f77_code.specs.Places.{has_places, have_places}
 use Rattle.f77_code.proofs.Listed.{all_at}
 use Rattle.f77_meaning.proofs.Nested.{branch_ends}
@@ -120,7 +120,7 @@ module _ (p : List LineFields) (names : List Symbol) (statements : List Resolved
       (all_at (resolved_within slots (length p)) statements i r (reach p names statements legal resolved) at)
 
   -- a statement has its places: that of the statement behind, of 32 bits, and the DOs that end at it
-  places : (i : ℕ) (r : Resolved) → slice_get statements i ≡ Some r → has_places (length p) r ≡ true
+  pub places : (i : ℕ) (r : Resolved) → slice_get statements i ≡ Some r → has_places (length p) r ≡ true
   places i r at =
       let s = statement_of p names statements resolved i r at in
       let below = slice_get_within statements i r at in
@@ -135,7 +135,7 @@ module _ (p : List LineFields) (names : List Symbol) (statements : List Resolved
 
   module _ (formed : IsProgram None p) where
     -- a statement can be compiled, since in a logical IF of a program stands no DO, block IF or ELSE IF
-    ready : (i : ℕ) (r : Resolved) → slice_get statements i ≡ Some r → is_ready slots (length p) r.action ≡ true
+    pub ready : (i : ℕ) (r : Resolved) → slice_get statements i ≡ Some r → is_ready slots (length p) r.action ≡ true
     ready i r at =
         let s = statement_of p names statements resolved i r at in
         action_ready p legal names slots i s.0 r.action s.2.action

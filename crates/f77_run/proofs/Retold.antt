@@ -14,7 +14,7 @@ use Rattle.f77_actions.specs.declared.finish.Finish.TheVariants as finish
 use Rattle.f77_meaning.specs.declared.outcome.Outcome.{Outcome}
 use Rattle.f77_meaning.specs.declared.outcome.Outcome.TheVariants as outcome
 use Rattle.f77_meaning.specs.Interpreter.{values_in, AreArguments, IsOutcomeOf, Tells}
-use Rattle.f77_meaning.specs.code.InRun.{AgreeOnDummies, ComesToEnd}
+use Rattle.f77_meaning.proofs.InRun.{AgreeOnDummies, ComesToEnd}
 use Rattle.f77_meaning.specs.Start.{IsStart}
 use Rattle.f77_meaning.specs.Step.{Config}
 use Rattle.f77_meaning.specs.code.Typed.{HasValues, IsTyped}

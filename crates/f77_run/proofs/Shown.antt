@@ -16,7 +16,7 @@ use Rattle.f77_code.specs.Moves.{Cells}
 use Rattle.f77_code.proofs.Listed.{all_at}
 use Rattle.f77_meaning.specs.States.{values_of}
 use Rattle.f77_run.specs.code.Registers.{plan_of, shown_cells}
-use Rattle.f77_meaning.specs.code.InRun.{AgreeOnDummies}
+use Rattle.f77_meaning.proofs.InRun.{AgreeOnDummies}
 use Rattle.f77_meaning.specs.code.Typed.{has_kind, IsTyped}
 use Rattle.f77_meaning.proofs.Cells.{read_table}
 use Rattle.f77_run.proofs.Loaded.{shown_is}

@@ -25,7 +25,7 @@ use Rattle.f77_actions.specs.declared.value.Value.TheVariants as held_value
 use Rattle.f77_run.specs.code.Holding.{AreHeld}
 use Rattle.f77_meaning.specs.Interpreter.{values_in, has_shape, told_outcome, AreFitting, AreArguments, IsOutcomeOf, Tells}
 use Rattle.f77_code.specs.Moves.{Cells}
-use Rattle.f77_meaning.specs.code.InRun.{ComesToEnd}
+use Rattle.f77_meaning.proofs.InRun.{ComesToEnd}
 use Rattle.f77_meaning.specs.Site.{held}
 use Rattle.f77_meaning.specs.code.Spans.{HaveRoom, span}
 use Rattle.f77_meaning.specs.Spans.{size_of}
@@ -94,7 +94,7 @@ some_arguments p s (x ∷ list) typed =
     (first.0 ∷ rest.0, (first.1, rest.1), λ i. first.2 i ∷ rest.2 i)
 
 -- where the dummy arguments have values, every end tells an outcome
-tells_one : (p : List LineFields) (end : Finish) (s : Store) → IsTyped p s → (answer : Outcome) × Tells p end s answer
+pub tells_one : (p : List LineFields) (end : Finish) (s : Store) → IsTyped p s → (answer : Outcome) × Tells p end s answer
 tells_one p finish.Returned s typed =
     let arguments = some_arguments p s (dummies p) typed in
     (outcome.Returned arguments.0, record { fitting = arguments.1; values = arguments.2 })

@@ -1,7 +1,7 @@
 -- A checked program with another statement in the
 -- place of one. Statements are numbered from 0 here.
-use Rattle.std.specs.Prelude.{◌≡◌, ◌<◌, ℕ, List, length, map, Option, None, slice_set}
-use Rattle.std.specs.Option.{option_map, option_map_or}
+use Rattle.std.specs.Prelude.{◌≡◌, ◌<◌, ℕ, List, length, map, Option, None, Some, IfSome, slice_set}
+use Rattle.std.specs.Option.{option_map_or}
 use Rattle.f77_program.specs.Patching.{replaced}
 use Rattle.f77_program.specs.Program.{LineFields, IsProgram, line_of}
 use Rattle.f77_tree.specs.Statement.{statement_of}
@@ -11,9 +11,13 @@ use Rattle.f77_legal.specs.Legal.{IsLegal}
 use Rattle.f77_check.specs.Checked.{CheckedFields, IsChecked}
 use Rattle.f77_check.specs.Resolved.{AreResolved}
 use Rattle.f77_actions.specs.declared.resolved.Resolved.{Resolved}
-use Rattle.f77_code.specs.declared.code.Code.{Code}
+use Rattle.f77_code.specs.declared.exchange.ChangedCode.{ChangedCode}
+use Rattle.f77_code.specs.Exchange.{IsChangedCode, own_instructions}
 use Rattle.f77_code.specs.Program.{IsCode}
+use Rattle.f77_code.specs.Together.{AgreeButAt}
 use Rattle.f77_run.specs.declared.changed.Change.{Change}
+use Rattle.f77_run.specs.declared.registers.Registers.{Registers}
+use Rattle.f77_run.specs.Registers.{IsImage}
 
 -- the program, the number of a statement, and what stands in its place, if anything does
 pub record ChangedFields : Type 0 where
@@ -21,12 +25,10 @@ pub record ChangedFields : Type 0 where
   pub place : ℕ
   pub stmt : Option Stmt
 
-abbrev pub changed_fields : Change → ChangedFields
-changed_fields change = record {
-  checked = change.checked.now;
-  place = change.place;
-  stmt = option_map (λ stmt. stmt.value) change.stmt;
-}
+abbrev pub changed_fields : CheckedFields → Option Change → ChangedFields
+changed_fields checked None = record { checked = checked; place = 0; stmt = None }
+changed_fields checked (Some change) =
+    record { checked = checked; place = change.place; stmt = Some change.stmt.value }
 
 -- the changed program
 abbrev pub changed_program : ChangedFields → List LineFields
@@ -34,21 +36,26 @@ changed_program changed =
     let program = map line_of changed.checked.program in
     option_map_or (λ stmt. replaced program changed.place (statement_of stmt)) changed.stmt program
 
--- It is legal and of the same frame, these are its statements resolved, and with
--- this one in the place of the changed one, if one is, they are those of the program.
-pub record IsChanged (changed : ChangedFields) (statements : List Resolved)
-    (old : Resolved) : Type 0 where
-  pub checked : IsChecked changed.checked
+-- The changed program is legal and of the same frame, its statements resolved are those
+-- of the program but for the changed one, and the code is that of these, in which the
+-- instruction of that one alone is exchanged.
+pub record IsChangeMade (changed : ChangedFields) (code : ChangedCode) : Type 0 where
   pub within : changed.place < length changed.checked.program
   pub formed : IsProgram None (changed_program changed)
   pub legal : IsLegal (changed_program changed)
   pub frame : HaveOneFrame (map line_of changed.checked.program) (changed_program changed)
-  pub resolved : AreResolved (changed_program changed) changed.checked.names statements
-  pub own : option_map_or (λ stmt. slice_set statements changed.place old) changed.stmt statements
-      ≡ changed.checked.statements
+  pub statement : Resolved
+  pub resolved : AreResolved (changed_program changed) changed.checked.names
+      (slice_set changed.checked.statements changed.place statement)
+  pub compiled : IsCode (slice_set changed.checked.statements changed.place statement) code.code
+  pub others : AgreeButAt changed.place (own_instructions code) code.code.instructions.items
 
--- this is code of these statements over the slots of a checked program
-pub record IsCodeOf (checked : CheckedFields) (statements : List Resolved)
-    (code : Code) : Type 0 where
-  pub compiled : IsCode statements code
-  pub slots : code.constants.slots ≡ checked.slots
+-- A checked program, its code, and the registers and counters at the start of
+-- its runs; and where a statement is changed, the code is that of the changed program.
+pub record IsChanged (changed : ChangedFields) (code : ChangedCode)
+    (image : Registers) : Type 0 where
+  pub checked : IsChecked changed.checked
+  pub own : IsChangedCode changed.checked.statements code
+  pub slots : code.code.constants.slots ≡ changed.checked.slots
+  pub begins : IsImage changed.checked code.code.constants.values.items image
+  pub change : IfSome changed.stmt (λ _. IsChangeMade changed code)

@@ -1,3 +1,4 @@
-pub mod Visits
 pub mod Changed
+pub mod Registers
+pub mod Visits
 pub mod code

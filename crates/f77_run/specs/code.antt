@@ -1,10 +1,9 @@
-pub mod Machine
-pub mod Effect
+pub mod Changing
 pub mod Ending
+pub mod Ends
 pub mod Holding
-pub mod Running
-pub mod Site
-pub mod Snapshot
-pub mod Visits
 pub mod Parting
 pub mod Registers
+pub mod Running
+pub mod Runs
+pub mod Site

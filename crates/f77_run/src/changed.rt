@@ -1,134 +1,58 @@
 //! Runs of a program with one statement changed, one change after another.
 
-ghost use Rattle.std.specs.Prelude.{◌≡◌, ◌<◌, ◌-◌, true, false, length, map, option_map};
-ghost use Rattle.std.specs.Prelude.{slice_get, slice_set, Some, None, IfOk, IfErr};
+ghost use Rattle.std.specs.Prelude.{◌≡◌, ◌<◌, true, false, length, map, slice_set, None, IfOk, IfErr, OnOk};
 ghost use Rattle.std.specs.Bool.{Decides};
 ghost use Rattle.f77_program.specs.Patching.{Fits, patched};
 ghost use Rattle.f77_program.specs.Program.{line_of};
 ghost use Rattle.f77_tree.specs.Statement.{statement_of};
 ghost use Rattle.f77_legal.specs.Legal.{IsLegal};
 ghost use Rattle.f77_legal.specs.declared.fault.CheckFault.TheVariants as refused;
-ghost use Rattle.f77_check.specs.Patching.{IsInPlace};
-ghost use Rattle.f77_run.specs.Changed.{IsChanged, changed_fields, changed_program};
+ghost use Rattle.f77_code.specs.Exchange.{HaveOneOwn, IsAllOwn, IsChangedCode, own_instructions};
+ghost use Rattle.f77_code.specs.Program.{IsCode};
+ghost use Rattle.f77_code.specs.Together.{AgreeButAt};
 ghost use Rattle.f77_meaning.specs.Interpreter.{IsOutcomeOf};
-ghost use Rattle.f77_run.specs.Visits.{IsFollowed};
 ghost use Rattle.f77_meaning.specs.declared.outcome.Outcome.{Outcome};
 ghost use Rattle.f77_meaning.specs.declared.outcome.RunFault.TheVariants as fault;
+ghost use Rattle.f77_run.specs.Changed.{changed_program};
+ghost use Rattle.f77_run.specs.code.Changing.{BeginsImage, CanReplace};
+ghost use Rattle.f77_run.specs.Registers.{IsImage};
+ghost use Rattle.f77_run.specs.Visits.{IsFollowed};
 
 use crate::parting::comes_alike;
-use crate::recompiled::Recompiled;
+use crate::registers::{Registers, add_constants};
 use crate::visits::Visits;
-use crate::workspace::Workspace;
+use crate::workspace::{Workspace, code_of};
 use f77_check::{Action, CheckFault, Checked, Resolved};
+use f77_code::ChangedCode;
 use f77_meaning::{Arg, Outcome, RunFault};
-use f77_tree::{Shared, Stmt};
+use f77_tree::Stmt;
 use std::alloc::Global;
 use std::marker::Model;
-use std::mem;
 use std::snapshot::Snapshot;
 
-/// A program with one statement changed, or with none.
+/// The statement that is changed.
 #[derive(Drop)]
-pub(crate) struct Change<'a> {
-    pub(crate) checked: &'a Checked,
-    /// The number of the changed statement, from 0.
+pub(crate) struct Change {
+    /// Its number, from 0.
     pub(crate) place: usize,
-    /// What stands in its place, if anything does: clauses alone read it.
-    pub(crate) stmt: Option<Snapshot<Stmt>>,
-    /// The statements resolved, with the changed one.
-    pub(crate) statements: Vec<Shared<Resolved>>,
-    /// The one of the program that is changed there; where none is, what the next changed one is put into.
-    pub(crate) own: Shared<Resolved>,
-    /// In the place of each statement the one that it was changed to last, in whose memory the next is resolved.
-    pub(crate) last: Vec<Resolved>,
-}
-
-/// Puts a statement in the place of another, and gives that back.
-fn exchange(statements: &mut Vec<Shared<Resolved>>, place: usize, other: &mut Shared<Resolved>)
-    requires { place < length statements.old.items }
-    ensures put { statements.new.items ≡ slice_set statements.old.items place other.old }
-    ensures back { slice_get statements.old.items place ≡ Some other.new }
-{
-    mem::swap(&mut statements[place], other);
-}
-
-/// Puts the changed statement, resolved in the memory of the last one there,
-/// into `own`: whether the change is judged by the changed statement alone.
-fn is_resolved(
-    checked: &Checked,
-    number: usize,
-    stmt: &Stmt,
-    last: &mut Resolved,
-    own: &mut Shared<Resolved>,
-) -> Result<bool, CheckFault>
-    requires fits { Fits (map line_of checked.now.program) number (statement_of stmt.now) }
-    requires legal { IsLegal (patched (map line_of checked.now.program) number (statement_of stmt.now)) }
-    ensures in_place { IfOk result (λ alone. alone ≡ true
-        → IsInPlace checked.now number (statement_of stmt.now) own.new) }
-    ensures memory { IfErr result (λ fault. fault ≡ refused.Memory) }
-{
-    if !checked.resolve_in_place(number, stmt, last)? {
-        return Ok(false);
-    }
-    Ok(own.exchange(last))
-}
-
-impl Change<'_> {
-    /// Every statement is the program's own again.
-    fn restore(&mut self)
-        requires changed { IsChanged (changed_fields self.old) self.old.statements.items self.old.own }
-        requires last { length self.old.last.items ≡ length self.old.statements.items }
-        ensures program { self.new.checked.now ≡ self.old.checked.now }
-        ensures stmt { self.new.stmt ≡ None }
-        ensures changed { IsChanged (changed_fields self.new) self.new.statements.items self.new.own }
-        ensures last { length self.new.last.items ≡ length self.new.statements.items }
-    {
-        if self.stmt.is_none() {
-            return;
-        }
-        exchange(&mut self.statements, self.place, &mut self.own);
-        self.own.exchange(&mut self.last[self.place]);
-        self.stmt = None;
-    }
-
-    /// This statement stands in the place of the one of this number, and every other one is the program's
-    /// own: whether the change is judged by the changed statement alone. Where not, none is changed.
-    fn put(&mut self, number: usize, stmt: &Stmt) -> Result<bool, CheckFault>
-        requires changed { IsChanged (changed_fields self.old) self.old.statements.items self.old.own }
-        requires last { length self.old.last.items ≡ length self.old.statements.items }
-        requires fits { Fits (map line_of self.old.checked.now.program) number (statement_of stmt.now) }
-        requires legal { IsLegal (patched (map line_of self.old.checked.now.program) number (statement_of stmt.now)) }
-        ensures program { self.new.checked.now ≡ self.old.checked.now }
-        ensures changed { IsChanged (changed_fields self.new) self.new.statements.items self.new.own }
-        ensures last { length self.new.last.items ≡ length self.new.statements.items }
-        ensures place { IfOk result (λ alone. alone ≡ true → self.new.place ≡ number - 1) }
-        ensures stmt { IfOk result (λ alone. alone ≡ true → option_map (λ s. s.value) self.new.stmt ≡ Some stmt.now) }
-        ensures none { IfOk result (λ alone. alone ≡ false → self.new.stmt ≡ None) }
-        ensures memory { IfErr result (λ fault. fault ≡ refused.Memory) }
-    {
-        self.restore();
-        let place = number - 1;
-        let last = &mut self.last[place];
-        if !is_resolved(self.checked, number, stmt, last, &mut self.own)? {
-            return Ok(false);
-        }
-        exchange(&mut self.statements, place, &mut self.own);
-        self.place = place;
-        self.stmt = Some(Snapshot::of(stmt));
-        Ok(true)
-    }
+    /// What stands in its place: clauses alone read it.
+    pub(crate) stmt: Snapshot<Stmt>,
 }
 
 /// The runs of a program with one statement changed, one change after another, in memory that is taken once.
 #[derive(Drop)]
 pub struct ChangedRunner<'a> {
-    change: Change<'a>,
-    code: Recompiled,
+    alloc: Global,
+    checked: &'a Checked,
+    code: ChangedCode,
     space: Workspace,
+    change: Option<Change>,
+    /// In the place of each statement the one that it was changed to last, in whose memory the next is resolved.
+    last: Vec<Resolved>,
 }
 
 impl<'a> Model for ChangedRunner<'a> {
-    ghost use Rattle.std.specs.Prelude.{◌≡◌, length, map, option_map, IfSome};
+    ghost use Rattle.std.specs.Prelude.{◌≡◌, length};
     ghost use Rattle.std.specs.Coded.{codes};
     ghost use Rattle.f77_tree.specs.contracts.tree.Expr as expr;
     ghost use Rattle.f77_tree.specs.contracts.statement.Stmt as stmt;
@@ -136,8 +60,7 @@ impl<'a> Model for ChangedRunner<'a> {
     ghost use Rattle.f77_actions.specs.contracts.expression.Condition as condition;
     ghost use Rattle.f77_actions.specs.contracts.expression.Element as element;
     ghost use Rattle.f77_actions.specs.contracts.expression.Number as number;
-    ghost use Rattle.f77_run.specs.Changed.{ChangedFields, IsChanged, IsCodeOf, changed_fields};
-    ghost use Rattle.f77_meaning.specs.Start.{constant_value};
+    ghost use Rattle.f77_run.specs.Changed.{ChangedFields, IsChanged, changed_fields};
 
     ghost Value = { ChangedFields };
 
@@ -151,14 +74,11 @@ impl<'a> Model for ChangedRunner<'a> {
       action.the_row.coded,
     ) };
 
-    ghost view = { λ runner. changed_fields runner.change };
+    ghost view = { λ runner. changed_fields runner.checked.now runner.change };
 
-    ghost invariant = { λ runner. IsChanged (changed_fields runner.change)
-        runner.change.statements.items runner.change.own
-        × (length runner.change.last.items ≡ length runner.change.statements.items)
-        × (runner.space.initial.items ≡ map (option_map constant_value) runner.change.checked.now.start.initial.items)
-        × IsCodeOf runner.change.checked.now runner.change.checked.now.statements runner.code.own
-        × IfSome runner.code.changed (IsCodeOf runner.change.checked.now runner.change.statements.items) };
+    ghost invariant = { λ runner. IsChanged (changed_fields runner.checked.now runner.change)
+        runner.code runner.space.image
+        × (length runner.last.items ≡ length runner.checked.now.statements) };
 }
 
 /// What stands where no changed statement was resolved yet.
@@ -182,41 +102,72 @@ fn no_statements(alloc: Global, count: usize) -> Result<Vec<Resolved>, RunFault>
     Ok(list)
 }
 
-/// The program, with no statement changed.
-fn unchanged<'a>(alloc: Global, checked: &'a Checked) -> Result<Change<'a>, RunFault>
-    ensures program { IfOk result (λ change. change.checked.now ≡ checked.now) }
-    ensures stmt { IfOk result (λ change. change.stmt ≡ None) }
-    ensures changed { IfOk result (λ change. IsChanged (changed_fields change) change.statements.items change.own) }
-    ensures last { IfOk result (λ change. length change.last.items ≡ length change.statements.items) }
+/// The code and the registers at the start of its runs are those of the program itself again.
+fn restore(checked: &Checked, code: &mut ChangedCode, image: &mut Registers)
+    requires code { IsChangedCode checked.now.statements code.old }
+    requires slots { code.old.code.constants.slots ≡ checked.now.slots }
+    requires image { BeginsImage checked.now code.old image.old }
+    ensures code { IsChangedCode checked.now.statements code.new }
+    ensures own { IsAllOwn code.new }
+    ensures same { HaveOneOwn code.old code.new }
+    ensures image { IsImage checked.now code.new.code.constants.values.items image.new }
+{
+    code.restore();
+    let own = code.code().constants().values().len();
+    image.items.truncate(checked.slots() + own);
+}
+
+/// The instruction of a statement stands in the place `place` of code that is the program's own. Where there is no
+/// memory, it is that still.
+fn put(
+    alloc: Global,
+    checked: &Checked,
+    code: &mut ChangedCode,
+    image: &mut Registers,
+    place: usize,
+    resolved: &Resolved,
+) -> Result<(), RunFault>
+    requires code { IsChangedCode checked.now.statements code.old }
+    requires own { IsAllOwn code.old }
+    requires slots { code.old.code.constants.slots ≡ checked.now.slots }
+    requires image { IsImage checked.now code.old.code.constants.values.items image.old }
+    requires place { place < length checked.now.statements }
+    requires change { CanReplace checked.now place resolved.now }
+    ensures code { IsChangedCode checked.now.statements code.new }
+    ensures same { HaveOneOwn code.old code.new }
+    ensures image { IsImage checked.now code.new.code.constants.values.items image.new }
+    ensures compiled { OnOk result (IsCode (slice_set checked.now.statements place resolved.now) code.new.code) }
+    ensures others { OnOk result (AgreeButAt place (own_instructions code.new) code.new.code.instructions.items) }
     ensures memory { IfErr result (λ e. e ≡ fault.Memory) }
 {
-    let statements = checked.statements().to_vec(alloc)?;
-    let last = no_statements(alloc, statements.len())?;
-    Ok(Change {
-        checked,
-        place: 0,
-        stmt: None,
-        statements,
-        own: Shared::new(alloc, no_statement(alloc))?,
-        last,
-    })
+    let own = code.code().constants().values().len();
+    code.exchange(alloc, checked.statements(), place, resolved)?;
+    let constants = &code.code().constants().values()[own..];
+    if let Err(fault) = add_constants(&mut image.items, constants) {
+        restore(checked, code, image);
+        return Err(fault);
+    }
+    Ok(())
 }
 
 impl<'a> ChangedRunner<'a> {
-    /// The runs of this program, with no statement changed. All the memory that
-    /// they need is taken here, but that in which a state of a long run is kept.
+    /// The runs of this program, with no statement changed. All the memory that they need is taken here, but that of
+    /// registers, which the first run takes, and that in which a state of a long run is kept.
     pub fn of(alloc: Global, checked: &'a Checked) -> Result<ChangedRunner<'a>, RunFault>
         ensures program { IfOk result (λ runner. runner.checked ≡ checked.now) }
         ensures unchanged { IfOk result (λ runner. runner.stmt ≡ None) }
         ensures memory { IfErr result (λ e. e ≡ fault.Memory) }
     {
-        let change = unchanged(alloc, checked)?;
-        let code = Recompiled::of(alloc, checked)?;
-        let space = Workspace::of(alloc, checked)?;
+        let code = code_of(alloc, checked)?;
+        let space = Workspace::of(alloc, checked, &code)?;
+        let last = no_statements(alloc, checked.statements().len())?;
         Ok(ChangedRunner {
-            change,
-            code,
+            alloc,
+            checked,
+            code: ChangedCode::of(code),
             space,
+            change: None,
+            last,
         })
     }
 
@@ -233,13 +184,27 @@ impl<'a> ChangedRunner<'a> {
             → changed_program self.new ≡ map line_of self.old.checked.program) }
         ensures memory { IfErr result (λ fault. fault ≡ refused.Memory) }
     {
-        self.code.forget();
-        self.change.put(number, stmt)
+        restore(self.checked, &mut self.code, &mut self.space.image);
+        self.change = None;
+        let place = number - 1;
+        let last = &mut self.last[place];
+        if !self.checked.resolve_in_place(number, stmt, last)? {
+            return Ok(false);
+        }
+        let image = &mut self.space.image;
+        if put(self.alloc, self.checked, &mut self.code, image, place, last).is_err() {
+            return Err(CheckFault::Memory);
+        }
+        self.change = Some(Change {
+            place,
+            stmt: Snapshot::of(stmt),
+        });
+        Ok(true)
     }
 
     /// Whether the run of the changed program with these values of the dummy arguments, in order, for so
-    /// many steps at most, has this outcome, which is that of the program itself: begun where the two part,
-    /// by the states in which control came to the changed statement, and not made where they do not part.
+    /// many steps at most, has this outcome, which is that of the program itself: begun where the two may part,
+    /// by the first time at which control came to the changed statement, and not made where they do not part.
     ///
     /// Want of memory, N1, is told in place of any answer.
     pub fn comes_to(
@@ -256,16 +221,17 @@ impl<'a> ChangedRunner<'a> {
             × IsOutcomeOf (changed_program self.old) arguments.now steps other × Decides same (outcome.now ≡ other)) }
         ensures memory { IfErr result (λ e. e ≡ fault.Memory) }
     {
-        let change = &self.change;
-        let visited = &visits.list[change.place];
-        let patience = visits.made;
+        let Some(change) = &self.change else {
+            return Ok(true);
+        };
         comes_alike(
-            change,
-            &mut self.code,
-            visited,
-            arguments,
+            self.checked,
+            self.code.code(),
             &mut self.space,
-            patience,
+            change,
+            &visits.list[change.place],
+            arguments,
+            visits.made,
             steps,
             outcome,
         )

@@ -1,6 +1,6 @@
 //! Whether an outcome is told of the end of a run.
 
-ghost use Rattle.std.specs.Prelude.{◌≡◌, ◌≤◌, List, length, map, option_map, true, IfSome};
+ghost use Rattle.std.specs.Prelude.{◌≡◌, ◌⊎◌, ◌≤◌, List, length, map, option_map, true, IfOk, IfErr, IfSome};
 ghost use Rattle.std.specs.Bool.{Decides};
 ghost use Rattle.f77_program.specs.Program.{LineFields, line_of};
 ghost use Rattle.f77_code.specs.Registers.{are_held};
@@ -8,29 +8,18 @@ ghost use Rattle.f77_meaning.specs.Interpreter as meaning;
 ghost use Rattle.f77_meaning.specs.Interpreter.{AreArguments, Tells};
 ghost use Rattle.f77_meaning.specs.Site.{held};
 ghost use Rattle.f77_meaning.specs.Value.{Store};
+ghost use Rattle.f77_meaning.specs.declared.outcome.RunFault.TheVariants as fault;
 ghost use Rattle.f77_run.specs.code.Site.{HoldDummies, shown_by};
 ghost use Rattle.f77_run.specs.code.Ending as code;
 
 use crate::entering::have_arguments;
 use crate::fitting::are_fitting;
-use crate::holding::are_held;
-use crate::machine::Machine;
+use crate::passing::arguments as held_arguments;
+use crate::registers::shown;
 use f77_actions::{Fault, Finish};
 use f77_check::Checked;
-use f77_meaning::{Arg, Outcome};
-
-/// Whether the dummy arguments hold these values.
-fn are_dummies(checked: &Checked, machine: &Machine, arguments: &[Arg]) -> bool
-    requires { HoldDummies checked.now machine.now.cells.items }
-    ensures { Decides result
-        (AreArguments (map line_of checked.now.program) (held checked.now machine.now.cells.items) arguments.now) }
-{
-    let start = checked.start();
-    if !are_fitting(checked.arguments(), arguments) {
-        return false;
-    }
-    are_held(&machine.cells, &start.dummies, arguments)
-}
+use f77_meaning::{Arg, Outcome, RunFault, Values};
+use std::alloc::Global;
 
 /// Whether the registers have these values of the dummy arguments.
 fn have_dummies(checked: &Checked, registers: &[i64], arguments: &[Arg]) -> bool
@@ -94,24 +83,6 @@ fn is_told_where(held: bool, finish: Finish, outcome: &Outcome) -> bool
     }
 }
 
-/// Whether this is told of an end with the machine in this state.
-pub(crate) fn is_told(
-    checked: &Checked,
-    finish: Finish,
-    machine: &Machine,
-    outcome: &Outcome,
-) -> bool
-    requires { HoldDummies checked.now machine.now.cells.items }
-    ensures { Decides result
-        (Tells (map line_of checked.now.program) finish (held checked.now machine.now.cells.items) outcome.now) }
-{
-    let held = match values_told(outcome) {
-        Some(arguments) => are_dummies(checked, machine, arguments),
-        None => false,
-    };
-    is_told_where(held, finish, outcome)
-}
-
 /// Whether this is told of an end with these registers.
 pub(crate) fn is_told_by(
     checked: &Checked,
@@ -130,4 +101,54 @@ pub(crate) fn is_told_by(
         None => false,
     };
     is_told_where(held, finish, outcome)
+}
+
+/// The outcome of a run that failed.
+fn told(fault: Fault) -> Outcome
+    ensures { result ≡ meaning.told_outcome fault }
+{
+    match fault {
+        Fault::Overflow => Outcome::Overflow,
+        Fault::DivideByZero => Outcome::DivideByZero,
+        Fault::ZeroPower => Outcome::ZeroPower,
+        Fault::BadSubscript => Outcome::BadSubscript,
+        Fault::ZeroStep => Outcome::ZeroStep,
+        Fault::Undefined => Outcome::Undefined,
+        Fault::Trapped => Outcome::Trapped,
+    }
+}
+
+/// What the dummy arguments hold.
+fn dummies(alloc: Global, checked: &Checked, registers: &[i64]) -> Result<Values<Arg>, RunFault>
+    requires held { are_held registers.now ≡ true }
+    requires dummies { HoldDummies checked.now (shown_by checked.now registers.now) }
+    ensures arguments { IfOk result (λ arguments. AreArguments (map line_of checked.now.program)
+        (held checked.now (shown_by checked.now registers.now)) arguments) }
+    ensures memory { IfErr result (λ e. e ≡ fault.Memory) }
+{
+    let start = checked.start();
+    let cells = shown(alloc, &start.kinds, registers)?;
+    held_arguments(alloc, checked.arguments(), &start.dummies, &cells)
+}
+
+/// What is told of an end with these registers.
+pub(crate) fn answer(
+    alloc: Global,
+    checked: &Checked,
+    finish: Finish,
+    registers: &[i64],
+) -> Result<Outcome, RunFault>
+    requires held { are_held registers.now ≡ true }
+    requires dummies { HoldDummies checked.now (shown_by checked.now registers.now) }
+    ensures tells { IfOk result (λ outcome. Tells (map line_of checked.now.program) finish
+        (held checked.now (shown_by checked.now registers.now)) outcome) }
+    ensures memory { IfErr result (λ e. e ≡ fault.Memory) }
+    ensures told { IfErr result (λ _. (finish ≡ Finish.Returned) ⊎ (finish ≡ Finish.Stopped)) }
+{
+    match finish {
+        Finish::Returned => Ok(Outcome::Returned(dummies(alloc, checked, registers)?)),
+        Finish::Stopped => Ok(Outcome::Stopped(dummies(alloc, checked, registers)?)),
+        Finish::Failed(fault) => Ok(told(fault)),
+        Finish::StepLimit => Ok(Outcome::StepLimit),
+    }
 }

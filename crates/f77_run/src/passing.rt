@@ -1,11 +1,11 @@
-//! How arguments are put into the slots of dummy arguments, and taken from them.
+//! The values of dummy arguments, by what their slots hold.
 
 ghost use Rattle.std.specs.Prelude.{◌≡◌, ◌+◌, ◌≤◌, true, length, map, Some, IfOk, IfErr};
 ghost use Rattle.std.specs.List.{list_all, zip};
 ghost use Rattle.f77_tree.specs.declared.tree.Kind.TheVariants as kind;
 ghost use Rattle.f77_meaning.specs.Interpreter.{AreFitting, has_shape, values_in};
-ghost use Rattle.f77_meaning.specs.code.Spans.{AllHold, AreWithin, HaveRoom, span};
-ghost use Rattle.f77_meaning.specs.Spans.{all_filled, filled, size_of};
+ghost use Rattle.f77_meaning.specs.code.Spans.{AllHold, AreWithin, span};
+ghost use Rattle.f77_meaning.specs.Spans.{size_of};
 ghost use Rattle.f77_meaning.specs.code.Typed.{HasValues, has_kind};
 ghost use Rattle.f77_meaning.specs.declared.outcome.RunFault.TheVariants as fault;
 ghost use Rattle.f77_actions.specs.declared.value.Value.TheVariants as held;
@@ -15,47 +15,6 @@ use f77_check::Shape;
 use f77_meaning::{Arg, RunFault, Values};
 use f77_tree::Kind;
 use std::alloc::Global;
-
-fn fill_numbers(cells: &mut Vec<Option<Value>>, first: usize, numbers: &[i32])
-    requires { first + length numbers.now ≤ length cells.old.items }
-    ensures { cells.new.items ≡ filled cells.old.items first (map (λ z. held.Number z) numbers.now) }
-{
-    for (offset, number) in numbers.iter().enumerate() {
-        cells[first + offset] = Some(Value::Number(*number));
-    }
-}
-
-fn fill_truths(cells: &mut Vec<Option<Value>>, first: usize, truths: &[bool])
-    requires { first + length truths.now ≤ length cells.old.items }
-    ensures { cells.new.items ≡ filled cells.old.items first (map (λ b. held.Truth b) truths.now) }
-{
-    for (offset, truth) in truths.iter().enumerate() {
-        cells[first + offset] = Some(Value::Truth(*truth));
-    }
-}
-
-/// Puts an argument into the slots from `first` on.
-pub(crate) fn fill(cells: &mut Vec<Option<Value>>, first: usize, argument: &Arg)
-    requires { first + length (values_in argument.now) ≤ length cells.old.items }
-    ensures { cells.new.items ≡ filled cells.old.items first (values_in argument.now) }
-{
-    match argument {
-        Arg::Int(number) => cells[first] = Some(Value::Number(*number)),
-        Arg::Truth(truth) => cells[first] = Some(Value::Truth(*truth)),
-        Arg::Ints(numbers) => fill_numbers(cells, first, numbers.as_slice()),
-        Arg::Truths(truths) => fill_truths(cells, first, truths.as_slice()),
-    }
-}
-
-/// Puts each argument into the slots of its dummy argument.
-pub(crate) fn fill_all(cells: &mut Vec<Option<Value>>, dummies: &[usize], arguments: &[Arg])
-    requires { HaveRoom (length cells.old.items) (zip dummies.now arguments.now) }
-    ensures { cells.new.items ≡ all_filled cells.old.items (zip dummies.now arguments.now) }
-{
-    for (first, argument) in dummies.iter().zip(arguments) {
-        fill(cells, *first, argument);
-    }
-}
 
 fn number(cell: Option<Value>) -> i32
     requires { has_kind kind.Integer cell ≡ true }

@@ -1,21 +1,27 @@
 //! The registers and the counters that the code of a program works on.
 
-ghost use Rattle.std.specs.Prelude.{◌≡◌, ◌≤◌, ◌<◌, ◌+◌, ◌++◌, drop, length, min, slice_set, take, true, IfErr, OnOk};
+ghost use Rattle.std.specs.Prelude.{◌≡◌, ◌≢◌, ◌++◌, length, map, option_map, take, true};
+ghost use Rattle.std.specs.Prelude.{IfOk, IfErr, OnOk, IfNone, IfSome};
+ghost use Rattle.std.specs.Bool.{Decides};
 ghost use Rattle.std.specs.List.{list_all};
 ghost use Rattle.f77_code.specs.Holds.{read_as};
+ghost use Rattle.f77_code.specs.Program.{IsCode};
 ghost use Rattle.f77_code.specs.Registers.{are_held, is_held, told_by_register};
 ghost use Rattle.f77_run.specs.code.Registers as meaning;
-ghost use Rattle.f77_run.specs.code.Registers.{counter_of, counters_of, loaded, shown_cells, values_fit};
+ghost use Rattle.f77_run.specs.Registers.{IsImage, loaded, values_fit};
+ghost use Rattle.f77_run.specs.code.Registers.{shown_cells};
+ghost use Rattle.f77_run.specs.code.Running.{stands_at};
+ghost use Rattle.f77_meaning.specs.Start.{constant_value};
 ghost use Rattle.f77_meaning.specs.declared.outcome.RunFault.TheVariants as fault;
 ghost use Rattle.f77_actions.specs.Number.{fits};
 ghost use Rattle.f77_actions.specs.Told.{coded, is_fitting};
 
-use crate::machine::Machine;
+use f77_actions::Value;
 use f77_actions::told::UNDEFINED;
-use f77_actions::{Action, Resolved, Value};
-use f77_code::Turn;
+use f77_check::Checked;
+use f77_code::{Code, Turn};
 use f77_meaning::RunFault;
-use f77_tree::{Kind, Shared};
+use f77_tree::{Constant, Kind};
 use std::alloc::Global;
 
 /// A register for each slot and, behind them, each constant of the code, and a counter for each DO, in order.
@@ -58,107 +64,69 @@ pub(crate) fn value(kind: Kind, register: i64) -> Option<Value>
     }
 }
 
-/// As many registers as these two numbers tell together, whatever they hold.
-fn make_room(registers: &mut Vec<i64>, slots: usize, constants: usize) -> Result<(), RunFault>
-    ensures room { OnOk result (length registers.new.items ≡ slots + constants) }
+/// What DATA gives a slot.
+fn initial(constant: Option<Constant>) -> Option<Value>
+    ensures { result ≡ option_map constant_value constant }
+{
+    match constant {
+        Some(Constant::Number(number)) => Some(Value::Number(number)),
+        Some(Constant::Truth(truth)) => Some(Value::Truth(truth)),
+        None => None,
+    }
+}
+
+/// Adds a register for each slot, with what DATA gives it.
+fn add_slots(
+    registers: &mut Vec<i64>,
+    kinds: &[Kind],
+    constants: &[Option<Constant>],
+) -> Result<(), RunFault>
+    ensures items { OnOk result (registers.new.items
+        ≡ registers.old.items ++ loaded kinds.now (map (option_map constant_value) constants.now)) }
+    ensures held { OnOk result (are_held (loaded kinds.now (map (option_map constant_value) constants.now)) ≡ true) }
+    ensures fitting { OnOk result
+        (values_fit kinds.now (map (option_map constant_value) constants.now) ≡ true) }
     ensures memory { IfErr result (λ e. e ≡ fault.Memory) }
 {
-    let Some(count) = slots.checked_add(constants) else {
-        return Err(RunFault::Memory);
-    };
-    if registers.len() != count {
-        registers.resize(count, 0)?;
+    for (kind, constant) in kinds.iter().zip(constants) {
+        registers.push(number(*kind, initial(*constant)))?;
     }
     Ok(())
 }
 
-#[inline(always)]
-fn write(registers: &mut Vec<i64>, place: usize, x: i64)
-    requires { place < length registers.old.items }
-    ensures { registers.new.items ≡ slice_set registers.old.items place x }
-{
-    registers[place] = x;
-}
-
-/// Puts what the slots hold, so many, into the first registers.
-fn load_slots(registers: &mut Vec<i64>, kinds: &[Kind], cells: &[Option<Value>], count: usize)
-    requires count { count ≡ min (length kinds.now) (length cells.now) }
-    requires room { count ≤ length registers.old.items }
-    ensures registers { registers.new.items ≡ loaded kinds.now cells.now ++ drop count registers.old.items }
-    ensures held { are_held (loaded kinds.now cells.now) ≡ true }
-    ensures fitting { values_fit kinds.now cells.now ≡ true }
-{
-    'slots: for k in 0..count {
-        write(registers, k, number(kinds[k], cells[k]));
-    }
-}
-
-/// Puts constants into the registers from `first` on, which are as many.
-fn load_constants(registers: &mut Vec<i64>, first: usize, constants: &[i32])
-    requires { first + length constants.now ≡ length registers.old.items }
-    ensures registers { registers.new.items ≡ take first registers.old.items ++ constants.now }
-    ensures held { are_held constants.now ≡ true }
-    ensures fitting { list_all fits constants.now ≡ true }
-{
-    'constants: for k in 0..constants.len() {
-        write(registers, first + k, i64::from(constants[k]));
-    }
-}
-
-fn hold(cells: &mut Vec<Option<Value>>, slot: usize, held: Option<Value>)
-    requires { slot < length cells.old.items }
-    ensures { cells.new.items ≡ slice_set cells.old.items slot held }
-{
-    cells[slot] = held;
-}
-
-/// Puts what so many registers stand for into slots, which are as many.
-fn show_slots(cells: &mut Vec<Option<Value>>, kinds: &[Kind], registers: &[i64], count: usize)
-    requires count { count ≡ min (length kinds.now) (length registers.now) }
-    requires room { count ≡ length cells.old.items }
-    requires held { are_held registers.now ≡ true }
-    ensures { cells.new.items ≡ shown_cells kinds.now registers.now }
-{
-    'slots: for k in 0..count {
-        hold(cells, k, value(kinds[k], registers[k]));
-    }
-}
-
-/// Adds the counter of a statement, where it is a DO.
-fn load_counter(
-    counters: &mut Vec<Turn>,
-    resolved: &Resolved,
-    turn: Option<Turn>,
-) -> Result<(), RunFault>
-    ensures counters { OnOk result (counters.new.items ≡ counters.old.items ++ counter_of resolved.now turn) }
+/// Adds a register for each constant.
+pub(crate) fn add_constants(registers: &mut Vec<i64>, constants: &[i32]) -> Result<(), RunFault>
+    ensures items { OnOk result (registers.new.items ≡ registers.old.items ++ constants.now) }
+    ensures kept { take (length registers.old.items) registers.new.items ≡ registers.old.items }
+    ensures held { OnOk result (are_held constants.now ≡ true) }
+    ensures fitting { OnOk result (list_all fits constants.now ≡ true) }
     ensures memory { IfErr result (λ e. e ≡ fault.Memory) }
 {
-    match &resolved.action {
-        Action::Loop { .. } => {
-            counters.push(turn.unwrap_or(Turn { passes: 0, step: 0 }))?;
-            Ok(())
-        }
-        _ => Ok(()),
-    }
-}
-
-/// Adds the counters of all DOs among these statements.
-fn load_counters(
-    counters: &mut Vec<Turn>,
-    statements: &[Shared<Resolved>],
-    turns: &[Option<Turn>],
-) -> Result<(), RunFault>
-    ensures counters { OnOk result (counters.new.items ≡ counters.old.items ++ counters_of statements.now turns.now) }
-    ensures memory { IfErr result (λ e. e ≡ fault.Memory) }
-{
-    for (resolved, turn) in statements.iter().zip(turns) {
-        load_counter(counters, resolved, *turn)?;
+    for constant in constants {
+        registers.push(i64::from(*constant))?;
     }
     Ok(())
+}
+
+/// What slots of these kinds hold, by their registers.
+pub(crate) fn shown(
+    alloc: Global,
+    kinds: &[Kind],
+    registers: &[i64],
+) -> Result<Vec<Option<Value>>, RunFault>
+    requires { are_held registers.now ≡ true }
+    ensures cells { IfOk result (λ cells. cells.items ≡ shown_cells kinds.now registers.now) }
+    ensures memory { IfErr result (λ e. e ≡ fault.Memory) }
+{
+    let mut cells = Vec::with_capacity(alloc, kinds.len())?;
+    for (kind, register) in kinds.iter().zip(registers) {
+        cells.push(value(*kind, *register))?;
+    }
+    Ok(cells)
 }
 
 /// The list becomes the other. It takes memory where it has another length.
-pub(crate) fn copy_items<T: Copy>(list: &mut Vec<T>, other: &[T]) -> Result<(), RunFault>
+fn copy_items<T: Copy>(list: &mut Vec<T>, other: &[T]) -> Result<(), RunFault>
     ensures items { OnOk result (list.new.items ≡ other.now) }
     ensures memory { IfErr result (λ e. e ≡ fault.Memory) }
 {
@@ -176,6 +144,20 @@ pub(crate) fn copy_items<T: Copy>(list: &mut Vec<T>, other: &[T]) -> Result<(), 
     Ok(())
 }
 
+/// The first place where two lists differ.
+fn first_other(items: &[i64], others: &[i64]) -> Option<usize>
+    requires { length items.now ≡ length others.now }
+    ensures none { IfNone result (items.now ≡ others.now) }
+    ensures some { IfSome result (λ place. items.now ≢ others.now) }
+{
+    'places: for place in 0..items.len() {
+        if items[place] != others[place] {
+            return Some(place);
+        }
+    }
+    None
+}
+
 impl Registers {
     /// No registers yet. It takes no memory.
     pub(crate) fn new(alloc: Global) -> Registers {
@@ -185,27 +167,23 @@ impl Registers {
         }
     }
 
-    /// They stand for the state of the machine.
-    pub(crate) fn load(
-        &mut self,
-        kinds: &[Kind],
-        constants: &[i32],
-        statements: &[Shared<Resolved>],
-        machine: &Machine,
-    ) -> Result<(), RunFault>
-        ensures items { OnOk result (self.new.items.items ≡ loaded kinds.now machine.now.cells.items ++ constants.now) }
-        ensures held { OnOk result (are_held self.new.items.items ≡ true) }
-        ensures fitting { OnOk result
-            ((values_fit kinds.now machine.now.cells.items ≡ true) × (list_all fits constants.now ≡ true)) }
-        ensures counters { OnOk result (self.new.counters.items ≡ counters_of statements.now machine.now.turns.items) }
+    /// What they are at the start of each run of a program, before the arguments are there.
+    pub(crate) fn at_start(
+        alloc: Global,
+        checked: &Checked,
+        code: &Code,
+    ) -> Result<Registers, RunFault>
+        requires code { IsCode checked.now.statements code.now }
+        ensures image { IfOk result (IsImage checked.now code.now.constants.values.items) }
         ensures memory { IfErr result (λ e. e ≡ fault.Memory) }
     {
-        let slots = kinds.len().min(machine.cells.len());
-        make_room(&mut self.items, slots, constants.len())?;
-        load_slots(&mut self.items, kinds, &machine.cells, slots);
-        load_constants(&mut self.items, slots, constants);
-        self.counters.clear();
-        load_counters(&mut self.counters, statements, &machine.turns)
+        let start = checked.start();
+        let mut items = Vec::with_capacity(alloc, start.kinds.len())?;
+        add_slots(&mut items, &start.kinds, &start.initial)?;
+        add_constants(&mut items, code.constants().values())?;
+        let loops = code.instructions().len() - checked.count();
+        let counters = vec![in alloc; Turn { passes: 0, step: 0 }; loops]?;
+        Ok(Registers { items, counters })
     }
 
     /// They become what these are.
@@ -218,21 +196,20 @@ impl Registers {
         copy_items(&mut self.counters, &other.counters)
     }
 
-    /// Puts what they stand for back into slots.
-    pub(crate) fn show(
-        &self,
-        kinds: &[Kind],
-        cells: &mut Vec<Option<Value>>,
-    ) -> Result<(), RunFault>
-        requires { are_held self.now.items.items ≡ true }
-        ensures cells { OnOk result (cells.new.items ≡ shown_cells kinds.now self.now.items.items) }
-        ensures memory { IfErr result (λ e. e ≡ fault.Memory) }
+    /// Whether they are the same. Where they were others the last time is looked at first.
+    pub(crate) fn are(&self, other: &Registers, apart: &mut usize) -> bool
+        requires { length self.now.items.items ≡ length other.now.items.items }
+        ensures { Decides result (stands_at 0 self.now ≡ stands_at 0 other.now) }
     {
-        let count = kinds.len().min(self.items.len());
-        if cells.len() != count {
-            cells.resize(count, None)?;
+        if self.items.get(*apart) != other.items.get(*apart) {
+            return false;
         }
-        show_slots(cells, kinds, &self.items, count);
-        Ok(())
+        match first_other(&self.items, &other.items) {
+            Some(place) => {
+                *apart = place;
+                false
+            }
+            None => self.counters == other.counters,
+        }
     }
 }

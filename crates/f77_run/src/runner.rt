@@ -1,49 +1,56 @@
 //! Runs of one program, one after another.
 
-ghost use Rattle.std.specs.Prelude.{◌≡◌, ◌⊎◌, map, option_map, Some, Err, IfOk, IfErr, IfSome};
+ghost use Rattle.std.specs.Prelude.{◌≡◌, ◌⊎◌, ◌≤◌, ◌<◌, ◌+◌, ℕ, map, Some, Err, IfOk, IfErr, IfSome};
 ghost use Rattle.std.specs.Bool.{Decides};
 ghost use Rattle.f77_program.specs.Program.{line_of};
-ghost use Rattle.f77_meaning.specs.Interpreter.{AreFitting, IsOutcomeOf, refusal, values_in};
-ghost use Rattle.f77_meaning.specs.Running.{RunSite};
-ghost use Rattle.f77_run.specs.code.Running.{IsRunning, config_at};
-ghost use Rattle.f77_meaning.specs.Site.{site_of};
-ghost use Rattle.f77_meaning.specs.Start.{IsStart, constant_value};
-ghost use Rattle.f77_run.specs.Visits.{IsFollowed};
+ghost use Rattle.f77_code.specs.Follow.{numbers_kept};
+ghost use Rattle.f77_code.specs.Program.{IsCode};
+ghost use Rattle.f77_meaning.specs.Interpreter.{AreFitting, IsOutcomeOf, refusal};
 ghost use Rattle.f77_meaning.specs.declared.outcome.Outcome.{Outcome};
+ghost use Rattle.f77_meaning.specs.declared.outcome.Outcome.TheVariants as told;
 ghost use Rattle.f77_meaning.specs.declared.outcome.RunFault.TheVariants as fault;
+ghost use Rattle.f77_run.specs.Registers.{IsImage};
+ghost use Rattle.f77_run.specs.Visits.{IsFollowed};
 
-use crate::compiled::Compiled;
-use crate::course::Course;
+use crate::ending::{answer, is_told_by};
 use crate::fitting::fit;
-use crate::following::follow;
-use crate::interpreter::{answer, enter};
-use crate::machine::Machine;
 use crate::visits::Visits;
-use crate::workspace::Workspace;
-use f77_actions::Value;
+use crate::workspace::{Workspace, code_of};
 use f77_check::Checked;
+use f77_code::{Code, finish_at, follow};
 use f77_meaning::{Arg, Outcome, RunFault};
 use std::alloc::Global;
 use std::marker::Model;
 
+/// The course of a run: what comes of it, and where control came to each statement.
+#[derive(Drop)]
+pub struct Course {
+    /// What comes of the run.
+    pub outcome: Outcome,
+    /// The states in which control came to the statements, from which a run of a changed program may begin.
+    pub visits: Visits,
+}
+
 /// The runs of one program, one after another, in memory that is taken once.
 #[derive(Drop)]
 pub struct Runner<'a> {
-    program: Compiled<'a>,
+    checked: &'a Checked,
+    code: Code,
     space: Workspace,
 }
 
 impl<'a> Model for Runner<'a> {
-    ghost use Rattle.std.specs.Prelude.{◌≡◌, map, option_map};
+    ghost use Rattle.std.specs.Prelude.{◌≡◌};
     ghost use Rattle.std.specs.Coded.{codes};
     ghost use Rattle.f77_tree.specs.contracts.tree.Expr as expr;
     ghost use Rattle.f77_tree.specs.contracts.statement.Stmt as stmt;
-    ghost use Rattle.f77_check.specs.Checked.{CheckedFields};
+    ghost use Rattle.f77_check.specs.Checked.{CheckedFields, IsChecked};
     ghost use Rattle.f77_actions.specs.contracts.action.Action as action;
     ghost use Rattle.f77_actions.specs.contracts.expression.Condition as condition;
     ghost use Rattle.f77_actions.specs.contracts.expression.Element as element;
     ghost use Rattle.f77_actions.specs.contracts.expression.Number as number;
-    ghost use Rattle.f77_meaning.specs.Start.{constant_value};
+    ghost use Rattle.f77_code.specs.Program.{IsCode};
+    ghost use Rattle.f77_run.specs.Registers.{IsImage};
 
     ghost Value = { CheckedFields };
 
@@ -57,68 +64,51 @@ impl<'a> Model for Runner<'a> {
       action.the_row.coded,
     ) };
 
-    ghost view = { λ runner. runner.program };
+    ghost view = { λ runner. runner.checked.now };
 
-    ghost invariant = { λ runner.
-        runner.space.initial.items ≡ map (option_map constant_value) runner.program.start.initial.items };
-}
-
-/// The machine is at the start of a run, whatever it did before.
-pub(crate) fn restart(
-    checked: &Checked,
-    initial: &[Option<Value>],
-    machine: &mut Machine,
-    arguments: &[Arg],
-) -> Result<(), RunFault>
-    requires initial { initial.now ≡ map (option_map constant_value) checked.now.start.initial.items }
-    requires fitting { AreFitting checked.now.arguments arguments.now }
-    ensures running { IfOk result
-        (λ _. IsRunning (site_of checked.now arguments.now) checked.now.statements machine.new) }
-    ensures starts { IfOk result
-        (λ _. IsStart (map line_of checked.now.program) (map values_in arguments.now)
-        (config_at (site_of checked.now arguments.now) machine.new)) }
-    ensures memory { IfErr result (λ e. e ≡ fault.Memory) }
-{
-    machine.cells.clear();
-    machine.cells.extend_from_slice(initial)?;
-    machine.turns.clear();
-    machine.turns.resize(checked.count(), None)?;
-    enter(checked, machine, arguments);
-    Ok(())
+    ghost invariant = { λ runner. IsChecked runner.checked.now
+        × IsCode runner.checked.now.statements runner.code
+        × (runner.code.constants.slots ≡ runner.checked.now.slots)
+        × IsImage runner.checked.now runner.code.constants.values.items runner.space.image };
 }
 
 /// The course of the run with arguments that fit.
 fn course_of(
     alloc: Global,
     checked: &Checked,
+    code: &Code,
     space: &mut Workspace,
     arguments: &[Arg],
     steps: u32,
     room: &mut usize,
 ) -> Result<Course, RunFault>
-    ghost at: { RunSite }
-    requires site { at ≡ site_of checked.now arguments.now }
-    requires initial { space.old.initial.items ≡ map (option_map constant_value) checked.now.start.initial.items }
+    requires code { IsCode checked.now.statements code.now }
+    requires slots { code.now.constants.slots ≡ checked.now.slots }
+    requires image { IsImage checked.now code.now.constants.values.items space.old.image }
     requires fitting { AreFitting checked.now.arguments arguments.now }
     ensures outcome { IfOk result
         (λ course. IsOutcomeOf (map line_of checked.now.program) arguments.now steps course.outcome) }
     ensures visits { IfOk result (λ course. IsFollowed checked.now arguments.now steps course.visits) }
-    ensures initial { space.new.initial.items ≡ space.old.initial.items }
+    ensures room { IfOk result (λ course. room.new + numbers_kept course.visits.list.items ≡ room.old) }
+    ensures image { space.new.image ≡ space.old.image }
     ensures memory { IfErr result (λ e. e ≡ fault.Memory) }
 {
-    restart(checked, &space.initial, &mut space.machine, arguments)?;
+    space.restart(checked, arguments)?;
     let mut visits = Visits::none(alloc, checked.count())?;
-    let statements = checked.statements();
-    let end = follow(
+    let stand = follow(
         alloc,
-        statements,
-        &mut space.machine,
-        &mut visits,
+        code.instructions(),
+        &mut space.registers.items,
+        &mut space.registers.counters,
+        checked.slots(),
+        checked.start().entry,
+        &mut visits.list,
         steps,
         room,
     )?;
-    visits.made = end.made;
-    let outcome = answer(alloc, checked, end.finish, &space.machine)?;
+    visits.made = stand.made;
+    let finish = finish_at(stand.place);
+    let outcome = answer(alloc, checked, finish, &space.registers.items)?;
     Ok(Course { outcome, visits })
 }
 
@@ -129,9 +119,46 @@ impl<'a> Runner<'a> {
         ensures program { IfOk result (λ runner. runner ≡ checked.now) }
         ensures memory { IfErr result (λ e. e ≡ fault.Memory) }
     {
-        let program = Compiled::of(alloc, checked)?;
-        let space = Workspace::of(alloc, checked)?;
-        Ok(Runner { program, space })
+        let code = code_of(alloc, checked)?;
+        let space = Workspace::of(alloc, checked, &code)?;
+        Ok(Runner {
+            checked,
+            code,
+            space,
+        })
+    }
+
+    /// The outcome of the run with these values of the dummy arguments, in order, for so many
+    /// steps at most, and how many steps were made to know it.
+    ///
+    /// N2 and N3 are told before any step, and want of memory, N1, in place of any answer.
+    pub(crate) fn run(
+        &mut self,
+        alloc: Global,
+        arguments: &[Arg],
+        steps: u32,
+    ) -> Result<(Outcome, u32), RunFault>
+        ensures program { self.new ≡ self.old }
+        ensures outcome { IfOk result
+            (λ told. IsOutcomeOf (map line_of self.old.program) arguments.now steps told.0) }
+        ensures made { IfOk result (λ told. (told.1 ≤ steps)
+            × IsOutcomeOf (map line_of self.old.program) arguments.now told.1 told.0) }
+        ensures unended { IfOk result (λ ran. (n : ℕ) → n < ran.1
+            → IsOutcomeOf (map line_of self.old.program) arguments.now n told.StepLimit) }
+        ensures refused { IfSome (refusal self.old.arguments arguments.now) (λ e. result ≡ Err e) }
+        ensures fault { IfErr result (λ e. (e ≡ fault.Memory) ⊎ (refusal self.old.arguments arguments.now ≡ Some e)) }
+    {
+        match fit(self.checked.arguments(), arguments) {
+            Ok(()) => {
+                let end = self
+                    .space
+                    .end_of(self.checked, &self.code, arguments, 0, steps)?;
+                let registers = &self.space.registers.items;
+                let outcome = answer(alloc, self.checked, end.finish, registers)?;
+                Ok((outcome, end.made))
+            }
+            Err(fault) => Err(fault),
+        }
     }
 
     /// Whether the run with these values of the dummy arguments, in order, for so many steps at most, has this outcome.
@@ -150,17 +177,21 @@ impl<'a> Runner<'a> {
         ensures refused { IfSome (refusal self.old.arguments arguments.now) (λ e. result ≡ Err e) }
         ensures fault { IfErr result (λ e. (e ≡ fault.Memory) ⊎ (refusal self.old.arguments arguments.now ≡ Some e)) }
     {
-        match fit(self.program.program().arguments(), arguments) {
-            Ok(()) => self
-                .program
-                .comes_to(&mut self.space, arguments, steps, outcome),
+        match fit(self.checked.arguments(), arguments) {
+            Ok(()) => {
+                let end = self
+                    .space
+                    .end_of(self.checked, &self.code, arguments, 0, steps)?;
+                let registers = &self.space.registers.items;
+                Ok(is_told_by(self.checked, end.finish, registers, outcome))
+            }
             Err(fault) => Err(fault),
         }
     }
 
     /// The course of the run with these values of the dummy arguments, in order, for so many steps at most. The
-    /// program is run once. Its first states at each statement are kept while there is room for so
-    /// many values, which falls by those of each state: one for each slot and one for each statement.
+    /// program is run once. Its first step at each statement is kept while there is room for so many
+    /// numbers, which falls by those of each: for a step two for each slot and two for each DO.
     ///
     /// N2 and N3 are told before any step, and want of memory, N1, in place of any answer.
     pub fn course(
@@ -176,12 +207,20 @@ impl<'a> Runner<'a> {
         ensures only { IfOk result (λ course. (other : Outcome)
             → IsOutcomeOf (map line_of self.old.program) arguments.now steps other → other ≡ course.outcome) }
         ensures visits { IfOk result (λ course. IsFollowed self.old arguments.now steps course.visits) }
+        ensures room { IfOk result (λ course. room.new + numbers_kept course.visits.list.items ≡ room.old) }
         ensures refused { IfSome (refusal self.old.arguments arguments.now) (λ e. result ≡ Err e) }
         ensures fault { IfErr result (λ e. (e ≡ fault.Memory) ⊎ (refusal self.old.arguments arguments.now ≡ Some e)) }
     {
-        let checked = self.program.program();
-        match fit(checked.arguments(), arguments) {
-            Ok(()) => course_of(alloc, checked, &mut self.space, arguments, steps, room),
+        match fit(self.checked.arguments(), arguments) {
+            Ok(()) => course_of(
+                alloc,
+                self.checked,
+                &self.code,
+                &mut self.space,
+                arguments,
+                steps,
+                room,
+            ),
             Err(fault) => Err(fault),
         }
     }

@@ -1,66 +1,119 @@
 //! What runs need, in memory that is taken once.
 
-ghost use Rattle.std.specs.Prelude.{◌≡◌, map, option_map, IfOk, IfErr};
+ghost use Rattle.std.specs.Prelude.{◌≡◌, List, length, true, ℤ, IfOk, IfErr, OnOk};
+ghost use Rattle.f77_check.specs.Checked.{IsChecked};
+ghost use Rattle.f77_actions.specs.declared.resolved.Resolved.{Resolved};
 ghost use Rattle.f77_code.specs.Program.{IsCode};
-ghost use Rattle.f77_meaning.specs.Start.{constant_value};
+ghost use Rattle.f77_code.specs.Registers.{are_held};
+ghost use Rattle.f77_meaning.specs.Interpreter.{AreFitting};
 ghost use Rattle.f77_meaning.specs.declared.outcome.RunFault.TheVariants as fault;
+ghost use Rattle.f77_run.specs.Registers.{IsImage};
+ghost use Rattle.f77_run.specs.Visits.{AreAtStart};
+ghost use Rattle.f77_run.specs.code.Ends.{HasEnded, RunOf};
+ghost use Rattle.f77_run.specs.code.Runs.{HasCode};
 
-use crate::interpreter::initial;
-use crate::machine::Machine;
+use crate::entering::put_arguments;
 use crate::registers::Registers;
-use crate::snapshot::Snapshot;
-use f77_actions::Value;
+use crate::running::advance;
+use f77_actions::Finish;
 use f77_check::Checked;
-use f77_code::{Code, Place, compiled};
-use f77_meaning::RunFault;
+use f77_code::{Code, compiled, finish_at};
+use f77_meaning::{Arg, RunFault};
 use std::alloc::Global;
 
-/// What DATA gives each slot, a machine, the registers and counters of its
-/// code, and where that stood, by which it is known that a run comes back.
+/// How a run ends, and how many steps were made to know it.
+#[derive(Clone, Copy)]
+pub(crate) struct End {
+    pub(crate) finish: Finish,
+    pub(crate) made: u32,
+}
+
+/// The registers and counters of code: those at the start of each run, before the arguments are there, those of a run,
+/// and those of a state of it that is kept.
 #[derive(Drop)]
 pub(crate) struct Workspace {
-    pub(crate) initial: Vec<Option<Value>>,
-    pub(crate) machine: Machine,
+    pub(crate) image: Registers,
     pub(crate) registers: Registers,
-    pub(crate) earlier: Snapshot,
-}
-
-/// A machine with room for so many slots and DOs.
-fn room(alloc: Global, slots: usize, turns: usize) -> Result<Machine, RunFault>
-    ensures memory { IfErr result (λ e. e ≡ fault.Memory) }
-{
-    let cells = Vec::with_capacity(alloc, slots)?;
-    let turns = Vec::with_capacity(alloc, turns)?;
-    Ok(Machine {
-        place: Place::Execute(0),
-        cells,
-        turns,
-    })
-}
-
-impl Workspace {
-    /// What the runs of a program need.
-    pub(crate) fn of(alloc: Global, checked: &Checked) -> Result<Workspace, RunFault>
-        ensures initial { IfOk result
-            (λ space. space.initial.items ≡ map (option_map constant_value) checked.now.start.initial.items) }
-        ensures memory { IfErr result (λ e. e ≡ fault.Memory) }
-    {
-        let initial = initial(alloc, &checked.start().initial)?;
-        let machine = room(alloc, initial.len(), checked.count())?;
-        Ok(Workspace {
-            initial,
-            machine,
-            registers: Registers::new(alloc),
-            earlier: Snapshot::new(alloc),
-        })
-    }
+    pub(crate) kept: Registers,
 }
 
 /// The code of a program.
 pub(crate) fn code_of(alloc: Global, checked: &Checked) -> Result<Code, RunFault>
+    ensures checked { IsChecked checked.now }
     ensures code { IfOk result (λ code. IsCode checked.now.statements code) }
     ensures slots { IfOk result (λ code. code.constants.slots ≡ checked.now.slots) }
     ensures memory { IfErr result (λ e. e ≡ fault.Memory) }
 {
     Ok(compiled(alloc, checked.slots() as u32, checked.statements())?)
+}
+
+impl Workspace {
+    /// What the runs of a program need. The registers of a run take memory when the first begins.
+    pub(crate) fn of(alloc: Global, checked: &Checked, code: &Code) -> Result<Workspace, RunFault>
+        requires code { IsCode checked.now.statements code.now }
+        ensures image { IfOk result (λ space. IsImage checked.now code.now.constants.values.items space.image) }
+        ensures memory { IfErr result (λ e. e ≡ fault.Memory) }
+    {
+        Ok(Workspace {
+            image: Registers::at_start(alloc, checked, code)?,
+            registers: Registers::new(alloc),
+            kept: Registers::new(alloc),
+        })
+    }
+
+    /// The registers are put at the start of a run with arguments that fit.
+    pub(crate) fn restart(&mut self, checked: &Checked, arguments: &[Arg]) -> Result<(), RunFault>
+        requires image { (constants : List ℤ) × IsImage checked.now constants self.old.image }
+        requires fitting { AreFitting checked.now.arguments arguments.now }
+        ensures image { self.new.image ≡ self.old.image }
+        ensures starts { OnOk result ((constants : List ℤ) → IsImage checked.now constants self.old.image
+            → AreAtStart checked.now arguments.now constants
+            self.new.registers.items.items self.new.registers.counters.items) }
+        ensures memory { IfErr result (λ e. e ≡ fault.Memory) }
+    {
+        self.registers.copy_from(&self.image)?;
+        let start = checked.start();
+        put_arguments(
+            &mut self.registers.items,
+            &start.kinds,
+            &start.dummies,
+            arguments,
+        );
+        Ok(())
+    }
+
+    /// How the run with these arguments ends, for so many steps at most, by the code of its program. The first state by
+    /// which it may be known that it comes back is kept behind `patience` steps.
+    pub(crate) fn end_of(
+        &mut self,
+        checked: &Checked,
+        code: &Code,
+        arguments: &[Arg],
+        patience: u32,
+        steps: u32,
+    ) -> Result<End, RunFault>
+        requires image { IsImage checked.now code.now.constants.values.items self.old.image }
+        requires runs { (run : RunOf) × (statements : List Resolved) × HasCode run statements code.now
+            × (run.checked ≡ checked.now) × (run.arguments ≡ arguments.now) }
+        ensures image { self.new.image ≡ self.old.image }
+        ensures ends { IfOk result (λ end. (run : RunOf) (statements : List Resolved)
+            → HasCode run statements code.now → run.checked ≡ checked.now → run.arguments ≡ arguments.now
+            → HasEnded run steps end.made end.finish self.new.registers.items.items) }
+        ensures memory { IfErr result (λ e. e ≡ fault.Memory) }
+    {
+        self.restart(checked, arguments)?;
+        let entry = checked.start().entry;
+        let stand = advance(
+            code.instructions(),
+            &mut self.registers,
+            entry,
+            &mut self.kept,
+            patience,
+            steps,
+        )?;
+        Ok(End {
+            finish: finish_at(stand.place),
+            made: stand.made,
+        })
+    }
 }

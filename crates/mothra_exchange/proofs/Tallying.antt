@@ -6,13 +6,13 @@ use Rattle.mothra_codes.specs.Op.{index}
 use Rattle.mothra_exchange.specs.declared.word.Word.{Word}
 use Rattle.mothra_exchange.specs.Word.{opening_word}
 use Rattle.mothra_exchange.specs.Log.{offers, hands, closes, IsLegalLog}
-use Rattle.mothra_exchange.specs.State.{History, numbers_of}
+use Rattle.mothra_exchange.specs.State.{History, numbers_at}
 use Rattle.mothra_exchange.specs.Tally.{operator_word}
 use Rattle.mothra_exchange.specs.Locked.{TalliesLog}
 use Rattle.mothra_exchange.proofs.Histories.{legal_for}
 use Rattle.mothra_exchange.proofs.Starts.{opening_at}
 
-pub state_tallied : (C : ℕ) (h : History) (counts : List ℕ) (words : List Word) → IsLegalLog C h.counts h.events → ((op : Op) → operator_word words op ≡ numbers_of h op)
+pub state_tallied : (C : ℕ) (h : History) (counts : List ℕ) (words : List Word) → IsLegalLog C h.counts h.events → ((op : Op) → operator_word words op ≡ numbers_at h op)
     → ((op : Op) → (operator_word words op).count ≡ slice_index counts (index op)) → TalliesLog C counts words
 state_tallied C h counts words legal shows counted =
     let same : (op : Op) → slice_index h.counts (index op) ≡ slice_index counts (index op) = λ op. sym (ap (λ (w : Word). w.count) (shows op)) ∙ counted op in (

@@ -18,8 +18,8 @@ abbrev pub history : List ℕ → List Event → History
 history counts events = record { counts = counts; events = events }
 
 -- an operator's numbers
-abbrev pub numbers_of : History → Op → Word
-numbers_of h op = word_of h.counts h.events (index op)
+abbrev pub numbers_at : History → Op → Word
+numbers_at h op = word_of h.counts h.events (index op)
 
 -- how many events an operator has had
 abbrev pub used_by : Word → ℕ

@@ -5,7 +5,7 @@ ghost use Rattle.mothra_exchange.specs.View.{spent_view};
 ghost use Rattle.mothra_exchange.specs.Answer.{offer_answer, take_answer, close_answer};
 ghost use Rattle.mothra_exchange.specs.Gate.{MayOffer, MayTake, MayClose, OfferKept, TakeKept, CloseKept};
 ghost use Rattle.mothra_exchange.specs.Log.{IsLegalLog};
-ghost use Rattle.mothra_exchange.specs.State.{History, numbers_of};
+ghost use Rattle.mothra_exchange.specs.State.{History, numbers_at};
 ghost use Rattle.mothra_exchange.specs.Fault.{AllCountsFit, IsFaultOfCounts};
 ghost use Rattle.mothra_exchange.specs.Tally.{EndsAsViews};
 ghost use Rattle.mothra_exchange.specs.Locked.{counts_given, TalliesLog};
@@ -79,7 +79,7 @@ impl<const C: u32> Gate for LockedExchange<C> {
         ensures gives_up { MayOffer false result }
         ensures records { false ≡ true → OfferKept C spent_view ticket result spent_view }
         ensures answer { (h : History) × IsLegalLog C h.counts h.events
-            × (result ≡ offer_answer C ticket.number (numbers_of h ticket.op)) }
+            × (result ≡ offer_answer C ticket.number (numbers_at h ticket.op)) }
     {
         self.state.lock(rt).offer(ticket)
     }
@@ -88,7 +88,7 @@ impl<const C: u32> Gate for LockedExchange<C> {
         ensures gives_up { MayTake false result }
         ensures records { false ≡ true → TakeKept C spent_view op result spent_view }
         ensures answer { (h : History) × IsLegalLog C h.counts h.events
-            × (result ≡ take_answer op (numbers_of h op)) }
+            × (result ≡ take_answer op (numbers_at h op)) }
     {
         self.state.lock(rt).take(op)
     }
@@ -97,7 +97,7 @@ impl<const C: u32> Gate for LockedExchange<C> {
         ensures gives_up { MayClose false result }
         ensures records { false ≡ true → CloseKept C spent_view op result spent_view }
         ensures answer { (h : History) × IsLegalLog C h.counts h.events
-            × (result ≡ close_answer (numbers_of h op)) }
+            × (result ≡ close_answer (numbers_at h op)) }
     {
         self.state.lock(rt).close(op)
     }

@@ -5,7 +5,7 @@ ghost use Rattle.mothra_codes.specs.declared.op.Op.{Op};
 ghost use Rattle.mothra_exchange.specs.Word.{opening_word};
 ghost use Rattle.mothra_exchange.specs.Answer.{offer_answer, take_answer, close_answer};
 ghost use Rattle.mothra_exchange.specs.Log.{IsLegalLog, log_after_offer, log_after_take, log_after_close};
-ghost use Rattle.mothra_exchange.specs.State.{History, history, numbers_of, KeepsLog, counts_of, room};
+ghost use Rattle.mothra_exchange.specs.State.{History, history, numbers_at, KeepsLog, counts_of, room};
 ghost use Rattle.mothra_exchange.specs.Fault.{AllCountsFit, IsFaultOfCounts};
 ghost use Rattle.mothra_exchange.specs.Tally.{operator_word};
 
@@ -80,7 +80,7 @@ impl<const C: u32> State<C> {
 
     // The numbers of the log.
     pub(crate) fn into_tally(self) -> Tally
-        ensures shows { (op : Op) → operator_word result op ≡ numbers_of self.entry op }
+        ensures shows { (op : Op) → operator_word result op ≡ numbers_at self.entry op }
         ensures legal { IsLegalLog C self.entry.counts self.entry.events }
     {
         let State { words, log: _ } = self;
@@ -98,7 +98,7 @@ impl<const C: u32> State<C> {
     /// Offers a ticket. Only an accepted one is logged.
     pub fn offer(&mut self, ticket: Ticket) -> Offer
         ensures legal { IsLegalLog C self.old.counts self.old.events }
-        ensures answer { result ≡ offer_answer C ticket.number (numbers_of self.old ticket.op) }
+        ensures answer { result ≡ offer_answer C ticket.number (numbers_at self.old ticket.op) }
         ensures log { self.new ≡ record self.old { events = log_after_offer self.old.events ticket result } }
     {
         let i = ticket.op.index();
@@ -116,7 +116,7 @@ impl<const C: u32> State<C> {
     /// Takes the next ticket of an operator. Only a take that got one is logged.
     pub fn take(&mut self, op: Op) -> Take
         ensures legal { IsLegalLog C self.old.counts self.old.events }
-        ensures answer { result ≡ take_answer op (numbers_of self.old op) }
+        ensures answer { result ≡ take_answer op (numbers_at self.old op) }
         ensures log { self.new ≡ record self.old { events = log_after_take self.old.events result } }
     {
         let i = op.index();
@@ -134,7 +134,7 @@ impl<const C: u32> State<C> {
     /// Closes an operator: no ticket of it is accepted from then on. Only the first close is logged.
     pub fn close(&mut self, op: Op) -> Close
         ensures legal { IsLegalLog C self.old.counts self.old.events }
-        ensures answer { result ≡ close_answer (numbers_of self.old op) }
+        ensures answer { result ≡ close_answer (numbers_at self.old op) }
         ensures log { self.new ≡ record self.old { events = log_after_close self.old.events op result } }
     {
         let i = op.index();

@@ -18,8 +18,8 @@ use f77_run::{Course, Runner, Visits, fit};
 use mothra_ops::Plan;
 use std::alloc::Global;
 
-/// How many values the states that are kept may have in all: each takes 24 bytes at most, all of them 32 MiB.
-const ROOM: usize = 1_398_101;
+/// How many numbers the steps that are kept may have in all: each takes 16 bytes at most, all of them 32 MiB.
+const ROOM: usize = 2_097_152;
 
 /// The shapes of the program's dummy arguments.
 fn dummies(plan: &Plan) -> &[Shape]

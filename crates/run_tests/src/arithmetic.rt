@@ -71,7 +71,7 @@ pub(crate) fn called(function: Intrinsic, arguments: &[i32]) -> Result<i32, Faul
     }
 }
 
-/// `arithmetic` (f77_run/specs/Value.antt; 6.1).
+/// `arithmetic` (f77_meaning/specs/Value.antt; 6.1).
 pub(crate) fn arithmetic(operator: Operator, a: i32, b: i32) -> Result<i32, Fault> {
     match operator {
         Operator::Add => in_range(i64::from(a) + i64::from(b)),
@@ -83,7 +83,7 @@ pub(crate) fn arithmetic(operator: Operator, a: i32, b: i32) -> Result<i32, Faul
     }
 }
 
-/// `related` (f77_run/specs/Value.antt; 6.3), where the operator is a relation.
+/// `related` (f77_meaning/specs/Value.antt; 6.3), where the operator is a relation.
 pub(crate) fn related(operator: Operator, a: i32, b: i32) -> Option<bool> {
     match operator {
         Operator::Less => Some(a < b),
@@ -101,7 +101,7 @@ pub(crate) fn is_relation(operator: Operator) -> bool {
     related(operator, 0, 0).is_some()
 }
 
-/// `connected` (f77_run/specs/Value.antt; 6.4).
+/// `connected` (f77_meaning/specs/Value.antt; 6.4).
 pub(crate) fn connected(operator: Operator, a: bool, b: bool) -> bool {
     match operator {
         Operator::And => a && b,

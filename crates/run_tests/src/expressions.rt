@@ -1,4 +1,4 @@
-//! The values of expressions (f77_run/specs/Value.antt). Each operand is evaluated, from left to right, before its
+//! The values of expressions (f77_meaning/specs/Value.antt). Each operand is evaluated, from left to right, before its
 //! operator is applied, and the first fault is the expression's: a `?` is `given` of f77_values/specs/Value.antt.
 
 use crate::arithmetic::{arithmetic, called, connected, in_range, is_relation, related};

@@ -1,5 +1,5 @@
-//! Runs of the model: where a run starts (f77_run/specs/Start.antt), how it ends
-//! (f77_run/specs/Outcome.antt), and what is told of that (f77_run/specs/Interpreter.antt).
+//! Runs of the model: where a run starts (f77_meaning/specs/Start.antt), how it ends
+//! (f77_meaning/specs/Outcome.antt), and what is told of that (f77_meaning/specs/Interpreter.antt).
 
 use crate::expressions::{logic, whole};
 use crate::statements::{Config, Place, step};

@@ -1,4 +1,4 @@
-//! One step, by cases on the statement where control is (f77_run/specs/Step.antt).
+//! One step, by cases on the statement where control is (f77_meaning/specs/Step.antt).
 
 use crate::arithmetic::{in_range, trip_count};
 use crate::control::{behind, branch_end, is_left, place_of, terminal};

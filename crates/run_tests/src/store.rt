@@ -1,4 +1,5 @@
-//! What names hold: for each the values of its elements, or that one has none (`Store` of f77_run/specs/Value.antt).
+//! What names hold: for each the values of its elements, or that one has none
+//! (`Store` of f77_meaning/specs/Value.antt).
 
 use crate::unit::Halt;
 use f77_run::Value;
@@ -51,7 +52,7 @@ impl Store {
         }
     }
 
-    /// `put` (f77_run/specs/Value.antt; 10.1).
+    /// `put` (f77_meaning/specs/Value.antt; 10.1).
     pub(crate) fn put(&mut self, name: &Name, k: usize, value: Value) {
         for held in self.names.iter_mut() {
             if held.name == *name {

@@ -16,7 +16,7 @@ pub(crate) struct Unit<'a> {
 /// What comes in place of a value or of a next step.
 #[derive(Debug, Drop)]
 pub(crate) enum Halt {
-    /// The run ends (`Ends` of f77_run/specs/Step.antt).
+    /// The run ends (`Ends` of f77_meaning/specs/Step.antt).
     Ends(Finish),
     /// The definitions lead nowhere, to which no legal program comes.
     Nowhere,
@@ -24,7 +24,7 @@ pub(crate) enum Halt {
     Memory,
 }
 
-/// A fault ends the run (`With` of f77_run/specs/Step.antt).
+/// A fault ends the run (`With` of f77_meaning/specs/Step.antt).
 impl From<Fault> for Halt {
     fn from(fault: Fault) -> Halt {
         Halt::Ends(Finish::Failed(fault))

@@ -9,9 +9,9 @@ use Rattle.f77_actions.specs.declared.expression.Number.{Number}
 use Rattle.f77_actions.specs.declared.expression.Condition.{Condition}
 use Rattle.f77_code.specs.declared.constants.Constants.{Constants}
 use Rattle.f77_code.specs.declared.term.Pair.{Pair}
-use Rattle.f77_code.specs.declared.term.Term.{Term, Register, Element, ElementAtSum, ElementAtDifference}
-use Rattle.f77_code.specs.declared.term.Term.{Sum, Difference, Product, Compared, Vector'}
-use Rattle.f77_code.specs.declared.term.Term.{Add', Subtract', Multiply', Calculated', Related'}
+use Rattle.f77_code.specs.declared.term.Term.{Term, Register, Element, MatrixAt, Sum, Difference, Product}
+use Rattle.f77_code.specs.declared.term.Term.{Compared, Vector', Matrix', Add', Subtract', Multiply'}
+use Rattle.f77_code.specs.declared.term.Term.{Calculated', Related'}
 use Rattle.f77_code.specs.Constants.{BeginsPlan}
 use Rattle.f77_code.specs.Holds.{Plan}
 use Rattle.f77_code.specs.Standing.{ReadsElement, IsTerm, IsTest}
@@ -37,12 +37,16 @@ pub record ArePair (table : Constants) (x y : Number) (pair : Pair) : Type 0 whe
 -- an element of an array of one dimension, by this subscript
 abbrev pub IsVectorOf : ℕ → ℕ → Term → Term → Type 0
 IsVectorOf first bound x (Element start count subscript) = (start ≡ first) × (count ≡ bound) × (x ≡ Register subscript)
-IsVectorOf first bound x (ElementAtSum start count left right) =
-    (start ≡ first) × (count ≡ bound) × (x ≡ Sum left right)
-IsVectorOf first bound x (ElementAtDifference start count left right) =
-    (start ≡ first) × (count ≡ bound) × (x ≡ Difference left right)
 IsVectorOf first bound x (Vector' start count q subscript) = (start ≡ first) × (count ≡ bound) × (x ≡ subscript)
 IsVectorOf first bound x _ = ⊥
+
+-- an element of an array of two dimensions, by this row and this column
+abbrev pub IsMatrixOf : ℕ → ℕ → ℕ → Term → Term → Term → Type 0
+IsMatrixOf first rows columns x y (MatrixAt start height width row column) =
+    (start ≡ first) × (height ≡ rows) × (width ≡ columns) × (x ≡ Register row) × (y ≡ Register column)
+IsMatrixOf first rows columns x y (Matrix' start height width o row column) =
+    (start ≡ first) × (height ≡ rows) × (width ≡ columns) × (x ≡ row) × (y ≡ column)
+IsMatrixOf first rows columns x y _ = ⊥
 
 -- an operation on these two numbers
 abbrev pub IsCalculationOf : Arithmetic → Term → Term → Term → Type 0

@@ -11,7 +11,7 @@ use Rattle.f77_code.specs.Instructions.{IsLeftDone}
 use Rattle.f77_code.specs.code.Compile.{IsNumberTerm}
 use Rattle.f77_code.specs.Holds.{Plan, do_rank, is_loop_at}
 use Rattle.f77_code.specs.Typing.{HasAction}
-use Rattle.f77_code.specs.Compiled.{IsInstruction, IsIncrement}
+use Rattle.f77_code.specs.Compiled.{HasOneFrame, IsInstruction, IsIncrement}
 
 -- terms for the parameters of a DO
 pub record HaveParameters (table : Constants) (from to by : Number) (parameters : Parameters) : Type 0 where
@@ -49,11 +49,14 @@ pub record AreFollowed (table : Constants) (statements : List Resolved) (n : ℕ
 abbrev pub HaveActions : Plan → List Resolved → Type 0
 HaveActions plan statements = (i : ℕ) (r : Resolved) → slice_get statements i ≡ Some r → HasAction plan r.action
 
--- the incrementation of the statement i is exchanged in the code, where it is a DO
-pub record IsIncrementExchanged (statements : List Resolved) (i : ℕ) (before after : List Instruction) : Type 0 where
+-- the statements have the same frame at each place
+pub record HaveSameFrames (before after : List Resolved) : Type 0 where
   pub count : length after ≡ length before
-  pub next : is_loop_at statements i ≡ true
-      → (x : Instruction) → slice_get after (length statements + do_rank statements i) ≡ Some x
-      → IsIncrement statements i x
-  pub others : (j : ℕ) → (is_loop_at statements i ≡ true → j ≢ length statements + do_rank statements i)
-      → slice_get after j ≡ slice_get before j
+  pub each : (j : ℕ) (r s : Resolved) → slice_get before j ≡ Some r → slice_get after j ≡ Some s → HasOneFrame r s
+
+-- the statements differ in the one at i alone, which has the same frame in both
+pub record IsExchanged (before : List Resolved) (i : ℕ) (after : List Resolved) : Type 0 where
+  pub count : length after ≡ length before
+  pub others : (j : ℕ) → j ≢ i → slice_get after j ≡ slice_get before j
+  pub changed : (r s : Resolved)
+      → slice_get before i ≡ Some r → slice_get after i ≡ Some s → HasOneFrame r s

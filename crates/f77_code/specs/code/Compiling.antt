@@ -8,7 +8,7 @@ use Rattle.f77_actions.specs.declared.expression.Element.{Element}
 use Rattle.f77_code.specs.declared.constants.Constants.{Constants}
 use Rattle.f77_code.specs.declared.instruction.Operation.{Operation, IfTrue}
 use Rattle.f77_code.specs.declared.term.Term.{Term}
-use Rattle.f77_code.specs.Instructions.{giving, storing, comparing, StandsForAssignment, IsOperation}
+use Rattle.f77_code.specs.Instructions.{giving, comparing, StandsForAssignment, IsOperation}
 use Rattle.f77_code.specs.code.Compile.{IsRelationOf}
 use Rattle.f77_code.specs.Constants.{BeginsPlan}
 use Rattle.f77_code.specs.Holds.{Plan}
@@ -17,11 +17,6 @@ use Rattle.f77_code.specs.Typing.{HasSlots, HasTruths, HasAction}
 -- an operation that gives the register this term
 abbrev pub IsGiving : ℕ → Term → Operation → Type 0
 IsGiving to term operation = giving operation ≡ Some (record { to = to; term = term })
-
--- an operation that gives an element of an array of one dimension this term
-abbrev pub IsStoring : ℕ → ℕ → Term → Term → Operation → Type 0
-IsStoring first bound subscript term operation =
-    storing operation ≡ Some (record { first = first; bound = bound; subscript = subscript; term = term })
 
 -- an operation that goes to the place where this term is true
 abbrev pub IsGoing : ℕ → Term → Operation → Type 0

@@ -22,15 +22,14 @@ returns-in_default-clause-ends c = λ below. ltb-false c.instructions.place (len
 
 pub instructions-preserved : goal.instructions-preserved
 instructions-preserved c =
-    let read : slice_get c.args.code.now c.instructions.place ≡ Some c.in-Some.shared.now =
-    slice_get_read c.args.code.now _ c.instructions.place c.in-Some.shared.now refl c.in-Some.ensures.lookup.3.0 c.in-Some.ensures.lookup.1 in
-    let at : slice_get c.args.code.now c.instructions.place ≡ Some c.deref-instruction.result.now = read ∙ ap Some (sym c.deref-instruction.ensures) in
+    let at : slice_get c.args.code.now c.instructions.place ≡ Some c.in-Some.instruction.now =
+    slice_get_read c.args.code.now _ c.instructions.place c.in-Some.instruction.now refl c.in-Some.ensures.lookup.3.0 c.in-Some.ensures.lookup.1 in
     let below : c.instructions.made < c.args.steps = c.instructions-test.true in
     record {
       held = c.step-place.ensures.held;
       stands = made_more c.args.code.now c.instructions.made (point c.args.start c.args.registers.now c.args.turns.now)
           (point c.instructions.place c.instructions.registers c.instructions.turns)
-          (point c.step-place.result c.step-place.new.registers c.step-place.new.turns) c.deref-instruction.result.now c.instructions.invariant.stands at
+          (point c.step-place.result c.step-place.new.registers c.step-place.new.turns) c.in-Some.instruction.now c.instructions.invariant.stands at
           c.step-place.ensures.runs;
       within = omega (arith, below);
       there = there_more c.args.code.now c.instructions.made (length c.args.code.now) (point c.args.start c.args.registers.now c.args.turns.now)

@@ -1,6 +1,5 @@
 use Rattle.std.proofs.Common.{◌+◌, sym, ap, subst}
 use Rattle.f77_code.specs.code.Compiled.{AreFollowed}
-use Rattle.f77_code.specs.Compiled.{IsIncrement}
 use Rattle.f77_code.specs.Moves.{is_loop}
 use Rattle.f77_code.proofs.Assembled.{followed_more, followed_still}
 use Rattle.f77_code.proofs.Instructed.{increment_stands, no_loop}
@@ -13,9 +12,8 @@ returns-in_ok-push-in-Loop c = λ table are.
     let r = c.args.resolved.now in
     let made = increment_stands statements d r c.in-Loop.variable c.register_of-variable.result c.in-Loop.terminal c.in-Loop.first c.in-Loop.last c.in-Loop.step
     c.increment-next.result c.requires.is c.in-Loop.is c.register_of-variable.ensures c.increment-next.ensures in
-    let next = subst (IsIncrement statements d) (sym c.in_ok-new-in-Loop.ensures) made in
     subst (AreFollowed table statements (d + 1)) (sym c.in_ok-push-in-Loop.ensures.items)
-    (followed_more table statements d r c.args.list.now.items c.in_ok-new-in-Loop.field-0 c.requires.is (ap is_loop c.in-Loop.is) next are)
+    (followed_more table statements d r c.args.list.now.items c.increment-next.result c.requires.is (ap is_loop c.in-Loop.is) made are)
 
 pub returns-in_default : goal.returns-in_default
 returns-in_default c = λ table are.

@@ -1,7 +1,8 @@
-use Rattle.std.proofs.Common.{◌+◌, ◌∙◌, sym, subst}
+use Rattle.std.proofs.Common.{◌+◌, ◌∙◌, Some, sym, ap, subst}
 use Rattle.f77_code.specs.code.Compiled.{AreExecuted}
-use Rattle.f77_code.specs.Compiled.{IsInstruction}
 use Rattle.f77_code.proofs.Assembled.{executed_more}
+use Rattle.f77_code.proofs.Exchanged.{own_frame}
+use Rattle.f77_code.proofs.Placed.{read_at}
 use Rattle.f77_code.proofs.code.executed.Goals as goal
 
 pub loop-i-preserved : goal.loop-i-preserved
@@ -9,10 +10,11 @@ loop-i-preserved c =
     let statements = c.args.statements.now in
     let table = c.instruction.new.self in
     let i = c.loop-i.i in
-    let next = subst (IsInstruction table statements i) (sym c.in_ok-new.ensures) c.in_ok-instruction.ensures.stands in
+    let next = c.in_ok-instruction.ensures.stands statements (own_frame statements)
+    (read_at statements i c.index-statements-i.result c.loop-i-test.true c.index-statements-i.is ∙ ap Some (sym c.deref.ensures)) in
     record {
       slots = c.in_ok-instruction.ensures.grown.slots ∙ c.loop-i.invariant.slots;
       executed = subst (AreExecuted table statements (i + 1)) (sym c.in_ok-push.ensures.items)
-          (executed_more c.loop-i.constants table statements i c.loop-i.list.items c.in_ok-new.field-0 c.in_ok-instruction.ensures.grown c.loop-i.invariant.executed
+          (executed_more c.loop-i.constants table statements i c.loop-i.list.items c.in_ok-instruction.instruction c.in_ok-instruction.ensures.grown c.loop-i.invariant.executed
           next);
     }

@@ -4,7 +4,7 @@ use Rattle.std.proofs.lemmas.Bool.{ltb-false}
 use Rattle.std.proofs.lemmas.Option.{slice_get_read}
 use Rattle.f77_code.specs.Block.{code_after}
 use Rattle.f77_code.specs.Operation.{point}
-use Rattle.f77_code.proofs.Sequences.{made_more, made_some}
+use Rattle.f77_code.proofs.Sequences.{made_more, made_some, there_more}
 use Rattle.f77_code.proofs.watched.block_to.Goals as goal
 
 pub returns-in_default-clause-stands : goal.returns-in_default-clause-stands
@@ -17,30 +17,42 @@ returns-in_default-clause-some c = λ below more.
 
 pub instructions-preserved : goal.instructions-preserved
 instructions-preserved c =
-    let read : slice_get c.args.code.now c.instructions.place ≡ Some c.in-Some.shared.now =
-    slice_get_read c.args.code.now _ c.instructions.place c.in-Some.shared.now refl c.in-Some.ensures.lookup.3.0 c.in-Some.ensures.lookup.1 in
-    let at : slice_get c.args.code.now c.instructions.place ≡ Some c.deref-instruction.result.now = read ∙ ap Some (sym c.deref-instruction.ensures) in
+    let at : slice_get c.args.code.now c.instructions.place ≡ Some c.in-Some.instruction.now =
+    slice_get_read c.args.code.now _ c.instructions.place c.in-Some.instruction.now refl c.in-Some.ensures.lookup.3.0 c.in-Some.ensures.lookup.1 in
     let below : c.instructions.made < c.args.steps = c.instructions-test.true in
     record {
       held = c.step-place.ensures.held;
       stands = made_more c.args.code.now c.instructions.made (point c.args.start c.args.registers.now c.args.turns.now)
           (point c.instructions.place c.instructions.registers c.instructions.turns)
-          (point c.step-place.result c.step-place.new.registers c.step-place.new.turns) c.deref-instruction.result.now c.instructions.invariant.stands at
+          (point c.step-place.result c.step-place.new.registers c.step-place.new.turns) c.in-Some.instruction.now c.instructions.invariant.stands at
           c.step-place.ensures.runs;
       within = omega (arith, below);
+      there = there_more c.args.code.now c.instructions.made (length c.args.code.now) (point c.args.start c.args.registers.now c.args.turns.now)
+          (point c.instructions.place c.instructions.registers c.instructions.turns) c.instructions.invariant.stands c.in-Some.ensures.lookup.3.0
+          c.instructions.invariant.there;
     }
 
 pub returns-then-place-watched-clause-stands : goal.returns-then-place-watched-clause-stands
 returns-then-place-watched-clause-stands c =
-    let read : slice_get c.args.code.now c.instructions.place ≡ Some c.in-Some.shared.now =
-    slice_get_read c.args.code.now _ c.instructions.place c.in-Some.shared.now refl c.in-Some.ensures.lookup.3.0 c.in-Some.ensures.lookup.1 in
-    let at : slice_get c.args.code.now c.instructions.place ≡ Some c.deref-instruction.result.now = read ∙ ap Some (sym c.deref-instruction.ensures) in
+    let at : slice_get c.args.code.now c.instructions.place ≡ Some c.in-Some.instruction.now =
+    slice_get_read c.args.code.now _ c.instructions.place c.in-Some.instruction.now refl c.in-Some.ensures.lookup.3.0 c.in-Some.ensures.lookup.1 in
     sym (made_more c.args.code.now c.instructions.made (point c.args.start c.args.registers.now c.args.turns.now)
     (point c.instructions.place c.instructions.registers c.instructions.turns)
-    (point c.step-place.result c.step-place.new.registers c.step-place.new.turns) c.deref-instruction.result.now c.instructions.invariant.stands at
+    (point c.step-place.result c.step-place.new.registers c.step-place.new.turns) c.in-Some.instruction.now c.instructions.invariant.stands at
     c.step-place.ensures.runs)
 
 pub returns-clause-stands : goal.returns-clause-stands
 returns-clause-stands c =
     let whole : c.instructions.made ≡ c.args.steps = omega (arith, c.instructions.invariant.within, c.instructions-test.false) in
     sym (ap (λ n. code_after c.args.code.now n (point c.args.start c.args.registers.now c.args.turns.now)) (sym whole) ∙ c.instructions.invariant.stands)
+
+pub returns-then-place-watched-clause-there : goal.returns-then-place-watched-clause-there
+returns-then-place-watched-clause-there c =
+    there_more c.args.code.now c.instructions.made (length c.args.code.now) (point c.args.start c.args.registers.now c.args.turns.now)
+    (point c.instructions.place c.instructions.registers c.instructions.turns) c.instructions.invariant.stands c.in-Some.ensures.lookup.3.0
+    c.instructions.invariant.there
+
+pub returns-clause-there : goal.returns-clause-there
+returns-clause-there c =
+    let whole : c.instructions.made ≡ c.args.steps = omega (arith, c.instructions.invariant.within, c.instructions-test.false) in
+    λ k below. c.instructions.invariant.there k (omega (arith, below, whole))

@@ -1,4 +1,4 @@
-use Rattle.std.proofs.Common.{◌≡◌, ◌≤◌, true}
+use Rattle.std.proofs.Common.{◌≡◌, ◌<◌, ◌≤◌, ℕ, true, length}
 use Rattle.f77_code.specs.Block.{code_after}
 use Rattle.f77_code.specs.Operation.{point}
 use Rattle.f77_code.specs.Registers.{are_held}
@@ -9,4 +9,5 @@ invariant-instructions l = record {
   held : are_held l.registers ≡ true;
   stands : code_after l.code l.made (point l.start l.fn.registers l.fn.turns) ≡ point l.place l.registers l.turns;
   within : l.made ≤ l.steps;
+  there : (k : ℕ) → k < l.made → (code_after l.code k (point l.start l.fn.registers l.fn.turns)).place < length l.code;
 }

@@ -3,7 +3,7 @@ use Rattle.std.specs.Prelude.{slice_set}
 use Rattle.std.proofs.lemmas.Int.{to_z-of_z}
 use Rattle.std.proofs.lemmas.Option.{slice_get-get_or}
 use Rattle.f77_tree.specs.declared.tree.Kind.TheVariants.{Integer}
-use Rattle.f77_run.specs.code.Registers.{AreLoaded}
+use Rattle.f77_run.specs.Registers.{AreLoaded}
 use Rattle.f77_run.proofs.Entered.{slot_put}
 use Rattle.f77_run.proofs.entering.put.Goals as goal
 

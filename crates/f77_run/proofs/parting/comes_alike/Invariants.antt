@@ -1,8 +1,5 @@
 use Rattle.f77_run.proofs.parting.comes_alike.Given as goal
 
-abbrev pub ghost-first_other : goal.ghost-first_other
-ghost-first_other g a = g.parting
-
 abbrev pub ghost-comes_from : goal.ghost-comes_from
 ghost-comes_from g a = g.parting
 

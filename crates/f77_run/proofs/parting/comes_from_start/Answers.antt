@@ -1,45 +1,39 @@
-use Rattle.std.proofs.Common.{◌≡◌, List, arith, map, subst}
+use Rattle.std.proofs.Common.{◌≡◌, ◌≤◌, true, ℤ, List, length, map, sym, subst}
+use Rattle.std.specs.Bool.{Decides}
 use Rattle.f77_program.specs.Program.{line_of}
 use Rattle.f77_check.specs.Checked.{CheckedFields}
-use Rattle.f77_meaning.specs.Interpreter.{values_in}
-use Rattle.f77_run.specs.code.Parting.{site_in, start_in}
-use Rattle.f77_run.specs.code.Running.{IsRunning, config_at}
-use Rattle.f77_meaning.specs.Site.{site_of}
-use Rattle.f77_meaning.specs.Start.{IsStart}
-use Rattle.f77_meaning.specs.declared.argument.Arg.{Arg}
-use Rattle.f77_meaning.proofs.OneAnswer.{one_start}
-use Rattle.f77_run.proofs.Parted.{begins_there, both_start, own_starts}
+use Rattle.f77_code.specs.Registers.{are_held}
+use Rattle.f77_meaning.specs.Interpreter.{Tells}
+use Rattle.f77_meaning.specs.Site.{held}
+use Rattle.f77_run.specs.code.Ends.{TellsOf}
+use Rattle.f77_run.specs.code.Site.{HoldDummies, shown_by}
 use Rattle.f77_run.proofs.parting.comes_from_start.Goals as goal
 
-pub comes_from_there-requires : goal.comes_from_there-requires
-comes_from_there-requires g c =
-    let changed = c.args.change.now.statements.items in
-    let m = c.restart.new.machine in
-    let given = c.args.arguments.now in
-    let running : IsRunning (site_in g.parting) g.parting.checked.statements m
-    = subst (λ (arguments : List Arg). IsRunning (site_of g.parting.checked arguments) g.parting.checked.statements m) c.requires.1.1.1.1.1.0
-    (subst (λ (checked : CheckedFields). IsRunning (site_of checked given) checked.statements m) c.requires.1.0 c.in_ok-restart.ensures.running) in
-    let starts : IsStart (map line_of g.parting.checked.program) (map values_in g.parting.arguments) (config_at (site_in g.parting) m)
-    = subst (λ (arguments : List Arg). IsStart (map line_of g.parting.checked.program) (map values_in arguments) (config_at (site_of g.parting.checked arguments) m)) c.requires.1.1.1.1.1.0
-    (subst (λ (checked : CheckedFields). IsStart (map line_of checked.program) (map values_in given) (config_at (site_of checked given) m)) c.requires.1.0 c.in_ok-restart.ensures.starts) in
-    let here : start_in g.parting ≡ config_at (site_in g.parting) m
-    = one_start (map line_of g.parting.checked.program) (map values_in g.parting.arguments) (start_in g.parting) (config_at (site_in g.parting) m)
-    (own_starts g.parting changed c.requires.0) starts in (
-      c.requires.0,
-      (
-        c.requires.1.0,
-        (
-          c.requires.1.1.0,
-          (
-            c.requires.1.1.1.0,
-            (
-              c.requires.1.1.1.1.0,
-              (
-                both_start g.parting changed c.requires.0 m running starts,
-                (begins_there g.parting changed c.requires.0 m here, omega arith),
-              ),
-            ),
-          ),
-        ),
-      ),
-    )
+pub end_of-requires : goal.end_of-requires
+end_of-requires g c = record {
+  image = c.requires.0.begins;
+  runs = (g.parting.run, c.requires.0.statements, c.requires.0.compiled, c.requires.0.checked_is, c.requires.1);
+}
+
+pub is_told_by-requires : goal.is_told_by-requires
+is_told_by-requires g c =
+    let is = c.requires.0 in
+    let end = c.in_ok-end.ensures.ends g.parting.run c.requires.0.statements is.compiled is.checked_is c.requires.1 in
+    let registers = sym c.deref.ensures.value in
+    record {
+      held = subst (λ list. are_held list ≡ true) registers end.held;
+      room = subst (λ (checked : CheckedFields). length checked.start.kinds.items ≤ length c.deref.result.now) is.checked_is
+          (subst (λ (list : List ℤ). length g.parting.run.checked.start.kinds.items ≤ length list) registers end.room);
+      dummies = subst (λ (checked : CheckedFields). HoldDummies checked (shown_by checked c.deref.result.now)) is.checked_is
+          (subst (λ (list : List ℤ). HoldDummies g.parting.run.checked (shown_by g.parting.run.checked list)) registers end.dummies);
+    }
+
+pub returns-clause-outcome : goal.returns-clause-outcome
+returns-clause-outcome g c =
+    let is = c.requires.0 in
+    let end = c.in_ok-end.ensures.ends g.parting.run c.requires.0.statements is.compiled is.checked_is c.requires.1 in
+    end.decides c.args.outcome.now c.is_told_by.result
+    (subst (λ (list : List ℤ). Decides c.is_told_by.result (TellsOf g.parting.run c.in_ok-end.end.finish list c.args.outcome.now)) c.deref.ensures.value
+    (subst (λ (checked : CheckedFields). Decides c.is_told_by.result
+    (Tells (map line_of checked.program) c.in_ok-end.end.finish (held checked (shown_by checked c.deref.result.now)) c.args.outcome.now))
+    (sym is.checked_is) c.is_told_by.ensures))

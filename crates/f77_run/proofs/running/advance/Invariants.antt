@@ -1,18 +1,16 @@
-use Rattle.std.proofs.Common.{◌≡◌, ◌≤◌, ◌+◌, ◌-◌, true}
-use Rattle.f77_code.specs.Block.{code_after}
-use Rattle.f77_code.specs.Operation.{point}
+use Rattle.std.proofs.Common.{◌≡◌, ◌≤◌, ◌<◌, ◌-◌, length, true}
 use Rattle.f77_code.specs.Registers.{are_held}
-use Rattle.f77_run.specs.code.Snapshot.{kept_point}
-use Rattle.f77_run.proofs.Advancing.{IsKeptBefore}
+use Rattle.f77_run.specs.code.Running.{Leads, stands_at, within_registers}
 use Rattle.f77_run.proofs.running.advance.Given as goal
 
-abbrev pub invariant-looks : goal.invariant-looks
-invariant-looks l = record {
-  held : are_held l.registers ≡ true;
-  stands : code_after l.code l.made (point l.start l.fn.registers l.fn.counters) ≡ point l.place l.registers l.counters;
-  within : l.made ≤ l.steps;
-  kept : IsKeptBefore l.code (point l.start l.fn.registers l.fn.counters) (l.made + 1) (kept_point l.earlier);
+abbrev pub invariant-marks : goal.invariant-marks
+invariant-marks l = record {
+  leads : Leads l.code (stands_at l.start l.fn.registers) l.at.made (stands_at l.at.place l.registers);
+  held : are_held l.registers.items.items ≡ true;
+  within : within_registers l.code l.registers ≡ true;
+  made : l.at.made ≤ l.steps;
+  some : l.at.place < length l.code → l.at.made < l.steps → 0 < l.at.made;
 }
 
-abbrev pub decreases-looks : goal.decreases-looks
-decreases-looks l = l.steps - l.made
+abbrev pub decreases-marks : goal.decreases-marks
+decreases-marks l = l.steps - l.at.made

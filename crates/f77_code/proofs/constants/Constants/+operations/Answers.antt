@@ -3,10 +3,9 @@ use Rattle.std.proofs.lemmas.Bool.{and_parts}
 use Rattle.std.proofs.lemmas.Result.{IfOk-weaker}
 use Rattle.f77_code.specs.Compiling.{can_compile}
 use Rattle.f77_code.specs.code.Compiling.{IsTesting, IsAssigning, IsConditional, IsCompiled}
-use Rattle.f77_code.specs.Constants.{GrowsPlan}
 use Rattle.f77_code.specs.Evaluation.{condition_within}
 use Rattle.f77_code.proofs.Depth.{action_depth}
-use Rattle.f77_code.proofs.Operations.{ok_both, number_assigned, truth_assigned, goto_conditional}
+use Rattle.f77_code.proofs.Operations.{number_assigned, truth_assigned, goto_conditional}
 use Rattle.f77_code.proofs.constants.Constants.+operations.Goals as goal
 
 pub logical-returns-in-Goto-clause-stands : goal.logical-returns-in-Goto-clause-stands
@@ -41,10 +40,10 @@ operation-returns-in_ok-term-in-AssignNumber-clause-stands t c =
     let act = c.args.action.now in
     let target = c.in-AssignNumber.target in
     let term = c.in_ok-term-in-AssignNumber.term in
-    ok_both c.assignment.result (IsAssigning later target term) (λ operation. GrowsPlan earlier later) (IsCompiled later act)
-    (λ operation assigns grown. number_assigned earlier later act target c.in-AssignNumber.value term operation c.in-AssignNumber.is
-    c.in_ok-term-in-AssignNumber.ensures.stands grown assigns)
-    c.assignment.ensures.assigns c.assignment.ensures.grown
+    IfOk-weaker c.assignment.result (IsAssigning later target term) (IsCompiled later act)
+    (λ operation assigns. number_assigned earlier later act target c.in-AssignNumber.value term operation c.in-AssignNumber.is
+    c.in_ok-term-in-AssignNumber.ensures.stands c.assignment.ensures.grown assigns)
+    c.assignment.ensures.assigns
 
 pub operation-returns-in_ok-term-in-AssignTruth-clause-stands : goal.operation-returns-in_ok-term-in-AssignTruth-clause-stands
 operation-returns-in_ok-term-in-AssignTruth-clause-stands t c =
@@ -53,7 +52,7 @@ operation-returns-in_ok-term-in-AssignTruth-clause-stands t c =
     let act = c.args.action.now in
     let target = c.in-AssignTruth.target in
     let term = c.in_ok-term-in-AssignTruth.term in
-    ok_both c.assignment-in-AssignTruth.result (IsAssigning later target term) (λ operation. GrowsPlan earlier later) (IsCompiled later act)
-    (λ operation assigns grown. truth_assigned earlier later act target c.in-AssignTruth.value term operation c.in-AssignTruth.is
-    c.in_ok-term-in-AssignTruth.ensures.tests grown assigns)
-    c.assignment-in-AssignTruth.ensures.assigns c.assignment-in-AssignTruth.ensures.grown
+    IfOk-weaker c.assignment-in-AssignTruth.result (IsAssigning later target term) (IsCompiled later act)
+    (λ operation assigns. truth_assigned earlier later act target c.in-AssignTruth.value term operation c.in-AssignTruth.is
+    c.in_ok-term-in-AssignTruth.ensures.tests c.assignment-in-AssignTruth.ensures.grown assigns)
+    c.assignment-in-AssignTruth.ensures.assigns

@@ -1,4 +1,4 @@
-use Rattle.std.proofs.Common.{◌≡◌, ◌∙◌, map, subst}
+use Rattle.std.proofs.Common.{◌≡◌, map, subst}
 use Rattle.std.specs.Prelude.{IfOk}
 use Rattle.f77_program.specs.Program.{line_of}
 use Rattle.f77_check.specs.Checked.{CheckedFields}
@@ -10,7 +10,7 @@ use Rattle.f77_run.proofs.runner.Runner.course.Goals as goal
 
 pub returns-in-Ok-clause-only : goal.returns-in-Ok-clause-only
 returns-in-Ok-clause-only c =
-    let program = map line_of c.program-checked.result.now.program in
+    let program = map line_of c.self.inside.checked.now.program in
     let only = both_ok
     (λ course. IsOutcomeOf program c.args.arguments.now c.args.steps course.outcome)
     (λ course. IsOutcomeOf program c.args.arguments.now c.args.steps course.outcome)
@@ -20,4 +20,4 @@ returns-in-Ok-clause-only c =
     subst
     (λ (checked : CheckedFields). IfOk c.course_of.result
     (λ course. (other : Outcome) → IsOutcomeOf (map line_of checked.program) c.args.arguments.now c.args.steps other → other ≡ course.outcome))
-    (c.program-checked.ensures ∙ c.self.view_is) only
+    c.self.view_is only

@@ -1,5 +1,6 @@
-use Rattle.f77_run.specs.code.Visits.{AreUnvisited}
+use Rattle.std.proofs.Common.{◌≡◌, length}
+use Rattle.f77_code.specs.Follow.{AreNone}
 use Rattle.f77_run.proofs.visits.Visits.none.Given as goal
 
 abbrev pub invariant-loop-statement : goal.invariant-loop-statement
-invariant-loop-statement l = AreUnvisited l._statement l.list.items
+invariant-loop-statement l = record { count : length l.list.items ≡ l._statement; none : AreNone l.list.items }

@@ -1,0 +1,95 @@
+-- The run of changed code, begun where it may part from that of the program.
+use Rattle.std.proofs.Common.{arith, ◌≡◌, ◌+◌, ℕ, zero, suc, Bool, true, false, List, [], ◌∷◌, ◌++◌, length, drop, take, ℤ, refl, sym, ap, ◌∙◌, subst, append_assoc}
+use Rattle.std.specs.Prelude.{not}
+use Rattle.std.specs.Bool.{Decides}
+use Rattle.std.specs.Cmp.Lexicographic.{pointwise}
+use Rattle.std.specs.Ordering.{int_eq}
+use Rattle.std.specs.Cmp.{unsigned_Decides, first_so, second_so}
+use Rattle.std.specs.Cmp.Derive.{both_true}
+use Rattle.std.proofs.lemmas.Bool.{and_parts}
+use Rattle.std.proofs.lemmas.Bool.Decides.{Decides-int_eq}
+use Rattle.std.proofs.lemmas.Option.{same_Some}
+use Rattle.std.proofs.lemmas.Slice.Eq.{slice_eq-Decides}
+use Rattle.f77_code.specs.contracts.control.TurnPartialEq.TheImpl as turn
+use Rattle.f77_code.specs.declared.control.Turn.{Turn}
+use Rattle.f77_code.specs.declared.instruction.Instruction.{Instruction}
+use Rattle.f77_code.specs.declared.kept_step.KeptStep.{KeptStep}
+use Rattle.f77_code.specs.Block.{one, code_after}
+use Rattle.f77_code.specs.Frame.{with_more}
+use Rattle.f77_code.specs.KeptStep.{IsKept, PartedRuns, kept_time}
+use Rattle.f77_code.specs.Operation.{Point, point}
+use Rattle.f77_code.specs.Registers.{are_held, is_held}
+use Rattle.f77_code.specs.Together.{AreTimes, MakesSteps, Time, time_of}
+use Rattle.f77_code.proofs.Together.{makes_step, never_part, part_at}
+
+-- what a DO has left is compared
+same_turn : (a b : Turn) → turn.ghosts.eq a b ≡ true → a ≡ b
+same_turn a b e =
+    let passes : a.passes ≡ b.passes = (unsigned_Decides a.passes b.passes).0 (first_so _ _ e) in
+    let step : a.step ≡ b.step = (Decides-int_eq a.step b.step).0 (second_so _ _ e) in
+    λ i. record { passes = passes i; step = step i }
+
+own_turn : (a : Turn) → turn.ghosts.eq a a ≡ true
+own_turn a = both_true ((unsigned_Decides a.passes a.passes).1 refl) ((Decides-int_eq a.step a.step).1 refl)
+
+pub turn_decides : (a b : Turn) → Decides (turn.ghosts.eq a b) (a ≡ b)
+turn_decides a b = (same_turn a b, λ e. subst (λ b. turn.ghosts.eq a b ≡ true) e (own_turn a))
+
+-- lists that are compared
+pub same_turns : (xs ys : List Turn) → pointwise turn.ghosts.eq xs ys ≡ true → xs ≡ ys
+same_turns xs ys e = (slice_eq-Decides turn_decides xs ys (pointwise turn.ghosts.eq xs ys) refl).0 e
+
+pub same_numbers : (xs ys : List ℤ) → not (pointwise int_eq xs ys) ≡ false → xs ≡ ys
+same_numbers xs ys e = by (pointwise int_eq xs ys) refl e
+  where
+    by : (b : Bool) → pointwise int_eq xs ys ≡ b → not b ≡ false → xs ≡ ys
+    by true told e = (slice_eq-Decides Decides-int_eq xs ys true (sym told)).0 refl
+    by false told e = absurd (cc (e))
+
+pub held_behind : (n : ℕ) (registers : List ℤ) → are_held registers ≡ true → are_held (drop n registers) ≡ true
+held_behind zero registers held = held
+held_behind (suc n) [] held = refl
+held_behind (suc n) (z ∷ zs) held = held_behind n zs (and_parts (is_held z) (are_held zs) held).1
+
+module _ (parted : PartedRuns) (kept : KeptStep) (more : Bool) (steps : ℕ) (registers : List ℤ) (is : IsKept parted kept more steps registers) where
+  abbrev time : Time
+  time = time_of parted.runs.i parted.behind (kept_time kept)
+
+  -- where the changed code stands before its step
+  abbrev stands : Point
+  stands = point parted.runs.i (kept.slots.items ++ (parted.behind ++ parted.runs.extra)) kept.turns.items
+
+  stands_is : with_more time.before parted.runs.extra ≡ stands
+  stands_is = ap (λ rs. point parted.runs.i rs kept.turns.items) (append_assoc kept.slots.items parted.behind parted.runs.extra)
+
+  -- where it stands behind it
+  pub leads_to : (code : List Instruction) (place : ℕ) (loaded : List ℤ) (turns : List Turn) (q : Point) → code ≡ parted.runs.other → place ≡ parted.runs.i
+      → loaded ≡ kept.slots.items ++ drop (length kept.slots.items) registers → turns ≡ kept.turns.items → q ≡ code_after code 1 (point place loaded turns)
+      → one parted.runs.other stands ≡ q
+  leads_to code place loaded turns q own at load count did =
+      sym (did ∙ (λ j. one (own j) (point (at j) ((load ∙ ap (λ rest. kept.slots.items ++ rest) is.behind) j) (count j))))
+
+  module _ (q : Point) (leads : one parted.runs.other stands ≡ q) where
+    -- the step led where that of the program led, and control was there at no other time
+    pub same_run : more ≡ false → length kept.slots_after.items ≡ length kept.slots.items → q.place ≡ kept.place
+        → take (length kept.slots_after.items) q.registers ≡ kept.slots_after.items → q.turns ≡ kept.turns_after.items
+        → code_after parted.runs.other steps (with_more parted.runs.start parted.runs.extra)
+        ≡ with_more (code_after parted.runs.code steps parted.runs.start) parted.runs.extra
+    same_run once long place slots turns =
+        never_part parted.runs steps steps (time ∷ []) is.may
+        (subst (λ more. AreTimes parted.runs.code parted.runs.i parted.runs.start 0 steps (time ∷ []) more) once is.times) makes (omega arith)
+      where
+        made : one parted.runs.other (with_more time.before parted.runs.extra) ≡ with_more time.after parted.runs.extra
+        made = makes_step parted.runs.other parted.runs.i (length kept.slots.items) parted.behind parted.runs.extra (kept_time kept) q is.writes refl leads place
+            (ap (λ n. take n q.registers) (sym long) ∙ slots) turns
+
+        makes : MakesSteps parted.runs.other parted.runs.extra (time ∷ []) 1
+        makes zero u below at =
+            subst (λ (u : Time). one parted.runs.other (with_more u.before parted.runs.extra) ≡ with_more u.after parted.runs.extra) (same_Some _ _ at) made
+        makes (suc j) u below at = absurd (omega (arith, below))
+
+    -- the run goes on from there
+    pub goes_on : (m : ℕ) → code_after parted.runs.other m q ≡ code_after parted.runs.other (kept.made + 1 + m) (with_more parted.runs.start parted.runs.extra)
+    goes_on m =
+        ap (code_after parted.runs.other m) (sym leads ∙ ap (one parted.runs.other) (sym stands_is))
+        ∙ sym (part_at parted.runs steps 0 m (time ∷ []) more time is.may is.times refl (λ j u none at. absurd (omega (arith, none))))

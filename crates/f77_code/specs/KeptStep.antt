@@ -1,0 +1,31 @@
+-- What is kept of the first time at which control was at an instruction.
+use Rattle.std.specs.Prelude.{◌≡◌, ◌++◌, ℕ, Bool, List, [], ◌∷◌, drop, length, ℤ}
+use Rattle.f77_code.specs.declared.kept_step.KeptStep.{KeptStep}
+use Rattle.f77_code.specs.Frame.{AllWriteBelow}
+use Rattle.f77_code.specs.Together.{AreTimes, KeptTime, MayPart, TwoRuns, time_of}
+
+abbrev pub kept_time : KeptStep → KeptTime
+kept_time kept = record {
+  made = kept.made;
+  slots = kept.slots.items;
+  turns = kept.turns.items;
+  place = kept.place;
+  slots_after = kept.slots_after.items;
+  turns_after = kept.turns_after.items;
+}
+
+-- two runs, and the registers behind those of slots in the run of the program
+pub record PartedRuns : Type 0 where
+  pub runs : TwoRuns
+  pub behind : List ℤ
+
+-- the first time at which control was at the changed instruction is kept,
+-- and whether it was there once more, and the registers behind those of slots
+-- are those of the program, and behind them more
+pub record IsKept (parted : PartedRuns) (kept : KeptStep) (more : Bool) (steps : ℕ)
+    (registers : List ℤ) : Type 0 where
+  pub may : MayPart parted.runs
+  pub times : AreTimes parted.runs.code parted.runs.i parted.runs.start 0 steps
+      (time_of parted.runs.i parted.behind (kept_time kept) ∷ []) more
+  pub behind : drop (length kept.slots.items) registers ≡ parted.behind ++ parted.runs.extra
+  pub writes : AllWriteBelow (length kept.slots.items) parted.runs.other

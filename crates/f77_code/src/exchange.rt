@@ -1,0 +1,134 @@
+//! The code of a program in which one instruction is exchanged, one exchange after another.
+
+ghost use Rattle.std.specs.Prelude.{◌≡◌, ◌≤◌, ◌<◌, List, true, length, IfSome, OnErr, OnOk, slice_get, slice_set};
+ghost use Rattle.f77_actions.specs.declared.resolved.Resolved.{Resolved as Statement};
+ghost use Rattle.f77_code.specs.Compiled.{is_ready, are_ready};
+ghost use Rattle.f77_code.specs.Exchange.{own_instructions, IsChangedCode, IsAllOwn, HaveOneOwn, MayReplace};
+ghost use Rattle.f77_code.specs.Places.{has_places, have_places};
+ghost use Rattle.f77_code.specs.Program.{IsCode};
+ghost use Rattle.f77_code.specs.Together.{AgreeButAt};
+
+use crate::code::Code;
+use crate::fault::CodeFault;
+use crate::instruction::Instruction;
+use f77_actions::Resolved;
+use f77_tree::Shared;
+use std::alloc::Global;
+use std::mem;
+
+/// An instruction of the program, in whose place stands another one.
+#[derive(Drop)]
+pub struct OwnInstruction {
+    place: usize,
+    own: Instruction,
+}
+
+/// The code of a program, in which the instruction of one statement may be that of another one.
+#[derive(Drop)]
+pub struct ChangedCode {
+    code: Code,
+    /// How many of the constants are the program's own.
+    own: usize,
+    exchanged: Option<OwnInstruction>,
+}
+
+impl ChangedCode {
+    /// The code of a program, in which no instruction is exchanged. It takes no memory.
+    pub fn of(code: Code) -> ChangedCode
+        ensures code { result.code ≡ code }
+        ensures own { IsAllOwn result }
+        ensures is { (statements : List Statement) → IsCode statements code → IsChangedCode statements result }
+    {
+        let own = code.constants.values().len();
+        ChangedCode {
+            code,
+            own,
+            exchanged: None,
+        }
+    }
+
+    /// The code, with the instruction that stands in the place of another.
+    #[inline]
+    pub fn code(&self) -> &Code
+        ensures { result.now ≡ self.now.code }
+    {
+        &self.code
+    }
+
+    /// Every instruction is the program's own again, and no constant is there but its own. It takes no memory.
+    pub fn restore(&mut self)
+        requires within { IfSome self.old.exchanged (λ it. it.place < length self.old.code.instructions.items) }
+        requires own { self.old.own ≤ length self.old.code.constants.values.items }
+        ensures same { HaveOneOwn self.old self.new }
+        ensures own { IsAllOwn self.new }
+    {
+        if let Some(exchanged) = self.exchanged.take() {
+            self.code.instructions[exchanged.place] = exchanged.own;
+        }
+        self.code.constants.forget(self.own);
+    }
+
+    /// The instruction of another statement stands in the place `i`. Where there is no memory, the code is the
+    /// program's own, but for constants.
+    fn put(
+        &mut self,
+        alloc: Global,
+        statements: &[Shared<Resolved>],
+        i: usize,
+        resolved: &Resolved,
+    ) -> Result<(), CodeFault>
+        requires is { IsChangedCode statements.now self.old }
+        requires own { IsAllOwn self.old }
+        requires have { have_places statements.now ≡ true }
+        requires few { length statements.now < 2147483648 }
+        requires all { are_ready self.old.code.constants.slots statements.now ≡ true }
+        requires i { i < length statements.now }
+        requires may { IfSome (slice_get statements.now i) (λ r. MayReplace r resolved.now) }
+        requires here { has_places (length statements.now) resolved.now ≡ true }
+        requires ready { is_ready self.old.code.constants.slots (length statements.now) resolved.now.action ≡ true }
+        ensures is { IsChangedCode statements.now self.new }
+        ensures same { HaveOneOwn self.old self.new }
+        ensures code { OnOk result (IsCode (slice_set statements.now i resolved.now) self.new.code) }
+        ensures others { OnOk result (AgreeButAt i (own_instructions self.old) self.new.code.instructions.items) }
+    {
+        let places = &self.code.places;
+        let instruction = self
+            .code
+            .constants
+            .instruction(alloc, places, statements, i, resolved)?;
+        let own = mem::replace(&mut self.code.instructions[i], instruction);
+        self.exchanged = Some(OwnInstruction { place: i, own });
+        Ok(())
+    }
+
+    /// The instruction of another statement stands in the place `i`, and each other one is the program's own. Where
+    /// there is no memory, none is exchanged.
+    pub fn exchange(
+        &mut self,
+        alloc: Global,
+        statements: &[Shared<Resolved>],
+        i: usize,
+        resolved: &Resolved,
+    ) -> Result<(), CodeFault>
+        requires is { IsChangedCode statements.now self.old }
+        requires have { have_places statements.now ≡ true }
+        requires few { length statements.now < 2147483648 }
+        requires all { are_ready self.old.code.constants.slots statements.now ≡ true }
+        requires i { i < length statements.now }
+        requires may { IfSome (slice_get statements.now i) (λ r. MayReplace r resolved.now) }
+        requires here { has_places (length statements.now) resolved.now ≡ true }
+        requires ready { is_ready self.old.code.constants.slots (length statements.now) resolved.now.action ≡ true }
+        ensures is { IsChangedCode statements.now self.new }
+        ensures same { HaveOneOwn self.old self.new }
+        ensures code { OnOk result (IsCode (slice_set statements.now i resolved.now) self.new.code) }
+        ensures others { OnOk result (AgreeButAt i (own_instructions self.old) self.new.code.instructions.items) }
+        ensures none { OnErr result (IsAllOwn self.new) }
+    {
+        self.restore();
+        let put = self.put(alloc, statements, i, resolved);
+        if put.is_err() {
+            self.restore();
+        }
+        put
+    }
+}

@@ -1,0 +1,92 @@
+//! The run of changed code, begun where it may part from that of the program.
+
+ghost use Rattle.std.specs.Prelude.{◌≡◌, ◌≤◌, ◌+◌, ◌++◌, ℕ, drop, length, take, true, IfNone, IfSome};
+ghost use Rattle.f77_code.specs.Block.{code_after, code_within};
+ghost use Rattle.f77_code.specs.Frame.{with_more};
+ghost use Rattle.f77_code.specs.KeptStep.{IsKept, PartedRuns};
+ghost use Rattle.f77_code.specs.Operation.{point};
+ghost use Rattle.f77_code.specs.Registers.{are_held};
+
+use crate::blocks::block;
+use crate::control::Turn;
+use crate::instruction::Instruction;
+
+/// What is kept of the first time at which control was at an instruction: the registers of the slots and the counters
+/// before its step, and where that led.
+#[derive(Drop)]
+pub struct KeptStep {
+    /// How many steps were made before.
+    pub made: u32,
+    pub slots: Vec<i64>,
+    pub turns: Vec<Turn>,
+    pub place: usize,
+    pub slots_after: Vec<i64>,
+    pub turns_after: Vec<Turn>,
+}
+
+impl KeptStep {
+    /// The registers of the slots, and the counters, have what they had before the step.
+    fn load(&self, registers: &mut [i64], turns: &mut [Turn])
+        requires slots { length self.now.slots.items ≤ length registers.old }
+        requires turns { length self.now.turns.items ≡ length turns.old }
+        ensures registers { registers.new ≡ self.now.slots.items ++ drop (length self.now.slots.items) registers.old }
+        ensures turns { turns.new ≡ self.now.turns.items }
+    {
+        registers[..self.slots.len()].copy_from_slice(&self.slots);
+        turns.copy_from_slice(&self.turns);
+    }
+
+    /// Whether a step led where the step led.
+    fn is_met(&self, place: usize, registers: &[i64], turns: &[Turn]) -> bool
+        requires { length self.now.slots_after.items ≤ length registers.now }
+        ensures place { result ≡ true → place ≡ self.now.place }
+        ensures slots { result ≡ true
+            → take (length self.now.slots_after.items) registers.now ≡ self.now.slots_after.items }
+        ensures turns { result ≡ true → turns.now ≡ self.now.turns_after.items }
+    {
+        if place != self.place {
+            return false;
+        }
+        let slots: &[i64] = &registers[..self.slots_after.len()];
+        let kept: &[i64] = &self.slots_after;
+        if slots != kept {
+            return false;
+        }
+        let own: &[Turn] = &self.turns_after;
+        turns == own
+    }
+}
+
+/// One step of changed code from where that of the program came the first time to the changed instruction: where it
+/// leads; or nothing, where the changed code is known by it to come to what the code of the program comes to.
+pub fn first_step(
+    code: &[Instruction],
+    place: usize,
+    kept: &KeptStep,
+    more: bool,
+    registers: &mut [i64],
+    turns: &mut [Turn],
+) -> Option<usize>
+    requires held { are_held registers.old ≡ true }
+    requires slots_held { are_held kept.now.slots.items ≡ true }
+    requires within { code_within (length registers.old) (length turns.old) code.now ≡ true }
+    requires slots { length kept.now.slots.items ≤ length registers.old }
+    requires after { length kept.now.slots_after.items ≡ length kept.now.slots.items }
+    requires turns { length kept.now.turns.items ≡ length turns.old }
+    ensures same { IfNone result ((parted : PartedRuns) (steps : ℕ)
+        → code.now ≡ parted.runs.other → place ≡ parted.runs.i → IsKept parted kept.now more steps registers.old
+        → code_after code.now steps (with_more parted.runs.start parted.runs.extra)
+        ≡ with_more (code_after parted.runs.code steps parted.runs.start) parted.runs.extra) }
+    ensures other { IfSome result (λ next. (parted : PartedRuns) (steps : ℕ)
+        → code.now ≡ parted.runs.other → place ≡ parted.runs.i → IsKept parted kept.now more steps registers.old
+        → (m : ℕ) → code_after code.now m (point next registers.new turns.new)
+        ≡ code_after code.now (kept.now.made + 1 + m) (with_more parted.runs.start parted.runs.extra)) }
+    ensures held { are_held registers.new ≡ true }
+{
+    kept.load(registers, turns);
+    let next = block(code, registers, turns, place, 1).place;
+    if !more && kept.is_met(next, registers, turns) {
+        return None;
+    }
+    Some(next)
+}

@@ -1,0 +1,151 @@
+//! The first times at which control was at each instruction, noted while code runs.
+
+ghost use Rattle.std.specs.Prelude.{◌≡◌, ◌≤◌, ◌+◌, drop, length, true, IfOk, OnOk};
+ghost use Rattle.f77_code.specs.Block.{one, code_after, code_within};
+ghost use Rattle.f77_code.specs.Follow.{AreNone, ArePassed, HaveSizes, numbers_of, numbers_kept};
+ghost use Rattle.f77_code.specs.Frame.{AllWriteBelow};
+ghost use Rattle.f77_code.specs.Operation.{point};
+ghost use Rattle.f77_code.specs.Registers.{are_held};
+ghost use Rattle.f77_code.specs.code.Follow.{NotesList, NotesStep};
+
+use crate::blocks::{Stand, block};
+use crate::control::Turn;
+use crate::fault::CodeFault;
+use crate::instruction::Instruction;
+use crate::kept_step::KeptStep;
+use std::alloc::Global;
+
+/// The first time at which control was at an instruction.
+#[derive(Drop)]
+pub struct Passed {
+    pub first: Option<KeptStep>,
+    /// It was there once more, or the first time is not kept.
+    pub more: bool,
+}
+
+/// One step, from an instruction behind so many. The time is kept where
+/// none is, and where there is room for so many numbers.
+fn noted(
+    alloc: Global,
+    code: &[Instruction],
+    registers: &mut [i64],
+    turns: &mut [Turn],
+    slots: usize,
+    place: usize,
+    made: u32,
+    passed: &mut Passed,
+    room: &mut usize,
+) -> Result<usize, CodeFault>
+    requires held { are_held registers.old ≡ true }
+    requires within { code_within (length registers.old) (length turns.old) code.now ≡ true }
+    requires slots { slots ≤ length registers.old }
+    ensures step { IfOk result (λ next. point next registers.new turns.new
+        ≡ one code.now (point place registers.old turns.old)) }
+    ensures noted { IfOk result (λ next. NotesStep slots made (point place registers.old turns.old)
+        (point next registers.new turns.new) passed.old passed.new) }
+    ensures room { OnOk result (room.new + numbers_of passed.new.first ≡ room.old + numbers_of passed.old.first) }
+    ensures held { OnOk result (are_held registers.new ≡ true) }
+{
+    // once before the step, once behind it
+    let size = slots.saturating_add(turns.len());
+    if passed.more || passed.first.is_some() || *room / 2 < size {
+        passed.more = true;
+        return Ok(block(code, registers, turns, place, 1).place);
+    }
+    let slots_before = registers[..slots].to_vec(alloc)?;
+    let turns_before = turns.to_vec(alloc)?;
+    let next = block(code, registers, turns, place, 1).place;
+    let slots_after = registers[..slots].to_vec(alloc)?;
+    let turns_after = turns.to_vec(alloc)?;
+    passed.first = Some(KeptStep {
+        made,
+        slots: slots_before,
+        turns: turns_before,
+        place: next,
+        slots_after,
+        turns_after,
+    });
+    *room -= 2 * size;
+    Ok(next)
+}
+
+/// The same, where only the first instructions are noted.
+fn stepped(
+    alloc: Global,
+    code: &[Instruction],
+    registers: &mut [i64],
+    turns: &mut [Turn],
+    slots: usize,
+    place: usize,
+    made: u32,
+    list: &mut Vec<Passed>,
+    room: &mut usize,
+) -> Result<usize, CodeFault>
+    requires held { are_held registers.old ≡ true }
+    requires within { code_within (length registers.old) (length turns.old) code.now ≡ true }
+    requires slots { slots ≤ length registers.old }
+    ensures step { IfOk result (λ next. point next registers.new turns.new
+        ≡ one code.now (point place registers.old turns.old)) }
+    ensures noted { IfOk result (λ next. NotesList slots made (point place registers.old turns.old)
+        (point next registers.new turns.new) list.old.items list.new.items) }
+    ensures room { OnOk result (room.new + numbers_kept list.new.items ≡ room.old + numbers_kept list.old.items) }
+    ensures held { OnOk result (are_held registers.new ≡ true) }
+{
+    if place < list.len() {
+        return noted(
+            alloc,
+            code,
+            registers,
+            turns,
+            slots,
+            place,
+            made,
+            &mut list[place],
+            room,
+        );
+    }
+    Ok(block(code, registers, turns, place, 1).place)
+}
+
+/// At most so many steps, from a place on: where they lead. Of each of the first instructions, as many as the list
+/// is long, the first time at which control is there is noted, where there is room for so many numbers.
+pub fn follow(
+    alloc: Global,
+    code: &[Instruction],
+    registers: &mut [i64],
+    turns: &mut [Turn],
+    slots: usize,
+    start: usize,
+    list: &mut Vec<Passed>,
+    steps: u32,
+    room: &mut usize,
+) -> Result<Stand, CodeFault>
+    requires held { are_held registers.old ≡ true }
+    requires within { code_within (length registers.old) (length turns.old) code.now ≡ true }
+    requires slots { slots ≤ length registers.old }
+    requires writes { AllWriteBelow slots code.now }
+    requires none { AreNone list.old.items }
+    requires list { length list.old.items ≤ length code.now }
+    ensures after { IfOk result (λ stand. point stand.place registers.new turns.new
+        ≡ code_after code.now steps (point start registers.old turns.old)) }
+    ensures stands { IfOk result (λ stand. point stand.place registers.new turns.new
+        ≡ code_after code.now stand.made (point start registers.old turns.old)) }
+    ensures made { IfOk result (λ stand. stand.made ≤ steps) }
+    ensures passed { OnOk result (ArePassed code.now (point start registers.old turns.old)
+        (drop slots registers.old) steps list.new.items) }
+    ensures kept { OnOk result (HaveSizes slots (length turns.old) list.new.items) }
+    ensures room { OnOk result (room.new + numbers_kept list.new.items ≡ room.old) }
+    ensures count { OnOk result (length list.new.items ≡ length list.old.items) }
+    ensures held { OnOk result (are_held registers.new ≡ true) }
+{
+    let mut place = start;
+    'steps: for made in 0..steps {
+        if code.len() <= place {
+            return Ok(Stand { place, made });
+        }
+        place = stepped(
+            alloc, code, registers, turns, slots, place, made, list, room,
+        )?;
+    }
+    Ok(Stand { place, made: steps })
+}

@@ -1,0 +1,59 @@
+-- A state over slots in a run of a program: where it stands is what the run comes to.
+use Rattle.std.specs.Prelude.{◌≡◌, ◌≢◌, ◌≤◌, ℕ, true, None, List, length}
+use Rattle.std.specs.List.{list_any}
+use Rattle.std.specs.Str.{bytes_eq}
+use Rattle.f77_program.specs.Program.{LineFields, IsProgram}
+use Rattle.f77_tree.specs.declared.tree.Kind.{Kind}
+use Rattle.f77_legal.specs.Heading.{dummies}
+use Rattle.f77_legal.specs.Legal.{IsLegal}
+use Rattle.f77_legal.specs.Names.{Symbol, bounds_of, kind_of}
+use Rattle.f77_check.specs.Resolved.{AreResolved}
+use Rattle.f77_check.specs.Slots.{slot_count, slot_kinds}
+use Rattle.f77_actions.specs.declared.resolved.Resolved.{Resolved}
+use Rattle.f77_actions.specs.declared.finish.Finish.{Finish}
+use Rattle.f77_actions.specs.declared.finish.Finish.TheVariants.{StepLimit}
+use Rattle.f77_meaning.specs.Control.{Comes}
+use Rattle.f77_meaning.specs.States.{values_of}
+use Rattle.f77_meaning.proofs.StateDefinitions.{config_of}
+use Rattle.f77_code.specs.Moves.{Cells, State}
+use Rattle.f77_meaning.specs.Outcome.{IsOutcome}
+use Rattle.f77_meaning.specs.Step.{Config}
+use Rattle.f77_meaning.specs.Value.{Store}
+use Rattle.f77_meaning.specs.code.Running.{RunSite}
+
+-- what the slots and a state stand for there
+abbrev pub values_at : RunSite → Cells → Store
+values_at at cells = values_of (bounds_of at.program) at.names cells
+
+abbrev pub stands_for : RunSite → State → Config
+stands_for at s = config_of (bounds_of at.program) at.names s
+
+-- a state in a run
+pub record IsRunningIn (at : RunSite) (statements : List Resolved) (s : State) : Type 0 where
+  pub formed : IsProgram None at.program
+  pub legal : IsLegal at.program
+  pub resolved : AreResolved at.program at.names statements
+  pub cells : length s.cells ≡ slot_count (bounds_of at.program) at.names
+  pub turns : length s.turns ≡ length at.program
+  pub comes : Comes at.program at.given (stands_for at s)
+
+-- The run from a configuration comes to this end within so many steps, and within those that were
+-- made, with these values. Where it meets the limit, they are those behind the steps that were made.
+pub record ComesToEnd (p : List LineFields) (steps : ℕ) (c : Config) (made : ℕ) (finish : Finish)
+    (values : Store) : Type 0 where
+  pub within : made ≤ steps
+  pub ends : IsOutcome p made c finish values
+  pub held : Store
+  pub outcome : IsOutcome p steps c finish held
+  pub told : finish ≢ StepLimit → held ≡ values
+
+-- the dummy arguments hold the same
+abbrev pub AgreeOnDummies : List LineFields → Store → Store → Type 0
+AgreeOnDummies p s t = (name : Symbol) → list_any (bytes_eq name) (dummies p) ≡ true → s name ≡ t name
+
+-- The same, where slots hold what the dummy arguments hold then.
+pub record ComesToCells (at : RunSite) (steps : ℕ) (c : Config) (made : ℕ) (finish : Finish)
+    (cells : Cells) : Type 0 where
+  pub values : Store
+  pub ends : ComesToEnd at.program steps c made finish values
+  pub dummies : AgreeOnDummies at.program values (values_at at cells)

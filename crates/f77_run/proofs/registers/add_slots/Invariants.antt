@@ -1,0 +1,21 @@
+use Rattle.std.proofs.Common.{◌≡◌, ◌++◌, length, map}
+use Rattle.std.specs.List.{list_all}
+use Rattle.std.specs.Prelude.{option_map}
+use Rattle.f77_actions.specs.Told.{coded, is_fitting}
+use Rattle.f77_code.specs.Holds.{read_as}
+use Rattle.f77_code.specs.Registers.{are_held}
+use Rattle.f77_meaning.specs.Start.{constant_value}
+use Rattle.f77_run.proofs.Pushed.{pairs_left}
+use Rattle.f77_run.specs.Registers.{loaded, values_fit}
+use Rattle.f77_run.proofs.registers.add_slots.Given as goal
+
+-- the registers so far, with those of the other slots
+abbrev pub invariant-loop-kind : goal.invariant-loop-kind
+invariant-loop-kind l = record {
+  items : l.registers.items ++ map (λ pair. coded (read_as pair.0 pair.1)) (pairs_left l.kinds (map (option_map constant_value) l.constants) (length l.yielded))
+      ≡ l.initial.registers.items ++ loaded l.kinds (map (option_map constant_value) l.constants);
+  held : are_held (loaded l.kinds (map (option_map constant_value) l.constants))
+      ≡ are_held (map (λ pair. coded (read_as pair.0 pair.1)) (pairs_left l.kinds (map (option_map constant_value) l.constants) (length l.yielded)));
+  fitting : values_fit l.kinds (map (option_map constant_value) l.constants)
+      ≡ list_all (λ pair. is_fitting (read_as pair.0 pair.1)) (pairs_left l.kinds (map (option_map constant_value) l.constants) (length l.yielded));
+}

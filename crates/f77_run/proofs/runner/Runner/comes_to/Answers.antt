@@ -1,0 +1,56 @@
+use Rattle.std.proofs.Common.{◌≡◌, ◌≤◌, true, List, ℤ, length, map, refl, sym, subst}
+use Rattle.std.specs.Bool.{Decides}
+use Rattle.f77_program.specs.Program.{line_of}
+use Rattle.f77_check.specs.Checked.{CheckedFields}
+use Rattle.f77_check.specs.declared.checked.Shape.{Shape}
+use Rattle.f77_code.specs.Registers.{are_held}
+use Rattle.f77_meaning.specs.Interpreter.{AreFitting, IsOutcomeOf}
+use Rattle.f77_meaning.specs.declared.outcome.Outcome.{Outcome}
+use Rattle.f77_run.specs.code.Ends.{TellsOf}
+use Rattle.f77_run.specs.code.Site.{HoldDummies, shown_by}
+use Rattle.f77_run.proofs.Starting.{own_run, own_compiled}
+use Rattle.f77_run.proofs.runner.Runner.comes_to.Goals as goal
+
+pub end_of-requires : goal.end_of-requires
+end_of-requires c =
+    let checked = c.self.inside.checked.now in
+    let is = c.self.invariant in
+    let fits = subst (λ (list : List Shape). AreFitting list c.args.arguments.now) c.arguments.ensures c.in-Ok.ensures.fitting in
+    record {
+      image = is.3;
+      runs = (
+        own_run checked is.0 c.args.arguments.now fits,
+        checked.statements,
+        own_compiled checked is.0 c.args.arguments.now fits c.self.inside.code is.1 is.2,
+        refl,
+        refl,
+      );
+    }
+
+pub is_told_by-requires : goal.is_told_by-requires
+is_told_by-requires c =
+    let checked = c.self.inside.checked.now in
+    let is = c.self.invariant in
+    let fits = subst (λ (list : List Shape). AreFitting list c.args.arguments.now) c.arguments.ensures c.in-Ok.ensures.fitting in
+    let end = c.in_ok-end-in-Ok.ensures.ends (own_run checked is.0 c.args.arguments.now fits) checked.statements
+    (own_compiled checked is.0 c.args.arguments.now fits c.self.inside.code is.1 is.2) refl refl in
+    let registers = sym c.deref.ensures.value in
+    record {
+      held = subst (λ (list : List ℤ). are_held list ≡ true) registers end.held;
+      room = subst (λ (list : List ℤ). length checked.start.kinds.items ≤ length list) registers end.room;
+      dummies = subst (λ (list : List ℤ). HoldDummies checked (shown_by checked list)) registers end.dummies;
+    }
+
+pub returns-in_ok-end-in-Ok-clause-outcome : goal.returns-in_ok-end-in-Ok-clause-outcome
+returns-in_ok-end-in-Ok-clause-outcome c =
+    let checked = c.self.inside.checked.now in
+    let is = c.self.invariant in
+    let fits = subst (λ (list : List Shape). AreFitting list c.args.arguments.now) c.arguments.ensures c.in-Ok.ensures.fitting in
+    let run = own_run checked is.0 c.args.arguments.now fits in
+    let end = c.in_ok-end-in-Ok.ensures.ends run checked.statements (own_compiled checked is.0 c.args.arguments.now fits c.self.inside.code is.1 is.2) refl refl in
+    let told
+    = subst (λ (list : List ℤ). Decides c.is_told_by.result (TellsOf run c.in_ok-end-in-Ok.end.finish list c.args.outcome.now)) c.deref.ensures.value c.is_told_by.ensures in
+    subst
+    (λ (checked : CheckedFields). (other : Outcome)
+    × IsOutcomeOf (map line_of checked.program) c.args.arguments.now c.args.steps other × Decides c.is_told_by.result (c.args.outcome.now ≡ other))
+    c.self.view_is (end.decides c.args.outcome.now c.is_told_by.result told)

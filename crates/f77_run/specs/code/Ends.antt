@@ -1,0 +1,39 @@
+-- How a run that the code made has ended, by its registers.
+-- Private functions and proofs alone cite what stands here.
+use Rattle.std.specs.Prelude.{◌≡◌, ◌≤◌, ◌<◌, ℕ, Bool, true, List, length, map, ℤ}
+use Rattle.std.specs.Bool.{Decides}
+use Rattle.f77_program.specs.Program.{LineFields, line_of}
+use Rattle.f77_check.specs.Checked.{CheckedFields}
+use Rattle.f77_actions.specs.declared.finish.Finish.{Finish}
+use Rattle.f77_code.specs.Registers.{are_held}
+use Rattle.f77_meaning.specs.declared.argument.Arg.{Arg}
+use Rattle.f77_meaning.specs.declared.outcome.Outcome.{Outcome}
+use Rattle.f77_meaning.specs.declared.outcome.Outcome.TheVariants as outcome
+use Rattle.f77_meaning.specs.Interpreter.{IsOutcomeOf, Tells}
+use Rattle.f77_meaning.specs.Site.{held}
+use Rattle.f77_run.specs.code.Site.{HoldDummies, shown_by}
+
+-- a checked program, the values of its dummy arguments, and the program that is run: it, or one of its frame
+pub record RunOf : Type 0 where
+  pub checked : CheckedFields
+  pub program : List LineFields
+  pub arguments : List Arg
+
+-- what is told of this end, by what the registers show of the dummy arguments
+abbrev pub TellsOf : RunOf → Finish → List ℤ → Outcome → Type 0
+TellsOf run finish registers answer =
+    Tells (map line_of run.checked.program) finish (held run.checked (shown_by run.checked registers)) answer
+
+-- The run ended so within so many steps, of which some were made: what is told of it is its outcome.
+pub record HasEnded (run : RunOf) (steps made : ℕ) (finish : Finish) (registers : List ℤ) : Type 0 where
+  pub held : are_held registers ≡ true
+  pub room : length run.checked.start.kinds.items ≤ length registers
+  pub dummies : HoldDummies run.checked (shown_by run.checked registers)
+  pub within : made ≤ steps
+  pub decides : (answer : Outcome) (same : Bool) → Decides same (TellsOf run finish registers answer)
+      → (other : Outcome) × IsOutcomeOf run.program run.arguments steps other × Decides same (answer ≡ other)
+  pub tells : (answer : Outcome)
+      → TellsOf run finish registers answer → IsOutcomeOf run.program run.arguments steps answer
+  pub sooner : (answer : Outcome)
+      → TellsOf run finish registers answer → IsOutcomeOf run.program run.arguments made answer
+  pub unended : (n : ℕ) → n < made → IsOutcomeOf run.program run.arguments n outcome.StepLimit
