@@ -17,7 +17,7 @@ use Rattle.f77_code.specs.Holds.{Plan, loop_count, do_rank, is_loop_at}
 use Rattle.f77_code.specs.Moves.{is_loop}
 use Rattle.f77_code.proofs.Instructed.{instruction_later}
 use Rattle.f77_code.proofs.Counters.{rank_rises}
-use Rattle.f77_code.proofs.Listed.{pushed, get_left, get_behind, rank_more, count_le, loop_is, loop_within, last_or_below}
+use Rattle.f77_code.proofs.Listed.{pushed, get_left, get_behind, rank_more, count_le, loop_is, last_or_below}
 
 pub executed_more : (t u : Constants) (statements : List Resolved) (n : ℕ) (list : List Instruction) (x : Instruction) → GrowsPlan t u
     → AreExecuted t statements n list → IsInstruction u statements n x → AreExecuted u statements (n + 1) (list ++ (x ∷ []))
@@ -27,28 +27,12 @@ executed_more t u statements n list x g are next = record {
       (subst (λ k. IsInstruction u statements k x) (sym are.count) next);
 }
 
-pub none_executed : (t : Constants) (statements : List Resolved) → AreExecuted t statements 0 []
-none_executed t statements = record { count = refl; each = λ i x is. absurd (cc (is)) }
-
-no_rank : (rs : List Resolved) → do_rank rs 0 ≡ 0
-no_rank [] = refl
-no_rank (r ∷ rs) = refl
-
 all_taken : (rs : List Resolved) → take (length rs) rs ≡ rs
 all_taken [] = refl
 all_taken (r ∷ rs) = ap (λ rs. r ∷ rs) (all_taken rs)
 
 pub all_ranked : (rs : List Resolved) → do_rank rs (length rs) ≡ loop_count rs
 all_ranked rs = ap loop_count (all_taken rs)
-
--- no incrementation follows yet
-pub none_followed : (t : Constants) (statements : List Resolved) (list : List Instruction) → AreExecuted t statements (length statements) list
-    → AreFollowed t statements 0 list
-none_followed t statements list are = record {
-  count = let none = no_rank statements in let count = are.count in omega arith;
-  executed = λ i x below is. are.each i x is;
-  incremented = λ d x below loop is. absurd (omega (arith, below));
-}
 
 -- the statement n is no DO
 pub followed_still : (t : Constants) (statements : List Resolved) (n : ℕ) (r : Resolved) (list : List Instruction) → slice_get statements n ≡ Some r
@@ -96,14 +80,6 @@ followed_more t statements n r list x at loops next are =
         = sym (get_behind list (x ∷ []) 0) ∙ ap (slice_get (list ++ (x ∷ []))) (sym place) ∙ is in
         let same : x ≡ y = same_Some _ _ there in
         subst (λ d. IsIncrement statements d y) (sym e) (subst (IsIncrement statements n) same next)
-
-pub all_followed : (t : Constants) (statements : List Resolved) (n : ℕ) (list : List Instruction) → n ≡ length statements → AreFollowed t statements n list
-    → AreCompiled t statements list
-all_followed t statements n list end are = record {
-  count = are.count ∙ ap (λ k. length statements + k) (ap (do_rank statements) end ∙ all_ranked statements);
-  executed = are.executed;
-  incremented = λ d x loop is. are.incremented d x (subst (λ n. d < n) (sym end) (loop_within statements d loop)) loop is;
-}
 
 -- what is no DO has no incrementation
 increments_if : (plan : Plan) (statements : List Resolved) (d : ℕ) (operation : Operation) (next : ℕ) (act : Action)

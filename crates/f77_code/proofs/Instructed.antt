@@ -1,5 +1,5 @@
 -- Instructions stand for statements when their operations do.
-use Rattle.std.proofs.Common.{◌≡◌, ℕ, ◌+◌, true, false, List, refl, sym, ap, ◌∙◌, subst}
+use Rattle.std.proofs.Common.{◌≡◌, ℕ, ◌+◌, false, List, refl, sym, ap, ◌∙◌, subst}
 use Rattle.std.specs.Prelude.{Some, slice_get}
 use Rattle.std.proofs.lemmas.Option.{same_Some}
 use Rattle.f77_actions.specs.declared.action.Action.{Action, Branch, Loop}
@@ -12,9 +12,8 @@ use Rattle.f77_code.specs.declared.instruction.Operation.{Operation, Next}
 use Rattle.f77_code.specs.declared.term.Term.{Term}
 use Rattle.f77_code.specs.Instructions.{Beginning, beginning, onward, IsLeftDone, IsOperation, StandsForStatement, StandsForIncrement}
 use Rattle.f77_code.specs.code.Compile.{IsTestTerm}
-use Rattle.f77_code.specs.Compiled.{is_ready, IsInstruction, IsIncrement}
+use Rattle.f77_code.specs.Compiled.{IsInstruction, IsIncrement}
 use Rattle.f77_code.specs.code.Compiled.{HaveParameters, Advances, IsNext}
-use Rattle.f77_code.specs.Compiling.{can_compile}
 use Rattle.f77_code.specs.code.Compiling.{IsTesting, IsCompiled}
 use Rattle.f77_code.specs.Constants.{BeginsPlan}
 use Rattle.f77_code.specs.code.Constants.{GrowsPlan}
@@ -75,13 +74,6 @@ pub other_stands : (t : Constants) (statements : List Resolved) (i : ℕ) (r : R
 other_stands t statements i r operation next at on h =
     instructed t statements i r operation next at (λ plan b has. plain_stands plan statements i r operation next on r.action (h.stands plan b has))
 
--- an action that is neither a DO nor a block IF
-pub is_plain : (slots n : ℕ) (act : Action) → is_ready slots n act ≡ true → ((x : Condition) (otherwise : ℕ) → act ≡ Branch x otherwise → ⊥)
-    → ((slot : ℕ) (x y z : Number) (end : ℕ) → act ≡ Loop slot x y z end → ⊥) → can_compile slots act ≡ true
-is_plain slots n (Branch x otherwise) h branch loop = absurd (branch x otherwise refl)
-is_plain slots n (Loop slot x y z end) h branch loop = absurd (loop slot x y z end refl)
-is_plain slots n _ h branch loop = h
-
 -- what increments a DO
 advances_operation : (plan : Plan) (statements : List Resolved) (d slot variable end : ℕ) (x y z : Number) (operation : Operation) (next : ℕ) → variable ≡ slot
     → Advances statements d variable operation → IsLeftDone statements d end next → HasAction plan (Loop slot x y z end)
@@ -111,10 +103,3 @@ instruction_later t u statements i instruction g h = record { stands = λ plan r
 pub no_loop : (act : Action) → ((slot : ℕ) (x y z : Number) (end : ℕ) → act ≡ Loop slot x y z end → ⊥) → is_loop act ≡ false
 no_loop (Loop slot x y z end) h = absurd (h slot x y z end refl)
 no_loop _ h = refl
-
--- the constants of a copy and those behind them
-pub copy_grows : (t copy u : Constants) → copy.slots ≡ t.slots → copy.values.items ≡ t.values.items → GrowsPlan copy u → GrowsPlan t u
-copy_grows t copy u slots values g = record {
-  slots = g.slots ∙ slots;
-  values = λ k z at. g.values k z (ap (λ xs. slice_get xs k) values ∙ at);
-}

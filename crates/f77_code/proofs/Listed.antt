@@ -1,14 +1,14 @@
 -- Items of lists by their numbers, and how many DOs stand before a statement.
-use Rattle.std.proofs.Common.{◌≡◌, ◌≢◌, ◌<◌, ◌≤◌, ◌⊎◌, inl, inr, ℕ, zero, suc, ◌+◌, Bool, true, false, cond, List, [], ◌∷◌, ◌++◌, length, get_or, take, drop, Some, refl, sym, ap, ◌∙◌, subst, arith}
+use Rattle.std.proofs.Common.{◌≡◌, ◌≢◌, ◌<◌, ◌≤◌, ◌⊎◌, inl, inr, ℕ, zero, suc, ◌+◌, Bool, true, false, cond, List, [], ◌∷◌, ◌++◌, length, get_or, drop, Some, refl, sym, ap, ◌∙◌, subst, arith}
 use Rattle.std.specs.Prelude.{slice_get, nat_eq, nat_lt, ◌==◌, if◌then◌else◌}
 use Rattle.std.specs.List.{list_all}
 use Rattle.std.proofs.lemmas.Bool.{and_parts, ltb-true, ltb-false}
-use Rattle.std.proofs.lemmas.List.{length-take, at_drop_more}
+use Rattle.std.proofs.lemmas.List.{at_drop_more}
 use Rattle.std.proofs.lemmas.List.Sums.{count_by-le-length, count_by_more_yes, count_by_more_no}
 use Rattle.std.proofs.lemmas.Option.{same_Some, slice_get_within, get_or_from_slice_get}
 use Rattle.std.proofs.Math.ListN.{set}
 use Rattle.f77_actions.specs.declared.resolved.Resolved.{Resolved}
-use Rattle.f77_code.specs.Instructions.{round, onward}
+use Rattle.f77_code.specs.Instructions.{round}
 use Rattle.f77_code.specs.Holds.{loop_count, do_rank, is_loop_at}
 use Rattle.f77_code.specs.Moves.{is_loop, are_below}
 
@@ -83,9 +83,6 @@ rank_more rs i r is = by (is_loop r.action) refl
     by true e = count_by_more_yes (λ r. is_loop r.action) rs i r (slice_get_within rs i r is) (ap (λ r. is_loop r.action) at ∙ e)
     by false e = count_by_more_no (λ r. is_loop r.action) rs i r (slice_get_within rs i r is) (ap (λ r. is_loop r.action) at ∙ e)
 
-pub rank_le : (rs : List Resolved) (i : ℕ) → do_rank rs i ≤ i
-rank_le rs i = omega (arith, count_by-le-length (λ r. is_loop r.action) (take i rs), length-take i rs)
-
 pub count_le : (rs : List Resolved) → loop_count rs ≤ length rs
 count_le rs = count_by-le-length (λ r. is_loop r.action) rs
 
@@ -99,16 +96,6 @@ loop_within [] d h = absurd (cc (h))
 loop_within (r ∷ rs) zero h = omega arith
 loop_within (r ∷ rs) (suc d) h = omega (arith, loop_within rs d h)
 
--- of DOs that end together
-pub first_below : (n : ℕ) (ends : List ℕ) (d : ℕ) → 1 ≤ length ends → d ≡ get_or ends 0 d → are_below n ends ≡ true → d < n
-first_below n [] d some is h = absurd (omega (arith, some))
-first_below n (e ∷ ends) d some is h = subst (λ d. d < n) (sym is) (ltb-true e n (and_parts (nat_lt e n) (are_below n ends) h).0)
-
-pub first_onward : (statements : List Resolved) (ends : List ℕ) (d next k : ℕ) → 1 ≤ length ends → d ≡ get_or ends 0 d
-    → k ≡ length statements + do_rank statements d → k ≡ onward statements ends next
-first_onward statements [] d next k some is at = absurd (omega (arith, some))
-first_onward statements (e ∷ ends) d next k some is at = at ∙ ap (λ d. length statements + do_rank statements d) is
-
 pub round_below : (n d : ℕ) (ends : List ℕ) → are_below n ends ≡ true → are_below n (round d ends) ≡ true
 round_below n d [] h = refl
 round_below n d (e ∷ ends) h = by (nat_eq d e) rest (round_below n d ends rest)
@@ -119,11 +106,6 @@ round_below n d (e ∷ ends) h = by (nat_eq d e) rest (round_below n d ends rest
     by : (b : Bool) → are_below n ends ≡ true → are_below n (round d ends) ≡ true → are_below n (if b then ends else round d ends) ≡ true
     by true here there = here
     by false here there = there
-
--- the DO is the first of what is left of the list, or is not
-pub round_here : (d : ℕ) (ends : List ℕ) (k : ℕ) (e : ℕ) → k < length ends → e ≡ get_or ends k e → (d == e) ≡ true → round d (drop k ends) ≡ drop (k + 1) ends
-round_here d ends k e h is same =
-    at_drop_more (round d) ends k e h ∙ ap (λ b. if b then drop (k + 1) ends else round d (drop (k + 1) ends)) (ap (λ e. d == e) (sym is) ∙ same)
 
 pub round_there : (d : ℕ) (ends : List ℕ) (k : ℕ) (e : ℕ) → k < length ends → e ≡ get_or ends k e → (d == e) ≡ false
     → round d (drop k ends) ≡ round d (drop (k + 1) ends)

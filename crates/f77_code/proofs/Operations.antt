@@ -1,6 +1,6 @@
 -- Operations stand for actions when the terms in them stand for expressions.
-use Rattle.std.proofs.Common.{◌≡◌, ℕ, map, refl, sym, ◌∙◌, subst}
-use Rattle.std.specs.Prelude.{Box, Vec, Option, Some, None, MatchOption}
+use Rattle.std.proofs.Common.{◌≡◌, ℕ, refl, sym, ◌∙◌, subst}
+use Rattle.std.specs.Prelude.{Box, Option, Some, None, MatchOption}
 use Rattle.std.specs.declared.alloc.Global.{Global}
 use Rattle.f77_tree.specs.declared.tree.Kind.{Kind}
 use Rattle.f77_tree.specs.declared.tree.Kind.TheVariants.{Integer, Logical}
@@ -22,15 +22,12 @@ use Rattle.f77_code.specs.declared.term.Pair.{Pair}
 use Rattle.f77_code.specs.declared.term.Term.{Term, Register, Compared, Related'}
 use Rattle.f77_code.specs.Instructions.{Comparing, giving, comparing, StandsForAssignment, Tests, IsOperation}
 use Rattle.f77_code.specs.code.Compile.{IsNumberTerm, IsTestTerm, ArePair, IsRelationOf}
-use Rattle.f77_code.specs.code.Compiling.{IsGiving, IsTesting, IsAssigning, IsConditional, IsCompiled, IsLogicalIf}
+use Rattle.f77_code.specs.code.Compiling.{IsTesting, IsAssigning, IsConditional, IsCompiled, IsLogicalIf}
 use Rattle.f77_code.specs.code.Constants.{GrowsPlan}
 use Rattle.f77_code.specs.Holds.{Plan, IsSlot}
 use Rattle.f77_code.specs.Standing.{IsTerm, IsTest}
-use Rattle.f77_code.specs.Typing.{HasNumbers, HasAction}
+use Rattle.f77_code.specs.Typing.{HasNumbers}
 use Rattle.f77_code.proofs.Terms.{begins_before}
-
-of_some : {A : Type 0} (P : A → Type 0) (o : Option A) (x : A) → o ≡ Some x → P x → MatchOption o ⊥ P
-of_some P o x is h = rw is h
 
 of_all : {A : Type 0} (P Q : A → Type 0) (o : Option A) → ((x : A) → P x → Q x) → MatchOption o ⊥ P → MatchOption o ⊥ Q
 of_all P Q None each h = absurd h
@@ -47,28 +44,6 @@ assigns_as plan kind P term p (Vector' first bound q x) _ h = absurd h
 assigns_as plan kind P term p (Matrix' first rows columns q x r y) (SetMatrix start height width pair value) h =
     (h.0, h.1, h.2, h.3, h.4, h.5, subst P (sym h.6) p)
 assigns_as plan kind P term p (Matrix' first rows columns q x r y) _ h = absurd h
-
-pub variable_assigned : (t : Constants) (e : Element) (slot to : ℕ) (term : Term) (operation : Operation) → e ≡ Variable slot → to ≡ slot
-    → IsGiving to term operation → IsAssigning t e term operation
-variable_assigned t e slot to term operation is at h =
-    rw is (record {
-      assigns = λ plan kind b has.
-          of_some (λ g. (g.to ≡ slot) × IsSlot plan kind slot × (g.term ≡ term)) (giving operation) _ h (at, has, refl);
-    })
-
-pub vector_assigned : (t : Constants) (e : Element) (first bound start : ℕ) (a : Box Number Global) (x : Number) (pair : Box Pair Global) (s term : Term)
-    → e ≡ views.Vector first bound a → x ≡ a.value → start ≡ first → IsNumberTerm t x s → pair.value.left ≡ s → pair.value.right ≡ term
-    → IsAssigning t e term (SetElement start bound pair)
-vector_assigned t e first bound start a x pair s term is at same h left right =
-    rw is (record {
-      assigns = λ plan kind b has. (
-        same,
-        refl,
-        has.0,
-        subst (IsTerm plan a.value) (sym left) (subst (λ x. IsTerm plan x s) at (h.stands plan b (subst (HasNumbers plan) (sym at) has.1))),
-        right,
-      );
-    })
 
 pub matrix_assigned : (t : Constants) (e : Element) (first rows columns start : ℕ) (a b : Box Number Global) (x y : Number) (pair : Box Pair Global)
     (value : Box Term Global) (term : Term) → e ≡ views.Matrix first rows columns a b → x ≡ a.value → y ≡ b.value → start ≡ first
@@ -178,46 +153,9 @@ module _ (plan : Plan) where
       (subst (λ n. Tests plan y n operation) at (term_tests y t there operation h (subst (λ z. IsTest plan z t) is.0 stands)))
   goto_stands _ operation x jump t there is at h stands = absurd is
 
-  -- one with any other action
-  when_stands : (whole act : Action) (x : Condition) (term : Box Term Global) (inner : Box Operation Global) → IsLogicalIf x act whole
-      → IsTest plan x term.value → IsOperation plan act inner.value → IsOperation plan whole (operations.When term inner)
-  when_stands (LogicalIf' y p z) act x term inner is tests h =
-      (subst (λ y. IsTest plan y term.value) is.0 tests, subst (λ z. IsOperation plan z inner.value) is.1 h)
-  when_stands _ act x term inner is tests h = absurd is
-
 pub goto_conditional : (t : Constants) (x : Condition) (act : Action) (jump : Jump) (term : Term) (there : ℕ) (operation : Operation) → act ≡ action.Goto jump
     → there ≡ jump.target → IsTestTerm t x term → IsTesting there term operation → IsConditional t x act operation
 goto_conditional t x act jump term there operation is at h goes =
     rw is (record {
       stands = λ plan whole b made has inner. goto_stands plan whole operation x jump term there made at goes (h.tests plan b has);
     })
-
-pub when_conditional : (t u : Constants) (x : Condition) (act : Action) (l : Term) (made : Operation) (term : Box Term Global) (inner : Box Operation Global)
-    → IsTestTerm t x l → GrowsPlan t u → IsCompiled u act made → term.value ≡ l → inner.value ≡ made → IsConditional u x act (operations.When term inner)
-when_conditional t u x act l made term inner h g c at is =
-    record {
-      stands = λ plan whole b whole_is has has_inner.
-          when_stands plan whole act x term inner whole_is (subst (IsTest plan x) (sym at) (h.tests plan (begins_before t u plan g b) has))
-          (subst (IsOperation plan act) (sym is) (c.stands plan b has_inner));
-    }
-
-pub logical_compiled : (t : Constants) (act inner : Action) (x : Condition) (a : Box Action Global) (operation : Operation) → act ≡ actions.LogicalIf x a
-    → inner ≡ a.value → IsConditional t x inner operation → IsCompiled t act operation
-logical_compiled t act inner x a operation is at h =
-    rw is (record {
-      stands = λ plan b has. h.stands plan (actions.LogicalIf x a) b (refl, at) has.0 (subst (HasAction plan) (sym at) has.1);
-    })
-
-pub goto_compiled : (t : Constants) (act : Action) (jump : Jump) (there : ℕ) → act ≡ action.Goto jump → there ≡ jump.target
-    → IsCompiled t act (form.Goto there)
-goto_compiled t act jump there is at = rw is (record { stands = λ plan b has. at })
-
-pub select_compiled : (t : Constants) (act : Action) (x : Number) (jumps : Vec Jump Global) (term : Box Term Global) (places : Vec ℕ Global)
-    → act ≡ action.ComputedGoto x jumps → IsNumberTerm t x term.value → places.items ≡ map (λ jump. jump.target) jumps.items
-    → IsCompiled t act (form.Select term places)
-select_compiled t act x jumps term places is h same = rw is (record { stands = λ plan b has. (h.stands plan b has, same) })
-
-pub sign_compiled : (t : Constants) (act : Action) (x : Number) (a b c : Jump) (i j k : ℕ) (term : Box Term Global) → act ≡ action.ArithmeticIf x a b c
-    → i ≡ a.target → j ≡ b.target → k ≡ c.target → IsNumberTerm t x term.value → IsCompiled t act (form.Sign i j k term)
-sign_compiled t act x a b c i j k term is first second third h =
-    rw is (record { stands = λ plan begins has. (h.stands plan begins has, first, second, third) })

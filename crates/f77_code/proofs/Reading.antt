@@ -8,7 +8,7 @@ use Rattle.f77_actions.specs.declared.finish.Fault.TheVariants.{Undefined, Overf
 use Rattle.f77_actions.specs.Number.{fits}
 use Rattle.f77_actions.specs.Told.{TellsResult, IsValueOrFault, code}
 use Rattle.f77_actions.proofs.Bounds.{Within, within, tells_value, tells_fault}
-use Rattle.f77_code.specs.Registers.{told_by_register, is_held, are_held, register, vector_place, matrix_place, element_at}
+use Rattle.f77_code.specs.Registers.{told_by_register, is_held, are_held, register, matrix_place, element_at}
 use Rattle.f77_code.specs.code.Registers.{IsOffset, misplaced_in_matrix}
 use Rattle.f77_actions.specs.Value.{given, element}
 
@@ -51,35 +51,6 @@ fault_far f k o = by (code f) (omega arith) o
     by : (n : ℕ) → 1099511627776 ≤ n → IsOffset (pos n) k → 4294967296 ≤ k
     by zero l o = omega arith
     by (suc n) l o = omega arith
-
--- the element of a subscript within its bound
-pub element_read : (registers : List ℤ) (first bound k : ℕ) (s u : ℤ) → IsOffset s k → k < bound → bound < 4294967296
-    → (r : Result ℤ Fault) → TellsResult s r → TellsResult u (register registers (first + k)) → TellsResult u (element_at registers first (vector_place bound r))
-element_read registers first bound k s u o below small (Ok (pos zero)) a t = let h = far s (pos zero) k a.is o in absurd (omega arith)
-element_read registers first bound k s u o below small (Ok (negsuc n)) a t = let h = far s (negsuc n) k a.is o in absurd (omega arith)
-element_read registers first bound k s u o below small (Err f) a t = let h = fault_far f k (far s (pos (code f)) k a.is o) in absurd (omega arith)
-element_read registers first bound k s u o below small (Ok (pos (suc n))) a t =
-    let h : k ≡ n = far s (pos (suc n)) k a.is o in
-    let test : nat_lt n bound ≡ true = lt-ltb n bound (omega arith) in
-    let here : first + k ≡ first + (n + bound * 0) = omega arith in
-    rw test (subst (λ j. TellsResult u (register registers j)) here t)
-
--- one beyond it
-pub element_bad : (registers : List ℤ) (first bound k : ℕ) (s : ℤ) → IsOffset s k → bound ≤ k → s <ℤ pos 1099511627776
-    → (r : Result ℤ Fault) → TellsResult s r → TellsResult (pos 1099511627778) (element_at registers first (vector_place bound r))
-element_bad registers first bound k s o above small (Ok (pos zero)) a = tells_fault BadSubscript
-element_bad registers first bound k s o above small (Ok (negsuc n)) a = tells_fault BadSubscript
-element_bad registers first bound k s o above small (Err f) a = let e : s ≡ pos (code f) = a.is in absurd (omega (arith, ints))
-element_bad registers first bound k s o above small (Ok (pos (suc n))) a =
-    let h : k ≡ n = far s (pos (suc n)) k a.is o in
-    let test : nat_lt n bound ≡ false = le-ltb n bound (omega arith) in
-    rw test (tells_fault BadSubscript)
-
--- one that tells a fault
-pub element_none : (registers : List ℤ) (first bound : ℕ) (s : ℤ) → pos 1099511627776 ≤ℤ s
-    → (r : Result ℤ Fault) → TellsResult s r → TellsResult s (element_at registers first (vector_place bound r))
-element_none registers first bound s h (Ok z) a = let w : Within z = within z a.fitting in absurd (omega (arith, ints))
-element_none registers first bound s h (Err f) a = a
 
 -- the fault of a reference by two subscripts
 pub bad_row : (x y : ℤ) → pos 1099511627776 ≤ℤ x → (r q : Result ℤ Fault) → TellsResult x r → TellsResult y q → TellsResult x (misplaced_in_matrix r q)

@@ -131,11 +131,6 @@ take_same (x ∷ xs) (y ∷ ys) each = λ k. same_Some _ _ (each 0 x refl) k ∷
 take_whole : {A : Type 0} (n : ℕ) (xs : List A) → length xs ≡ n → take n xs ≡ xs
 take_whole n xs long = ap (λ n. take n xs) (sym long) ∙ take_same xs xs (λ k z at. at)
 
-take_long : {A : Type 0} (n : ℕ) (xs : List A) → n ≤ length xs → length (take n xs) ≡ n
-take_long zero xs within = refl
-take_long (suc n) [] within = absurd (omega (arith, within))
-take_long (suc n) (x ∷ xs) within = let rest = take_long n xs (omega (arith, within)) in omega (arith, rest)
-
 -- the instruction of another statement is exchanged for that of the program, whose incrementation stays
 module _ (t u : Constants) (statements after : List Resolved) (i : ℕ) (r s : Resolved) (code : List Instruction) (x : Instruction) (set : after ≡ slice_set statements i s)
     (at : slice_get statements i ≡ Some r) (below : i < length statements) (may : MayReplace r s) (ready : are_ready t.slots statements ≡ true)
@@ -261,20 +256,6 @@ module _ (before : ChangedCode) (own : IsAllOwn before) where
   pub put_others : (i : ℕ) (new : Instruction) → AgreeButAt i (own_instructions before) (slice_set before.code.instructions.items i new)
   put_others i new = λ j apart.
       set_there before.code.instructions.items i j new (λ e. apart (sym e)) ∙ ap (λ xs. slice_get xs j) (sym own_is)
-
--- code whose instruction and constants are the program's own again
-pub restored_same : (before after : ChangedCode) → after.code.instructions.items ≡ own_instructions before → after.exchanged ≡ None → after.own ≡ before.own
-    → after.code.constants.slots ≡ before.code.constants.slots → after.code.constants.values.items ≡ take before.own before.code.constants.values.items
-    → after.code.places ≡ before.code.places → before.own ≤ length before.code.constants.values.items → HaveOneOwn before after
-restored_same before after instructions none count slots values places within = record {
-  instructions = ap (put_back after.code.instructions.items) none ∙ instructions;
-  count = count;
-  slots = slots;
-  values =
-      ap (λ n. take n after.code.constants.values.items) count ∙ ap (take before.own) values
-      ∙ take_whole before.own (take before.own before.code.constants.values.items) (take_long before.own before.code.constants.values.items within);
-  places = places;
-}
 
 -- code that is the program's own again is of the program
 pub own_changed : (statements : List Resolved) (before after : ChangedCode) → IsChangedCode statements before → HaveOneOwn before after → IsAllOwn after

@@ -54,10 +54,6 @@ matrix_place_below rows columns (pos (suc n)) w k e = by (nat_lt n rows) refl
     by true t = across (ltb-true n rows t) (element (columns ∷ []) (w ∷ [])) (place_below columns w) (rw t at e)
     by false t = let whole = rw t at e in absurd (cc (whole))
 
--- both of the same results
-both_same : {B : Type 0} (f g : ℤ → ℤ → Result B Fault) (a b c d : Result ℤ Fault) → f ≡ g → a ≡ c → b ≡ d → both f a b ≡ both g c d
-both_same f g a b c d e left right = λ i. both (e i) (left i) (right i)
-
 related_same : (op : Relation) (r q : Result ℤ Fault) → both (related_number op) r q ≡ of_truth (both (λ a b. Ok (compared op a b)) r q)
 related_same op (Ok x) (Ok y) = refl
 related_same op (Ok x) (Err f) = refl

@@ -6,16 +6,16 @@ use Rattle.std.specs.Option.{option_map, option_map_or}
 use Rattle.std.proofs.lemmas.Bool.{cases_eq, cases_lt}
 use Rattle.std.proofs.lemmas.List.{length-map, take-append-drop}
 use Rattle.std.proofs.Math.Seq.{drop-append_seam}
-use Rattle.std.proofs.lemmas.Option.{same_Some, slice_get-map, slice_get_past, slice_get_within}
+use Rattle.std.proofs.lemmas.Option.{same_Some, slice_get-map, slice_get_within}
 use Rattle.f77_code.specs.declared.control.Turn.{Turn}
 use Rattle.f77_code.specs.declared.instruction.Instruction.{Instruction}
 use Rattle.f77_code.specs.Block.{one, code_after, code_within}
 use Rattle.f77_code.specs.Frame.{with_more}
 use Rattle.f77_code.specs.Operation.{Point, point, ran}
-use Rattle.f77_code.specs.Together.{AgreeButAt, StepAlike, Alongside, GoesRound, GoesRoundBehind, Time, IsTime, AreTimes}
+use Rattle.f77_code.specs.Together.{AgreeButAt, StepAlike, Alongside, Time, IsTime, AreTimes}
 use Rattle.f77_code.specs.Together.{MakesSteps, NeverPart, PartAt, time_of, MakesStep}
 use Rattle.f77_code.proofs.Frame.{more_registers, one_behind}
-use Rattle.f77_code.proofs.Sequences.{after_last, after_more, goes_round, stays}
+use Rattle.f77_code.proofs.Sequences.{after_last, after_more}
 
 -- where control is not at the changed instruction, both codes make the same step
 one_elsewhere : (code other : List Instruction) (i : ℕ) (p : Point) → AgreeButAt i code other → p.place ≢ i → one other p ≡ one code p
@@ -35,40 +35,10 @@ along code other i (suc m) p agree steps = ap (code_after other m) first ∙ alo
 pub alongside : Alongside
 alongside code other i n m p agree steps within = along code other i m p agree (λ k below at. steps k (omega (arith, below, within)) at)
 
--- a place is that of an instruction, or of none
-there_or_none : (code : List Instruction) (k : ℕ) → (k < length code) ⊎ (slice_get code k ≡ None)
-there_or_none code k = elim (cases_lt k (length code)) [
-  | inl below ↦ inl below
-  | inr past ↦ inr (slice_get_past code k past)
-]
-
 pub none_there : (code : List Instruction) (k : ℕ) → k < length code → slice_get code k ≡ None → ⊥
 none_there [] k below none = omega arith
 none_there (x ∷ xs) zero below none = cc (none)
 none_there (x ∷ xs) (suc k) below none = none_there xs k (omega arith) none
-
-pub round : GoesRound
-round code n m p there back = elim (there_or_none code (code_after code m p).place) [
-  | inl below ↦ below
-  | inr none ↦ absurd (none_there code p.place there (goes_round code n m p back none))
-]
-
-pub round_behind : GoesRoundBehind
-round_behind code before n m p there back = elim (cases_lt m before) [
-  | inl early ↦ elim (there_or_none code (code_after code m p).place) [
-    | inl below ↦ below
-    | inr none ↦
-        let rest : m + (before - m) ≡ before = omega (arith, early) in
-        let same : code_after code before p ≡ code_after code m p =
-        ap (λ k. code_after code k p) (sym rest) ∙ after_more code m (before - m) p ∙ stays code (before - m) (code_after code m p) none in
-        absurd (none_there code (code_after code before p).place there (ap (λ (q : Point). slice_get code q.place) same ∙ none))
-  ]
-  | inr late ↦
-      let rest : before + (m - before) ≡ m = omega (arith, late) in
-      let same : code_after code (m - before) (code_after code before p) ≡ code_after code m p =
-      sym (after_more code before (m - before) p) ∙ ap (λ k. code_after code k p) rest in
-      subst (λ (q : Point). q.place < length code) same (round code n (m - before) (code_after code before p) there back)
-]
 
 -- the times of a run, and code that makes the steps of some of them
 module _ (code other : List Instruction) (i : ℕ) (start : Point) (n : ℕ) where

@@ -1,5 +1,5 @@
 -- Runs of code that go together: where other code makes the same steps, it comes to the same.
-use Rattle.std.specs.Prelude.{◌≡◌, ◌≢◌, ◌+◌, ◌++◌, ◌<◌, ◌≤◌, ℕ, suc, Bool, true, false}
+use Rattle.std.specs.Prelude.{◌≡◌, ◌≢◌, ◌+◌, ◌++◌, ◌<◌, ◌≤◌, ℕ, Bool, true, false}
 use Rattle.std.specs.Prelude.{List, [], ◌∷◌, length, take, Some, slice_get, ℤ}
 use Rattle.f77_code.specs.declared.control.Turn.{Turn}
 use Rattle.f77_code.specs.declared.instruction.Instruction.{Instruction}
@@ -22,18 +22,6 @@ abbrev pub Alongside : Type 0
 Alongside = (code other : List Instruction) (i n m : ℕ) (p : Point)
     → AgreeButAt i code other → StepAlike code other i n p → m ≤ n
     → code_after other m p ≡ code_after code m p
-
--- Code that comes back to where it stood, at an instruction, never ends.
-abbrev pub GoesRound : Type 0
-GoesRound = (code : List Instruction) (n m : ℕ) (p : Point) → p.place < length code
-    → code_after code (suc n) p ≡ p → (code_after code m p).place < length code
-
--- the same of code that came back behind some steps
-abbrev pub GoesRoundBehind : Type 0
-GoesRoundBehind = (code : List Instruction) (before n m : ℕ) (p : Point)
-    → (code_after code before p).place < length code
-    → code_after code (suc n) (code_after code before p) ≡ code_after code before p
-    → (code_after code m p).place < length code
 
 -- a time at which control was at an instruction: behind so many
 -- steps, at this point, from which the next step led to that one

@@ -3,7 +3,7 @@
 ghost use Rattle.f77_code.specs.Frame.{LeavesBehind, MoreRegisters, WritesSlots};
 ghost use Rattle.f77_code.specs.Sequences.{BlocksAlike, CodeComesBack};
 ghost use Rattle.f77_code.specs.Simulation.{MovesAlike};
-ghost use Rattle.f77_code.specs.Together.{Alongside, GoesRound, GoesRoundBehind, MakesStep, NeverPart, PartAt};
+ghost use Rattle.f77_code.specs.Together.{Alongside, MakesStep, NeverPart, PartAt};
 ghost use Rattle.f77_code.specs.Twins.{TimesOfTwins, TwinsAlike};
 
 /// Where the machine over slots makes a move, the code makes the same
@@ -24,13 +24,6 @@ pub fn more_registers()
     ensures more { MoreRegisters }
     ensures behind { LeavesBehind }
     ensures slots { WritesSlots }
-{}
-
-/// Code that comes back to where it stood never ends, whatever it stands for.
-#[tactic(auto, using(crate::proofs::Together::round, crate::proofs::Together::round_behind))]
-pub fn goes_round()
-    ensures round { GoesRound }
-    ensures behind { GoesRoundBehind }
 {}
 
 /// Code with another instruction in one place goes together with the code of a program while it makes the same

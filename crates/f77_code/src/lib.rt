@@ -35,9 +35,7 @@ pub use exchange::ChangedCode;
 pub use fault::CodeFault;
 pub use instruction::{Instruction, Operation, Parameters};
 pub use kept_step::{KeptStep, first_step};
-pub use law::{
-    codes_go_together, comes_back, goes_round, more_registers, moves_alike, twins_do_the_same,
-};
+pub use law::{codes_go_together, comes_back, more_registers, moves_alike, twins_do_the_same};
 pub use noting::{Passed, follow};
 pub use places::Places;
 pub use term::{Pair, Term};

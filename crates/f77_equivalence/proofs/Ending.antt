@@ -22,9 +22,8 @@ use Rattle.f77_meaning.specs.Interpreter.{AreFitting, AreArguments, IsOutcomeOf,
 use Rattle.f77_meaning.specs.States.{values_of}
 use Rattle.f77_meaning.proofs.StateDefinitions.{config_of}
 use Rattle.f77_meaning.specs.Outcome.{IsOutcome}
-use Rattle.f77_meaning.specs.code.Running.{RunSite}
+use Rattle.f77_meaning.specs.code.Running.{RunSite, site_of}
 use Rattle.f77_meaning.proofs.InRun.{IsRunningIn, stands_for, values_at}
-use Rattle.f77_meaning.specs.code.Running.{site_of}
 use Rattle.f77_meaning.specs.Start.{IsStart, argument_values}
 use Rattle.f77_meaning.specs.Step.{Config}
 use Rattle.f77_meaning.specs.Value.{Store}

@@ -20,8 +20,7 @@ use Rattle.f77_meaning.proofs.StateDefinitions.{config_of}
 use Rattle.f77_meaning.proofs.StateDefinitions.{next_of}
 use Rattle.f77_meaning.specs.Outcome.{IsOutcome}
 use Rattle.f77_meaning.specs.Reached.{statement_number}
-use Rattle.f77_meaning.specs.code.Running.{RunSite}
-use Rattle.f77_meaning.specs.code.Running.{site_of}
+use Rattle.f77_meaning.specs.code.Running.{RunSite, site_of}
 use Rattle.f77_meaning.specs.Step as run
 use Rattle.f77_meaning.specs.Step.{Next, Step}
 use Rattle.f77_meaning.specs.Value.{Store}

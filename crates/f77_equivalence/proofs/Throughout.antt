@@ -15,9 +15,8 @@ use Rattle.f77_meaning.specs.Endless.{Reaches}
 use Rattle.f77_meaning.specs.Interpreter.{AreFitting, values_in}
 use Rattle.f77_meaning.proofs.StateDefinitions.{next_of}
 use Rattle.f77_meaning.proofs.StateDefinitions.{turn_of, turns_of}
-use Rattle.f77_meaning.specs.code.Running.{RunSite}
+use Rattle.f77_meaning.specs.code.Running.{RunSite, site_of}
 use Rattle.f77_meaning.proofs.InRun.{IsRunningIn, stands_for, values_at}
-use Rattle.f77_meaning.specs.code.Running.{site_of}
 use Rattle.f77_meaning.specs.Start.{IsStart}
 use Rattle.f77_meaning.specs.Step as run
 use Rattle.f77_meaning.specs.Step.{Config, config, Step}

@@ -6,7 +6,7 @@ use Rattle.std.specs.Option.{option_map_or}
 use Rattle.std.specs.Str.{bytes_eq}
 use Rattle.std.proofs.lemmas.Bool.{and_parts}
 use Rattle.std.proofs.lemmas.Bool.Decides.{nat_tests}
-use Rattle.std.proofs.lemmas.List.{map-append, length-replicate}
+use Rattle.std.proofs.lemmas.List.{map-append}
 use Rattle.f77_program.specs.Program.{LineFields, line_of}
 use Rattle.f77_legal.specs.Blocks.{first_numbers}
 use Rattle.f77_check.specs.Checked.{CheckedFields, IsChecked, shapes}
@@ -32,14 +32,10 @@ use Rattle.f77_meaning.specs.Spans.{size_of, all_filled}
 use Rattle.f77_meaning.specs.Start.{IsStart, constant_value, start_values}
 use Rattle.f77_actions.specs.declared.finish.Finish.{Finish}
 use Rattle.f77_code.specs.declared.control.Place.TheVariants as places
-use Rattle.f77_meaning.specs.Control.{Comes}
-use Rattle.f77_meaning.specs.Outcome.{IsOutcome}
-use Rattle.f77_meaning.proofs.InRun.{IsRunningIn, stands_for}
-use Rattle.f77_meaning.specs.Step.{Config, config}
+use Rattle.f77_meaning.proofs.InRun.{stands_for}
+use Rattle.f77_meaning.specs.Step.{config}
 use Rattle.f77_meaning.specs.Step as run
 use Rattle.f77_meaning.specs.code.Typed.{IsTyped}
-use Rattle.f77_meaning.specs.Value.{Store}
-use Rattle.f77_meaning.proofs.Typing.{outcome_typed, start_typed}
 use Rattle.f77_meaning.proofs.Filling.{arguments_filled, arguments_within, all_filled_length}
 use Rattle.f77_meaning.proofs.Reading.{all_hold, spans_read, spans_within}
 use Rattle.f77_meaning.proofs.Laying.{laid_values, laid_all, unlaid_values}
@@ -158,22 +154,6 @@ module _ (checked : CheckedFields) (is : IsChecked checked) where
         (λ i. config (placed_in_run (place i)) (held checked (cells i)) (turns_of (turns i)))
             ∙ (λ i. config (run.Execute checked.start.entry) (starts i) (none_active n i)),
       )
-
-      pub state_runs : n ≡ length program → IsRunningIn (site_of checked arguments) checked.statements s
-      state_runs long = record {
-        formed = is.formed;
-        legal = is.legal;
-        resolved = is.statements;
-        cells = ap length cells ∙ filled_size;
-        turns = ap length turns ∙ length-replicate n None ∙ long;
-        comes = Comes.at_start state_starts;
-      }
-
-  -- at an end the dummy arguments have values
-  pub ends_typed : (arguments : List Arg) → AreFitting checked.arguments arguments → (c : Config) → IsStart program (map values_in arguments) c
-      → (n : ℕ) (o : Finish) (s : Store) → IsOutcome program n c o s → IsTyped program s
-  ends_typed arguments fits c start n o s ends =
-      outcome_typed program n c o s is.legal ends (start_typed program arguments c is.legal (fitting arguments fits) start)
 
   -- what the dummy arguments hold in these slots
   module _ (cells : Cells) (size : length cells ≡ slot_count bounds checked.names) (typed : IsTyped program (held checked cells)) where

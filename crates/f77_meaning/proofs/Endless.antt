@@ -1,13 +1,12 @@
 -- Steps one after another; a run that comes back to a configuration never ends.
-use Rattle.std.proofs.Common.{arith, ◌≡◌, ℕ, zero, suc, ◌+◌, ◌-◌, ◌≤◌, inr, List, refl, sym, ap, subst, ◌∙◌}
+use Rattle.std.proofs.Common.{arith, ◌≡◌, ℕ, zero, suc, ◌+◌, ◌-◌, ◌≤◌, inr, List, refl, ap, subst, ◌∙◌}
 use Rattle.f77_program.specs.Program.{LineFields}
 use Rattle.f77_actions.specs.declared.finish.Finish.{Finish}
 use Rattle.f77_actions.specs.declared.finish.Finish.TheVariants.{StepLimit}
-use Rattle.f77_meaning.specs.Endless.{Reaches, IsEndless, ComesBack, MeetsLimits}
+use Rattle.f77_meaning.specs.Endless.{Reaches, ComesBack, MeetsLimits}
 use Rattle.f77_meaning.specs.Outcome.{IsOutcome}
 use Rattle.f77_meaning.specs.Step.{Config, Goes, Step}
 use Rattle.f77_meaning.specs.Value.{Store}
-use Rattle.f77_meaning.proofs.OneWay.{one_successor}
 
 module _ (p : List LineFields) where
   -- two stretches are one
@@ -37,14 +36,6 @@ module _ (p : List LineFields) where
   pub one_more : (n : ℕ) (a b c : Config) → Reaches p n a b → Step p b (Goes c) → Reaches p (n + 1) a c
   one_more n a b c before step = joined n 1 (n + 1) a b c refl before (one_step b c step)
 
-  -- steps lead to one configuration
-  pub determined : (n : ℕ) (c d e : Config) → Reaches p n c d → Reaches p n c e → d ≡ e
-  determined zero c d e f g = f ∙ sym g
-  determined (suc n) c d e f g =
-      let next = one_successor p c (Goes f.0) (Goes g.0) f.1 g.1 in
-      let same : f.0 ≡ g.0 = cc (next) in
-      determined n g.0 d e (subst (λ b. Reaches p n b d) same f.2) g.2
-
   -- what the rest of a run comes to, the whole comes to
   pub whole : (m n k : ℕ) (a b : Config) (o : Finish) (s : Store) → k ≡ m + n → Reaches p m a b → IsOutcome p n b o s → IsOutcome p k a o s
   whole zero n k a b o s sum here rest =
@@ -64,11 +55,6 @@ module _ (p : List LineFields) where
       let before = again n c turn times in
       let long = before.1 in
       (before.0 + suc n, omega (arith, long), joined before.0 (suc n) (before.0 + suc n) c c c refl before.2 turn)
-
-  pub endless_before : (m : ℕ) (a b : Config) → Reaches p m a b → IsEndless p b → IsEndless p a
-  endless_before m a b before endless n =
-      let rest = endless n in
-      cut n (m + n) a rest.0 (omega arith) (joined m n (m + n) a b rest.0 refl before rest.1)
 
 pub comes_back : ComesBack
 comes_back p n c turn times = let all = again p n c turn times in cut p times all.0 c c all.1 all.2

@@ -21,7 +21,6 @@ mod Looping
 pub mod Simulation
 pub mod Reaching
 pub mod Endless
-pub mod Following
 pub mod Unreached
 mod Places
 pub mod Dummies
@@ -39,6 +38,4 @@ mod StandsNested
 pub mod Moving
 pub mod PassesLeft
 pub mod SlotKinds
-pub mod Walked
 mod ControlDefinitions
-pub mod Together

@@ -208,11 +208,6 @@ pub end_keeps : (statements : List Resolved) (s : State) (finish : Finish) (cell
     → length cells ≡ length s.cells
 end_keeps statements s finish cells e = let kept = move_sized statements s (Ends finish cells) e in kept.1
 
--- no move ends a run at a limit on steps
-pub move_never_at_limit : (statements : List Resolved) (s : State) (finish : Finish) (cells : Cells) → moved statements s ≡ Some (Ends finish cells)
-    → finish ≢ StepLimit
-move_never_at_limit statements s finish cells e = let kept = move_sized statements s (Ends finish cells) e in kept.0
-
 -- Where the machine can move there is an instruction: that of a statement, or of the incrementation of a DO.
 module _ (statements : List Resolved) (cells : Cells) (turns : TurnList) where
   -- the incrementation of a DO has one behind those of all statements

@@ -1,13 +1,12 @@
 -- The label that a computed GO TO has for a value, and the jump that it has for it.
-use Rattle.std.proofs.Common.{◌≡◌, ℕ, zero, suc, ◌==◌, true, List, [], ◌∷◌, Option, Some, None, subst, ℤ, pos, negsuc}
+use Rattle.std.proofs.Common.{◌≡◌, ℕ, zero, suc, ◌==◌, true, List, [], ◌∷◌, Option, Some, None, ℤ, pos, negsuc}
 use Rattle.std.specs.Prelude.{slice_get}
-use Rattle.std.specs.List.{list_all, list_any}
-use Rattle.std.proofs.lemmas.Bool.{and_parts, eq-eqb, or_left, or_right}
+use Rattle.std.specs.List.{list_any}
+use Rattle.std.proofs.lemmas.Bool.{eq-eqb, or_left, or_right}
 use Rattle.f77_program.specs.Program.{LineFields}
 use Rattle.f77_actions.specs.declared.action.Jump.{Jump}
 use Rattle.f77_check.specs.Action.{IsJump, AreJumps}
 use Rattle.f77_code.specs.Choice.{item_chosen}
-use Rattle.f77_meaning.proofs.Asking.{jump_within}
 
 label_among : (labels : List ℕ) (k label : ℕ) → slice_get labels k ≡ Some label → list_any (λ x. x == label) labels ≡ true
 label_among [] k label e = absurd (cc (e))
@@ -41,19 +40,3 @@ pub numbered_jump : (p : List LineFields) (i : ℕ) (labels : List ℕ) (jumps :
 numbered_jump p i labels jumps h (pos zero) = tt
 numbered_jump p i labels jumps h (pos (suc k)) = jump_there p i labels jumps h k
 numbered_jump p i labels jumps h (negsuc k) = tt
-
-place_within : (n : ℕ) (jumps : List Jump) (k : ℕ) (jump : Jump) → list_all (jump_within n) jumps ≡ true → slice_get jumps k ≡ Some jump
-    → jump_within n jump ≡ true
-place_within n [] k jump within e = absurd (cc (e))
-place_within n (x ∷ jumps) zero jump within e =
-    let same : x ≡ jump = cc (e) in
-    subst (λ j. jump_within n j ≡ true) same (and_parts (jump_within n x) (list_all (jump_within n) jumps) within).0
-place_within n (x ∷ jumps) (suc k) jump within e =
-    place_within n jumps k jump (and_parts (jump_within n x) (list_all (jump_within n) jumps) within).1 e
-
--- the jump for a value is one of the jumps
-pub numbered_within : (n : ℕ) (jumps : List Jump) (z : ℤ) (jump : Jump) → list_all (jump_within n) jumps ≡ true
-    → item_chosen jumps z ≡ Some jump → jump_within n jump ≡ true
-numbered_within n jumps (pos zero) jump within e = absurd (cc (e))
-numbered_within n jumps (pos (suc k)) jump within e = place_within n jumps k jump within e
-numbered_within n jumps (negsuc k) jump within e = absurd (cc (e))

@@ -1,10 +1,10 @@
 -- A step, computed: what it gives is a step of the relation.
-use Rattle.std.proofs.Common.{◌≡◌, ℕ, zero, suc, ◌+◌, ◌-◌, ◌<◌, ◌==◌, ◌&&◌, inl, inr, Bool, true, false, List, Option, Some, None, refl, sym, ap, subst, arith, length, ℤ, pos, negsuc}
+use Rattle.std.proofs.Common.{◌≡◌, ℕ, zero, suc, ◌+◌, ◌-◌, ◌<◌, ◌==◌, ◌&&◌, inl, inr, Bool, true, false, List, Option, Some, None, refl, ap, subst, arith, length, ℤ, pos, negsuc}
 use Rattle.std.specs.Prelude.{Result, Ok, Err, MatchOption, IsSome, is_some, ◌+ℤ◌, if◌then◌else◌, option_map}
 use Rattle.std.specs.Option.{option_map_or, option_and_then}
 use Rattle.std.proofs.lemmas.Bool.{cases_lt, eqb-true}
 use Rattle.std.proofs.lemmas.Bool.Decides.{nat_tests}
-use Rattle.std.proofs.lemmas.Option.{slice_get_past, same_Some}
+use Rattle.std.proofs.lemmas.Option.{slice_get_past}
 use Rattle.f77_program.specs.Program.{LineFields}
 use Rattle.f77_tree.specs.Tree.{Tree, Trees}
 use Rattle.f77_tree.specs.Statement.{Statement}
@@ -21,7 +21,6 @@ use Rattle.f77_meaning.specs.Value.{Store, store_with, number, truth, value, pla
 use Rattle.f77_code.specs.Choice.{by_sign, item_chosen}
 use Rattle.f77_meaning.specs.Step.{Place, Execute, Increment, Turn, Turns, Config, config, Next, Goes, Ends, with_turn, left_behind}
 use Rattle.f77_meaning.specs.Step.{GoesOn, Jumps, Passes, Begins, With, Either, Skips, step_number, Executes, Increments, StepAt, Step}
-use Rattle.f77_meaning.specs.Outcome.{IsOutcome}
 use Rattle.f77_actions.specs.declared.value.Value.TheVariants as held
 
 -- the innermost active DO that ends at t, of those before n
@@ -294,18 +293,3 @@ run_on (Some (Goes b)) again = again b
 abbrev pub run : List LineFields → ℕ → Config → Option (Finish × Store)
 run p zero c = Some (StepLimit, c.values)
 run p (suc n) c = run_on (next_at p c.place c.values c.active) (run p n)
-
-run_on_is : (p : List LineFields) (n : ℕ) (c : Config) (o : Finish) (s : Store)
-    → ((b : Config) (q : Finish) (t : Store) → run p n b ≡ Some (q, t) → IsOutcome p n b q t)
-    → (m : Option Next) → next_at p c.place c.values c.active ≡ m → run_on m (run p n) ≡ Some (o, s) → IsOutcome p (suc n) c o s
-run_on_is p n c o s again None is e = absurd (cc (e))
-run_on_is p n c o s again (Some (Ends q t)) is e =
-    let same : Ends q t ≡ Ends o s = ap (λ (x : Finish × Store). Ends x.0 x.1) (same_Some _ _ e) in
-    inl (subst (λ x. Step p c x) same (sound_step p c.place c.values c.active (Ends q t) is))
-run_on_is p n c o s again (Some (Goes b)) is e = inr (b, sound_step p c.place c.values c.active (Goes b) is, again b o s e)
-
-pub run_is : (p : List LineFields) (n : ℕ) (c : Config) (o : Finish) (s : Store) → run p n c ≡ Some (o, s) → IsOutcome p n c o s
-run_is p zero c o s e =
-    let same = sym (same_Some _ _ e) in
-    (ap (λ (x : Finish × Store). x.0) same, ap (λ (x : Finish × Store). x.1) same)
-run_is p (suc n) c o s e = run_on_is p n c o s (run_is p n) (next_at p c.place c.values c.active) refl e

@@ -10,5 +10,4 @@ pub mod Site
 pub mod Endless
 pub mod Reached
 pub mod Active
-pub mod Together
 pub mod code

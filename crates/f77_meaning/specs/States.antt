@@ -1,6 +1,6 @@
 -- What a state over slots stands for: the slots are the values
 -- of names, its place and its active DOs those of a run.
-use Rattle.std.specs.Prelude.{ℕ, ◌+◌, List, map, option_map}
+use Rattle.std.specs.Prelude.{ℕ, ◌+◌, List, map}
 use Rattle.std.specs.Option.{option_and_then}
 use Rattle.f77_legal.specs.Blocks.{first_numbers}
 use Rattle.f77_legal.specs.Names.{Symbol}
@@ -10,9 +10,8 @@ use Rattle.f77_code.specs.declared.control.Place.{Place}
 use Rattle.f77_code.specs.declared.control.Place.TheVariants.{Execute, Increment}
 use Rattle.f77_code.specs.declared.control.Turn.{Turn}
 use Rattle.f77_code.specs.Evaluation.{held_in}
-use Rattle.f77_code.specs.Moves.{Cells, TurnList, State, turn_at}
+use Rattle.f77_code.specs.Moves.{Cells}
 use Rattle.f77_meaning.specs.Step as run
-use Rattle.f77_meaning.specs.Step.{Config, config}
 use Rattle.f77_meaning.specs.Value.{Store}
 
 -- what each name holds, where names have these bounds, and slots in the order of this list

@@ -6,7 +6,6 @@ ghost use Rattle.f77_meaning.specs.Endless.{ComesBack, MeetsLimits};
 ghost use Rattle.f77_meaning.specs.Interpreter.{OneAnswer};
 ghost use Rattle.f77_meaning.specs.Outcome.{OneSuccessor, OneOutcome};
 ghost use Rattle.f77_meaning.specs.Reached.{MayBeAnother};
-ghost use Rattle.f77_meaning.specs.Together.{MayBegin, ComeToTheSame};
 
 /// A configuration leads to one configuration or end at most, a run ends in one way at most
 /// within each limit on steps, and a run with given arguments has one outcome at most.
@@ -36,14 +35,6 @@ pub fn active_loops()
 pub fn endless_runs()
     ensures comes_back { ComesBack }
     ensures limits { MeetsLimits }
-{}
-
-/// The run of another program that goes together with that of this one for some steps may
-/// begin behind them; where the two do not part within the limit, they come to the same.
-#[tactic(auto, using(crate::proofs::Together::may_begin, crate::proofs::Together::come_to_the_same))]
-pub fn runs_that_go_together()
-    ensures begins { MayBegin }
-    ensures ends { ComeToTheSame }
 {}
 
 /// Programs of one frame that differ in one statement have one outcome where control does not come to that statement.

@@ -1,10 +1,9 @@
 -- Slots that are filled and read one after another.
 use Rattle.std.proofs.Common.{◌≡◌, ℕ, zero, suc, ◌+◌, ◌-◌, ◌<◌, ◌≤◌, ◌∙◌, List, [], ◌∷◌, ◌++◌, length, take, drop, get_or, Option, Some, None, refl, sym, ap, subst, arith, true}
-use Rattle.std.specs.Prelude.{slice_set}
-use Rattle.std.specs.List.{list_all, zip}
+use Rattle.std.specs.List.{list_all}
 use Rattle.std.specs.Option.{option_and_then}
 use Rattle.std.proofs.lemmas.Bool.{and_parts}
-use Rattle.std.proofs.lemmas.List.{get_or-drop, length-drop, take_more, map-append, length-set}
+use Rattle.std.proofs.lemmas.List.{get_or-drop, length-drop, take_more, map-append}
 use Rattle.std.proofs.lemmas.Option.{slice_get-get_or}
 use Rattle.f77_tree.specs.declared.tree.Kind.{Kind}
 use Rattle.f77_legal.specs.Blocks.{first_numbers}
@@ -13,14 +12,9 @@ use Rattle.f77_meaning.specs.declared.argument.Arg.{Arg}
 use Rattle.f77_actions.specs.declared.value.Value.{Value}
 use Rattle.f77_code.specs.Evaluation.{held_in}
 use Rattle.f77_code.specs.Moves.{Cells}
-use Rattle.f77_meaning.specs.Interpreter.{values_in}
-use Rattle.f77_meaning.specs.code.Spans.{HaveRoom, span}
-use Rattle.f77_meaning.specs.Spans.{all_filled, filled, size_of}
+use Rattle.f77_meaning.specs.code.Spans.{span}
+use Rattle.f77_meaning.specs.Spans.{size_of}
 use Rattle.f77_meaning.specs.code.Typed.{HasValues, has_kind}
-
-length-filled : (cells : Cells) (first : ℕ) (values : List Value) → length (filled cells first values) ≡ length cells
-length-filled cells first [] = refl
-length-filled cells first (v ∷ values) = length-filled (slice_set cells first (Some v)) (first + 1) values ∙ length-set cells first (Some v)
 
 same_cell : (cells : Cells) (k : ℕ) (cell : Option Value) → k < length cells → get_or cells k cell ≡ held_in cells k
 same_cell cells k cell lt = sym (ap (option_and_then (λ cell. cell)) (slice_get-get_or cells k cell lt))
@@ -45,18 +39,6 @@ span_one : (cells : Cells) (first : ℕ) (cell : Option Value) → first < lengt
 span_one cells first cell lt =
     let own : first ≡ first + 0 = omega arith in
     ap (λ x. x ∷ []) (same_cell cells first cell lt ∙ ap (held_in cells) own)
-
--- one more argument is put into its slots
-pub argument_put : (cells new : Cells) (dummies : List ℕ) (arguments : List Arg) (i first : ℕ) (argument : Arg)
-    → zip (drop i dummies) (drop i arguments) ≡ (first, argument) ∷ zip (drop (i + 1) dummies) (drop (i + 1) arguments)
-    → new ≡ filled cells first (values_in argument) → HaveRoom (length cells) (zip (drop i dummies) (drop i arguments))
-    → HaveRoom (length new) (zip (drop (i + 1) dummies) (drop (i + 1) arguments))
-    × (all_filled cells (zip (drop i dummies) (drop i arguments)) ≡ all_filled new (zip (drop (i + 1) dummies) (drop (i + 1) arguments)))
-argument_put cells new dummies arguments i first argument step put room =
-    let rest = zip (drop (i + 1) dummies) (drop (i + 1) arguments) in
-    let both : HaveRoom (length cells) ((first, argument) ∷ rest) = subst (HaveRoom (length cells)) step room in
-    let long : length cells ≡ length new = sym (ap length put ∙ length-filled cells first (values_in argument)) in
-    (subst (λ n. HaveRoom n rest) long both.1, ap (all_filled cells) step ∙ ap (λ now. all_filled now rest) (sym put))
 
 size_some : (shape : Shape) (n : ℕ) → shape.elements ≡ Some n → size_of shape ≡ n
 size_some shape n e = rw e refl

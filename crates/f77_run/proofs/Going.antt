@@ -3,7 +3,6 @@ use Rattle.std.proofs.Common.{arith, ◌≡◌, ◌≢◌, ◌≤◌, ◌<◌, �
 use Rattle.std.proofs.Common.{refl, sym, ap, subst, ◌∙◌}
 use Rattle.std.specs.Prelude.{option_map, slice_get}
 use Rattle.std.specs.List.{list_all}
-use Rattle.std.proofs.lemmas.Bool.{lt-ltb}
 use Rattle.std.proofs.lemmas.Option.{same_Some, slice_get_past}
 use Rattle.f77_tree.specs.declared.tree.Kind.{Kind}
 use Rattle.f77_actions.specs.declared.resolved.Resolved.{Resolved}
@@ -14,7 +13,6 @@ use Rattle.f77_actions.specs.declared.finish.Finish.{Finish}
 use Rattle.f77_actions.specs.declared.finish.Finish.TheVariants.{Returned, Stopped, Failed, StepLimit}
 use Rattle.f77_code.specs.declared.code.Code.{Code}
 use Rattle.f77_code.specs.declared.control.Place.{Place}
-use Rattle.f77_code.specs.declared.control.Place.TheVariants.{Execute, Increment}
 use Rattle.f77_code.specs.declared.control.Turn.{Turn}
 use Rattle.f77_code.specs.Block.{code_after, code_within}
 use Rattle.f77_code.specs.Instructions.{place_at, AreCode}
@@ -24,7 +22,6 @@ use Rattle.f77_code.specs.Constants.{BeginsPlan}
 use Rattle.f77_code.specs.Holds.{Plan, HoldsRegisters, HoldsCounters, loop_count}
 use Rattle.f77_code.specs.Moves.{Cells, State, Move, Goes, Ends}
 use Rattle.f77_code.specs.Operation.{Point, point, ended_point}
-use Rattle.f77_code.specs.Places.{is_place_among}
 use Rattle.f77_code.specs.Program.{IsCode}
 use Rattle.f77_code.specs.Registers.{are_held}
 use Rattle.f77_code.specs.Sequences.{moved_by}
@@ -46,12 +43,11 @@ use Rattle.f77_run.proofs.Advancing.{after_more}
 use Rattle.f77_meaning.proofs.Endless.{limit_met}
 use Rattle.f77_run.proofs.Kinded.{have_actions}
 use Rattle.f77_run.proofs.Loaded.{loaded_count, loaded_holds, counters_count, counters_hold}
-use Rattle.f77_meaning.proofs.Moving.{ComesIn, moves_by, moves_in, all_nested, ends_later, place_below}
+use Rattle.f77_meaning.proofs.Moving.{ComesIn, moves_by, all_nested, ends_later, place_below}
 use Rattle.f77_meaning.proofs.PassesLeft.{active_is_loop, passes_left}
 use Rattle.f77_run.proofs.Readiness.{few_statements, all_ready}
 use Rattle.f77_run.proofs.Shown.{agree_on_dummies}
 use Rattle.f77_meaning.proofs.SlotKinds.{kinds_count}
-use Rattle.f77_run.proofs.Steps.{incremented_within}
 use Rattle.f77_meaning.proofs.Typing.{outcome_typed}
 
 -- ends have places beyond those of all instructions
@@ -84,16 +80,6 @@ module _ (at : RunSite) (statements : List Resolved) (s : State) (is : IsRunning
       (few_statements at.program at.names statements is.legal is.resolved) begins
       (subst (λ list. HaveActions (plan_of list code.constants) statements) (sym kinds_are)
       (have_actions at.program at.names statements code.constants is.legal is.resolved))
-
-  -- the machine stands at a place whose DO, if it is that of one, is among the statements
-  pub place_among : is_place_among (length code.places.increments.items) s.place ≡ true
-  place_among = by s.place refl
-    where
-      by : (place : Place) → s.place ≡ place → is_place_among (length code.places.increments.items) place ≡ true
-      by (Execute i) e = refl
-      by (Increment d) e =
-          let below = incremented_within statements s d e (moves_in at statements s is) in
-          lt-ltb d (length code.places.increments.items) (omega (arith, below, compiled.places.count))
 
   -- what is loaded stands for the state of the machine
   module _ (registers : List ℤ) (loads : registers ≡ loaded kinds s.cells ++ code.constants.values.items) (held : are_held registers ≡ true)

@@ -1,10 +1,9 @@
 -- Arguments that stand in the slots of their dummy arguments hold what these hold.
-use Rattle.std.proofs.Common.{arith, ◌≡◌, ℕ, ◌+◌, ◌-◌, ◌≤◌, Bool, true, false, true≢false, List, [], ◌∷◌, drop, take, length, map, Option, Some, None, refl, sym, ap, subst, ◌∙◌}
+use Rattle.std.proofs.Common.{arith, ◌≡◌, ℕ, ◌+◌, ◌-◌, ◌≤◌, Bool, true, false, true≢false, List, [], ◌∷◌, length, map, Option, Some, None, refl, sym, ap, subst, ◌∙◌}
 use Rattle.std.specs.Bool.{Decides}
 use Rattle.std.specs.List.{zip}
 use Rattle.std.proofs.lemmas.Bool.{and_parts, eqb-true}
 use Rattle.std.proofs.lemmas.List.{length-map}
-use Rattle.std.proofs.lemmas.Simd.{map-map}
 use Rattle.f77_tree.specs.declared.tree.Kind.{Kind}
 use Rattle.f77_check.specs.declared.checked.Shape.{Shape}
 use Rattle.f77_meaning.specs.declared.argument.Arg.{Arg}
@@ -13,9 +12,8 @@ use Rattle.f77_actions.specs.declared.value.Value.{Value}
 use Rattle.f77_run.specs.code.Holding.{IsHeld, AreHeld}
 use Rattle.f77_meaning.specs.Interpreter.{values_in, has_shape, AreFitting}
 use Rattle.f77_code.specs.Moves.{Cells}
-use Rattle.f77_meaning.specs.code.Spans.{HaveRoom, span}
+use Rattle.f77_meaning.specs.code.Spans.{span}
 use Rattle.f77_meaning.specs.Spans.{size_of}
-use Rattle.f77_run.proofs.Filled.{span_slice}
 
 -- what is decided of one fact is decided of another that holds where it does
 pub decided_of : {P Q : Type 0} (r : Bool) → Decides r P → (P → Q) → (Q → P) → Decides r Q
@@ -24,25 +22,8 @@ decided_of r decides to from = (λ e. to (decides.0 e), λ q. decides.1 (from q)
 pub decided_not : {P : Type 0} → (P → ⊥) → Decides false P
 decided_not none = (λ e. absurd (true≢false (sym e)), λ p. absurd (none p))
 
--- the elements of an array in a slice of the slots
-pub array_held : {A : Type 0} (f : A → Value) (xs : List A) (cells : Cells) (first : ℕ) (r : Bool) → first + length (map f xs) ≤ length cells
-    → Decides r (map (λ x. Some (f x)) xs ≡ take (first + length xs - first) (drop first cells))
-    → Decides r (map (λ v. Some v) (map f xs) ≡ span first (length (map f xs)) cells)
-array_held f xs cells first r within decides =
-    let values : map (λ v. Some v) (map f xs) ≡ map (λ x. Some (f x)) xs = map-map (λ v. Some v) f xs in
-    let count : first + length xs - first ≡ length xs = omega arith in
-    let slice : take (first + length xs - first) (drop first cells) ≡ span first (length (map f xs)) cells
-    = ap (λ n. take n (drop first cells)) count ∙ span_slice cells first (length xs) (omega (arith, within, length-map xs f)) ∙ ap (λ n. span first n cells) (sym (length-map xs f)) in
-    decided_of r decides (λ same. values ∙ same ∙ slice) (λ same. sym values ∙ same ∙ sym slice)
-
 -- one argument more
 module _ (cells : Cells) (pairs rest : List (ℕ × Arg)) (first : ℕ) (argument : Arg) (step : pairs ≡ (first, argument) ∷ rest) where
-  pub room_left : HaveRoom (length cells) pairs → (first + length (values_in argument) ≤ length cells) × HaveRoom (length cells) rest
-  room_left room = subst (HaveRoom (length cells)) step room
-
-  pub first_held : AreHeld cells pairs → IsHeld cells first argument × AreHeld cells rest
-  first_held all = subst (AreHeld cells) step all
-
   pub all_held : IsHeld cells first argument → AreHeld cells rest → AreHeld cells pairs
   all_held is later = subst (AreHeld cells) (sym step) (is, later)
 

@@ -100,15 +100,6 @@ counters_count (r ∷ statements) (turn ∷ turns) long =
     let count = more r statements in
     omega (arith, both, one, rest, count)
 
--- where no statement is a DO, nothing has a counter
-pub counters_none : (statements : List Resolved) (turns : TurnList) → length turns ≡ length statements → loop_count statements ≡ 0
-    → counters_of statements turns ≡ []
-counters_none statements turns long none = empty (counters_of statements turns) (counters_count statements turns long ∙ none)
-  where
-    empty : (list : List Turn) → length list ≡ 0 → list ≡ []
-    empty [] count = refl
-    empty (turn ∷ list) count = absurd (omega (arith, count))
-
 -- the counter of an active DO that is the first statement
 first_counter : (b : Bool) (x : Option Turn) (turn : Turn) (others : List Turn) → b ≡ true → x ≡ Some turn
     → slice_get ((if b then unwrap_or x idle ∷ [] else []) ++ others) 0 ≡ Some turn

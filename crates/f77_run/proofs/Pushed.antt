@@ -1,7 +1,7 @@
 -- A list that grows while one list is gone through, or two are side by side.
 use Rattle.std.proofs.Common.{◌≡◌, ◌&&◌, ◌||◌, ◌==◌, ◌<◌, ℕ, ℤ, pos, negsuc, ◌+◌, Bool, true, List, [], ◌∷◌, ◌++◌, drop, take, get_or, length, map}
 use Rattle.std.proofs.Common.{append_assoc, append-nil, min, w32, FitsSigned, refl, sym, ap, ◌∙◌}
-use Rattle.std.specs.List.{flat_map, list_all, zip}
+use Rattle.std.specs.List.{list_all, zip}
 use Rattle.std.proofs.lemmas.Bool.{and_from}
 use Rattle.std.proofs.lemmas.List.{take_more}
 use Rattle.std.proofs.lemmas.List.Folds.{list_all-append}
@@ -26,20 +26,6 @@ module _ {A B X : Type 0} (xs : List A) (ys : List B) where
   -- where no pair is left, that is all
   pub mapped_all : (f : A × B → X) (i : ℕ) (done whole : List X) → i ≡ min (length xs) (length ys) → done ++ map f (pairs_left xs ys i) ≡ whole → done ≡ whole
   mapped_all f i done whole end is = sym (append-nil done) ∙ ap (λ ps. done ++ map f ps) (sym (none_left xs ys i end)) ∙ is
-
-  -- some members more for each pair
-  pub joined_more : (f : A × B → List X) (i : ℕ) (pair : A × B) (done new whole : List X) → pairs_left xs ys i ≡ pair ∷ pairs_left xs ys (i + 1)
-      → new ≡ done ++ f pair → done ++ flat_map f (pairs_left xs ys i) ≡ whole → new ++ flat_map f (pairs_left xs ys (i + 1)) ≡ whole
-  joined_more f i pair done new whole next grown is =
-      ap (λ list. list ++ flat_map f (pairs_left xs ys (i + 1))) grown
-      ∙ append_assoc done (f pair) (flat_map f (pairs_left xs ys (i + 1)))
-      ∙ ap (λ ps. done ++ flat_map f ps) (sym next)
-      ∙ is
-
-  -- where no pair is left, that is all
-  pub joined_all : (f : A × B → List X) (i : ℕ) (done whole : List X) → i ≡ min (length xs) (length ys)
-      → done ++ flat_map f (pairs_left xs ys i) ≡ whole → done ≡ whole
-  joined_all f i done whole end is = sym (append-nil done) ∙ ap (λ ps. done ++ flat_map f ps) (sym (none_left xs ys i end)) ∙ is
 
 -- one member of a list more, behind those that were there at the start
 pub taken_more : {X : Type 0} (xs start done new : List X) (i : ℕ) (d x : X) → i < length xs → x ≡ get_or xs i d → new ≡ done ++ (x ∷ [])

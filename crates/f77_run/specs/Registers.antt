@@ -1,21 +1,20 @@
 -- What stands in the registers of the code of a program for a state of its slots, and in the counters for its DOs.
-use Rattle.std.specs.Prelude.{◌≡◌, ◌∷◌, ◌++◌, if◌then◌else◌, Bool, true, not, List, [], length, map, Option}
-use Rattle.std.specs.Prelude.{Some, None, option_map, replicate, unwrap_or, slice_get, ℤ, pos, Result, Ok, Err}
+use Rattle.std.specs.Prelude.{◌≡◌, ◌∷◌, ◌++◌, if◌then◌else◌, Bool, true, List, [], length, map, Option}
+use Rattle.std.specs.Prelude.{None, option_map, replicate, unwrap_or, ℤ, pos}
 use Rattle.std.specs.List.{flat_map, list_all, zip}
 use Rattle.f77_tree.specs.declared.tree.Kind.{Kind}
-use Rattle.f77_tree.specs.declared.tree.Kind.TheVariants.{Integer, Logical}
 use Rattle.f77_actions.specs.declared.resolved.Resolved.{Resolved}
 use Rattle.f77_check.specs.Checked.{CheckedFields}
 use Rattle.f77_actions.specs.declared.finish.Fault.{Fault}
 use Rattle.f77_actions.specs.declared.value.Value.{Value}
 use Rattle.f77_actions.specs.declared.value.Value.TheVariants as held
-use Rattle.f77_actions.specs.Number.{fits, is_same}
+use Rattle.f77_actions.specs.Number.{fits}
 use Rattle.f77_actions.specs.Told.{coded, is_fitting}
 use Rattle.f77_code.specs.declared.constants.Constants.{Constants}
 use Rattle.f77_code.specs.declared.control.Turn.{Turn}
-use Rattle.f77_code.specs.Holds.{Plan, read_as}
+use Rattle.f77_code.specs.Holds.{read_as}
 use Rattle.f77_code.specs.Moves.{Cells, TurnList, is_loop}
-use Rattle.f77_code.specs.Registers.{are_held, told_by_register}
+use Rattle.f77_code.specs.Registers.{are_held}
 use Rattle.f77_meaning.specs.Start.{constant_value}
 use Rattle.f77_run.specs.declared.registers.Registers.{Registers}
 
