@@ -1,12 +1,11 @@
 -- The table of names: each name once, in order of first appearance, with what the program says of it.
 -- Private functions and proofs alone cite what stands here.
 use Rattle.std.specs.Prelude.{ℕ, ◌&&◌, ◌||◌, Bool, true, false, not, List, [], ◌∷◌}
-use Rattle.std.specs.Prelude.{map, fold, filter_map, if◌then◌else◌, Option, is_some}
+use Rattle.std.specs.Prelude.{fold, if◌then◌else◌, Option, is_some}
 use Rattle.std.specs.Option.{option_map_or}
 use Rattle.std.specs.Str.{bytes_eq}
 use Rattle.indexmap.specs.IndexMap.{get}
 use Rattle.f77_tree.specs.Intrinsic.{function_named}
-use Rattle.f77_tree.specs.Node.{NodeOf, node_name}
 use Rattle.f77_tree.specs.declared.tree.Kind.{Kind}
 use Rattle.f77_tree.specs.declared.tree.Kind.TheVariants.{Integer}
 use Rattle.f77_legal.specs.declared.names.Names.{Names}
@@ -62,10 +61,6 @@ with_mention (entry ∷ entries) mention =
 
 abbrev pub with_mentions : Entries → List Mention → Entries
 with_mentions = fold with_mention
-
--- with the names that the nodes bear, each as a plain mention
-abbrev pub with_nodes : Entries → List NodeOf → Entries
-with_nodes entries nodes = with_mentions entries (map Mention.Plain (filter_map node_name nodes))
 
 -- the mention of a name of which this is said
 abbrev pub mention_of : Symbol → Said → Mention
