@@ -1,7 +1,9 @@
 //! The edits of operators, the programs that they make, and edits that make none.
 
-use f77_check::Checked;
-use f77_program::print;
+use crate::trees::{assign, put, unit};
+use f77_check::{Checked, check};
+use f77_program::{Program, print};
+use f77_tree::Expr;
 use mothra_ops::{Edit, Op, OpsFault, apply, edits};
 use samples::{ADD, LOOP, checked, expect, parts, program};
 use std::process::Abort;
@@ -78,6 +80,35 @@ const PRESET_ARRAY: &str = "SUBROUTINE D(K); DATA I,J/2*3/; K=I; END";
 
 const PRESET_EDITS: &str = "
 DSA => 2 3 1;2 3 2;
+";
+
+/// SUBROUTINE A with K = the number, made of lines, so that the number may be above the largest INTEGER.
+fn assigning(rt: &impl AllocGlobal, number: u32) -> Result<Checked, Fail> {
+    let mut lines = unit(rt)?;
+    put(&mut lines, 1, assign(rt, Expr::Number(number))?);
+    match Program::of(rt.alloc(), lines)? {
+        Some(program) => Ok(check(rt.alloc(), &program)?),
+        None => Err(Fail::new("no program")),
+    }
+}
+
+/// No constant is put that is above the largest INTEGER.
+#[test]
+fn keeps_the_largest_constant(rt: HostRuntime) -> Result<(), Fail> {
+    for row in NEAR_THE_LARGEST.trim_matches('\n').lines() {
+        let (number, want) = parts(row)?;
+        let original = assigning(&rt, number.parse()?)?;
+        expect(list_text(&rt, &original, "CRP"), want, row)?;
+    }
+    Ok(())
+}
+
+const NEAR_THE_LARGEST: &str = "
+2147483646 => 2 2 1;2 2 2;
+2147483647 => 2 2 1;
+2147483648 => 2 2 1;
+2147483649 => 
+4294967295 => 
 ";
 
 /// The edit of a code, a statement, a position and a rank.

@@ -1,6 +1,6 @@
 -- What an operator puts in the place of a node of a formed statement is formed.
 use Rattle.std.proofs.Common.{◌≡◌, ℕ, zero, suc, ◌+◌, List, [], ◌∷◌, ◌++◌, Bool, true, false, filter, map, refl, if◌then◌else◌}
-use Rattle.std.specs.Prelude.{not, nat_eq, nat_lt, ◌&&◌}
+use Rattle.std.specs.Prelude.{not, nat_eq, nat_le, nat_lt, ◌&&◌}
 use Rattle.std.specs.List.{All}
 use Rattle.std.proofs.lemmas.List.Elements.{All-nil, All-cons, All-append, All-filter, All-map, All-weaker}
 use Rattle.f77_tree.specs.declared.form.Form.{Form}
@@ -102,15 +102,15 @@ unary_formed Integer t f =
     three_trees (Tree.Signed Minus t) (Tree.Binary operator.Add t (Tree.Number 1)) (Tree.Binary operator.Subtract t (Tree.Number 1)) f (rw f refl) (rw f refl)
 unary_formed Logical t f = one_tree (Tree.Not t) f
 
-lowered_formed : (n : ℕ) → formed (lowered n) ≡ true
-lowered_formed zero = refl
-lowered_formed (suc n) = refl
+lowered_formed : (n : ℕ) → AllFormed (lowered n)
+lowered_formed zero = one_tree (Tree.Signed Minus (Tree.Number 1)) refl
+lowered_formed (suc n) = chosen IsFormedTree (nat_le n largest_integer) (Tree.Number n ∷ []) [] (one_tree (Tree.Number n) refl) no_trees
 
 altered_formed : (t : Tree) → formed t ≡ true → AllFormed (altered t)
 altered_formed (Tree.Number n) f =
-    All-append IsFormedTree (raised n) (lowered n ∷ [])
+    All-append IsFormedTree (raised n) (lowered n)
     (chosen IsFormedTree (nat_lt n largest_integer) (Tree.Number (n + 1) ∷ []) [] (one_tree (Tree.Number (n + 1)) refl) no_trees)
-    (one_tree (lowered n) (lowered_formed n))
+    (lowered_formed n)
 altered_formed (Tree.Truth b) f = one_tree (Tree.Truth (not b)) refl
 altered_formed _ f = no_trees
 

@@ -74,6 +74,13 @@ crp = refl
 crp_top : replacements Crp pools (NodeOf.Part (Tree.Number 2147483647)) ≡ map NodeOf.Part (Tree.Number 2147483646 ∷ [])
 crp_top = refl
 
+-- a constant above the largest INTEGER, which only a program that was made of lines has
+crp_above : replacements Crp pools (NodeOf.Part (Tree.Number 2147483648)) ≡ map NodeOf.Part (Tree.Number 2147483647 ∷ [])
+crp_above = refl
+
+crp_far_above : replacements Crp pools (NodeOf.Part (Tree.Number 2147483649)) ≡ []
+crp_far_above = refl
+
 glr : replacements Glr pools (NodeOf.Labelled 20) ≡ NodeOf.Labelled 10 ∷ (NodeOf.Labelled 30 ∷ [])
 glr = refl
 

@@ -142,14 +142,14 @@ truths = Tree.Truth true ∷ (Tree.Truth false ∷ [])
 abbrev pub raised : ℕ → List Tree
 raised n = if nat_lt n largest_integer then Tree.Number (n + 1) ∷ [] else []
 
--- one less: below 0 a sign before 1
-abbrev pub lowered : ℕ → Tree
-lowered zero = Tree.Signed Minus (Tree.Number 1)
-lowered (suc n) = Tree.Number n
+-- one less, where it is in the range of INTEGER: below 0 a sign before 1
+abbrev pub lowered : ℕ → List Tree
+lowered zero = Tree.Signed Minus (Tree.Number 1) ∷ []
+lowered (suc n) = if nat_le n largest_integer then Tree.Number n ∷ [] else []
 
--- CRP: one more and one less; the other truth value
+-- CRP: one more and one less, none above the largest INTEGER; the other truth value
 abbrev pub altered : Tree → List Tree
-altered (Tree.Number n) = raised n ++ (lowered n ∷ [])
+altered (Tree.Number n) = raised n ++ lowered n
 altered (Tree.Truth b) = Tree.Truth (not b) ∷ []
 altered _ = []
 

@@ -168,19 +168,28 @@ pub(crate) fn logical(alloc: Global, expr: &Expr) -> Result<Vec<Expr>, OpsFault>
     }
 }
 
-/// One less: below 0 it is a sign before 1.
-fn lowered(alloc: Global, number: u32) -> Result<Expr, OpsFault>
-    ensures lowered { IfOk result (λ expr. tree_of expr ≡ model.lowered number) }
+/// A minus sign before an expression.
+fn negated(alloc: Global, expr: Expr) -> Result<Expr, OpsFault>
+    ensures made { IfOk result (λ made. tree_of made ≡ Tree.Signed Minus (tree_of expr)) }
+    ensures memory { IfErr result (λ fault. fault ≡ Memory) }
+{
+    Ok(Expr::Signed(Sign::Minus, Box::new(alloc, expr)?))
+}
+
+/// Puts one less behind the others, where INTEGER has it: below 0 it is a sign before 1.
+fn add_lowered(alloc: Global, list: &mut Vec<Expr>, number: u32) -> Result<(), OpsFault>
+    ensures added { OnOk result (map tree_of list.new.items ≡ map tree_of list.old.items ++ model.lowered number) }
     ensures memory { IfErr result (λ fault. fault ≡ Memory) }
 {
     if number == 0 {
-        let one = Box::new(alloc, Expr::Number(1))?;
-        return Ok(Expr::Signed(Sign::Minus, one));
+        list.push(negated(alloc, Expr::Number(1))?)?;
+    } else if number - 1 <= MOST {
+        list.push(Expr::Number(number - 1))?;
     }
-    Ok(Expr::Number(number - 1))
+    Ok(())
 }
 
-/// The constants next to a constant: one more, none above the largest INTEGER, and one less; the other truth value.
+/// The constants next to a constant: one more and one less, none above the largest INTEGER; the other truth value.
 pub(crate) fn altered(alloc: Global, expr: &Expr) -> Result<Vec<Expr>, OpsFault>
     ensures list { IfOk result (λ list. map tree_of list.items ≡ model.altered (tree_of expr.now)) }
     ensures memory { IfErr result (λ fault. fault ≡ Memory) }
@@ -191,7 +200,7 @@ pub(crate) fn altered(alloc: Global, expr: &Expr) -> Result<Vec<Expr>, OpsFault>
             if *number < MOST {
                 list.push(Expr::Number(*number + 1))?;
             }
-            list.push(lowered(alloc, *number)?)?;
+            add_lowered(alloc, &mut list, *number)?;
         }
         Expr::Truth(truth) => list.push(Expr::Truth(!*truth))?,
         _ => {}
@@ -206,14 +215,6 @@ fn absolute_value(alloc: Global, expr: &Expr) -> Result<Expr, OpsFault>
 {
     let arguments = vec![in alloc; expr.clone()?]?;
     Ok(Expr::Call(Intrinsic::Iabs, arguments))
-}
-
-/// A minus sign before an expression.
-fn negated(alloc: Global, expr: Expr) -> Result<Expr, OpsFault>
-    ensures made { IfOk result (λ made. tree_of made ≡ Tree.Signed Minus (tree_of expr)) }
-    ensures memory { IfErr result (λ fault. fault ≡ Memory) }
-{
-    Ok(Expr::Signed(Sign::Minus, Box::new(alloc, expr)?))
 }
 
 /// The absolute value, its negative, and the trap where it is zero.
