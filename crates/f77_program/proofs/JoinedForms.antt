@@ -77,8 +77,7 @@ pub separated_next : {B : Type 0} (text : B → List ℕ) (items : List B) (i : 
 separated_next text items i d old mid new before whole h e f g =
     one_text text old mid new before whole (get_or items i d) (drop (i + 1) items) (drop i items) (drop_more items i d h) e f g
 
-pub separated_seen : {X B : Type 0} (view : X → B) (text : B → List ℕ) (items : List X) (i : ℕ) (d : X) (old mid new before whole : List ℕ) → i < length items
-    → old ++ separated text before (map view (drop i items)) ≡ whole → mid ≡ old ++ before → new ≡ mid ++ text (view (get_or items i d))
-    → new ++ separated text (codes ",") (map view (drop (i + 1) items)) ≡ whole
-separated_seen view text items i d old mid new before whole h e f g =
-    one_text text old mid new before whole (view (get_or items i d)) (map view (drop (i + 1) items)) (map view (drop i items)) (ap (map view) (drop_more items i d h)) e f g
+pub separated_map : {X B : Type 0} (view : X → B) (text : B → List ℕ) (before : List ℕ) (items : List X)
+    → separated (λ x. text (view x)) before items ≡ separated text before (map view items)
+separated_map view text before [] = refl
+separated_map view text before (x ∷ items) = ap (λ z. before ++ (text (view x) ++ z)) (separated_map view text (codes ",") items)

@@ -12,7 +12,7 @@ use Rattle.f77_tree.specs.Statement.{Statement}
 use Rattle.f77_tree.specs.Grammar.{Spells, is_name, is_number}
 use Rattle.f77_tree.specs.Joined.{has_items, separated}
 use Rattle.f77_tree.specs.StatementGrammar.{SpellsLabel, SpellsAction, SpellsStatement, IsUnmutated, in_text, tree_in_text, trees_in_text, label_number}
-use Rattle.f77_program.specs.Canonical.{text_of, list_text, names_text, step_text}
+use Rattle.f77_program.specs.Canonical.{text_of, list_text, step_text}
 use Rattle.f77_program.specs.code.Formed.{formed, all_formed, value_formed, statement_formed}
 use Rattle.f77_program.specs.Formed.{is_action}
 use Rattle.f77_tree.specs.Limits.{is_label}
@@ -23,13 +23,13 @@ use Rattle.f77_tree.specs.StatementGrammar.{kind_keyword}
 use Rattle.f77_program.specs.Declaration.{declarations_text}
 use Rattle.f77_program.specs.code.Declaration.{declaration_formed}
 use Rattle.f77_tree.specs.Declaration.{all_bounded}
-use Rattle.f77_program.specs.Data.{groups_text}
+use Rattle.f77_program.specs.Data.{groups_text, name_text}
 use Rattle.f77_program.proofs.JoinedForms.{joined_back}
 use Rattle.f77_program.proofs.DeclarationForms.{declaration_back}
 use Rattle.f77_program.proofs.DataForms.{data_back}
 
 -- names joined by commas
-joined : (n : List ℕ) (names : List (List ℕ)) → join_with_byte 44 (n ∷ names) ≡ n ++ names_text 44 names
+joined : (n : List ℕ) (names : List (List ℕ)) → join_with_byte 44 (n ∷ names) ≡ n ++ separated name_text (codes ",") names
 joined n [] = sym (append-nil n)
 joined n (m ∷ names) = ap (λ z. n ++ 44 ∷ z) (joined m names)
 
@@ -54,7 +54,7 @@ spelled_back n h = subst (SpellsLabel (decimal n)) (label_back n h) (SpellsLabel
 -- the canonical text of a statement without its blanks
 abbrev pub bare_text : Statement → List ℕ
 bare_text (Statement.Subroutine name []) = codes "SUBROUTINE" ++ name
-bare_text (Statement.Subroutine name (n ∷ names)) = codes "SUBROUTINE" ++ (name ++ (names_text 40 (n ∷ names) ++ 41 ∷ []))
+bare_text (Statement.Subroutine name (n ∷ names)) = codes "SUBROUTINE" ++ (name ++ (separated name_text (codes "(") (n ∷ names) ++ 41 ∷ []))
 bare_text (Statement.Declare kind ds) = kind_keyword kind ++ declarations_text ds
 bare_text (Statement.Dimension ds) = codes "DIMENSION" ++ declarations_text ds
 bare_text (Statement.Preset gs) = codes "DATA" ++ groups_text gs

@@ -12,40 +12,35 @@ use Rattle.f77_tree.specs.Joined.{has_items, separated}
 use Rattle.f77_tree.specs.StatementGrammar.{SpellsStatement, IsFormed, IsUnmutated}
 use Rattle.f77_tree.specs.Grammar.{is_letter, is_word, is_name}
 use Rattle.f77_tree.proofs.Constants.{told_by_part}
-use Rattle.f77_program.specs.Canonical.{text_of, list_text, names_text, step_text, statement_text}
+use Rattle.f77_program.specs.Canonical.{text_of, list_text, step_text, statement_text}
 use Rattle.f77_program.specs.code.Formed.{formed, all_formed, value_formed, statement_formed}
 use Rattle.f77_program.specs.Formed.{is_action}
 use Rattle.f77_tree.proofs.Tests.{and_true, not_true}
 use Rattle.f77_program.proofs.StatementForming.{is_formed}
 use Rattle.f77_tree.specs.Limits.{statement_constants}
 use Rattle.f77_program.proofs.StatementBack.{bare_text, back_statement}
-use Rattle.f77_program.proofs.Plain.{is_plain, IsPlain, both, plain_letter, plain_name, plain_decimal, plain_text, plain_list, not_blank, squeezed_plain, printable_plain, behind_plain, printable_both}
+use Rattle.f77_program.proofs.Plain.{IsPlain, both, plain_letter, plain_name, plain_decimal, plain_text, plain_list, not_blank, squeezed_plain, printable_plain, behind_plain, printable_both}
 use Rattle.f77_tree.specs.StatementGrammar.{kind_keyword}
 use Rattle.f77_program.specs.Declaration.{declarations_text}
 use Rattle.f77_program.specs.code.Declaration.{declaration_formed}
 use Rattle.f77_tree.specs.Declaration.{all_bounded}
-use Rattle.f77_program.specs.Data.{groups_text}
+use Rattle.f77_program.specs.Data.{groups_text, name_text}
 use Rattle.f77_tree.specs.declared.tree.Kind.{Kind}
 use Rattle.f77_tree.specs.declared.tree.Kind.TheVariants.{Integer, Logical}
 use Rattle.f77_program.proofs.JoinedForms.{plain_separated}
 use Rattle.f77_program.proofs.DeclarationForms.{any_size, any_sizes, plain_declaration}
 use Rattle.f77_program.proofs.DataForms.{plain_data}
 
-plain_names : (c : ℕ) (names : List (List ℕ)) → is_plain c ≡ true → list_all is_name names ≡ true → IsPlain (names_text c names)
-plain_names c [] h f = refl
-plain_names c (n ∷ names) h f =
-    let (first, others) = and_true (is_name n) (list_all is_name names) f in
-    rw h (both n (names_text 44 names) (plain_name n first) (plain_names 44 names refl others))
-
 -- behind the keyword SUBROUTINE
 abbrev pub behind : List ℕ → List (List ℕ) → List ℕ
 behind name [] = name
-behind name (n ∷ names) = name ++ (names_text 40 (n ∷ names) ++ 41 ∷ [])
+behind name (n ∷ names) = name ++ (separated name_text (codes "(") (n ∷ names) ++ 41 ∷ [])
 
 pub plain_behind : (name : List ℕ) (names : List (List ℕ)) → is_name name ≡ true → list_all is_name names ≡ true → IsPlain (behind name names)
 plain_behind name [] h f = plain_name name h
 plain_behind name (n ∷ names) h f =
-    both name (names_text 40 (n ∷ names) ++ 41 ∷ []) (plain_name name h) (both (names_text 40 (n ∷ names)) (41 ∷ []) (plain_names 40 (n ∷ names) refl f) refl)
+    let list = separated name_text (codes "(") (n ∷ names) in
+    both name (list ++ 41 ∷ []) (plain_name name h) (both list (41 ∷ []) (plain_separated is_name name_text plain_name (codes "(") refl (n ∷ names) f) refl)
 
 pub plain_assign : (name : List ℕ) (items : Trees) (t : Tree) → statement_formed (Statement.Assign name items t) ≡ true
     → IsPlain (statement_text (Statement.Assign name items t))

@@ -4,8 +4,10 @@ use Rattle.std.proofs.lemmas.Bool.{eqb-true}
 use Rattle.std.specs.Prelude.{◌==◌, map, codes}
 use Rattle.f77_tree.specs.declared.tree.Expr.{Expr}
 use Rattle.f77_tree.specs.Statement.{Statement}
-use Rattle.f77_program.specs.Canonical.{list_text, rest_text, names_text, statement_text}
+use Rattle.f77_program.specs.Canonical.{list_text, rest_text, statement_text}
 use Rattle.f77_tree.specs.View.{tree_of, trees}
+use Rattle.f77_tree.specs.Joined.{separated}
+use Rattle.f77_program.specs.Data.{name_text}
 
 pub list_whole : (old mid new : List ℕ) (items : List Expr) (b : Bool) → b ≡ (length items == 0) → b ≡ false
     → mid ≡ old ++ rest_text 40 (trees (map tree_of items)) → new ≡ mid ++ 41 ∷ [] → new ≡ old ++ list_text (trees (map tree_of items))
@@ -20,14 +22,14 @@ no_arguments old mid new name (n ∷ arguments) b is none e f =
     absurd (let h : (length (n ∷ arguments) == 0) ≡ true = cc in let k = eqb-true (length (n ∷ arguments)) 0 h in omega arith)
 
 pub some_arguments : (old mid named list new name : List ℕ) (arguments : List (List ℕ)) (b : Bool) → b ≡ (length arguments == 0) → b ≡ false
-    → mid ≡ old ++ codes "SUBROUTINE " → named ≡ mid ++ name → list ≡ named ++ names_text 40 arguments → new ≡ list ++ 41 ∷ []
+    → mid ≡ old ++ codes "SUBROUTINE " → named ≡ mid ++ name → list ≡ named ++ separated name_text (codes "(") arguments → new ≡ list ++ 41 ∷ []
     → new ≡ old ++ statement_text (Statement.Subroutine name arguments)
 some_arguments old mid named list new name [] b is some e f g h = cc
 some_arguments old mid named list new name (n ∷ arguments) b is some e f g h =
-    h ∙ ap (λ z. z ++ 41 ∷ []) (g ∙ ap (λ z. z ++ names_text 40 (n ∷ arguments)) (f ∙ ap (λ z. z ++ name) e ∙ append_assoc old (codes "SUBROUTINE ") name))
-    ∙ append_assoc (old ++ (codes "SUBROUTINE " ++ name)) (names_text 40 (n ∷ arguments)) (41 ∷ [])
-    ∙ append_assoc old (codes "SUBROUTINE " ++ name) (names_text 40 (n ∷ arguments) ++ 41 ∷ [])
-    ∙ ap (λ z. old ++ z) (append_assoc (codes "SUBROUTINE ") name (names_text 40 (n ∷ arguments) ++ 41 ∷ []))
+    h ∙ ap (λ z. z ++ 41 ∷ []) (g ∙ ap (λ z. z ++ separated name_text (codes "(") (n ∷ arguments)) (f ∙ ap (λ z. z ++ name) e ∙ append_assoc old (codes "SUBROUTINE ") name))
+    ∙ append_assoc (old ++ (codes "SUBROUTINE " ++ name)) (separated name_text (codes "(") (n ∷ arguments)) (41 ∷ [])
+    ∙ append_assoc old (codes "SUBROUTINE " ++ name) (separated name_text (codes "(") (n ∷ arguments) ++ 41 ∷ [])
+    ∙ ap (λ z. old ++ z) (append_assoc (codes "SUBROUTINE ") name (separated name_text (codes "(") (n ∷ arguments) ++ 41 ∷ []))
 
 -- one part behind another
 pub before_rest : (new v w part rest : List ℕ) → new ≡ w ++ rest → w ≡ v ++ part → new ≡ v ++ (part ++ rest)

@@ -6,7 +6,7 @@ use Rattle.f77_tree.specs.Intrinsic.{function_name}
 use Rattle.f77_tree.specs.Grammar.{truth_constant_text}
 use Rattle.f77_tree.specs.Joined.{separated}
 use Rattle.f77_program.specs.Declaration.{declarations_text}
-use Rattle.f77_program.specs.Data.{groups_text}
+use Rattle.f77_program.specs.Data.{groups_text, name_text}
 use Rattle.f77_tree.specs.StatementGrammar.{kind_keyword}
 use Rattle.f77_tree.specs.Tree.{Tree, Trees}
 use Rattle.f77_tree.specs.Statement.{Statement}
@@ -49,11 +49,6 @@ abbrev mutual
   rest_text c Trees.None = []
   rest_text c (Trees.Then t ts) = c ∷ (text_of t ++ rest_text 44 ts)
 
--- this character before the first name, and a comma before each other
-abbrev pub names_text : ℕ → List (List ℕ) → List ℕ
-names_text c [] = []
-names_text c (name ∷ names) = c ∷ (name ++ names_text 44 names)
-
 -- a comma and the text, where there is one
 abbrev pub step_text : Option Tree → List ℕ
 step_text None = []
@@ -63,7 +58,7 @@ step_text (Some t) = 44 ∷ text_of t
 abbrev pub statement_text : Statement → List ℕ
 statement_text (Statement.Subroutine name []) = codes "SUBROUTINE " ++ name
 statement_text (Statement.Subroutine name (n ∷ names)) =
-    codes "SUBROUTINE " ++ (name ++ (names_text 40 (n ∷ names) ++ 41 ∷ []))
+    codes "SUBROUTINE " ++ (name ++ (separated name_text (codes "(") (n ∷ names) ++ 41 ∷ []))
 statement_text (Statement.Declare kind ds) = kind_keyword kind ++ (32 ∷ declarations_text ds)
 statement_text (Statement.Dimension ds) = codes "DIMENSION " ++ declarations_text ds
 statement_text (Statement.Preset gs) = codes "DATA " ++ groups_text gs

@@ -2,3 +2,4 @@ pub mod Declaration
 pub mod Data
 pub mod Formed
 pub mod Printing
+pub mod Joined

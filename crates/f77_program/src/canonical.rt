@@ -1,9 +1,7 @@
 //! Canonical texts of statements.
 
-ghost use Rattle.std.specs.Prelude.{◌≡◌, ◌<◌, ◌++◌, true, OnOk, IfOk, IfErr, map, option_map, string_bytes, codes};
+ghost use Rattle.std.specs.Prelude.{◌≡◌, ◌<◌, ◌++◌, true, OnOk, IfOk, IfErr, map, option_map, string_bytes};
 ghost use Rattle.f77_source.specs.Law.{squeezed};
-ghost use Rattle.std.specs.Fmt.{decimal};
-ghost use Rattle.f77_tree.specs.Joined.{separated};
 ghost use Rattle.f77_tree.specs.Statement.{Statement, statement_of};
 ghost use Rattle.f77_tree.specs.StatementGrammar.{SpellsStatement, IsFormed, IsUnmutated};
 ghost use Rattle.f77_tree.specs.Limits.{statement_constants};
@@ -13,6 +11,7 @@ ghost use Rattle.f77_tree.specs.View.{tree_of, trees};
 use crate::data::print_groups;
 use crate::declaration::print_declarations;
 use crate::fault::SyntaxFault;
+use crate::joined::{print_names, print_numbers};
 use f77_tree::{Expr, Name, Stmt};
 use std::alloc::{AllocError, Global};
 
@@ -115,19 +114,6 @@ fn separated(out: &mut String, opening: u8, items: &[Expr]) -> Result<(), AllocE
     Ok(())
 }
 
-/// Writes names, a parenthesis before the first and a comma before each other.
-fn names(out: &mut String, names: &[Name]) -> Result<(), AllocError>
-    ensures { OnOk result (string_bytes out.new ≡ string_bytes out.old ++ canonical.names_text 40 names.now) }
-{
-    let mut before = b'(';
-    for name in names {
-        out.push(char::from(before))?;
-        out.push_str(name.as_str())?;
-        before = b',';
-    }
-    Ok(())
-}
-
 /// Writes the statement SUBROUTINE.
 fn subroutine(out: &mut String, name: &Name, arguments: &[Name]) -> Result<(), AllocError>
     ensures { OnOk result (string_bytes out.new
@@ -138,7 +124,7 @@ fn subroutine(out: &mut String, name: &Name, arguments: &[Name]) -> Result<(), A
     if arguments.is_empty() {
         return Ok(());
     }
-    names(out, arguments)?;
+    print_names(out, "(", arguments)?;
     out.push(')')?;
     Ok(())
 }
@@ -157,26 +143,13 @@ fn third(out: &mut String, step: &Option<Expr>) -> Result<(), AllocError>
     }
 }
 
-/// Writes labels, a parenthesis before the first and a comma before each other.
-fn print_labels(out: &mut String, labels: &[u32]) -> Result<(), AllocError>
-    ensures { OnOk result (string_bytes out.new ≡ string_bytes out.old ++ separated decimal (codes "(") labels.now) }
-{
-    let mut before = b'(';
-    for label in labels {
-        out.push(char::from(before))?;
-        write!(out, "{label}")?;
-        before = b',';
-    }
-    Ok(())
-}
-
 /// Writes a computed GO TO.
 fn computed(out: &mut String, labels: &[u32], value: &Expr) -> Result<(), AllocError>
     ensures { OnOk result (string_bytes out.new ≡ string_bytes out.old
         ++ canonical.statement_text (Statement.ComputedGoto labels.now (tree_of value.now))) }
 {
     out.push_str("GO TO ")?;
-    print_labels(out, labels)?;
+    print_numbers(out, labels)?;
     out.push_str("),")?;
     form(out, value)
 }

@@ -1,6 +1,6 @@
 //! Initial values: whether some text spells them, and how they are written.
 
-ghost use Rattle.std.specs.Prelude.{◌≡◌, ◌++◌, [], true, map, codes, OnOk, string_bytes};
+ghost use Rattle.std.specs.Prelude.{◌≡◌, ◌++◌, true, map, codes, OnOk, string_bytes};
 ghost use Rattle.std.specs.List.{list_all};
 ghost use Rattle.f77_tree.specs.Data.{data_group_of};
 ghost use Rattle.f77_tree.specs.Grammar as grammar;
@@ -10,8 +10,8 @@ ghost use Rattle.f77_tree.specs.Name.{is_short};
 ghost use Rattle.f77_tree.specs.Names as limits;
 ghost use Rattle.f77_program.specs.Data as initial;
 ghost use Rattle.f77_program.specs.code.Data as initial_code;
-ghost use Rattle.f77_program.specs.Data.{name_text};
 
+use crate::joined::{print_joined, print_names};
 use f77_tree::{Constant, DataGroup, Name, Value, known_names};
 use std::alloc::AllocError;
 
@@ -80,37 +80,19 @@ fn print_value(out: &mut String, value: &Value) -> Result<(), AllocError>
     print_constant(out, value.constant)
 }
 
-fn print_names(out: &mut String, names: &[Name]) -> Result<(), AllocError>
-    ensures { OnOk result (string_bytes out.new ≡ string_bytes out.old ++ separated name_text [] names.now) }
-{
-    let mut before = "";
-    for name in names {
-        out.push_str(before)?;
-        out.push_str(name.as_str())?;
-        before = ",";
-    }
-    Ok(())
-}
-
 /// Writes values, a slash before the first and a comma before each other.
 fn print_values(out: &mut String, values: &[Value]) -> Result<(), AllocError>
     ensures { OnOk result
         (string_bytes out.new ≡ string_bytes out.old ++ separated initial.value_text (codes "/") values.now) }
 {
-    let mut before = "/";
-    for value in values {
-        out.push_str(before)?;
-        print_value(out, value)?;
-        before = ",";
-    }
-    Ok(())
+    print_joined(out, "/", values, print_value)
 }
 
 fn print_group(out: &mut String, group: &DataGroup) -> Result<(), AllocError>
     ensures { OnOk result
         (string_bytes out.new ≡ string_bytes out.old ++ initial.group_text (data_group_of group.now)) }
 {
-    print_names(out, &group.names)?;
+    print_names(out, "", &group.names)?;
     print_values(out, &group.values)?;
     out.push_str("/")
 }
@@ -120,11 +102,5 @@ pub(crate) fn print_groups(out: &mut String, groups: &[DataGroup]) -> Result<(),
     ensures { OnOk result
         (string_bytes out.new ≡ string_bytes out.old ++ initial.groups_text (map data_group_of groups.now)) }
 {
-    let mut before = "";
-    for group in groups {
-        out.push_str(before)?;
-        print_group(out, group)?;
-        before = ",";
-    }
-    Ok(())
+    print_joined(out, "", groups, print_group)
 }

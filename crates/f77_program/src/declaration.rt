@@ -1,14 +1,13 @@
 //! Declared names: whether some text spells them, and how they are written.
 
-ghost use Rattle.std.specs.Prelude.{◌≡◌, ◌++◌, true, map, codes, OnOk, string_bytes};
+ghost use Rattle.std.specs.Prelude.{◌≡◌, ◌++◌, true, map, OnOk, string_bytes};
 ghost use Rattle.std.specs.List.{list_all};
-ghost use Rattle.std.specs.Fmt.{decimal};
 ghost use Rattle.f77_tree.specs.Declaration.{decl_of};
-ghost use Rattle.f77_tree.specs.Joined.{separated};
 ghost use Rattle.f77_tree.specs.Names as limits;
 ghost use Rattle.f77_program.specs.Declaration as declared;
 ghost use Rattle.f77_program.specs.code.Declaration as declared_code;
 
+use crate::joined::{print_joined, print_numbers};
 use f77_tree::Decl;
 use std::alloc::AllocError;
 
@@ -32,19 +31,6 @@ pub(crate) fn declaration_formed(items: &[Decl]) -> bool
     !items.is_empty()
 }
 
-/// Writes bounds, a parenthesis before the first and a comma before each other.
-fn print_bounds(out: &mut String, bounds: &[u32]) -> Result<(), AllocError>
-    ensures { OnOk result (string_bytes out.new ≡ string_bytes out.old ++ separated decimal (codes "(") bounds.now) }
-{
-    let mut before = "(";
-    for bound in bounds {
-        out.push_str(before)?;
-        write!(out, "{bound}")?;
-        before = ",";
-    }
-    Ok(())
-}
-
 fn print_declaration(out: &mut String, item: &Decl) -> Result<(), AllocError>
     ensures { OnOk result (string_bytes out.new ≡ string_bytes out.old ++ declared.decl_text (decl_of item.now)) }
 {
@@ -52,7 +38,7 @@ fn print_declaration(out: &mut String, item: &Decl) -> Result<(), AllocError>
     if item.bounds.is_empty() {
         return Ok(());
     }
-    print_bounds(out, &item.bounds)?;
+    print_numbers(out, &item.bounds)?;
     out.push_str(")")
 }
 
@@ -61,11 +47,5 @@ pub(crate) fn print_declarations(out: &mut String, items: &[Decl]) -> Result<(),
     ensures { OnOk result
         (string_bytes out.new ≡ string_bytes out.old ++ declared.declarations_text (map decl_of items.now)) }
 {
-    let mut before = "";
-    for item in items {
-        out.push_str(before)?;
-        print_declaration(out, item)?;
-        before = ",";
-    }
-    Ok(())
+    print_joined(out, "", items, print_declaration)
 }

@@ -8,6 +8,7 @@ mod declaration;
 mod fault;
 mod formed;
 mod group;
+mod joined;
 pub mod law;
 mod patching;
 mod printing;

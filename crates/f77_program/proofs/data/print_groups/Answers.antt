@@ -1,14 +1,12 @@
-use Rattle.std.proofs.Common.{refl, ◌∷◌, ◌++◌, [], ◌∙◌, ap, string_bytes}
+use Rattle.std.proofs.Common.{of_calls, [], ◌++◌, ◌∙◌, ap, string_bytes}
+use Rattle.std.proofs.lemmas.Result.{on_ok_weaker}
 use Rattle.f77_tree.specs.Data.{data_group_of}
 use Rattle.f77_program.specs.Data.{group_text}
-use Rattle.f77_program.proofs.JoinedForms.{separated_seen}
+use Rattle.f77_program.proofs.JoinedForms.{separated_map}
 use Rattle.f77_program.proofs.data.print_groups.Goals as goal
 
-pub loop-group-preserved : goal.loop-group-preserved
-unfolding lib.Utf8.encode
-loop-group-preserved c = record {
-  letters = (44 ∷ [], (refl, refl));
-  text = separated_seen data_group_of group_text c.args.groups.now c.loop-group.group-index c.group-item.result _ _ _ _ _ c.loop-group-test.true
-      c.loop-group.invariant.text c.in_ok-push_str.ensures.bytes
-      (c.in_ok-print_group.ensures ∙ ap (λ z. string_bytes c.push_str.new.self ++ group_text (data_group_of z)) c.group-item.is);
-}
+pub returns : goal.returns
+returns c =
+    on_ok_weaker c.print_joined.result
+    (λ e. e ∙ ap (λ z. string_bytes c.args.out.now ++ z) (separated_map data_group_of group_text [] c.args.groups.now))
+    (c.print_joined.ensures (λ x. group_text (data_group_of x)) (λ out item result after called. search of_calls))
