@@ -11,7 +11,7 @@ ghost use Rattle.equivalents_app.specs.Telling as definition;
 
 use mothra_codes::Ticket;
 use mothra_equivalents::{Equivalent, Why};
-use mothra_ops::{Mutant, Mutants, Op, OpsFault, Plan, push_name};
+use mothra_ops::{Mutant, Op, OpsFault, Plan, push_name};
 use std::alloc::{AllocError, Global};
 
 /// The greatest number that the key `equivalent` of a job takes.
@@ -45,54 +45,39 @@ fn push_reason(text: &mut String, every: u32, equivalent: Equivalent) -> Result<
 fn push_mutant(
     text: &mut String,
     plan: &Plan,
-    mutants: &Mutants<'_>,
     equivalent: Equivalent,
     mutant: &Mutant,
 ) -> Result<(), OpsFault>
-    requires { mutants.now ≡ plan.now }
     ensures line { OnOk result
         (string_bytes text.new ≡ string_bytes text.old ++ rule_line plan.now equivalent (mutant_fields mutant.now)) }
     ensures memory { IfErr result (λ fault. fault ≡ Memory) }
 {
     push_reason(text, plan.every(), equivalent)?;
-    mutants.push_change(text, mutant)?;
+    plan.push_change(text, mutant)?;
     text.push_str("\n")?;
     Ok(())
 }
 
 /// Adds the line of a mutant that is proved equivalent.
-fn push_equivalent(
-    text: &mut String,
-    plan: &Plan,
-    mutants: &mut Mutants<'_>,
-    equivalent: Equivalent,
-) -> Result<(), OpsFault>
-    requires { mutants.old ≡ plan.now }
-    ensures plan { mutants.new ≡ mutants.old }
+fn push_equivalent(text: &mut String, plan: &Plan, equivalent: Equivalent) -> Result<(), OpsFault>
     ensures line { OnOk result (string_bytes text.new ≡ string_bytes text.old ++ equivalent_line plan.now equivalent) }
     ensures memory { IfErr result (λ fault. fault ≡ Memory) }
 {
     let ticket = equivalent.ticket;
-    match mutants.mutant(*text.allocator(), ticket.op, ticket.number)? {
-        Some(mutant) => push_mutant(text, plan, mutants, equivalent, &mutant),
+    match plan.mutant(ticket.op, ticket.number) {
+        Some(mutant) => push_mutant(text, plan, equivalent, mutant),
         None => Ok(()),
     }
 }
 
 /// Adds a line for each mutant that is proved equivalent.
-fn push_equivalents(
-    text: &mut String,
-    plan: &Plan,
-    mutants: &mut Mutants<'_>,
-    list: &[Equivalent],
-) -> Result<(), OpsFault>
-    requires { mutants.old ≡ plan.now }
+fn push_equivalents(text: &mut String, plan: &Plan, list: &[Equivalent]) -> Result<(), OpsFault>
     ensures lines { OnOk result
         (string_bytes text.new ≡ string_bytes text.old ++ flat_map (equivalent_line plan.now) list.now) }
     ensures memory { IfErr result (λ fault. fault ≡ Memory) }
 {
     for equivalent in list {
-        push_equivalent(text, plan, mutants, *equivalent)?;
+        push_equivalent(text, plan, *equivalent)?;
     }
     Ok(())
 }
@@ -115,9 +100,8 @@ fn lines_of(alloc: Global, plan: &Plan, list: &[Equivalent]) -> Result<String, O
     ensures text { IfOk result (λ text. string_bytes text ≡ lines_text plan.now list.now) }
     ensures memory { IfErr result (λ fault. fault ≡ Memory) }
 {
-    let mut mutants = Mutants::of(alloc, plan)?;
     let mut text = String::new(alloc);
-    push_equivalents(&mut text, plan, &mut mutants, list)?;
+    push_equivalents(&mut text, plan, list)?;
     let count = list.len();
     let total = total_of(plan);
     write!(text, "PROVED {count} OF {total}\n")?;

@@ -1,7 +1,7 @@
 -- When a changed statement stands alone, and what is told of it.
-use Rattle.std.proofs.Common.{arith, ◌≡◌, ◌≢◌, ◌<◌, ◌==◌, ◌∙◌, inl, inr, ℕ, Bool, true, false, true≢false, cond, List, []}
+use Rattle.std.proofs.Common.{arith, ◌≡◌, ◌<◌, ◌==◌, ◌∙◌, inl, inr, ℕ, Bool, true, false, true≢false, cond, List, []}
 use Rattle.std.proofs.Common.{◌∷◌, length, get_or, set, map, filter, reverse, Option, Some, None, refl, sym, ap, subst}
-use Rattle.std.specs.Prelude.{◌-◌, is_some, option_map, IsNone}
+use Rattle.std.specs.Prelude.{◌-◌, is_some, option_map}
 use Rattle.std.specs.List.{AllZip, find, slice_get}
 use Rattle.std.specs.Option.{option_and_then, option_map_or}
 use Rattle.std.proofs.lemmas.Bool.{cases_lt}
@@ -26,21 +26,25 @@ use Rattle.f77_check.specs.declared.resolve.Resolver.{Resolver}
 use Rattle.f77_check.specs.declared.start.Start.{Start}
 use Rattle.f77_actions.specs.declared.resolved.Resolved.{Resolved}
 use Rattle.f77_legal.specs.Blocks.{statement_numbers, statement_behind}
+use Rattle.f77_legal.specs.Broken.{clause_told, has_known_names}
+use Rattle.f77_legal.specs.Clause.{clause_fault}
 use Rattle.f77_legal.specs.Frames.{framed, HaveOneFrame}
 use Rattle.f77_legal.specs.Labels.{label_place, nth_statement, terminal_label}
-use Rattle.f77_legal.specs.Legal.{IsLegal, faults, first_fault}
+use Rattle.f77_legal.specs.Legal.{IsLegal, faults, first_clause, first_fault}
 use Rattle.f77_legal.specs.Loops.{terminal, ends_at, loops_ending}
 use Rattle.f77_legal.specs.NameTable.{has_name}
 use Rattle.f77_legal.specs.Names.{Symbol, name_in}
-use Rattle.f77_legal.specs.Patches.{is_name_among, names_pass, own_statement_fault, IsStock}
-use Rattle.f77_legal.specs.code.Patches.{MayStandAt, NamesAmong, StandsAlone}
+use Rattle.f77_legal.specs.Patches.{is_name_among, names_pass, IsStock}
+use Rattle.f77_legal.specs.Tables.{Serve}
+use Rattle.f77_legal.specs.Alone.{MayStandAt, NamesAmong, StandsAlone}
+use Rattle.f77_legal.specs.declared.broken.Broken.{Broken}
 use Rattle.f77_legal.specs.declared.fault.CheckFault.{CheckFault}
 use Rattle.f77_legal.specs.declared.names.Names.{Names}
 use Rattle.f77_legal.proofs.Alone.{alone_fault, alone_frame, alone_stock}
 use Rattle.f77_legal.proofs.Branches.{found_some}
 use Rattle.f77_legal.proofs.PatchNames.{is_executed, executed, among_kept, symbols_pass}
 use Rattle.f77_legal.proofs.Replaced.{other_line, changed_line}
-use Rattle.f77_legal.proofs.SameFrame.{length_same, behind_same}
+use Rattle.f77_legal.proofs.SameFrame.{behind_same}
 use Rattle.f77_check.proofs.Carried.{all_resolved_same, can_resolve_same, shapes_same, start_same}
 use Rattle.f77_check.proofs.CheckedParts.{checked_of}
 use Rattle.f77_check.proofs.KeptNames.{mentions_at}
@@ -167,14 +171,21 @@ no_fault : (list : List CheckFault) → slice_get list 0 ≡ None → list ≡ [
 no_fault [] none = refl
 no_fault (fault ∷ list) none = absurd (cc (none))
 
--- a program is legal where the statement that is changed alone owes nothing
-pub owes_none_legal : (names : List Symbol) (p : List LineFields) (i : ℕ) (s : Statement) → StandsAlone names p i s → IsLegal p → IsStock names p
-    → ((line : ℕ) → own_statement_fault p i line s ≡ None) → IsLegal (replaced p i s)
-owes_none_legal names p i s alone legal stock none = no_fault (faults (replaced p i s)) (alone_fault names p i s alone legal stock ∙ none alone.line.line)
+-- what the tables of a program tell of the changed statement, where they have its names and the frame stays
+module _ (r : Resolver) (p : List LineFields) (can : CanResolve r p) (i : ℕ) (s : Statement) (formed : IsFormed s) (stays : FrameStays p i s) (told : Broken)
+    (names : names_pass (has_name r.tables.names) s ≡ has_known_names told)
+    (first : Serve r.tables p → has_known_names told ≡ true → clause_told told ≡ first_clause p i s) (known : has_known_names told ≡ true) where
+  pub told_alone : StandsAlone (keys r.tables.names.facts) p i s
+  told_alone = alone_where_kept r p can i s formed stays (names ∙ known)
 
-pub none_legal : (p : List LineFields) (told : Option CheckFault) → told ≡ first_fault p → IsNone told → IsLegal p
-none_legal p None same none = no_fault (faults p) (sym same)
-none_legal p (Some fault) same none = absurd (true≢false none)
+  pub told_fault : first_fault (replaced p i s) ≡ option_map (λ clause. clause_fault clause stays.line.line) (clause_told told)
+  unfolding told_alone alone_where_kept
+  told_fault =
+      alone_fault (keys r.tables.names.facts) p i s told_alone can.legal can.names
+      ∙ ap (option_map (λ clause. clause_fault clause stays.line.line)) (sym (first can.tables known))
+
+  pub told_legal : clause_told told ≡ None → IsLegal (replaced p i s)
+  told_legal none = no_fault (faults (replaced p i s)) (told_fault ∙ ap (option_map (λ clause. clause_fault clause stays.line.line)) none)
 
 -- a program that is changed in the statement i alone, by the tables of the checked one
 module _ (r : Resolver) (p q : List LineFields) (i : ℕ) (can : CanResolve r p) (change : IsChangedAlone (keys r.tables.names.facts) p i q) where
@@ -186,21 +197,6 @@ module _ (r : Resolver) (p q : List LineFields) (i : ℕ) (can : CanResolve r p)
       can_resolve_same p q changed_frame r can
       (subst (IsStock (keys r.tables.names.facts)) (sym change.changed) (alone_stock (keys r.tables.names.facts) p i change.statement change.alone can.names))
       formed change.legal
-
-  pub changed_within : i < length q
-  changed_within =
-      let within = slice_get_within p i change.alone.line change.alone.at in
-      let long = length_same p q changed_frame in
-      omega (arith, within, long)
-
-  others : (j : ℕ) → i ≢ j → nth_statement q j ≡ nth_statement p j
-  others j apart =
-      ap (λ q. nth_statement q j) change.changed ∙ ap (option_map (λ (line : LineFields). line.stmt)) (other_line p i j change.statement apart)
-
-  pub changed_statements : (list : List Resolved) (new : Resolved) → AreResolved p (keys r.tables.names.facts) list
-      → ((s : Statement) → nth_statement q i ≡ Some s → IsResolved q (keys r.tables.names.facts) i s new)
-      → AreResolved q (keys r.tables.names.facts) (set list i new)
-  changed_statements list new are is = all_resolved_same p q changed_frame (keys r.tables.names.facts) i list new others are is
 
   changed_shapes : shapes p ≡ shapes q
   changed_shapes = shapes_same p q changed_frame

@@ -4,10 +4,9 @@ use Rattle.std.specs.Prelude.{position}
 use Rattle.std.specs.List.{list_any, position_or_len}
 use Rattle.f77_program.specs.Group.{group_of}
 use Rattle.f77_program.specs.Program.{LineFields, IsProgram}
-use Rattle.f77_tree.specs.Statement.{Statement}
+use Rattle.f77_tree.specs.Statement.{Statement, is_executable_statement}
 use Rattle.f77_program.specs.declared.group.Group.{Group}
 use Rattle.f77_program.specs.declared.group.Group.TheVariants.{End}
-use Rattle.f77_check.specs.Start.{is_executable_statement}
 use Rattle.f77_legal.proofs.Positions.{found_there}
 
 end_group : (s : Statement) → group_of s ≡ End → is_executable_statement s ≡ true

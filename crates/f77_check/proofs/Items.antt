@@ -8,14 +8,12 @@ use Rattle.f77_tree.specs.Tree.{Tree, Trees}
 use Rattle.f77_tree.specs.View.{tree_of, trees}
 use Rattle.f77_tree.specs.declared.intrinsic.Intrinsic.{Intrinsic}
 use Rattle.f77_tree.specs.declared.tree.Expr.{Expr}
-use Rattle.f77_tree.specs.declared.tree.Kind.{Kind}
 use Rattle.f77_tree.specs.declared.tree.Kind.TheVariants.{Integer}
 use Rattle.f77_legal.specs.Dimensions.{tree_count, takes, fits_bounds, all_fit}
 use Rattle.f77_check.specs.code.Kept.{tree_kept, items_kept}
 use Rattle.f77_legal.specs.Kinds.{is_of_kind, are_integer}
 use Rattle.f77_check.specs.code.Lookup.{ServesNames, IsReadyTree}
 use Rattle.f77_legal.specs.NameTable.{kind_at, array_bounds}
-use Rattle.f77_legal.specs.Names.{Symbol}
 use Rattle.f77_check.specs.declared.resolve.Resolver.{Resolver}
 
 -- a list of one item, and of two
@@ -61,11 +59,6 @@ pub items_ready : (r : Resolver) (f : Intrinsic) (xs : List Expr) → IsReadyTre
 items_ready r f xs h =
     each_ready r h.names xs h.kinds (and_parts (takes f (tree_count (trees (map tree_of xs)))) (all_fit (array_bounds r.tables.names) (trees (map tree_of xs))) h.bounds).1
     h.kept
-
--- the subscripts of a reference
-pub subscripts_ready : (r : Resolver) (kind : Kind) (name : Symbol) (xs : List Expr) → IsReadyTree r kind (Tree.Reference name (trees (map tree_of xs)))
-    → All (λ x. IsReadyTree r Integer (tree_of x)) xs
-subscripts_ready r kind name xs h = each_ready r h.names xs (and_parts _ _ h.kinds).1 (and_parts _ _ h.bounds).1 (and_parts _ _ h.kept).1
 
 pub item_ready : (r : Resolver) (xs : List Expr) (i : ℕ) (x : Expr) → i < length xs → x ≡ get_or xs i x
     → All (λ x. IsReadyTree r Integer (tree_of x)) xs → IsReadyTree r Integer (tree_of x)

@@ -7,13 +7,12 @@ use Rattle.f77_program.specs.Formed.{is_action}
 use Rattle.f77_program.specs.Program.{LineFields}
 use Rattle.f77_tree.specs.Statement.{statement_of, Statement, jumps_of}
 use Rattle.f77_tree.specs.Tree.{Tree, Trees}
-use Rattle.f77_tree.specs.View.{reference_fields, tree_of, trees}
+use Rattle.f77_tree.specs.View.{tree_of}
 use Rattle.f77_tree.specs.declared.tree.Expr.{Expr}
-use Rattle.f77_tree.specs.declared.tree.Ref.{Ref}
 use Rattle.f77_tree.specs.declared.statement.Stmt.{Stmt}
 use Rattle.f77_tree.specs.declared.statement.Stmt.TheVariants as forms
 use Rattle.f77_tree.specs.declared.statement.Stmt.TheViews as boxed
-use Rattle.f77_tree.proofs.Views.{ref_view, computed_view, logical_view, loop_view}
+use Rattle.f77_tree.proofs.Views.{computed_view, logical_view}
 use Rattle.f77_actions.specs.Operators.{relation_of}
 use Rattle.f77_legal.specs.Dimensions.{tree_count, fits_bounds, all_fit}
 use Rattle.f77_check.specs.code.Kept.{is_kept, tree_kept, items_kept}
@@ -103,24 +102,6 @@ target_ready r name items t h =
       },
     )
 
--- what is assigned, which is of the same kind
-pub value_ready : (r : Resolver) (target : Ref) (t : Tree) (kind : Kind) → kind_at r.tables.names target.name ≡ kind
-    → CanBeResolved r (Statement.Assign (reference_fields target).0 (trees (reference_fields target).1) t) → IsReadyTree r kind t
-value_ready r target t kind is h =
-    let name = (reference_fields target).0 in
-    let items = trees (reference_fields target).1 in
-    let kinds = kind_at r.tables.names in
-    let bounds = array_bounds r.tables.names in
-    let same : kinds name ≡ kind = ap (λ (at : Symbol × List Tree). kinds at.0) (ref_view target) ∙ is in
-    let sized = and_parts (tree_count items == length (bounds name)) (all_fit bounds items && fits_bounds bounds t) h.bounds in
-    let have = and_parts (is_kept r.tables.names name) (items_kept r.tables.names items && tree_kept r.tables.names t) h.kept in
-    record {
-      names = h.names;
-      kinds = subst (λ kind. is_of_kind kinds kind t ≡ true) same (and_parts (are_integer kinds items) (is_of_kind kinds (kinds name) t) h.kinds).1;
-      bounds = (and_parts (all_fit bounds items) (fits_bounds bounds t) sized.1).1;
-      kept = (and_parts (items_kept r.tables.names items) (tree_kept r.tables.names t) have.1).1;
-    }
-
 -- what is known of a statement of the program, of its form
 module _ (r : Resolver) (p : List LineFields) (x : Stmt) (ready : CanBeResolved r (statement_of x)) (found : AreFound p (jumps_of (statement_of x))) where
   pub computed_ready : (labels : Vec ℕ Global) (value : Expr) (list : List ℕ) → x ≡ forms.ComputedGoto labels value → list ≡ labels.items
@@ -138,8 +119,3 @@ module _ (r : Resolver) (p : List LineFields) (x : Stmt) (ready : CanBeResolved 
       let same : statement_of x ≡ Statement.LogicalIf (tree_of condition) (statement_of inner) =
       ap statement_of is ∙ logical_view condition a ∙ ap (λ z. Statement.LogicalIf (tree_of condition) (statement_of z)) (sym value) in
       (subst (CanBeResolved r) same ready, (subst (λ s. AreFound p (jumps_of s)) same found, subst (HasEnd p i) same ends))
-
--- the same of a DO
-pub loop_ready : (r : Resolver) (x : Stmt) (label : ℕ) (variable : Symbol) (a b : Expr) (c : Option Expr) → x ≡ forms.Loop label variable a b c
-    → CanBeResolved r (statement_of x) → CanBeResolved r (Statement.Loop label variable (tree_of a) (tree_of b) (option_map tree_of c))
-loop_ready r x label variable a b c is ready = subst (CanBeResolved r) (ap statement_of is ∙ loop_view label variable a b c) ready

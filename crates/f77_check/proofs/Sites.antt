@@ -20,7 +20,7 @@ use Rattle.f77_legal.specs.Names.{Symbol, kind_of, bounds_of}
 use Rattle.f77_legal.specs.NameTable.{array_bounds}
 use Rattle.f77_check.specs.Ready.{CanResolve}
 use Rattle.f77_check.specs.code.Ready.{CanBeResolved, AreFound, HasEnd, Does}
-use Rattle.f77_check.specs.Resolved.{IsResolved, AreResolved}
+use Rattle.f77_check.specs.Resolved.{IsResolved}
 use Rattle.f77_check.specs.declared.resolve.Resolver.{Resolver}
 use Rattle.f77_actions.specs.declared.resolved.Resolved.{Resolved}
 use Rattle.f77_legal.proofs.Actions.{inner_acts}
@@ -99,6 +99,3 @@ one_more p names n list x first next = record {
 
 pub none_yet : (p : List LineFields) (names : List Symbol) → AreFirst p names 0 []
 none_yet p names = record { count = refl; each = λ i s r at is. absurd (cc (is)) }
-
-pub all_resolved : (p : List LineFields) (names : List Symbol) (n : ℕ) (list : List Resolved) → AreFirst p names n list → n ≡ length p → AreResolved p names list
-all_resolved p names n list first end = record { count = first.count ∙ end; each = first.each }

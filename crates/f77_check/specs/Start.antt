@@ -1,12 +1,12 @@
 -- Where a run of a program starts: its first executable statement, its dummy arguments,
 -- and what DATA gives each element of a name (ANSI X3.9-1978, section 9 and 15.9).
-use Rattle.std.specs.Prelude.{◌≡◌, ℕ, ◌&&◌, ◌==◌, Bool, false, true, List, map, Option, Some, replicate, position}
+use Rattle.std.specs.Prelude.{◌≡◌, ℕ, ◌&&◌, ◌==◌, Bool, List, map, Option, Some, replicate, position}
 use Rattle.std.specs.List.{find, flat_map, zip}
 use Rattle.std.specs.Option.{option_and_then}
 use Rattle.std.specs.Str.{bytes_eq}
 use Rattle.f77_program.specs.Program.{LineFields}
 use Rattle.f77_tree.specs.Tree.{GroupFields}
-use Rattle.f77_tree.specs.Statement.{Statement}
+use Rattle.f77_tree.specs.Statement.{is_executable_statement}
 use Rattle.f77_tree.specs.declared.data.Constant.{Constant}
 use Rattle.f77_check.specs.declared.start.Start.{Start}
 use Rattle.f77_legal.specs.Blocks.{first_numbers}
@@ -37,13 +37,6 @@ is_cell one other = bytes_eq one.0 other.0 && one.1 == other.1
 abbrev pub preset_value : List LineFields → Symbol → ℕ → Option Constant
 preset_value program name k = option_and_then (λ given. Some given.1)
     (find (λ given. is_cell (name, k) given.0) (presets program))
-
-abbrev pub is_executable_statement : Statement → Bool
-is_executable_statement (Statement.Subroutine name names) = false
-is_executable_statement (Statement.Declare kind declarations) = false
-is_executable_statement (Statement.Dimension declarations) = false
-is_executable_statement (Statement.Preset groups) = false
-is_executable_statement _ = true
 
 -- What a run of a program starts with: its first executable statement, the first
 -- slot of each dummy argument, what DATA gives each slot, and the kind of each slot.

@@ -1,29 +1,27 @@
 //! Checked programs with one statement changed.
 
 ghost use Rattle.std.specs.Prelude.{◌≡◌, ◌<◌, ◌⊎◌, ◌-◌, true, false, List, length};
-ghost use Rattle.std.specs.Prelude.{map, IfOk, IfErr, IfSome, IsNone, None, OnOk, Some};
+ghost use Rattle.std.specs.Prelude.{map, IfOk, IfErr, None, Some};
 ghost use Rattle.f77_program.specs.Program.{LineFields, IsProgram, line_of};
 ghost use Rattle.f77_program.specs.Patching.{Fits, replaced, patched};
 ghost use Rattle.f77_tree.specs.Statement.{statement_of};
 ghost use Rattle.f77_check.specs.Checked.{shapes};
-ghost use Rattle.f77_check.specs.code.Patching.{FrameStays, IsChangedAlone};
+ghost use Rattle.f77_check.specs.code.Patching.{FrameStays};
 ghost use Rattle.f77_check.specs.Patching.{IsInPlace};
-ghost use Rattle.f77_check.specs.Resolved.{IsResolved, AreResolved};
+ghost use Rattle.f77_check.specs.Resolved.{IsResolved};
 ghost use Rattle.f77_legal.specs.Legal.{IsLegal, TellsFirstFault, faults, first_fault};
-ghost use Rattle.f77_legal.specs.code.Patches.{MayStandAt, StandsAlone};
+ghost use Rattle.f77_legal.specs.Alone.{MayStandAt, StandsAlone};
 ghost use Rattle.f77_legal.specs.declared.fault.CheckFault.TheVariants.{Memory};
 
 use crate::checked::Checked;
 use crate::checking::{check, judged};
 use f77_actions::Resolved;
-use f77_legal::{CheckFault, is_terminal, keeps_frame};
-use f77_program::{Line, Program, is_formed};
+use f77_legal::{Broken, CheckFault, is_terminal, keeps_frame};
 use f77_tree::{Shared, Stmt};
-use std::alloc::Global;
 
 impl Checked {
-    /// Whether the statement may stand in the place of the one of this number, which is 1
-    /// for SUBROUTINE: it is of the same group, and some text spells it. It takes no memory.
+    /// Whether the statement may stand in the place of the one of this number, which is 1 for SUBROUTINE: it is of the
+    /// same group, some text spells it, and its names have six characters at most. It takes no memory.
     pub fn fits(&self, number: usize, stmt: &Stmt) -> bool
         ensures yes { result ≡ true → Fits (map line_of self.now.program) number (statement_of stmt.now) }
         ensures no { result ≡ false → ¬ (Fits (map line_of self.now.program) number (statement_of stmt.now)) }
@@ -48,124 +46,62 @@ impl Checked {
         keeps_frame(&self.program().lines()[i].stmt, stmt) && self.may_stand_at(i, stmt)
     }
 
-    /// Whether the change is judged by the changed statement alone. It takes no memory.
-    fn stands_alone(&self, number: usize, stmt: &Stmt) -> bool
+    /// What the changed statement alone tells of the changed program: true where it is legal, false where the
+    /// whole of it has to be judged, or its first fault. It takes no memory.
+    fn judged_alone(&self, number: usize, stmt: &Stmt) -> Result<bool, CheckFault>
         requires { Fits (map line_of self.now.program) number (statement_of stmt.now) }
-        ensures { result ≡ true
-            → StandsAlone self.now.names (map line_of self.now.program) (number - 1) (statement_of stmt.now) }
-    {
-        self.frame_stays(number, stmt) && self.resolver().tables.names.have(stmt)
-    }
-
-    /// Whether it is seen in one walk over the changed statement that the program stays legal. It takes no memory.
-    fn stays_legal(&self, number: usize, stmt: &Stmt) -> bool
-        requires { Fits (map line_of self.now.program) number (statement_of stmt.now) }
-        ensures { result ≡ true → IsLegal (patched (map line_of self.now.program) number (statement_of stmt.now)) }
+        ensures alone { IfOk result (λ alone. alone ≡ true
+            → StandsAlone self.now.names (map line_of self.now.program) (number - 1) (statement_of stmt.now)) }
+        ensures legal { IfOk result (λ alone. alone ≡ true
+            → IsLegal (patched (map line_of self.now.program) number (statement_of stmt.now))) }
+        ensures fault { IfErr result (λ fault.
+            first_fault (patched (map line_of self.now.program) number (statement_of stmt.now)) ≡ Some fault) }
     {
         if !self.frame_stays(number, stmt) {
-            return false;
-        }
-        let lines = self.program().lines();
-        self.resolver().tables.owes_nothing(lines, number - 1, stmt)
-    }
-
-    /// The first fault of the program with this statement in the place of
-    /// the statement `i`, where it has it if any has. It takes no memory.
-    fn own_fault(&self, i: usize, stmt: &Stmt) -> Option<CheckFault>
-        requires { StandsAlone self.now.names (map line_of self.now.program) i (statement_of stmt.now) }
-        ensures { result ≡ first_fault (replaced (map line_of self.now.program) i (statement_of stmt.now)) }
-    {
-        let lines = self.program().lines();
-        self.resolver()
-            .tables
-            .own_fault(lines, i, lines[i].line, stmt)
-    }
-
-    /// The statements of the changed program resolved, in order:
-    /// the statement `i`, which is changed, is resolved by itself.
-    fn statements_with(
-        &self,
-        alloc: Global,
-        lines: &[Shared<Line>],
-        i: usize,
-    ) -> Result<Vec<Shared<Resolved>>, CheckFault>
-        requires formed { IsProgram None (map line_of lines.now) }
-        requires changed { IsChangedAlone self.now.names (map line_of self.now.program) i (map line_of lines.now) }
-        ensures statements { IfOk result (λ list. AreResolved (map line_of lines.now) self.now.names list.items) }
-        ensures memory { IfErr result (λ fault. fault ≡ Memory) }
-    {
-        let resolved = self.resolver().resolved(alloc, lines, i)?;
-        let mut statements = self.statements().to_vec(alloc)?;
-        statements[i] = Shared::new(alloc, resolved)?;
-        Ok(statements)
-    }
-
-    /// The changed program, checked, where it is legal by the changed statement alone, which is the statement `i`.
-    fn resolved_alone(&self, program: Program, i: usize) -> Result<Checked, CheckFault>
-        requires { IsChangedAlone self.now.names (map line_of self.now.program) i (map line_of program) }
-        ensures program { IfOk result (λ checked. map line_of checked.program ≡ map line_of program) }
-        ensures arguments { IfOk result (λ checked. checked.arguments ≡ self.now.arguments) }
-        ensures memory { IfErr result (λ fault. fault ≡ Memory) }
-    {
-        let statements = self.statements_with(program.allocator(), program.lines(), i)?;
-        Ok(Checked::from_parts(
-            program,
-            self.shared_arguments().clone()?,
-            self.resolver().clone()?,
-            statements,
-            self.shared_start().clone()?,
-        ))
-    }
-
-    /// The statement resolved that stands in the place of the one of this number, where the
-    /// change is judged by the changed statement alone; None where it is not. With it in
-    /// the place of the old one, the statements resolved are those of the changed program.
-    ///
-    /// Want of memory is told in place of any answer.
-    pub fn resolved_in_place(
-        &self,
-        number: usize,
-        stmt: &Stmt,
-    ) -> Result<Option<Shared<Resolved>>, CheckFault>
-        requires fits { Fits (map line_of self.now.program) number (statement_of stmt.now) }
-        requires legal { IsLegal (patched (map line_of self.now.program) number (statement_of stmt.now)) }
-        ensures in_place { IfOk result (λ found. IfSome found (IsInPlace self.now number (statement_of stmt.now))) }
-        ensures memory { IfErr result (λ fault. fault ≡ Memory) }
-    {
-        if !self.stands_alone(number, stmt) {
-            return Ok(None);
-        }
-        // A statement that some text spells has short names, as those of a program are.
-        let _formed = is_formed(stmt);
-        let program = self.program();
-        let resolved = self.resolved_for(number - 1, stmt)?;
-        Ok(Some(Shared::new(program.allocator(), resolved)?))
-    }
-
-    /// The same in the place of `made`, whose memory it takes over as far as the two have one form; false where
-    /// the change is not judged by the changed statement alone.
-    ///
-    /// Want of memory is told in place of any answer, and nothing is said of `made` then.
-    pub fn resolve_in_place(
-        &self,
-        number: usize,
-        stmt: &Stmt,
-        made: &mut Resolved,
-    ) -> Result<bool, CheckFault>
-        requires fits { Fits (map line_of self.now.program) number (statement_of stmt.now) }
-        requires legal { IsLegal (patched (map line_of self.now.program) number (statement_of stmt.now)) }
-        ensures in_place { IfOk result (λ alone. alone ≡ true
-            → IsInPlace self.now number (statement_of stmt.now) made.new) }
-        ensures memory { IfErr result (λ fault. fault ≡ Memory) }
-    {
-        if !self.stands_alone(number, stmt) {
             return Ok(false);
         }
-        // A statement that some text spells has short names, as those of a program are.
-        let _formed = is_formed(stmt);
+        let i = number - 1;
+        let lines = self.program().lines();
+        match self.resolver().tables.first_broken(lines, i, stmt) {
+            Broken::Nothing => Ok(true),
+            Broken::First(clause) => Err(clause.fault(lines[i].line)),
+            Broken::UnknownName => Ok(false),
+        }
+    }
+
+    /// Whether the program with this statement in the place of the one of this number is legal by that statement
+    /// alone; false where it is legal, and was judged as a whole; else its first fault, in the order of test.
+    ///
+    /// Want of memory is told in place of any answer. None is taken where the statement alone tells.
+    pub fn judge(&self, number: usize, stmt: &Stmt) -> Result<bool, CheckFault>
+        requires { Fits (map line_of self.now.program) number (statement_of stmt.now) }
+        ensures legal { IfOk result
+            (λ _. IsLegal (patched (map line_of self.now.program) number (statement_of stmt.now))) }
+        ensures alone { IfOk result (λ alone. alone ≡ true
+            → StandsAlone self.now.names (map line_of self.now.program) (number - 1) (statement_of stmt.now)) }
+        ensures fault { let program = patched (map line_of self.now.program) number (statement_of stmt.now) in
+            IfErr result (λ fault. (fault ≡ Memory) ⊎ (first_fault program ≡ Some fault)) }
+    {
+        if self.judged_alone(number, stmt)? {
+            return Ok(true);
+        }
+        self.judged_as_a_whole(number, stmt)?;
+        Ok(false)
+    }
+
+    /// The statement resolved in the place of the one of this number, where the changed program is legal by it alone.
+    /// With it in the place of the old one, the statements resolved are those of the changed program.
+    pub fn resolved(&self, number: usize, stmt: &Stmt) -> Result<Shared<Resolved>, CheckFault>
+        requires fits { Fits (map line_of self.now.program) number (statement_of stmt.now) }
+        requires alone { StandsAlone self.now.names (map line_of self.now.program) (number - 1)
+            (statement_of stmt.now) }
+        requires legal { IsLegal (patched (map line_of self.now.program) number (statement_of stmt.now)) }
+        ensures in_place { IfOk result (IsInPlace self.now number (statement_of stmt.now)) }
+        ensures memory { IfErr result (λ fault. fault ≡ Memory) }
+    {
         let alloc = self.program().allocator();
-        self.resolve_for(alloc, number - 1, stmt, made)?;
-        Ok(true)
+        let resolved = self.resolved_for(number - 1, stmt)?;
+        Ok(Shared::new(alloc, resolved)?)
     }
 
     /// The statement `i` of the changed program, which this statement is, resolved.
@@ -184,24 +120,28 @@ impl Checked {
             .resolved_as(self.program().allocator(), i, stmt, next)
     }
 
-    /// The same in the place of `made`.
-    fn resolve_for(
-        &self,
-        alloc: Global,
-        i: usize,
-        stmt: &Stmt,
-        made: &mut Resolved,
-    ) -> Result<(), CheckFault>
-        ghost program: { List LineFields }
-        requires changed { program ≡ replaced (map line_of self.now.program) i (statement_of stmt.now) }
-        requires alone { StandsAlone self.now.names (map line_of self.now.program) i (statement_of stmt.now) }
-        requires formed { IsProgram None program }
-        requires legal { IsLegal program }
-        ensures resolved { OnOk result (IsResolved program self.now.names i (statement_of stmt.now) made.new) }
+    /// The changed program, checked, where it is legal by the changed statement alone.
+    fn patched_alone(&self, number: usize, stmt: &Stmt) -> Result<Checked, CheckFault>
+        requires fits { Fits (map line_of self.now.program) number (statement_of stmt.now) }
+        requires alone { StandsAlone self.now.names (map line_of self.now.program) (number - 1)
+            (statement_of stmt.now) }
+        requires legal { IsLegal (patched (map line_of self.now.program) number (statement_of stmt.now)) }
+        ensures program { IfOk result (λ checked. map line_of checked.program
+            ≡ patched (map line_of self.now.program) number (statement_of stmt.now)) }
+        ensures arguments { IfOk result (λ checked. checked.arguments ≡ self.now.arguments) }
         ensures memory { IfErr result (λ fault. fault ≡ Memory) }
     {
-        let next = self.statements()[i].next;
-        self.resolver().resolve_into(alloc, i, stmt, next, made)
+        let resolved = self.resolved(number, stmt)?;
+        let program = self.program().with_statement(number, stmt)?;
+        let mut statements = self.statements().to_vec(program.allocator())?;
+        statements[number - 1] = resolved;
+        Ok(Checked::from_parts(
+            program,
+            self.shared_arguments().clone()?,
+            self.resolver().clone()?,
+            statements,
+            self.shared_start().clone()?,
+        ))
     }
 
     /// The program with this statement in the place of the one of this number, checked: it and the shapes of its dummy
@@ -219,41 +159,15 @@ impl Checked {
         ensures fault { let program = patched (map line_of self.now.program) number (statement_of stmt.now) in
             IfErr result (λ fault. (fault ≡ Memory) ⊎ (first_fault program ≡ Some fault)) }
     {
-        if !self.stands_alone(number, stmt) {
-            let program = self.program().with_statement(number, stmt)?;
-            return check(program.allocator(), &program);
+        if self.judged_alone(number, stmt)? {
+            return self.patched_alone(number, stmt);
         }
-        match self.own_fault(number - 1, stmt) {
-            Some(fault) => Err(fault),
-            None => {
-                let program = self.program().with_statement(number, stmt)?;
-                self.resolved_alone(program, number - 1)
-            }
-        }
-    }
-
-    /// What `patched` refuses the change with, None where it refuses none:
-    /// no program is made where the changed statement alone can tell.
-    ///
-    /// Want of memory is told in place of any answer.
-    pub fn patch_fault(&self, number: usize, stmt: &Stmt) -> Option<CheckFault>
-        requires { Fits (map line_of self.now.program) number (statement_of stmt.now) }
-        ensures legal { IsNone result
-            → IsLegal (patched (map line_of self.now.program) number (statement_of stmt.now)) }
-        ensures fault { let program = patched (map line_of self.now.program) number (statement_of stmt.now) in
-            IfSome result (λ fault. (fault ≡ Memory) ⊎ (first_fault program ≡ Some fault)) }
-    {
-        if self.stays_legal(number, stmt) {
-            return None;
-        }
-        if self.stands_alone(number, stmt) {
-            return self.own_fault(number - 1, stmt);
-        }
-        self.whole_fault(number, stmt).err()
+        let program = self.program().with_statement(number, stmt)?;
+        check(program.allocator(), &program)
     }
 
     /// The faults of the whole changed program.
-    fn whole_fault(&self, number: usize, stmt: &Stmt) -> Result<(), CheckFault>
+    fn judged_as_a_whole(&self, number: usize, stmt: &Stmt) -> Result<(), CheckFault>
         requires { Fits (map line_of self.now.program) number (statement_of stmt.now) }
         ensures { TellsFirstFault result
             (faults (patched (map line_of self.now.program) number (statement_of stmt.now))) }

@@ -64,12 +64,7 @@ impl Resolver {
     }
 
     /// An assignment, by the kind of what is assigned to (10.1, 10.2).
-    pub(crate) fn assignment(
-        &self,
-        alloc: Global,
-        target: &Ref,
-        value: &Expr,
-    ) -> Result<Action, CheckFault>
+    fn assignment(&self, alloc: Global, target: &Ref, value: &Expr) -> Result<Action, CheckFault>
         requires { CanBeResolved self.now (Statement.Assign (reference_fields target.now).0
             (trees (reference_fields target.now).1) (tree_of value.now)) }
         ensures action { IfOk result (λ action. ResolvesAssignment self.now (reference_fields target.now).0
@@ -135,12 +130,7 @@ impl Resolver {
     }
 
     /// A statement that may stand in a logical IF.
-    pub(crate) fn inner_action(
-        &self,
-        alloc: Global,
-        i: usize,
-        stmt: &Stmt,
-    ) -> Result<Action, CheckFault>
+    fn inner_action(&self, alloc: Global, i: usize, stmt: &Stmt) -> Result<Action, CheckFault>
         ghost program: { List LineFields }
         requires tables { Serve self.now.tables program }
         requires ready { CanBeResolved self.now (statement_of stmt.now) }
@@ -179,7 +169,7 @@ impl Resolver {
 
     /// A logical IF (11.5).
     #[tactic(auto, using(crate::proofs::Readiness::inner_ready))]
-    pub(crate) fn logical(
+    fn logical(
         &self,
         alloc: Global,
         i: usize,
@@ -202,7 +192,7 @@ impl Resolver {
     }
 
     /// A block IF or an ELSE IF (11.6, 11.7).
-    pub(crate) fn branch(&self, alloc: Global, i: usize, test: &Expr) -> Result<Action, CheckFault>
+    fn branch(&self, alloc: Global, i: usize, test: &Expr) -> Result<Action, CheckFault>
         ghost program: { List LineFields }
         requires tables { Serve self.now.tables program }
         requires ready { CanBeResolved self.now (Statement.BlockIf (tree_of test.now)) }
@@ -257,7 +247,7 @@ impl Resolver {
     }
 
     /// What the statement `i` does (section 10, 11.1 to 11.14).
-    pub(crate) fn action(&self, alloc: Global, i: usize, stmt: &Stmt) -> Result<Action, CheckFault>
+    fn action(&self, alloc: Global, i: usize, stmt: &Stmt) -> Result<Action, CheckFault>
         ghost program: { List LineFields }
         requires tables { Serve self.now.tables program }
         requires ready { CanBeResolved self.now (statement_of stmt.now) }
@@ -320,7 +310,7 @@ impl Resolver {
     }
 
     /// The statement `i` of a legal program, resolved.
-    pub(crate) fn resolved(
+    fn resolved(
         &self,
         alloc: Global,
         lines: &[Shared<Line>],

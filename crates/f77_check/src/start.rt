@@ -5,7 +5,7 @@ ghost use Rattle.std.specs.List.{flat_map, list_all};
 ghost use Rattle.indexmap.specs.IndexMap.{keys};
 ghost use Rattle.f77_tree.specs.Data.{data_group_of};
 ghost use Rattle.f77_program.specs.Program.{line_of};
-ghost use Rattle.f77_tree.specs.Statement.{statement_of};
+ghost use Rattle.f77_tree.specs.Statement.{is_executable_statement, statement_of};
 ghost use Rattle.f77_legal.specs.Blocks.{first_numbers};
 ghost use Rattle.f77_check.specs.code.Initial as given;
 ghost use Rattle.f77_check.specs.code.Initial.{HasFewSlots, slots_of, groups_kept};
@@ -16,7 +16,6 @@ ghost use Rattle.f77_legal.specs.Presets as presets;
 ghost use Rattle.f77_legal.specs.Presets.{element_count};
 ghost use Rattle.f77_check.specs.Ready.{CanResolve};
 ghost use Rattle.f77_check.specs.Slots.{first_slot, slot_kinds};
-ghost use Rattle.f77_check.specs.Start as start;
 ghost use Rattle.f77_check.specs.Start.{IsStartOf, preset_value};
 ghost use Rattle.f77_legal.specs.declared.fault.CheckFault.TheVariants.{Memory};
 
@@ -25,7 +24,7 @@ use f77_legal::CheckFault;
 use f77_legal::heading::arguments;
 use f77_legal::names::product;
 use f77_program::Line;
-use f77_tree::{Constant, DataGroup, Form, Kind, Name, Shared, Stmt, Value};
+use f77_tree::{Constant, DataGroup, Kind, Name, Shared, Stmt, Value};
 use std::alloc::Global;
 
 /// What a run of a program starts with. Statements and slots are numbered from 0.
@@ -41,20 +40,13 @@ pub struct Start {
     pub kinds: Vec<Kind>,
 }
 
-fn is_executable(stmt: &Stmt) -> bool
-    ensures { result ≡ start.is_executable_statement (statement_of stmt.now) }
-{
-    !matches!(
-        stmt.form(),
-        Form::Subroutine | Form::Declare | Form::Dimension | Form::Preset
-    )
-}
-
 /// The first executable statement.
 fn entry(lines: &[Shared<Line>]) -> Option<usize>
-    ensures { result ≡ position (λ line. start.is_executable_statement (statement_of line.stmt)) lines.now }
+    ensures { result ≡ position (λ line. is_executable_statement (statement_of line.stmt)) lines.now }
 {
-    lines.iter().position(|line| is_executable(&line.stmt))
+    lines
+        .iter()
+        .position(|line| line.stmt.form().is_executable())
 }
 
 /// The groups of a DATA statement, none of another.

@@ -1,8 +1,8 @@
--- What is told of a legal program with one statement changed: what that statement owes by itself.
+-- What is told of a legal program with one statement changed: the first clause that this statement breaks.
 use Rattle.std.proofs.Common.{◌≡◌, ◌≢◌, ◌⊎◌, inl, inr, ◌∙◌, ◌+◌, ℕ, zero, suc, List, [], ◌∷◌, ◌++◌, Bool, true, false, cond, not}
 use Rattle.std.proofs.Common.{Option, Some, None, refl, sym, ap, subst, arith, map, filter, length, append_assoc, append-nil}
 use Rattle.std.specs.Prelude.{◌≤◌, nat_lt, option_map}
-use Rattle.std.specs.List.{All, flat_map, enumerate_from, slice_get}
+use Rattle.std.specs.List.{All, enumerate_from, find, flat_map, slice_get}
 use Rattle.std.specs.Option.{option_and_then, option_map_or}
 use Rattle.std.proofs.lemmas.Bool.{cases_eq, or_parts}
 use Rattle.std.proofs.lemmas.Bool.Decides.{nat_tests}
@@ -17,14 +17,14 @@ use Rattle.f77_legal.specs.declared.fault.CheckFault.TheVariants.{RealName, Twic
 use Rattle.f77_legal.specs.Clause.{breaks, clause_fault, faults_of, lines_where}
 use Rattle.f77_legal.specs.Frames.{framed, HaveOneFrame}
 use Rattle.f77_legal.specs.Labels.{nth_statement, statement_with, label_place, terminal_label, is_terminal, ends_badly}
-use Rattle.f77_legal.specs.Legal.{IsLegal, faults, first_fault, name_faults, label_faults, data_faults, too_large_faults}
+use Rattle.f77_legal.specs.Legal.{IsLegal, clauses, faults, first_clause, first_fault, name_faults, label_faults, data_faults, too_large_faults}
 use Rattle.f77_legal.specs.Loops.{terminal}
 use Rattle.f77_legal.specs.Names.{Symbol, symbols, is_real, is_twice}
-use Rattle.f77_legal.specs.Patches.{own_clauses, own_statement_fault, IsStock}
-use Rattle.f77_legal.specs.code.Patches.{MayStandAt}
+use Rattle.f77_legal.specs.Patches.{IsStock}
+use Rattle.f77_legal.specs.Alone.{MayStandAt}
 use Rattle.f77_legal.specs.Presets.{groups_of, presets_badly}
 use Rattle.f77_legal.proofs.FrameNames.{presets_badly_same}
-use Rattle.f77_legal.proofs.Frames.{groups_of-framed}
+use Rattle.f77_legal.proofs.Frames.{groups_of-framed, terminal_label-framed}
 use Rattle.f77_legal.proofs.LegalGives.{kept_by}
 use Rattle.f77_legal.proofs.NoFaults.{not_large}
 use Rattle.f77_legal.proofs.Replaced.{length-replaced, other_line, changed_line, replaced_frame}
@@ -90,17 +90,29 @@ one_line test p i line at fail =
 
 -- the first of what each clause tells of one line is the first of the clauses that tell of it
 one_each : (tells : Clause → Bool) (fault : Clause → CheckFault) (cs : List Clause)
-    → flat_map (λ c. cond (tells c) (fault c ∷ []) []) cs ≡ map fault (filter tells cs)
+    → slice_get (flat_map (λ c. cond (tells c) (fault c ∷ []) []) cs) 0 ≡ option_map fault (find tells cs)
 one_each tells fault [] = refl
 one_each tells fault (c ∷ cs) = by (tells c) (one_each tells fault cs)
   where
-    by : (b : Bool) → flat_map (λ c. cond (tells c) (fault c ∷ []) []) cs ≡ map fault (filter tells cs)
-        → cond b (fault c ∷ []) [] ++ flat_map (λ c. cond (tells c) (fault c ∷ []) []) cs ≡ map fault (cond b (c ∷ filter tells cs) (filter tells cs))
-    by true rest = ap (λ more. fault c ∷ more) rest
-    by false rest = rest
+    by : (b : Bool) → slice_get (flat_map (λ c. cond (tells c) (fault c ∷ []) []) cs) 0 ≡ option_map fault (find tells cs)
+        → slice_get (cond b (fault c ∷ []) [] ++ flat_map (λ c. cond (tells c) (fault c ∷ []) []) cs) 0 ≡ option_map fault (cond b (Some c) (find tells cs))
+    by true later = refl
+    by false later = later
 
-regrouped : {X : Type 0} (a b c d e f : List X) → (a ++ (b ++ [])) ++ ((c ++ (d ++ (e ++ (f ++ [])))) ++ []) ≡ a ++ (b ++ (c ++ (d ++ (e ++ (f ++ [])))))
-regrouped a b c d e f = simp (append_assoc, append-nil)
+-- what holds of the clause on terminal statements and of each other one
+of_each : (P : Clause → Type 0) → P Terminals → ((c : Clause) → c ≢ Terminals → P c) → (c : Clause) → P c
+of_each P ends others Kinds = others Kinds (λ e. absurd (cc (e)))
+of_each P ends others Bounds = others Bounds (λ e. absurd (cc (e)))
+of_each P ends others NamedLabels = others NamedLabels (λ e. absurd (cc (e)))
+of_each P ends others Targets = others Targets (λ e. absurd (cc (e)))
+of_each P ends others Terminals = ends
+of_each P ends others Nests = others Nests (λ e. absurd (cc (e)))
+of_each P ends others Jumps = others Jumps (λ e. absurd (cc (e)))
+of_each P ends others Variables = others Variables (λ e. absurd (cc (e)))
+
+regrouped : {X : Type 0} (a b c d e f g h : List X)
+    → (a ++ (b ++ [])) ++ ((c ++ (d ++ (e ++ (f ++ (g ++ (h ++ [])))))) ++ []) ≡ a ++ (b ++ (c ++ (d ++ (e ++ (f ++ (g ++ (h ++ [])))))))
+regrouped a b c d e f g h = simp (append_assoc, append-nil)
 
 -- the program q is the legal program p with this statement at i, of the same frame
 module _ (p q : List LineFields) (i : ℕ) (line : LineFields) (s : Statement) (legal : IsLegal p) (at : slice_get p i ≡ Some line)
@@ -111,18 +123,6 @@ module _ (p q : List LineFields) (i : ℕ) (line : LineFields) (s : Statement) (
 
   line_in_p : nth_statement p i ≡ Some line.stmt
   line_in_p = ap (option_map (λ l. l.stmt)) at
-
-  -- a clause tells of the changed statement alone
-  told : (c : Clause) → c ≢ Terminals → faults_of c q ≡ cond (breaks c q i s) (clause_fault c line.line ∷ []) []
-  told c apart =
-      ap (map (clause_fault c)) (one_line (breaks c q) q i (record (line) { stmt = s }) here
-      (λ j t other is. same_breaks q p same c apart j t ∙ (keeps_every_rule p legal).statements c j t (elsewhere_in_p j t other is)))
-      ∙ told_if (clause_fault c) (breaks c q i s) line.line
-
-  nests_kept : faults_of Nests q ≡ []
-  nests_kept =
-      told Nests (λ e. absurd (cc (e)))
-      ∙ ap (λ b. cond b (clause_fault Nests line.line ∷ []) []) (same_breaks q p same Nests (λ e. absurd (cc (e))) i s ∙ (keeps_every_rule p legal).statements Nests i line.stmt line_in_p)
 
   -- no DO ends at a statement that may not end one: the DOs and their labels are those of p, and the changed statement may end those at it
   ends_there : (j label k : ℕ) → option_and_then terminal_label (nth_statement p j) ≡ Some label → label_place p label ≡ Some k → (k ≡ i) ⊎ (k ≢ i)
@@ -158,10 +158,17 @@ module _ (p q : List LineFields) (i : ℕ) (line : LineFields) (s : Statement) (
       by None own = refl
       by (Some label) own = at_place label own (label_place q label) refl
 
-  terminals_kept : faults_of Terminals q ≡ []
-  terminals_kept =
-      ap (map (clause_fault Terminals)) (one_line (breaks Terminals q) q i (record (line) { stmt = s }) here (λ j t other is. ends_kept j t is)
-      ∙ ap (λ b. cond b (line.line ∷ []) []) (ends_kept i s (ap (option_map (λ l. l.stmt)) here)))
+  -- no other statement breaks a clause
+  others : (c : Clause) (j : ℕ) (t : Statement) → i ≢ j → nth_statement q j ≡ Some t → breaks c q j t ≡ false
+  others c j t other is =
+      of_each (λ c. breaks c q j t ≡ false) (ends_kept j t is)
+      (λ c apart. same_breaks q p same c apart j t ∙ (keeps_every_rule p legal).statements c j t (elsewhere_in_p j t other is)) c
+
+  -- a clause tells of the changed statement alone
+  told : (c : Clause) → faults_of c q ≡ cond (breaks c q i s) (clause_fault c line.line ∷ []) []
+  told c =
+      ap (map (clause_fault c)) (one_line (breaks c q) q i (record (line) { stmt = s }) here (others c))
+      ∙ told_if (clause_fault c) (breaks c q i s) line.line
 
   labels_kept : label_faults q ≡ []
   labels_kept = (λ k. map DoubleLabel (filter (λ label. is_double_same q p same label k) (labels_same q p same k))) ∙ (kept_by p legal).doubles
@@ -175,28 +182,49 @@ module _ (p q : List LineFields) (i : ℕ) (line : LineFields) (s : Statement) (
       groups : groups_of s ≡ groups_of line.stmt
       groups = sym (groups_of-framed s) ∙ ap groups_of kept ∙ groups_of-framed line.stmt
 
-  -- the names and the sizes kept, too, what is told is what the statement owes by itself
-  told_by_itself : name_faults q ≡ [] → too_large_faults q ≡ [] → first_fault q ≡ own_statement_fault q i line.line s
+  -- the names and the sizes kept, too, what is told is what the statement breaks first
+  told_by_itself : name_faults q ≡ [] → too_large_faults q ≡ [] → first_fault q ≡ option_map (λ c. clause_fault c line.line) (first_clause q i s)
   told_by_itself names sizes =
       ap (λ all. slice_get all 0)
-      (whole ∙ regrouped (told_of Kinds) (told_of Bounds) (told_of NamedLabels) (told_of Targets) (told_of Jumps) (told_of Variables)
-      ∙ one_each (λ c. breaks c q i s) (λ c. clause_fault c line.line) own_clauses)
+      (whole
+      ∙ regrouped (told_of Kinds) (told_of Bounds) (told_of NamedLabels) (told_of Targets) (told_of Terminals) (told_of Nests) (told_of Jumps) (told_of Variables))
+      ∙ one_each (λ c. breaks c q i s) (λ c. clause_fault c line.line) clauses
     where
       told_of : Clause → List CheckFault
       told_of c = cond (breaks c q i s) (clause_fault c line.line ∷ []) []
 
-      whole : faults q ≡ (told_of Kinds ++ (told_of Bounds ++ [])) ++ ((told_of NamedLabels ++ (told_of Targets ++ (told_of Jumps ++ (told_of Variables ++ [])))) ++ [])
+      whole : faults q
+          ≡ (told_of Kinds ++ (told_of Bounds ++ []))
+          ++ ((told_of NamedLabels ++ (told_of Targets ++ (told_of Terminals ++ (told_of Nests ++ (told_of Jumps ++ (told_of Variables ++ [])))))) ++ [])
       whole = λ k.
           names k
-          ++ ((told Kinds (λ e. absurd (cc (e))) k ++ (told Bounds (λ e. absurd (cc (e))) k ++ []))
+          ++ ((told Kinds k ++ (told Bounds k ++ []))
           ++ (labels_kept k
-          ++ ((told NamedLabels (λ e. absurd (cc (e))) k
-          ++ (told Targets (λ e. absurd (cc (e))) k
-          ++ (terminals_kept k
-          ++ (nests_kept k
-          ++ (told Jumps (λ e. absurd (cc (e))) k
-          ++ (told Variables (λ e. absurd (cc (e))) k ++ []))))))
+          ++ ((told NamedLabels k
+          ++ (told Targets k
+          ++ (told Terminals k
+          ++ (told Nests k
+          ++ (told Jumps k
+          ++ (told Variables k ++ []))))))
           ++ (presets_kept k ++ sizes k))))
+
+  -- the changed statement names its terminal statement as the one before did
+  ends_as_before : breaks Terminals q i s ≡ breaks Terminals p i s
+  ends_as_before = ends_kept i s (ap (option_map (λ l. l.stmt)) here) ∙ sym (ends_badly_by label ∙ (keeps_every_rule p legal).statements Terminals i line.stmt line_in_p)
+    where
+      label : terminal_label s ≡ terminal_label line.stmt
+      label = sym (terminal_label-framed s) ∙ ap terminal_label kept ∙ terminal_label-framed line.stmt
+
+      ends_badly_by : terminal_label s ≡ terminal_label line.stmt → ends_badly p s ≡ ends_badly p line.stmt
+      ends_badly_by = ap (λ o. option_map_or (λ label. option_map_or (λ last. not (is_terminal last)) (statement_with p label) false) o false)
+
+  -- what the changed statement breaks, it breaks by the frame alone
+  broken_same : (c : Clause) → breaks c q i s ≡ breaks c p i s
+  broken_same = of_each (λ c. breaks c q i s ≡ breaks c p i s) ends_as_before (λ c apart. same_breaks q p same c apart i s)
+
+  told_by_frame : name_faults q ≡ [] → too_large_faults q ≡ [] → first_fault q ≡ option_map (λ c. clause_fault c line.line) (first_clause p i s)
+  told_by_frame names sizes =
+      told_by_itself names sizes ∙ (λ k. option_map (λ c. clause_fault c line.line) (find (λ c. broken_same c k) clauses))
 
 few_lines : (p : List LineFields) → IsLegal p → length p ≤ 500
 few_lines p legal = within (length p) (or_parts (nat_lt 500 (length p)) _ (not_large p legal)).0
@@ -204,11 +232,12 @@ few_lines p legal = within (length p) (or_parts (nat_lt 500 (length p)) _ (not_l
     within : (n : ℕ) → nat_lt 500 n ≡ false → n ≤ 500
     within n few = grind (arith, nat_tests)
 
--- A statement of the same frame, where it may end the DOs that end there and all names may be the program's: the first fault is its own.
+-- A statement of the same frame, where it may end the DOs that end there and all names may be
+-- the program's: the first fault is of the first clause that it breaks.
 pub changed_fault : (p : List LineFields) (i : ℕ) (line : LineFields) (s : Statement) (names : List Symbol) → slice_get p i ≡ Some line → IsLegal p
-    → framed s ≡ framed line.stmt → MayStandAt p i s → IsStock names (replaced p i s) → first_fault (replaced p i s) ≡ own_statement_fault (replaced p i s) i line.line s
+    → framed s ≡ framed line.stmt → MayStandAt p i s → IsStock names (replaced p i s) → first_fault (replaced p i s) ≡ option_map (λ c. clause_fault c line.line) (first_clause p i s)
 changed_fault p i line s names at legal kept ends stock =
-    told_by_itself p q i line s legal at (changed_line p i line s at) (λ j apart. other_line p i j s apart) (replaced_frame p i line s at kept) kept ends
+    told_by_frame p q i line s legal at (changed_line p i line s at) (λ j apart. other_line p i j s apart) (replaced_frame p i line s at kept) kept ends
     no_name (ap (λ b. cond b (TooMany ∷ []) []) (stock_sizes names q stock short))
   where
     q : List LineFields

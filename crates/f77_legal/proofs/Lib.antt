@@ -20,11 +20,13 @@ pub mod Nesting
 pub mod Prefixes
 pub mod LoopTables
 pub mod Counts
+pub mod Flaws
 pub mod Products
 pub mod Runs
 pub mod Misplaced
 pub mod FirstBad
 pub mod First
+pub mod Breaches
 pub mod Entries
 pub mod Actions
 pub mod NoFaults

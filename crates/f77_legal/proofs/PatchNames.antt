@@ -17,6 +17,7 @@ use Rattle.f77_program.specs.Group.{group_of}
 use Rattle.f77_tree.specs.Node.{NodeOf, parts, all_parts, tree_nodes, step_parts, nodes_of, node_name, names_of}
 use Rattle.f77_program.specs.Program.{LineFields}
 use Rattle.f77_program.specs.Patching.{replaced}
+use Rattle.f77_tree.specs.Grammar.{is_name}
 use Rattle.f77_tree.specs.StatementGrammar.{IsFormed}
 use Rattle.f77_tree.specs.Tree.{Tree, Trees}
 use Rattle.f77_tree.specs.Statement.{Statement}
@@ -26,7 +27,7 @@ use Rattle.f77_tree.proofs.Tests.{and_true}
 use Rattle.f77_legal.specs.declared.names.Names.{Names}
 use Rattle.f77_legal.specs.Names.{Symbol, Mention, name_in, mentions_of, mentions, symbols}
 use Rattle.f77_legal.specs.Patches.{is_name_among, tree_passes, items_pass, value_passes, names_pass}
-use Rattle.f77_legal.specs.code.Patches.{NamesAmong}
+use Rattle.f77_legal.specs.Alone.{NamesAmong}
 use Rattle.f77_legal.proofs.Among.{all_once, once_all}
 
 -- each mention of the changed program is one of another line or of the statement
@@ -87,13 +88,13 @@ action_executed (Statement.Preset groups) h = absurd (cc (h))
 action_executed (Statement.LogicalIf tree statement) h = absurd (cc (h))
 action_executed _ h = refl
 
-group_executed : (s : Statement) → statement_formed s ≡ true → group_of s ≡ Executable → is_executed s ≡ true
+group_executed : (s : Statement) → statement_formed is_name s ≡ true → group_of s ≡ Executable → is_executed s ≡ true
 group_executed (Statement.Subroutine name names) h e = absurd (cc (e))
 group_executed (Statement.Declare kind declarations) h e = absurd (cc (e))
 group_executed (Statement.Dimension declarations) h e = absurd (cc (e))
 group_executed (Statement.Preset groups) h e = absurd (cc (e))
 group_executed (Statement.LogicalIf tree statement) h e =
-    action_executed statement (and_true (is_action statement) (statement_formed statement) (and_true (formed tree) (is_action statement && statement_formed statement) h).1).0
+    action_executed statement (and_true (is_action statement) (statement_formed is_name statement) (and_true (formed is_name tree) (is_action statement && statement_formed is_name statement) h).1).0
 group_executed _ h e = refl
 
 pub executed : (s : Statement) → IsFormed s → group_of s ≡ Executable → is_executed s ≡ true

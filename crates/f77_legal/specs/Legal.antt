@@ -1,16 +1,17 @@
 -- Which programs are legal: no clause has a fault. What is told of another is the first of its
 -- faults, clause by clause, and within a clause in the order of the names, the labels or the lines.
 use Rattle.std.specs.Prelude.{◌≡◌, ◌⊎◌, ◌||◌, ◌∷◌, ◌++◌, if◌then◌else◌}
-use Rattle.std.specs.Prelude.{Bool, nat_lt, List, [], length, map, filter, Option, Some, is_some, Result, Ok, Err}
-use Rattle.std.specs.List.{flat_map, sum, slice_get}
+use Rattle.std.specs.Prelude.{ℕ, Bool, nat_lt, List, [], length, map, filter, Option, Some, is_some, Result, Ok, Err}
+use Rattle.std.specs.List.{find, flat_map, sum, slice_get}
 use Rattle.f77_program.specs.Program.{LineFields}
+use Rattle.f77_tree.specs.Statement.{Statement}
 use Rattle.f77_legal.specs.declared.clause.Clause.{Clause}
 use Rattle.f77_legal.specs.declared.clause.Clause.TheVariants.{Kinds, Bounds, NamedLabels, Targets}
 use Rattle.f77_legal.specs.declared.clause.Clause.TheVariants.{Terminals, Nests, Jumps, Variables}
 use Rattle.f77_legal.specs.declared.fault.CheckFault.{CheckFault}
 use Rattle.f77_legal.specs.declared.fault.CheckFault.TheVariants.{Memory, RealName, Twice}
 use Rattle.f77_legal.specs.declared.fault.CheckFault.TheVariants.{DoubleLabel, BadData, TooMany}
-use Rattle.f77_legal.specs.Clause.{faults_of, lines_where}
+use Rattle.f77_legal.specs.Clause.{breaks, faults_of, lines_where}
 use Rattle.f77_legal.specs.Names.{Symbol, symbols, is_real, is_twice, bounds_of, some_items}
 use Rattle.f77_legal.specs.Labels.{labels, is_double}
 use Rattle.f77_legal.specs.Presets.{element_count, presets_badly}
@@ -53,6 +54,14 @@ expression_clauses = Kinds ∷ (Bounds ∷ [])
 
 abbrev pub control_clauses : List Clause
 control_clauses = NamedLabels ∷ (Targets ∷ (Terminals ∷ (Nests ∷ (Jumps ∷ (Variables ∷ [])))))
+
+-- all of them, in this order
+abbrev pub clauses : List Clause
+clauses = expression_clauses ++ control_clauses
+
+-- the first clause that the statement, which has this number from 0, breaks
+abbrev pub first_clause : List LineFields → ℕ → Statement → Option Clause
+first_clause program i statement = find (λ clause. breaks clause program i statement) clauses
 
 -- the faults of statements and labels, in the order
 -- in which they are told: no memory is taken for them

@@ -17,4 +17,6 @@ pub mod Legal
 pub mod Law
 pub mod Frames
 pub mod Patches
+pub mod Alone
+pub mod Broken
 pub mod code

@@ -1,28 +1,14 @@
--- What a changed statement owes by itself, where the rest of a legal program stays.
-use Rattle.std.specs.Prelude.{◌≡◌, ◌≤◌, ◌&&◌, ℕ, Bool, true, false, List, []}
-use Rattle.std.specs.Prelude.{◌∷◌, length, map, filter, Option, Some, None}
-use Rattle.std.specs.List.{All, list_any, sum, slice_get}
+-- The names that a program may have, and tests of each name of an expression and of a statement.
+use Rattle.std.specs.Prelude.{◌≡◌, ◌≤◌, ◌&&◌, Bool, true, false, List}
+use Rattle.std.specs.Prelude.{length, map, filter, Option, Some, None}
+use Rattle.std.specs.List.{All, list_any, sum}
 use Rattle.std.specs.Str.{bytes_eq}
 use Rattle.f77_program.specs.Program.{LineFields}
 use Rattle.f77_tree.specs.Tree.{Tree, Trees}
 use Rattle.f77_tree.specs.Statement.{Statement, value_of}
-use Rattle.f77_legal.specs.declared.clause.Clause.{Clause}
-use Rattle.f77_legal.specs.declared.clause.Clause.TheVariants.{Kinds, Bounds, NamedLabels, Targets, Jumps, Variables}
-use Rattle.f77_legal.specs.declared.fault.CheckFault.{CheckFault}
-use Rattle.f77_legal.specs.Clause.{breaks, clause_fault}
 use Rattle.f77_legal.specs.Legal.{is_array}
 use Rattle.f77_legal.specs.Names.{Symbol, symbols, is_real, is_twice}
 use Rattle.f77_legal.specs.Presets.{element_count}
-
--- the clauses that a statement of an unchanged frame may break, in the order of test
-abbrev pub own_clauses : List Clause
-own_clauses = Kinds ∷ (Bounds ∷ (NamedLabels ∷ (Targets ∷ (Jumps ∷ (Variables ∷ [])))))
-
--- the first fault of the statement i, on this line, by itself
-abbrev pub own_statement_fault : List LineFields → ℕ → ℕ → Statement → Option CheckFault
-own_statement_fault program i line statement =
-    slice_get (map (λ clause. clause_fault clause line)
-    (filter (λ clause. breaks clause program i statement) own_clauses)) 0
 
 -- the name is one of these
 abbrev pub is_name_among : List Symbol → Symbol → Bool

@@ -7,5 +7,4 @@ pub mod Runs
 pub mod Tables
 pub mod Legal
 pub mod Frames
-pub mod Patches
-pub mod Owing
+pub mod Broken

@@ -1,7 +1,8 @@
 //! The clauses that single statements keep or break.
 
-ghost use Rattle.std.specs.Prelude.{◌≡◌};
+ghost use Rattle.std.specs.Prelude.{◌≡◌, nat_lt};
 ghost use Rattle.f77_legal.specs.Clause.{clause_fault};
+ghost use Rattle.f77_legal.specs.code.Broken as broken;
 
 use crate::fault::CheckFault;
 
@@ -27,8 +28,31 @@ pub enum Clause {
 }
 
 impl Clause {
+    /// Its place in the order of test.
+    pub(crate) fn rank(self) -> u32
+        ensures { result ≡ broken.rank self }
+    {
+        match self {
+            Clause::Kinds => 0,
+            Clause::Bounds => 1,
+            Clause::NamedLabels => 2,
+            Clause::Targets => 3,
+            Clause::Terminals => 4,
+            Clause::Nests => 5,
+            Clause::Jumps => 6,
+            Clause::Variables => 7,
+        }
+    }
+
+    /// Whether it is tested before the labels of the program.
+    pub(crate) fn is_on_expressions(self) -> bool
+        ensures { result ≡ nat_lt (broken.rank self) 2 }
+    {
+        self.rank() <= Clause::Bounds.rank()
+    }
+
     /// What is told of a statement on this line that breaks it.
-    pub(crate) fn fault(self, line: u32) -> CheckFault
+    pub fn fault(self, line: u32) -> CheckFault
         ensures { result ≡ clause_fault self line }
     {
         match self {

@@ -1,8 +1,10 @@
 //! The clauses of legality, in the order of test.
 
-ghost use Rattle.std.specs.Prelude.{◌≡◌, ◌++◌, List, map, slice_get, Some, Err};
+ghost use Rattle.std.specs.Prelude.{◌≡◌, ◌++◌, List, [], map, slice_get, Some, Err};
 ghost use Rattle.f77_program.specs.Program.{LineFields, line_of};
 ghost use Rattle.f77_legal.specs.Legal.{TellsFirstFault, name_faults, clause_faults, label_faults};
+ghost use Rattle.f77_legal.specs.Legal.{expression_clauses, control_clauses};
+ghost use Rattle.f77_legal.specs.code.Broken.{first_breach};
 ghost use Rattle.f77_legal.specs.code.Legal.{TellsFirst};
 ghost use Rattle.f77_legal.specs.Legal.{data_faults, too_large_faults, statement_faults, faults};
 ghost use Rattle.f77_legal.specs.LabelTable.{IsLabelTable};
@@ -38,13 +40,27 @@ fn check_names(names: &Names, lines: &[Shared<Line>]) -> Result<(), CheckFault>
     Ok(())
 }
 
-#[tactic(auto, using(crate::proofs::Served::own_tables_serve))]
-fn check_clauses(tables: &Tables, list: &[Clause], lines: &[Shared<Line>]) -> Result<(), CheckFault>
-    ensures { AreTables tables.now (map line_of lines.now)
-        → TellsFirst result (clause_faults list.now (map line_of lines.now)) }
+/// What is told of the first clause that is broken, and of its line, where it is one on expressions.
+fn check_expressions(first: Option<(Clause, u32)>) -> Result<(), CheckFault>
+    ensures { (program : List LineFields) → first ≡ first_breach program
+        → TellsFirst result (clause_faults expression_clauses program) }
 {
-    match tables.first_fault(list, lines) {
-        Some(fault) => Err(fault),
+    let Some((clause, line)) = first else {
+        return Ok(());
+    };
+    if clause.is_on_expressions() {
+        return Err(clause.fault(line));
+    }
+    Ok(())
+}
+
+/// What is told of it, where none on expressions is broken.
+fn check_control(first: Option<(Clause, u32)>) -> Result<(), CheckFault>
+    ensures { (program : List LineFields) → first ≡ first_breach program
+        → clause_faults expression_clauses program ≡ [] → TellsFirst result (clause_faults control_clauses program) }
+{
+    match first {
+        Some((clause, line)) => Err(clause.fault(line)),
         None => Ok(()),
     }
 }
@@ -88,20 +104,10 @@ pub fn judge(alloc: Global, tables: &Tables, lines: &[Shared<Line>]) -> Result<(
         → slice_get (name_faults program ++ statement_faults program) 0 ≡ Some fault → result ≡ Err fault }
 {
     check_names(&tables.names, lines)?;
-    check_clauses(tables, &[Clause::Kinds, Clause::Bounds], lines)?;
+    let first = tables.first_of_all(lines);
+    check_expressions(first)?;
     check_labels(&tables.labels)?;
-    check_clauses(
-        tables,
-        &[
-            Clause::NamedLabels,
-            Clause::Targets,
-            Clause::Terminals,
-            Clause::Nests,
-            Clause::Jumps,
-            Clause::Variables,
-        ],
-        lines,
-    )?;
+    check_control(first)?;
     check_data(alloc, &tables.names, lines)?;
     check_size(&tables.names, lines)
 }

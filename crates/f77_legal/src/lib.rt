@@ -3,6 +3,7 @@
 #![tactic(auto)]
 
 pub mod blocks;
+mod broken;
 mod clause;
 mod dimensions;
 mod fault;
@@ -15,12 +16,12 @@ mod legal;
 mod loops;
 mod mentions;
 pub mod names;
-mod owing;
 mod patches;
 mod presets;
 mod tables;
 
 pub use blocks::Blocks;
+pub use broken::Broken;
 pub use clause::Clause;
 pub use fault::CheckFault;
 pub use holders::Ranges;

@@ -13,7 +13,6 @@ ghost use Rattle.f77_legal.specs.declared.fault.CheckFault.TheVariants as fault;
 ghost use Rattle.f77_legal.specs.Legal.{is_array};
 ghost use Rattle.f77_legal.specs.Names as named;
 ghost use Rattle.f77_legal.specs.Names.{symbols, is_real, is_twice, unit_name};
-ghost use Rattle.f77_legal.specs.NameTable as table;
 ghost use Rattle.f77_legal.specs.code.NameTable as table_code;
 ghost use Rattle.f77_legal.specs.NameTable.{IsNameTable, kind_at, array_bounds, facts_fields, entry_of};
 ghost use Rattle.f77_legal.specs.code.NameTable.{dummy_at};
@@ -138,13 +137,6 @@ impl Names {
             names.note_statement(alloc, &line.stmt)?;
         }
         Ok(names)
-    }
-
-    /// Whether the table has the name.
-    pub(crate) fn has(&self, name: &Name) -> bool
-        ensures { result ≡ table.has_name self.now name.now }
-    {
-        self.facts.get(name).is_some()
     }
 
     /// The kind of a name, INTEGER where no type statement gives one.

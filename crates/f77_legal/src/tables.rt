@@ -1,13 +1,11 @@
 //! The tables that the clauses read.
 
-ghost use Rattle.std.specs.Prelude.{◌≡◌, ◌||◌, List, map, slice_get, IfOk, IfErr, false};
+ghost use Rattle.std.specs.Prelude.{◌≡◌, List, map, IfOk, IfErr, false};
 ghost use Rattle.std.specs.Option.{option_map_or};
 ghost use Rattle.f77_legal.specs.Blocks.{first_numbers};
 ghost use Rattle.f77_legal.specs.Labels.{label_place};
 ghost use Rattle.f77_program.specs.Program.{LineFields, line_of};
 ghost use Rattle.f77_tree.specs.Statement.{statement_of};
-ghost use Rattle.f77_legal.specs.Clause as clauses;
-ghost use Rattle.f77_legal.specs.Legal.{clause_faults};
 ghost use Rattle.f77_legal.specs.Loops as loops;
 ghost use Rattle.f77_legal.specs.LabelTable.{IsLabelTable};
 ghost use Rattle.f77_legal.specs.BlockTable.{IsBlockTable};
@@ -16,13 +14,9 @@ ghost use Rattle.f77_legal.specs.code.Tables.{terminal_of, closed_branch_end};
 ghost use Rattle.f77_legal.specs.declared.fault.CheckFault.TheVariants.{Memory};
 
 use crate::blocks::Blocks;
-use crate::clause::Clause;
-use crate::dimensions::dimensions_fit;
 use crate::fault::CheckFault;
 use crate::holders::Ranges;
-use crate::kinds::kinds_agree;
-use crate::labels::{Labels, ends_badly, jumps_badly, names_no_label, terminal_label};
-use crate::loops::sets_variable;
+use crate::labels::{Labels, terminal_label};
 use crate::names::Names;
 use f77_program::Line;
 use f77_tree::{Shared, Stmt};
@@ -115,7 +109,7 @@ impl Tables {
     }
 
     /// Whether a jump of the statement `stmt`, of the number `i`, leads into a range or a branch.
-    fn jumps_in(&self, i: usize, stmt: &Stmt) -> bool
+    pub(crate) fn jumps_in(&self, i: usize, stmt: &Stmt) -> bool
         ensures { (program : List LineFields)
             → Serve self.now program → result ≡ loops.jumps_in program i (statement_of stmt.now) }
     {
@@ -125,51 +119,5 @@ impl Tables {
             }
         }
         false
-    }
-
-    /// Whether the statement, which has this number from 0, breaks the clause.
-    pub fn breaks(&self, clause: Clause, lines: &[Shared<Line>], i: usize, stmt: &Stmt) -> bool
-        ensures { Serve self.now (map line_of lines.now)
-            → result ≡ clauses.breaks clause (map line_of lines.now) i (statement_of stmt.now) }
-    {
-        match clause {
-            Clause::Kinds => !kinds_agree(&self.names, stmt),
-            Clause::Bounds => !dimensions_fit(&self.names, stmt),
-            Clause::NamedLabels => names_no_label(&self.labels, stmt),
-            Clause::Targets => jumps_badly(&self.labels, lines, stmt),
-            Clause::Terminals => ends_badly(&self.labels, lines, stmt),
-            Clause::Nests => self.blocks.breaks(lines, i) || self.ranges.breaks_range(i),
-            Clause::Jumps => self.jumps_in(i, stmt),
-            Clause::Variables => sets_variable(&self.ranges, lines, i, stmt),
-        }
-    }
-
-    /// The line of the first statement that breaks the clause.
-    fn first_line(&self, clause: Clause, lines: &[Shared<Line>]) -> Option<u32>
-        ensures { Serve self.now (map line_of lines.now)
-            → result
-            ≡ slice_get
-            (clauses.lines_where (clauses.breaks clause (map line_of lines.now)) (map line_of lines.now)) 0 }
-    {
-        for i in 0..lines.len() {
-            let line = &lines[i];
-            if self.breaks(clause, lines, i, &line.stmt) {
-                return Some(line.line);
-            }
-        }
-        None
-    }
-
-    /// The first fault of the clauses, one after another.
-    pub(crate) fn first_fault(&self, list: &[Clause], lines: &[Shared<Line>]) -> Option<CheckFault>
-        ensures { Serve self.now (map line_of lines.now)
-            → result ≡ slice_get (clause_faults list.now (map line_of lines.now)) 0 }
-    {
-        for clause in list {
-            if let Some(line) = self.first_line(*clause, lines) {
-                return Some(clause.fault(line));
-            }
-        }
-        None
     }
 }

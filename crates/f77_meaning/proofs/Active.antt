@@ -10,7 +10,7 @@ use Rattle.std.proofs.lemmas.Option.{option_and_then_some, get_or_from_slice_get
 use Rattle.f77_program.specs.Formed.{is_action}
 use Rattle.f77_program.specs.Program.{LineFields, IsProgram}
 use Rattle.f77_tree.specs.Tree.{Tree, Trees}
-use Rattle.f77_tree.specs.Statement.{Statement, jumps_of}
+use Rattle.f77_tree.specs.Statement.{Statement, jumps_of, is_executable_statement}
 use Rattle.f77_legal.specs.Labels.{label_place, nth_statement, terminal_label}
 use Rattle.f77_legal.specs.Legal.{IsLegal}
 use Rattle.f77_legal.specs.Loops.{terminal, range_holds}
@@ -18,7 +18,6 @@ use Rattle.f77_legal.specs.Names.{Symbol, kind_of, bounds_of}
 use Rattle.f77_legal.proofs.Actions.{inner_acts}
 use Rattle.f77_legal.proofs.Flow.{some_terminal}
 use Rattle.f77_legal.proofs.LegalGives.{some_of}
-use Rattle.f77_check.specs.Start.{is_executable_statement}
 use Rattle.f77_meaning.specs.Active.{AreActive, ActiveByPlace}
 use Rattle.f77_code.specs.Choice.{by_sign, item_chosen}
 use Rattle.f77_meaning.specs.Control.{Comes}

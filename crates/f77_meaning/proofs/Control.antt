@@ -7,12 +7,11 @@ use Rattle.std.proofs.lemmas.Bool.Decides.{nat_tests}
 use Rattle.f77_program.specs.Formed.{is_action}
 use Rattle.f77_program.specs.Program.{LineFields}
 use Rattle.f77_tree.specs.Tree.{Tree, Trees}
-use Rattle.f77_tree.specs.Statement.{Statement, jumps_of}
+use Rattle.f77_tree.specs.Statement.{Statement, jumps_of, is_executable_statement}
 use Rattle.f77_legal.specs.Blocks.{has_at, is_alternative, block_end, branch_end, statement_behind}
 use Rattle.f77_legal.specs.Labels.{label_place, nth_statement, terminal_label}
 use Rattle.f77_legal.specs.Loops.{terminal, is_left}
 use Rattle.f77_legal.specs.Names.{Symbol, kind_of, bounds_of}
-use Rattle.f77_check.specs.Start.{is_executable_statement}
 use Rattle.f77_actions.specs.declared.finish.Fault.{Fault}
 use Rattle.f77_meaning.proofs.ControlDefinitions.{CanHaveControl, IsPlacedAt, AreLoops, IsPlaced, is_last, LeadsToStatement, NeverLosesControl}
 use Rattle.f77_actions.specs.Number.{in_range, trip_count}

@@ -6,11 +6,10 @@ use Rattle.std.specs.Option.{option_and_then}
 use Rattle.f77_program.specs.Formed.{is_action}
 use Rattle.f77_program.specs.Program.{LineFields}
 use Rattle.f77_tree.specs.Tree.{Tree}
-use Rattle.f77_tree.specs.Statement.{Statement, jumps_of}
+use Rattle.f77_tree.specs.Statement.{Statement, jumps_of, is_executable_statement}
 use Rattle.f77_legal.specs.Blocks.{has_at, is_alternative, block_end, branch_end}
 use Rattle.f77_legal.specs.Labels.{label_place, nth_statement, terminal_label}
 use Rattle.f77_legal.specs.Loops.{terminal}
-use Rattle.f77_check.specs.Start.{is_executable_statement}
 use Rattle.f77_meaning.specs.Step.{Config, Place, Execute, Increment, Turns}
 
 -- control may be there

@@ -5,7 +5,7 @@ use Rattle.std.specs.Option.{option_map_or}
 use Rattle.std.proofs.lemmas.List.Quantifiers.{position-Some}
 use Rattle.std.proofs.lemmas.Option.{slice_get-get_or}
 use Rattle.f77_program.specs.Program.{LineFields}
-use Rattle.f77_check.specs.Start.{is_executable_statement}
+use Rattle.f77_tree.specs.Statement.{is_executable_statement}
 use Rattle.f77_check.proofs.FirstExecutable.{first_executable}
 use Rattle.f77_meaning.proofs.ControlDefinitions.{CanHaveControl, IsPlaced, NeverLosesControl}
 use Rattle.f77_meaning.specs.Control.{Comes, Starts, LeadsOn}

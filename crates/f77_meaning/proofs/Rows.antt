@@ -4,11 +4,10 @@ use Rattle.std.specs.Prelude.{codes, map, option_map, position}
 use Rattle.std.specs.Option.{option_and_then}
 use Rattle.f77_program.specs.Program.{LineFields}
 use Rattle.f77_tree.specs.Tree.{Tree, Trees}
-use Rattle.f77_tree.specs.Statement.{Statement}
+use Rattle.f77_tree.specs.Statement.{Statement, is_executable_statement}
 use Rattle.f77_tree.specs.declared.tree.Kind.TheVariants.{Integer}
 use Rattle.f77_tree.specs.declared.intrinsic.Intrinsic.TheVariants.{Mod}
 use Rattle.f77_tree.specs.declared.operator.Operator.TheVariants.{Add, Divide, Power, Less}
-use Rattle.f77_check.specs.Start.{is_executable_statement}
 use Rattle.f77_actions.specs.declared.finish.Fault.TheVariants.{Overflow, DivideByZero, ZeroPower, BadSubscript, ZeroStep, Undefined}
 use Rattle.f77_actions.specs.declared.finish.Finish.{Finish}
 use Rattle.f77_actions.specs.declared.finish.Finish.TheVariants.{Returned, Failed, StepLimit}

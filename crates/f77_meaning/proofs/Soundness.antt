@@ -8,7 +8,7 @@ use Rattle.std.proofs.lemmas.Bool.{and_parts, or_left}
 use Rattle.f77_program.specs.Group.{group_of, may_stand}
 use Rattle.f77_program.specs.Program.{LineFields, IsProgram}
 use Rattle.f77_tree.specs.Tree.{Tree}
-use Rattle.f77_tree.specs.Statement.{Statement, jumps_of}
+use Rattle.f77_tree.specs.Statement.{Statement, jumps_of, is_executable_statement}
 use Rattle.f77_program.specs.declared.group.Group.{Group}
 use Rattle.f77_program.specs.declared.group.Group.TheVariants.{Executable}
 use Rattle.f77_legal.specs.declared.clause.Clause.TheVariants.{Targets, Terminals}
@@ -16,7 +16,6 @@ use Rattle.f77_legal.specs.Blocks.{is_end_if, is_alternative, has_at, is_level, 
 use Rattle.f77_legal.specs.Labels.{bears, label_place, nth_statement, statement_with, terminal_label, is_target, is_terminal}
 use Rattle.f77_legal.specs.Legal.{IsLegal}
 use Rattle.f77_legal.specs.Loops.{terminal}
-use Rattle.f77_check.specs.Start.{is_executable_statement}
 use Rattle.f77_legal.proofs.Branches.{found_is}
 use Rattle.f77_legal.proofs.Actions.{inner_acts}
 use Rattle.f77_legal.proofs.Flow.{some_branch, some_terminal, some_place}

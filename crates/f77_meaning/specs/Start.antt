@@ -9,7 +9,8 @@ use Rattle.f77_tree.specs.declared.data.Constant.TheVariants.{Number, Truth}
 use Rattle.f77_legal.specs.Blocks.{first_numbers}
 use Rattle.f77_legal.specs.Presets.{element_count}
 use Rattle.f77_legal.specs.Heading.{dummies}
-use Rattle.f77_check.specs.Start.{preset_value, is_executable_statement}
+use Rattle.f77_check.specs.Start.{preset_value}
+use Rattle.f77_tree.specs.Statement.{is_executable_statement}
 use Rattle.f77_meaning.specs.Value.{Store}
 use Rattle.f77_meaning.specs.Step.{Config, config, Execute}
 use Rattle.f77_actions.specs.declared.value.Value.{Value}

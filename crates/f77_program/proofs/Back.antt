@@ -79,28 +79,28 @@ own_low (Tree.ZeroPush t) = omega arith
 pub small : (n : ℕ) → nat_le n 2147483647 ≡ true → n < 2 ^ 64
 small n h = let k = leb-true n 2147483647 h in omega arith
 
-pub reference_formed : (name : List ℕ) (items : Trees) → (is_reference name items && all_formed items) ≡ true
-    → (is_name name ≡ true) × (is_call name items ≡ false) × (all_formed items ≡ true)
+pub reference_formed : (named : List ℕ → Bool) (name : List ℕ) (items : Trees) → (is_reference named name items && all_formed named items) ≡ true
+    → (named name ≡ true) × (is_call name items ≡ false) × (all_formed named items ≡ true)
 unfolding is_reference
-reference_formed name items h =
-    let (first, rest) = and_true (is_name name && not (is_call name items)) (all_formed items) h in
-    let (second, third) = and_true (is_name name) (not (is_call name items)) first in
+reference_formed named name items h =
+    let (first, rest) = and_true (named name && not (is_call name items)) (all_formed named items) h in
+    let (second, third) = and_true (named name) (not (is_call name items)) first in
     (second, not_true (is_call name items) third, rest)
 
-pub no_call : ¬ ((is_some_list Trees.None && all_formed Trees.None) ≡ true)
+pub no_call : ¬ ((is_some_list Trees.None && all_formed is_name Trees.None) ≡ true)
 unfolding is_some_list
 no_call h = cc
 
-pub call_formed : (t : Tree) (ts : Trees) → (is_some_list (Trees.Then t ts) && all_formed (Trees.Then t ts)) ≡ true → (formed t ≡ true) × (all_formed ts ≡ true)
+pub call_formed : (t : Tree) (ts : Trees) → (is_some_list (Trees.Then t ts) && all_formed is_name (Trees.Then t ts)) ≡ true → (formed is_name t ≡ true) × (all_formed is_name ts ≡ true)
 unfolding is_some_list
-call_formed t ts h = and_true (formed t) (all_formed ts) h
+call_formed t ts h = and_true (formed is_name t) (all_formed is_name ts) h
 
 mutual
-  pub back : (t : Tree) → tree_in_text t ≡ t → formed t ≡ true → small_constants t ≡ true → (v : ℕ) → v ≤ own_level t → Spells v (text_of t) t
+  pub back : (t : Tree) → tree_in_text t ≡ t → formed is_name t ≡ true → small_constants t ≡ true → (v : ℕ) → v ≤ own_level t → Spells v (text_of t) t
   back (Tree.Number n) u f k v h = let d = decimal_number n (small n k) in subst (λ m. Spells v (decimal n) (Tree.Number m)) d.1 (Spells.number d.0)
   back (Tree.Truth b) u f k v h = Spells.truth b
   back (Tree.Reference name items) u f k v h =
-      let (is, other, all) = reference_formed name items f in
+      let (is, other, all) = reference_formed is_name name items f in
       let same : trees_in_text items ≡ items = cc in
       Spells.reference other (back_reference items name same is all k)
   back (Tree.Call g Trees.None) u f k v h = absurd (no_call f)
@@ -115,7 +115,7 @@ mutual
   back (Tree.Not t) u f k v h =
       let same : tree_in_text t ≡ t = cc in Spells.negated h (as_operand 5 (own_level t) (text_of t) t (back t same f k) (own_low t))
   back (Tree.Binary op a b) u f k v h =
-      let (first, second) = and_true (formed a) (formed b) f in
+      let (first, second) = and_true (formed is_name a) (formed is_name b) f in
       let (small_first, small_second) = and_true (small_constants a) (small_constants b) k in
       let one : tree_in_text a ≡ a = cc in
       let two : tree_in_text b ≡ b = cc in
@@ -123,21 +123,21 @@ mutual
       (as_operand (right_level op) (own_level b) (text_of b) b (back b two second small_second) (own_low b))
   back (Tree.ZeroPush t) u f k v h = cc
 
-  pub back_reference : (items : Trees) (name : List ℕ) → trees_in_text items ≡ items → is_name name ≡ true → all_formed items ≡ true → all_small_constants items ≡ true
+  pub back_reference : (items : Trees) (name : List ℕ) → trees_in_text items ≡ items → is_name name ≡ true → all_formed is_name items ≡ true → all_small_constants items ≡ true
       → SpellsReference (name ++ list_text items) name items
   back_reference Trees.None name u n f k = subst (λ z. SpellsReference z name Trees.None) (sym (append-nil name)) (SpellsReference.scalar n)
   back_reference (Trees.Then t ts) name u n f k =
-      let (first, others) = and_true (formed t) (all_formed ts) f in
+      let (first, others) = and_true (formed is_name t) (all_formed is_name ts) f in
       let (small_first, small_others) = and_true (small_constants t) (all_small_constants ts) k in
       let one : tree_in_text t ≡ t = cc in
       let more : trees_in_text ts ≡ ts = cc in
       SpellsReference.element n (back_all ts (text_of t) t (back t one first small_first 1 (own_low t)) more others small_others)
 
-  pub back_all : (ts : Trees) (x : List ℕ) (t : Tree) → Spells 1 x t → trees_in_text ts ≡ ts → all_formed ts ≡ true → all_small_constants ts ≡ true
+  pub back_all : (ts : Trees) (x : List ℕ) (t : Tree) → Spells 1 x t → trees_in_text ts ≡ ts → all_formed is_name ts ≡ true → all_small_constants ts ≡ true
       → SpellsAll (x ++ rest_text 44 ts) (Trees.Then t ts)
   back_all Trees.None x t p u f k = subst (λ z. SpellsAll z (Trees.Then t Trees.None)) (sym (append-nil x)) (SpellsAll.last p)
   back_all (Trees.Then t ts) x s p u f k =
-      let (first, others) = and_true (formed t) (all_formed ts) f in
+      let (first, others) = and_true (formed is_name t) (all_formed is_name ts) f in
       let (small_first, small_others) = and_true (small_constants t) (all_small_constants ts) k in
       let one : tree_in_text t ≡ t = cc in
       let more : trees_in_text ts ≡ ts = cc in

@@ -44,15 +44,15 @@ name_formed text name (SpellsName.named h) = h
 value_formed : (text : List ℕ) (v : Value) → SpellsValue text v → any_value v ≡ true
 value_formed text v p = refl
 
-group_formed : {text : List ℕ} {g : GroupFields} → SpellsGroup text g → is_group g ≡ true
+group_formed : {text : List ℕ} {g : GroupFields} → SpellsGroup text g → is_group is_name g ≡ true
 group_formed (SpellsGroup.group p q) = rw (joined_all is_name name_formed p, joined_all any_value value_formed q) refl
 
-groups_formed : {text : List ℕ} {gs : List GroupFields} → SpellsGroups text gs → list_all is_group gs ≡ true
+groups_formed : {text : List ℕ} {gs : List GroupFields} → SpellsGroups text gs → list_all (is_group is_name) gs ≡ true
 groups_formed (SpellsGroups.last p) = rw (group_formed p) refl
 groups_formed (SpellsGroups.more p q) = rw (group_formed p) (groups_formed q)
 groups_formed (SpellsGroups.more_by_comma p q) = rw (group_formed p) (groups_formed q)
 
-pub data_is_formed : {text : List ℕ} {gs : List GroupFields} → SpellsGroups text gs → data_formed gs ≡ true
+pub data_is_formed : {text : List ℕ} {gs : List GroupFields} → SpellsGroups text gs → data_formed is_name gs ≡ true
 data_is_formed (SpellsGroups.last p) = rw (group_formed p) refl
 data_is_formed (SpellsGroups.more p q) = rw (group_formed p) (groups_formed q)
 data_is_formed (SpellsGroups.more_by_comma p q) = rw (group_formed p) (groups_formed q)
@@ -70,14 +70,14 @@ value_for v h =
     let (digits, p) = number_for v.times refl in
     let (text, q) = constant_for v.constant in (digits ++ (42 ∷ text), repeated_spelled p q)
 
-group_for : (g : GroupFields) → is_group g ≡ true → (text : List ℕ) × SpellsGroup text g
+group_for : (g : GroupFields) → is_group is_name g ≡ true → (text : List ℕ) × SpellsGroup text g
 group_for g h =
     let (named, valued) = and_true (some_all is_name g.names) (some_all any_value g.values) h in
     let (x, p) = joined_text is_name name_for g.names named in
     let (y, q) = joined_text any_value value_for g.values valued in (x ++ (47 ∷ (y ++ 47 ∷ [])), SpellsGroup.group p q)
 
-pub data_spelled : (gs : List GroupFields) → data_formed gs ≡ true → (text : List ℕ) × SpellsGroups text gs
-data_spelled gs h = let (text, p) = joined_text is_group group_for gs h in (text, with_commas p)
+pub data_spelled : (gs : List GroupFields) → data_formed is_name gs ≡ true → (text : List ℕ) × SpellsGroups text gs
+data_spelled gs h = let (text, p) = joined_text (is_group is_name) group_for gs h in (text, with_commas p)
 
 -- The canonical text spells them.
 constant_back : (c : Constant) → small_constant c ≡ true → SpellsConstant (constant_text c) c
@@ -103,18 +103,18 @@ name_back name h = SpellsName.named h
 
 -- names, and values that INTEGER has
 abbrev is_written : GroupFields → Bool
-is_written g = is_group g && group_constants g
+is_written g = is_group is_name g && group_constants g
 
-are_written : (gs : List GroupFields) → list_all is_group gs ≡ true → list_all group_constants gs ≡ true → list_all is_written gs ≡ true
+are_written : (gs : List GroupFields) → list_all (is_group is_name) gs ≡ true → list_all group_constants gs ≡ true → list_all is_written gs ≡ true
 are_written [] h k = refl
 are_written (g ∷ gs) h k =
-    let (first, others) = and_true (is_group g) (list_all is_group gs) h in
+    let (first, others) = and_true (is_group is_name g) (list_all (is_group is_name) gs) h in
     let (small_first, small_others) = and_true (group_constants g) (list_all group_constants gs) k in
     rw (first, small_first) (are_written gs others small_others)
 
 group_back : (g : GroupFields) → is_written g ≡ true → SpellsGroup (group_text g) g
 group_back g h =
-    let (is, fits) = and_true (is_group g) (group_constants g) h in
+    let (is, fits) = and_true (is_group is_name g) (group_constants g) h in
     let (named, valued) = and_true (some_all is_name g.names) (some_all any_value g.values) is in
     by_lists g.names g.values named valued fits
   where
@@ -125,7 +125,7 @@ group_back g h =
     by_lists (n ∷ names) (v ∷ values) named valued fits =
         SpellsGroup.group (joined_back is_name name_text name_back n names named) (joined_back small_value value_text value_back v values fits)
 
-pub data_back : (gs : List GroupFields) → data_formed gs ≡ true → data_constants gs ≡ true → SpellsGroups (groups_text gs) gs
+pub data_back : (gs : List GroupFields) → data_formed is_name gs ≡ true → data_constants gs ≡ true → SpellsGroups (groups_text gs) gs
 data_back [] h k = cc
 data_back (g ∷ gs) h k = with_commas (joined_back is_written group_text group_back g gs (are_written (g ∷ gs) h k))
 
@@ -147,15 +147,15 @@ list_of_some : {A : Type 0} (p : A → Bool) (xs : List A) → some_all p xs ≡
 list_of_some p [] h = cc
 list_of_some p (x ∷ xs) h = h
 
-plain_group : (g : GroupFields) → is_group g ≡ true → IsPlain (group_text g)
+plain_group : (g : GroupFields) → is_group is_name g ≡ true → IsPlain (group_text g)
 plain_group g h =
     let (named, valued) = and_true (some_all is_name g.names) (some_all any_value g.values) h in
     both (separated name_text [] g.names) (separated value_text (codes "/") g.values ++ codes "/")
     (plain_separated is_name name_text plain_name [] refl g.names (list_of_some is_name g.names named))
     (both (separated value_text (codes "/") g.values) (codes "/") (plain_separated any_value value_text plain_value (codes "/") refl g.values (list_of_some any_value g.values valued)) refl)
 
-pub plain_data : (gs : List GroupFields) → data_formed gs ≡ true → IsPlain (groups_text gs)
-plain_data gs h = plain_separated is_group group_text plain_group [] refl gs (list_of_some is_group gs h)
+pub plain_data : (gs : List GroupFields) → data_formed is_name gs ≡ true → IsPlain (groups_text gs)
+plain_data gs h = plain_separated (is_group is_name) group_text plain_group [] refl gs (list_of_some (is_group is_name) gs h)
 
 -- what the code finds of values
 pub some_values : (values : List Value) (b : Bool) → b ≡ (length values == 0) → not b ≡ some_all any_value values

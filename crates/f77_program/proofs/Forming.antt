@@ -24,16 +24,16 @@ unfolding is_some_list
 some_list (SpellsAll.last p) = refl
 some_list (SpellsAll.more p q) = refl
 
-pub a_reference : (name : List ℕ) (items : Trees) → is_call name items ≡ false → is_name name ≡ true → is_reference name items ≡ true
+pub a_reference : (named : List ℕ → Bool) (name : List ℕ) (items : Trees) → is_call name items ≡ false → named name ≡ true → is_reference named name items ≡ true
 unfolding is_reference
-a_reference name items c n = rw (n, c) refl
+a_reference named name items c n = rw (n, c) refl
 
 -- what some text spells is formed
 mutual
-  pub tree_formed : {w : ℕ} {text : List ℕ} {t : Tree} → Spells w text t → formed t ≡ true
+  pub tree_formed : {w : ℕ} {text : List ℕ} {t : Tree} → Spells w text t → formed is_name t ≡ true
   tree_formed (Spells.number n) = refl
   tree_formed (Spells.truth b) = refl
-  tree_formed (Spells.reference c p) = rw (a_reference _ _ c (reference_name p), reference_items p) refl
+  tree_formed (Spells.reference c p) = rw (a_reference is_name _ _ c (reference_name p), reference_items p) refl
   tree_formed (Spells.call f l) = rw (some_list l, items_formed l) refl
   tree_formed (Spells.group p) = tree_formed p
   tree_formed (Spells.signed sign h p) = tree_formed p
@@ -44,11 +44,11 @@ mutual
   reference_name (SpellsReference.scalar n) = n
   reference_name (SpellsReference.element n l) = n
 
-  pub reference_items : {text name : List ℕ} {items : Trees} → SpellsReference text name items → all_formed items ≡ true
+  pub reference_items : {text name : List ℕ} {items : Trees} → SpellsReference text name items → all_formed is_name items ≡ true
   reference_items (SpellsReference.scalar n) = refl
   reference_items (SpellsReference.element n l) = items_formed l
 
-  pub items_formed : {text : List ℕ} {items : Trees} → SpellsAll text items → all_formed items ≡ true
+  pub items_formed : {text : List ℕ} {items : Trees} → SpellsAll text items → all_formed is_name items ≡ true
   items_formed (SpellsAll.last p) = rw (tree_formed p) refl
   items_formed (SpellsAll.more p q) = rw (tree_formed p, items_formed q) refl
 
@@ -57,7 +57,7 @@ pub call_in_text : (name : List ℕ) (items : Trees) → is_call name (trees_in_
 call_in_text name Trees.None = refl
 call_in_text name (Trees.Then t ts) = refl
 
-pub reference_in_text : (name : List ℕ) (items : Trees) → is_reference name (trees_in_text items) ≡ is_reference name items
+pub reference_in_text : (name : List ℕ) (items : Trees) → is_reference is_name name (trees_in_text items) ≡ is_reference is_name name items
 unfolding is_reference
 reference_in_text name items = rw (call_in_text name items) refl
 
@@ -66,13 +66,13 @@ unfolding is_some_list
 list_in_text Trees.None = refl
 list_in_text (Trees.Then t ts) = refl
 
-pub one_call : (b : Bool) (t : Tree) → formed t ≡ b → formed (Tree.Call Iabs (Trees.Then t Trees.None)) ≡ b
+pub one_call : (b : Bool) (t : Tree) → formed is_name t ≡ b → formed is_name (Tree.Call Iabs (Trees.Then t Trees.None)) ≡ b
 unfolding is_some_list
 one_call true t e = rw e refl
 one_call false t e = rw e refl
 
 mutual
-  pub tree_in_text_formed : (t : Tree) → formed (tree_in_text t) ≡ formed t
+  pub tree_in_text_formed : (t : Tree) → formed is_name (tree_in_text t) ≡ formed is_name t
   tree_in_text_formed (Tree.Number n) = refl
   tree_in_text_formed (Tree.Truth b) = refl
   tree_in_text_formed (Tree.Reference name items) = rw (reference_in_text name items, trees_in_text_formed items) refl
@@ -80,9 +80,9 @@ mutual
   tree_in_text_formed (Tree.Signed sign t) = tree_in_text_formed t
   tree_in_text_formed (Tree.Not t) = tree_in_text_formed t
   tree_in_text_formed (Tree.Binary op a b) = rw (tree_in_text_formed a, tree_in_text_formed b) refl
-  tree_in_text_formed (Tree.ZeroPush t) = one_call (formed t) (tree_in_text t) (tree_in_text_formed t)
+  tree_in_text_formed (Tree.ZeroPush t) = one_call (formed is_name t) (tree_in_text t) (tree_in_text_formed t)
 
-  pub trees_in_text_formed : (ts : Trees) → all_formed (trees_in_text ts) ≡ all_formed ts
+  pub trees_in_text_formed : (ts : Trees) → all_formed is_name (trees_in_text ts) ≡ all_formed is_name ts
   trees_in_text_formed Trees.None = refl
   trees_in_text_formed (Trees.Then t ts) = rw (tree_in_text_formed t, trees_in_text_formed ts) refl
 
@@ -103,12 +103,12 @@ one_argument t p = (function_name Iabs ++ (40 ∷ (p.0 ++ 41 ∷ [])), λ v h. S
 
 -- what is formed, some text spells
 mutual
-  pub text_for : (t : Tree) → formed t ≡ true → Texts (tree_in_text t)
+  pub text_for : (t : Tree) → formed is_name t ≡ true → Texts (tree_in_text t)
   text_for (Tree.Number n) f =
       let (text, is, value) = numeral n n (omega arith) in (text, λ v h. subst (λ m. Spells v text (Tree.Number m)) value (Spells.number is))
   text_for (Tree.Truth b) f = (truth_constant_text b, λ v h. Spells.truth b)
   text_for (Tree.Reference name items) f =
-      let (is, other, all) = reference_formed name items f in
+      let (is, other, all) = reference_formed is_name name items f in
       let (text, p) = reference_for items name is all in
       (text, λ v h. Spells.reference (call_in_text name items ∙ other) p)
   text_for (Tree.Call g Trees.None) f = absurd (no_call f)
@@ -124,7 +124,7 @@ mutual
       let own = own_level (tree_in_text t) in
       (codes ".NOT." ++ operand 5 own text, λ v h. Spells.negated h (as_operand 5 own text (tree_in_text t) p (own_low (tree_in_text t))))
   text_for (Tree.Binary op a b) f =
-      let (first, second) = and_true (formed a) (formed b) f in
+      let (first, second) = and_true (formed is_name a) (formed is_name b) f in
       let (x, p) = text_for a first in
       let (y, q) = text_for b second in
       let one = own_level (tree_in_text a) in
@@ -134,16 +134,16 @@ mutual
       )
   text_for (Tree.ZeroPush t) f = one_argument (tree_in_text t) (text_for t f)
 
-  pub reference_for : (items : Trees) (name : List ℕ) → is_name name ≡ true → all_formed items ≡ true → (text : List ℕ) × SpellsReference text name (trees_in_text items)
+  pub reference_for : (items : Trees) (name : List ℕ) → is_name name ≡ true → all_formed is_name items ≡ true → (text : List ℕ) × SpellsReference text name (trees_in_text items)
   reference_for Trees.None name n f = (name, SpellsReference.scalar n)
   reference_for (Trees.Then t ts) name n f =
-      let (first, others) = and_true (formed t) (all_formed ts) f in
+      let (first, others) = and_true (formed is_name t) (all_formed is_name ts) f in
       let (text, p) = list_for ts (tree_in_text t) (text_for t first) others in (name ++ (40 ∷ (text ++ 41 ∷ [])), SpellsReference.element n p)
 
-  pub list_for : (ts : Trees) (t : Tree) → Texts t → all_formed ts ≡ true → (text : List ℕ) × SpellsAll text (Trees.Then t (trees_in_text ts))
+  pub list_for : (ts : Trees) (t : Tree) → Texts t → all_formed is_name ts ≡ true → (text : List ℕ) × SpellsAll text (Trees.Then t (trees_in_text ts))
   list_for Trees.None t first f = (first.0, SpellsAll.last (first.1 1 (own_low t)))
   list_for (Trees.Then u us) t first f =
-      let (next, rest) = and_true (formed u) (all_formed us) f in
+      let (next, rest) = and_true (formed is_name u) (all_formed is_name us) f in
       let (more, q) = list_for us (tree_in_text u) (text_for u next) rest in
       (first.0 ++ (44 ∷ more), SpellsAll.more (first.1 1 (own_low t)) q)
 

@@ -4,6 +4,7 @@ pub mod DataForms
 pub mod Back
 pub mod StatementBack
 pub mod Forming
+pub mod SymbolicNames
 pub mod StatementForming
 pub mod Plain
 pub mod StatementPlain

@@ -1,5 +1,5 @@
 -- Lines with one of them changed.
-use Rattle.std.proofs.Common.{◌≡◌, ◌<◌, ◌-◌, ℕ, zero, suc, Bool, true, false, length, List, [], ◌∷◌, map, refl, ap, sym, ◌∙◌, subst, arith, Option, Some, None}
+use Rattle.std.proofs.Common.{◌≡◌, ◌<◌, ◌-◌, ℕ, zero, suc, true, length, List, [], ◌∷◌, map, refl, ap, sym, ◌∙◌, subst, arith, Option, Some, None}
 use Rattle.std.proofs.Math.ListN.{set, get_or}
 use Rattle.std.proofs.lemmas.List.{length-map}
 use Rattle.std.proofs.lemmas.Option.{same_Some, none-some, slice_get_within, slice_get-map}
@@ -15,7 +15,6 @@ use Rattle.f77_program.specs.Group.{group_of}
 use Rattle.f77_program.specs.Program.{LineFields, line_of, line_at, IsProgram}
 use Rattle.f77_program.specs.Patching.{replaced, Fits, patched}
 use Rattle.f77_tree.specs.StatementGrammar.{IsFormed}
-use Rattle.f77_tree.specs.Names.{statement_names}
 use Rattle.f77_tree.specs.Statement.{Statement}
 
 -- to write over an item is to change its line
@@ -27,13 +26,13 @@ set_replaced (line ∷ lines) (suc i) old changed s below is = ap (λ ls. line_o
 
 -- a program keeps its order where the changed statement is of the same group
 pub replaced_program : (before : Option Group) (p : List LineFields) (i : ℕ) (line : LineFields) (s : Statement) → IsProgram before p → slice_get p i ≡ Some line
-    → IsFormed s → statement_names s ≡ true → group_of s ≡ group_of line.stmt → IsProgram before (replaced p i s)
-replaced_program before _ i line s IsProgram.finished at formed short same = absurd (cc (at))
-replaced_program before _ zero line s (IsProgram.next {line = first} {lines = lines} may rest) at formed short same =
+    → IsFormed s → group_of s ≡ group_of line.stmt → IsProgram before (replaced p i s)
+replaced_program before _ i line s IsProgram.finished at formed same = absurd (cc (at))
+replaced_program before _ zero line s (IsProgram.next {line = first} {lines = lines} may rest) at formed same =
     let group : group_of s ≡ group_of first.stmt = same ∙ ap (λ l. group_of l.stmt) (sym (same_Some first line at)) in
-    IsProgram.next (rw group may.0, formed, short) (subst (λ g. IsProgram (Some g) lines) (sym group) rest)
-replaced_program before _ (suc i) line s (IsProgram.next {line = first} {lines = lines} may rest) at formed short same =
-    IsProgram.next may (replaced_program (Some (group_of first.stmt)) lines i line s rest at formed short same)
+    IsProgram.next (rw group may.0, formed) (subst (λ g. IsProgram (Some g) lines) (sym group) rest)
+replaced_program before _ (suc i) line s (IsProgram.next {line = first} {lines = lines} may rest) at formed same =
+    IsProgram.next may (replaced_program (Some (group_of first.stmt)) lines i line s rest at formed same)
 
 module _ (p : List Line) (number : ℕ) (s : Statement) (fits : Fits (map line_of p) number s) where
   within : (items : List Line) → map line_of items ≡ map line_of p → number - 1 < length items
@@ -47,13 +46,8 @@ module _ (p : List Line) (number : ℕ) (s : Statement) (fits : Fits (map line_o
       set_replaced items (number - 1) old changed s (within items same) (made ∙ ap (λ l. record (line_of l) { stmt = s }) at)
       ∙ ap (λ ls. replaced ls (number - 1) s) same
 
-  pub changed_program : IsProgram None (map line_of p) → statement_names s ≡ true → IsProgram None (patched (map line_of p) number s)
-  changed_program program short = replaced_program None (map line_of p) (number - 1) fits.line s program fits.at fits.formed short fits.group
-
--- a statement of the code that some text spells has names of six characters at most
-pub short_names : (s : Statement) → IsFormed s → (told : Bool) → (told ≡ true → statement_names s ≡ true) → (told ≡ false → ¬ (IsFormed s)) → statement_names s ≡ true
-short_names s formed true short unformed = short refl
-short_names s formed false short unformed = absurd (unformed refl formed)
+  pub changed_program : IsProgram None (map line_of p) → IsProgram None (patched (map line_of p) number s)
+  changed_program program = replaced_program None (map line_of p) (number - 1) fits.line s program fits.at fits.formed fits.group
 
 module _ (p : List Line) (s : Statement) where
   of_line : (k : ℕ) (line : Line) → slice_get p k ≡ Some line → slice_get (map line_of p) (suc k - 1) ≡ Some (line_of line)

@@ -109,11 +109,11 @@ plain_operand w own text h = step (nat_lt own w)
     step false = h
 
 mutual
-  pub plain_text : (t : Tree) → formed t ≡ true → IsPlain (text_of t)
+  pub plain_text : (t : Tree) → formed is_name t ≡ true → IsPlain (text_of t)
   plain_text (Tree.Number n) f = plain_decimal n
   plain_text (Tree.Truth b) f = plain_truth b
   plain_text (Tree.Reference name items) f =
-      let (is, other, all) = reference_formed name items f in both name (list_text items) (plain_name name is) (plain_list items all)
+      let (is, other, all) = reference_formed is_name name items f in both name (list_text items) (plain_name name is) (plain_list items all)
   plain_text (Tree.Call g Trees.None) f = absurd (no_call f)
   plain_text (Tree.Call g (Trees.Then t ts)) f =
       let (first, others) = call_formed t ts f in
@@ -121,22 +121,22 @@ mutual
   plain_text (Tree.Signed sign t) f = rw (plain_sign sign) (plain_operand 7 (own_level t) (text_of t) (plain_text t f))
   plain_text (Tree.Not t) f = both (codes ".NOT.") (operand 5 (own_level t) (text_of t)) refl (plain_operand 5 (own_level t) (text_of t) (plain_text t f))
   plain_text (Tree.Binary op a b) f =
-      let (first, second) = and_true (formed a) (formed b) f in
+      let (first, second) = and_true (formed is_name a) (formed is_name b) f in
       both (operand (left_level op) (own_level a) (text_of a)) (symbol op ++ operand (right_level op) (own_level b) (text_of b))
       (plain_operand (left_level op) (own_level a) (text_of a) (plain_text a first))
       (both (symbol op) (operand (right_level op) (own_level b) (text_of b)) (plain_symbol op) (plain_operand (right_level op) (own_level b) (text_of b) (plain_text b second)))
   plain_text (Tree.ZeroPush t) f = both (codes "ZPUSH(") (text_of t ++ 41 ∷ []) refl (both (text_of t) (41 ∷ []) (plain_text t f) refl)
 
-  pub plain_list : (items : Trees) → all_formed items ≡ true → IsPlain (list_text items)
+  pub plain_list : (items : Trees) → all_formed is_name items ≡ true → IsPlain (list_text items)
   plain_list Trees.None f = refl
   plain_list (Trees.Then t ts) f =
-      let (first, others) = and_true (formed t) (all_formed ts) f in
+      let (first, others) = and_true (formed is_name t) (all_formed is_name ts) f in
       both (text_of t ++ rest_text 44 ts) (41 ∷ []) (both (text_of t) (rest_text 44 ts) (plain_text t first) (plain_rest ts others)) refl
 
-  pub plain_rest : (ts : Trees) → all_formed ts ≡ true → IsPlain (rest_text 44 ts)
+  pub plain_rest : (ts : Trees) → all_formed is_name ts ≡ true → IsPlain (rest_text 44 ts)
   plain_rest Trees.None f = refl
   plain_rest (Trees.Then t ts) f =
-      let (first, others) = and_true (formed t) (all_formed ts) f in
+      let (first, others) = and_true (formed is_name t) (all_formed is_name ts) f in
       both (text_of t) (rest_text 44 ts) (plain_text t first) (plain_rest ts others)
 
 -- a plain text is read as it is

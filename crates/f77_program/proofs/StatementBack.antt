@@ -74,7 +74,7 @@ bare_text Statement.Stop = codes "STOP"
 bare_text Statement.Trap = codes "TRAP"
 bare_text Statement.End = codes "END"
 
-back_small : (t : Tree) → tree_in_text t ≡ t → formed t ≡ true → small_constants t ≡ true → Spells 1 (text_of t) t
+back_small : (t : Tree) → tree_in_text t ≡ t → formed is_name t ≡ true → small_constants t ≡ true → Spells 1 (text_of t) t
 back_small t u f k = back t u f k 1 (own_low t)
 
 back_computed : (labels : List ℕ) (t : Tree) → has_items labels ≡ true → list_all is_label labels ≡ true → Spells 1 (text_of t) t
@@ -82,14 +82,14 @@ back_computed : (labels : List ℕ) (t : Tree) → has_items labels ≡ true →
 back_computed [] t h k p = cc
 back_computed (n ∷ labels) t h k p = SpellsAction.computed_go_to true (joined_back is_label decimal spelled_back n labels k) p
 
-back_action : (s : Statement) → IsUnmutated s → is_action s ≡ true → statement_formed s ≡ true → by_part s ≡ true → SpellsAction (bare_text s) s
+back_action : (s : Statement) → IsUnmutated s → is_action s ≡ true → statement_formed is_name s ≡ true → by_part s ≡ true → SpellsAction (bare_text s) s
 back_action (Statement.Subroutine name names) u i f k = cc
 back_action (Statement.Declare kind ds) u i f k = cc
 back_action (Statement.Dimension ds) u i f k = cc
 back_action (Statement.Preset gs) u i f k = cc
 back_action (Statement.Assign name items t) u i f k =
-    let (is, rest) = and_true (is_name name) (all_formed items && formed t) f in
-    let (all, value) = and_true (all_formed items) (formed t) rest in
+    let (is, rest) = and_true (is_name name) (all_formed is_name items && formed is_name t) f in
+    let (all, value) = and_true (all_formed is_name items) (formed is_name t) rest in
     let (small_all, small_value) = and_true (all_small_constants items) (small_constants t) k in
     let one : trees_in_text items ≡ items = cc in
     let two : tree_in_text t ≡ t = cc in
@@ -97,7 +97,7 @@ back_action (Statement.Assign name items t) u i f k =
 back_action (Statement.Goto label) u i f k =
     subst (λ n. SpellsAction (codes "GOTO" ++ decimal label) (Statement.Goto n)) (label_back label k) (SpellsAction.go_to (decimal label) (label_row label k))
 back_action (Statement.ComputedGoto labels t) u i f k =
-    let (some, value) = and_true (has_items labels) (formed t) f in
+    let (some, value) = and_true (has_items labels) (formed is_name t) f in
     let (all, small_value) = and_true (list_all is_label labels) (small_constants t) k in
     let same : tree_in_text t ≡ t = cc in
     back_computed labels t some all (back_small t same value small_value)
@@ -121,7 +121,8 @@ back_action Statement.Trap u i f k = cc
 back_action Statement.End u i f k = cc
 
 back_loop : (label : ℕ) (name : List ℕ) (a b : Tree) (c : Option Tree) → is_label label ≡ true → is_name name ≡ true → Spells 1 (text_of a) a → Spells 1 (text_of b) b
-    → option_map tree_in_text c ≡ c → value_formed c ≡ true → of_value small_constants c ≡ true → SpellsStatement (bare_text (Statement.Loop label name a b c)) (Statement.Loop label name a b c)
+    → option_map tree_in_text c ≡ c → value_formed is_name c ≡ true → of_value small_constants c ≡ true
+    → SpellsStatement (bare_text (Statement.Loop label name a b c)) (Statement.Loop label name a b c)
 back_loop label name a b None l n p q u f k =
     let r = SpellsStatement.loop {name = name} (decimal label) false (label_row label l) n p q in
     let e : text_of b ++ [] ≡ text_of b = append-nil (text_of b) in
@@ -130,7 +131,7 @@ back_loop label name a b (Some c) l n p q u f k =
     let same : tree_in_text c ≡ c = cc in
     let r = SpellsStatement.loop_by {name = name} (decimal label) false (label_row label l) n p q (back_small c same f k) in rw (label_back label l) at r
 
-pub back_statement : (s : Statement) → IsUnmutated s → statement_formed s ≡ true → by_part s ≡ true → SpellsStatement (bare_text s) s
+pub back_statement : (s : Statement) → IsUnmutated s → statement_formed is_name s ≡ true → by_part s ≡ true → SpellsStatement (bare_text s) s
 back_statement (Statement.Subroutine name []) u f k = SpellsStatement.subroutine (and_true (is_name name) true f).0
 back_statement (Statement.Subroutine name (n ∷ names)) u f k =
     let (first, others) = and_true (is_name name) (list_all is_name (n ∷ names)) f in
@@ -138,15 +139,15 @@ back_statement (Statement.Subroutine name (n ∷ names)) u f k =
     (SpellsStatement.subroutine_of (n ∷ names) first others)
 back_statement (Statement.Declare kind ds) u f k = SpellsStatement.declare kind (declaration_back ds f k)
 back_statement (Statement.Dimension ds) u f k =
-    let (formed, bounded) = and_true (declaration_formed ds) (all_bounded ds) f in SpellsStatement.dimension (declaration_back ds formed k) bounded
+    let (formed, bounded) = and_true (declaration_formed is_name ds) (all_bounded ds) f in SpellsStatement.dimension (declaration_back ds formed k) bounded
 back_statement (Statement.Preset gs) u f k = SpellsStatement.preset (data_back gs f k)
 back_statement (Statement.Assign name items t) u f k = SpellsStatement.action (back_action (Statement.Assign name items t) u refl f k)
 back_statement (Statement.Goto label) u f k = SpellsStatement.action (back_action (Statement.Goto label) u refl f k)
 back_statement (Statement.ComputedGoto labels t) u f k = SpellsStatement.action (back_action (Statement.ComputedGoto labels t) u refl f k)
 back_statement (Statement.ArithIf t l m n) u f k = SpellsStatement.action (back_action (Statement.ArithIf t l m n) u refl f k)
 back_statement (Statement.LogicalIf t s) u f k =
-    let (test, rest) = and_true (formed t) (is_action s && statement_formed s) f in
-    let (is, inner) = and_true (is_action s) (statement_formed s) rest in
+    let (test, rest) = and_true (formed is_name t) (is_action s && statement_formed is_name s) f in
+    let (is, inner) = and_true (is_action s) (statement_formed is_name s) rest in
     let (small_test, small_inner) = and_true (small_constants t) (by_part s) k in
     let unmutated : in_text s ≡ s = cc in
     let same : tree_in_text t ≡ t = cc in
@@ -156,9 +157,9 @@ back_statement (Statement.ElseIf t) u f k = let same : tree_in_text t ≡ t = cc
 back_statement Statement.Else u f k = SpellsStatement.otherwise
 back_statement Statement.EndIf u f k = SpellsStatement.end_if
 back_statement (Statement.Loop label name a b c) u f k =
-    let (is, rest) = and_true (is_name name) (formed a && (formed b && value_formed c)) f in
-    let (first, others) = and_true (formed a) (formed b && value_formed c) rest in
-    let (second, third) = and_true (formed b) (value_formed c) others in
+    let (is, rest) = and_true (is_name name) (formed is_name a && (formed is_name b && value_formed is_name c)) f in
+    let (first, others) = and_true (formed is_name a) (formed is_name b && value_formed is_name c) rest in
+    let (second, third) = and_true (formed is_name b) (value_formed is_name c) others in
     let (one, small) = and_true (is_label label) (small_constants a && (small_constants b && of_value small_constants c)) k in
     let (small_first, small_others) = and_true (small_constants a) (small_constants b && of_value small_constants c) small in
     let (small_second, small_third) = and_true (small_constants b) (of_value small_constants c) small_others in

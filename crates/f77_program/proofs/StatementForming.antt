@@ -1,5 +1,5 @@
 -- Some text spells a statement exactly where the statement is formed.
-use Rattle.std.proofs.Common.{arith, ◌≡◌, ◌≤◌, ℕ, length, List, [], ◌∷◌, ◌++◌, Bool, true, false, refl, sym, ◌∙◌, subst}
+use Rattle.std.proofs.Common.{arith, ◌≡◌, ◌≤◌, ℕ, length, List, [], ◌∷◌, ◌++◌, Bool, true, false, true≢false, refl, sym, ◌∙◌, subst}
 use Rattle.std.specs.Prelude.{◌&&◌, nat_le, codes, Option, Some, None, option_map, map}
 use Rattle.std.specs.List.{list_all}
 use Rattle.std.specs.Fmt.{decimal}
@@ -8,6 +8,8 @@ use Rattle.std.proofs.lemmas.Bool.{le-leb, leb-true}
 use Rattle.f77_tree.specs.Tree.{Tree, Trees}
 use Rattle.f77_tree.specs.Statement.{Statement}
 use Rattle.f77_tree.specs.Grammar.{is_name, is_number}
+use Rattle.f77_tree.specs.Name.{is_symbolic}
+use Rattle.f77_tree.specs.Names.{statement_names}
 use Rattle.f77_tree.specs.Joined.{Joined, has_items}
 use Rattle.f77_tree.specs.StatementGrammar.{SpellsLabel, SpellsAction, SpellsStatement, IsFormed, in_text, tree_in_text, label_number, label_in_text}
 use Rattle.f77_program.specs.code.Formed.{formed, all_formed, value_formed, statement_formed}
@@ -20,12 +22,13 @@ use Rattle.f77_program.specs.code.Declaration.{declaration_formed}
 use Rattle.f77_tree.specs.Declaration.{all_bounded}
 use Rattle.f77_program.proofs.DeclarationForms.{declaration_is_formed, declaration_spelled}
 use Rattle.f77_program.proofs.DataForms.{data_is_formed, data_spelled}
+use Rattle.f77_program.proofs.SymbolicNames.{symbolic_statement}
 
 spelled_items : {A : Type 0} {SpellsItem : List ℕ → A → Type 0} {text : List ℕ} {xs : List A} → Joined SpellsItem text xs → has_items xs ≡ true
 spelled_items (Joined.last h) = refl
 spelled_items (Joined.more h k) = refl
 
-spelled_action : {text : List ℕ} {s : Statement} → SpellsAction text s → (is_action s ≡ true) × (statement_formed s ≡ true)
+spelled_action : {text : List ℕ} {s : Statement} → SpellsAction text s → (is_action s ≡ true) × (statement_formed is_name s ≡ true)
 spelled_action (SpellsAction.assign r p) = (refl, rw (reference_name r, reference_items r, tree_formed p) refl)
 spelled_action (SpellsAction.go_to row n) = (refl, refl)
 spelled_action (SpellsAction.computed_go_to comma p q) = (refl, rw (spelled_items p, tree_formed q) refl)
@@ -34,7 +37,7 @@ spelled_action SpellsAction.go_on = (refl, refl)
 spelled_action SpellsAction.return = (refl, refl)
 spelled_action SpellsAction.stop = (refl, refl)
 
-spelled_formed : {text : List ℕ} {s : Statement} → SpellsStatement text s → statement_formed s ≡ true
+spelled_formed : {text : List ℕ} {s : Statement} → SpellsStatement text s → statement_formed is_name s ≡ true
 spelled_formed (SpellsStatement.action p) = (spelled_action p).1
 spelled_formed (SpellsStatement.subroutine n) = rw n refl
 spelled_formed (SpellsStatement.subroutine_of names n h) = rw (n, h) refl
@@ -50,7 +53,7 @@ spelled_formed (SpellsStatement.loop row comma h n p q) = rw (n, tree_formed p, 
 spelled_formed (SpellsStatement.loop_by row comma h n p q r) = rw (n, tree_formed p, tree_formed q, tree_formed r) refl
 spelled_formed SpellsStatement.end = refl
 
-step_in_text_formed : (c : Option Tree) → value_formed (option_map tree_in_text c) ≡ value_formed c
+step_in_text_formed : (c : Option Tree) → value_formed is_name (option_map tree_in_text c) ≡ value_formed is_name c
 step_in_text_formed None = refl
 step_in_text_formed (Some t) = tree_in_text_formed t
 
@@ -79,7 +82,7 @@ in_text_items : (labels : List ℕ) → has_items (map label_in_text labels) ≡
 in_text_items [] = refl
 in_text_items (label ∷ labels) = refl
 
-in_text_formed : (s : Statement) → statement_formed (in_text s) ≡ statement_formed s
+in_text_formed : (s : Statement) → statement_formed is_name (in_text s) ≡ statement_formed is_name s
 in_text_formed (Statement.Subroutine name names) = refl
 in_text_formed (Statement.Declare kind ds) = refl
 in_text_formed (Statement.Dimension ds) = refl
@@ -138,22 +141,22 @@ IsAction s = (text : List ℕ) × SpellsAction text s
 goto_for : (label : ℕ) → IsAction (Statement.Goto (label_in_text label))
 goto_for label = let (row, is, e) = label_for label in (codes "GOTO" ++ row, subst (λ z. SpellsAction (codes "GOTO" ++ row) (Statement.Goto z)) e (SpellsAction.go_to row is))
 
-computed_for : (labels : List ℕ) (t : Tree) → statement_formed (Statement.ComputedGoto labels t) ≡ true → IsAction (in_text (Statement.ComputedGoto labels t))
+computed_for : (labels : List ℕ) (t : Tree) → statement_formed is_name (Statement.ComputedGoto labels t) ≡ true → IsAction (in_text (Statement.ComputedGoto labels t))
 computed_for labels t f =
-    let (some, value) = and_true (has_items labels) (formed t) f in
+    let (some, value) = and_true (has_items labels) (formed is_name t) f in
     let (x, p) = labels_for labels some in
     let (y, q) = text_for t value in
     (codes "GOTO(" ++ (x ++ (41 ∷ (44 ∷ y))), SpellsAction.computed_go_to true p (q 1 (own_low (tree_in_text t))))
 
-assign_for : (name : List ℕ) (items : Trees) (t : Tree) → statement_formed (Statement.Assign name items t) ≡ true → IsAction (in_text (Statement.Assign name items t))
+assign_for : (name : List ℕ) (items : Trees) (t : Tree) → statement_formed is_name (Statement.Assign name items t) ≡ true → IsAction (in_text (Statement.Assign name items t))
 assign_for name items t f =
-    let (is, rest) = and_true (is_name name) (all_formed items && formed t) f in
-    let (all, value) = and_true (all_formed items) (formed t) rest in
+    let (is, rest) = and_true (is_name name) (all_formed is_name items && formed is_name t) f in
+    let (all, value) = and_true (all_formed is_name items) (formed is_name t) rest in
     let (x, p) = reference_for items name is all in
     let (y, q) = text_for t value in
     (x ++ (61 ∷ y), SpellsAction.assign p (q 1 (own_low (tree_in_text t))))
 
-arithmetic_for : (t : Tree) (l m n : ℕ) → formed t ≡ true → IsAction (in_text (Statement.ArithIf t l m n))
+arithmetic_for : (t : Tree) (l m n : ℕ) → formed is_name t ≡ true → IsAction (in_text (Statement.ArithIf t l m n))
 arithmetic_for t l m n f =
     let (x, p) = text_for t f in
     let (i, one, first) = label_for l in
@@ -162,7 +165,7 @@ arithmetic_for t l m n f =
     let r = SpellsAction.arithmetic_if i j k (p 1 (own_low (tree_in_text t))) one two three in
     (codes "IF(" ++ (x ++ (41 ∷ (i ++ (44 ∷ (j ++ (44 ∷ k)))))), rw (first, second, third) at r)
 
-action_for : (s : Statement) → is_action s ≡ true → statement_formed s ≡ true → IsAction (in_text s)
+action_for : (s : Statement) → is_action s ≡ true → statement_formed is_name s ≡ true → IsAction (in_text s)
 action_for (Statement.Subroutine name names) i f = cc
 action_for (Statement.Declare kind ds) i f = cc
 action_for (Statement.Dimension ds) i f = cc
@@ -186,8 +189,12 @@ action_for Statement.End i f = cc
 as_statement : (s : Statement) → IsAction s → (text : List ℕ) × SpellsStatement text s
 as_statement s p = (p.0, SpellsStatement.action p.1)
 
-loop_for : (label : ℕ) (name : List ℕ) (a b : Tree) (c : Option Tree) → is_name name ≡ true → formed a ≡ true → formed b ≡ true → value_formed c ≡ true
-    → IsFormed (Statement.Loop label name a b c)
+-- some text spells it, names of any length allowed
+abbrev IsSpelled : Statement → Type 0
+IsSpelled s = (text : List ℕ) × SpellsStatement text (in_text s)
+
+loop_for : (label : ℕ) (name : List ℕ) (a b : Tree) (c : Option Tree) → is_name name ≡ true → formed is_name a ≡ true → formed is_name b ≡ true → value_formed is_name c ≡ true
+    → IsSpelled (Statement.Loop label name a b c)
 loop_for label name a b None n f g h =
     let (x, p) = text_for a f in
     let (y, q) = text_for b g in
@@ -202,46 +209,55 @@ loop_for label name a b (Some c) n f g h =
     let s = SpellsStatement.loop_by {name = name} row false is n (p 1 (own_low (tree_in_text a))) (q 1 (own_low (tree_in_text b))) (r 1 (own_low (tree_in_text c))) in
     (codes "DO" ++ (row ++ (name ++ (61 ∷ (x ++ (44 ∷ (y ++ (44 ∷ z))))))), rw e at s)
 
-pub formed_spelled : (s : Statement) → statement_formed s ≡ true → IsFormed s
-formed_spelled (Statement.Subroutine name []) f = (codes "SUBROUTINE" ++ name, SpellsStatement.subroutine (and_true (is_name name) true f).0)
-formed_spelled (Statement.Subroutine name (n ∷ names)) f =
+named_spelled : (s : Statement) → statement_formed is_name s ≡ true → IsSpelled s
+named_spelled (Statement.Subroutine name []) f = (codes "SUBROUTINE" ++ name, SpellsStatement.subroutine (and_true (is_name name) true f).0)
+named_spelled (Statement.Subroutine name (n ∷ names)) f =
     let (first, others) = and_true (is_name name) (list_all is_name (n ∷ names)) f in (_, SpellsStatement.subroutine_of (n ∷ names) first others)
-formed_spelled (Statement.Declare kind ds) f = let (text, p) = declaration_spelled ds f in (kind_keyword kind ++ text, SpellsStatement.declare kind p)
-formed_spelled (Statement.Dimension ds) f =
-    let (formed, bounded) = and_true (declaration_formed ds) (all_bounded ds) f in
+named_spelled (Statement.Declare kind ds) f = let (text, p) = declaration_spelled ds f in (kind_keyword kind ++ text, SpellsStatement.declare kind p)
+named_spelled (Statement.Dimension ds) f =
+    let (formed, bounded) = and_true (declaration_formed is_name ds) (all_bounded ds) f in
     let (text, p) = declaration_spelled ds formed in
     (codes "DIMENSION" ++ text, SpellsStatement.dimension p bounded)
-formed_spelled (Statement.Preset gs) f = let (text, p) = data_spelled gs f in (codes "DATA" ++ text, SpellsStatement.preset p)
-formed_spelled (Statement.Assign name items t) f = as_statement (in_text (Statement.Assign name items t)) (assign_for name items t f)
-formed_spelled (Statement.Goto label) f = as_statement (Statement.Goto (label_in_text label)) (goto_for label)
-formed_spelled (Statement.ComputedGoto labels t) f = as_statement (in_text (Statement.ComputedGoto labels t)) (computed_for labels t f)
-formed_spelled (Statement.ArithIf t l m n) f = as_statement (in_text (Statement.ArithIf t l m n)) (arithmetic_for t l m n f)
-formed_spelled (Statement.LogicalIf t s) f =
-    let (test, rest) = and_true (formed t) (is_action s && statement_formed s) f in
-    let (is, inner) = and_true (is_action s) (statement_formed s) rest in
+named_spelled (Statement.Preset gs) f = let (text, p) = data_spelled gs f in (codes "DATA" ++ text, SpellsStatement.preset p)
+named_spelled (Statement.Assign name items t) f = as_statement (in_text (Statement.Assign name items t)) (assign_for name items t f)
+named_spelled (Statement.Goto label) f = as_statement (Statement.Goto (label_in_text label)) (goto_for label)
+named_spelled (Statement.ComputedGoto labels t) f = as_statement (in_text (Statement.ComputedGoto labels t)) (computed_for labels t f)
+named_spelled (Statement.ArithIf t l m n) f = as_statement (in_text (Statement.ArithIf t l m n)) (arithmetic_for t l m n f)
+named_spelled (Statement.LogicalIf t s) f =
+    let (test, rest) = and_true (formed is_name t) (is_action s && statement_formed is_name s) f in
+    let (is, inner) = and_true (is_action s) (statement_formed is_name s) rest in
     let (x, p) = text_for t test in
     let (y, q) = action_for s is inner in
     (codes "IF(" ++ (x ++ (41 ∷ y)), SpellsStatement.logical_if (p 1 (own_low (tree_in_text t))) q)
-formed_spelled (Statement.BlockIf t) f = let (x, p) = text_for t f in (codes "IF(" ++ (x ++ codes ")THEN"), SpellsStatement.block_if (p 1 (own_low (tree_in_text t))))
-formed_spelled (Statement.ElseIf t) f = let (x, p) = text_for t f in (codes "ELSEIF(" ++ (x ++ codes ")THEN"), SpellsStatement.else_if (p 1 (own_low (tree_in_text t))))
-formed_spelled Statement.Else f = (codes "ELSE", SpellsStatement.otherwise)
-formed_spelled Statement.EndIf f = (codes "ENDIF", SpellsStatement.end_if)
-formed_spelled (Statement.Loop label name a b c) f =
-    let (is, rest) = and_true (is_name name) (formed a && (formed b && value_formed c)) f in
-    let (first, others) = and_true (formed a) (formed b && value_formed c) rest in
-    let (second, third) = and_true (formed b) (value_formed c) others in
+named_spelled (Statement.BlockIf t) f = let (x, p) = text_for t f in (codes "IF(" ++ (x ++ codes ")THEN"), SpellsStatement.block_if (p 1 (own_low (tree_in_text t))))
+named_spelled (Statement.ElseIf t) f = let (x, p) = text_for t f in (codes "ELSEIF(" ++ (x ++ codes ")THEN"), SpellsStatement.else_if (p 1 (own_low (tree_in_text t))))
+named_spelled Statement.Else f = (codes "ELSE", SpellsStatement.otherwise)
+named_spelled Statement.EndIf f = (codes "ENDIF", SpellsStatement.end_if)
+named_spelled (Statement.Loop label name a b c) f =
+    let (is, rest) = and_true (is_name name) (formed is_name a && (formed is_name b && value_formed is_name c)) f in
+    let (first, others) = and_true (formed is_name a) (formed is_name b && value_formed is_name c) rest in
+    let (second, third) = and_true (formed is_name b) (value_formed is_name c) others in
     loop_for label name a b c is first second third
-formed_spelled Statement.Continue f = (codes "CONTINUE", SpellsStatement.action SpellsAction.go_on)
-formed_spelled Statement.Return f = (codes "RETURN", SpellsStatement.action SpellsAction.return)
-formed_spelled Statement.Stop f = (codes "STOP", SpellsStatement.action SpellsAction.stop)
-formed_spelled Statement.Trap f = (codes "CONTINUE", SpellsStatement.action SpellsAction.go_on)
-formed_spelled Statement.End f = (codes "END", SpellsStatement.end)
+named_spelled Statement.Continue f = (codes "CONTINUE", SpellsStatement.action SpellsAction.go_on)
+named_spelled Statement.Return f = (codes "RETURN", SpellsStatement.action SpellsAction.return)
+named_spelled Statement.Stop f = (codes "STOP", SpellsStatement.action SpellsAction.stop)
+named_spelled Statement.Trap f = (codes "CONTINUE", SpellsStatement.action SpellsAction.go_on)
+named_spelled Statement.End f = (codes "END", SpellsStatement.end)
 
-pub spelled_is_formed : {text : List ℕ} {s : Statement} → SpellsStatement text s → IsFormed s
-spelled_is_formed {s = s} p = formed_spelled s (spelled_formed p)
+pub formed_spelled : (s : Statement) → statement_formed is_symbolic s ≡ true → IsFormed s
+formed_spelled s f =
+    let (named, short) = and_true (statement_formed is_name s) (statement_names s) (sym (symbolic_statement s).is ∙ f) in
+    let (text, spells) = named_spelled s named in (text, spells, short)
 
-pub is_formed : (s : Statement) → IsFormed s → statement_formed s ≡ true
+-- names of any length
+pub is_formed : (s : Statement) → IsFormed s → statement_formed is_name s ≡ true
 is_formed s f = sym (in_text_formed s) ∙ spelled_formed f.1
 
-pub not_formed : (s : Statement) → statement_formed s ≡ false → ¬ (IsFormed s)
-not_formed s e f = let g : statement_formed s ≡ true = is_formed s f in absurd (let h : true ≡ false = sym g ∙ e in cc)
+pub is_symbolic_formed : (s : Statement) → IsFormed s → statement_formed is_symbolic s ≡ true
+is_symbolic_formed s f = rw ((symbolic_statement s).is, is_formed s f, f.2) refl
+
+pub spelled_is_formed : {text : List ℕ} {s : Statement} → SpellsStatement text s → statement_names s ≡ true → IsFormed s
+spelled_is_formed {s = s} p n = formed_spelled s (rw ((symbolic_statement s).is, spelled_formed p, n) refl)
+
+pub not_formed : (s : Statement) → statement_formed is_symbolic s ≡ false → ¬ (IsFormed s)
+not_formed s e f = true≢false (sym (is_symbolic_formed s f) ∙ e)

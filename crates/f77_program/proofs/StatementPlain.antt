@@ -42,38 +42,38 @@ plain_behind name (n ∷ names) h f =
     let list = separated name_text (codes "(") (n ∷ names) in
     both name (list ++ 41 ∷ []) (plain_name name h) (both list (41 ∷ []) (plain_separated is_name name_text plain_name (codes "(") refl (n ∷ names) f) refl)
 
-pub plain_assign : (name : List ℕ) (items : Trees) (t : Tree) → statement_formed (Statement.Assign name items t) ≡ true
+pub plain_assign : (name : List ℕ) (items : Trees) (t : Tree) → statement_formed is_name (Statement.Assign name items t) ≡ true
     → IsPlain (statement_text (Statement.Assign name items t))
 plain_assign name items t f =
-    let (is, rest) = and_true (is_name name) (all_formed items && formed t) f in
-    let (all, value) = and_true (all_formed items) (formed t) rest in
+    let (is, rest) = and_true (is_name name) (all_formed is_name items && formed is_name t) f in
+    let (all, value) = and_true (all_formed is_name items) (formed is_name t) rest in
     both (name ++ list_text items) (61 ∷ text_of t) (both name (list_text items) (plain_name name is) (plain_list items all)) (plain_text t value)
 
 -- behind the keyword of a computed GO TO
 abbrev selection : List ℕ → Tree → List ℕ
 selection labels t = separated decimal (codes "(") labels ++ (codes ")," ++ text_of t)
 
-plain_selection : (labels : List ℕ) (t : Tree) → statement_formed (Statement.ComputedGoto labels t) ≡ true → IsPlain (selection labels t)
+plain_selection : (labels : List ℕ) (t : Tree) → statement_formed is_name (Statement.ComputedGoto labels t) ≡ true → IsPlain (selection labels t)
 plain_selection labels t f =
     both (separated decimal (codes "(") labels) (codes ")," ++ text_of t)
     (plain_separated any_size decimal (λ n h. plain_decimal n) (codes "(") refl labels (any_sizes labels))
-    (plain_text t (and_true (has_items labels) (formed t) f).1)
+    (plain_text t (and_true (has_items labels) (formed is_name t) f).1)
 
 plain_labels : (l m n : ℕ) → IsPlain (decimal l ++ (44 ∷ (decimal m ++ (44 ∷ decimal n))))
 plain_labels l m n =
     both (decimal l) (44 ∷ (decimal m ++ (44 ∷ decimal n))) (plain_decimal l) (both (decimal m) (44 ∷ decimal n) (plain_decimal m) (plain_decimal n))
 
-plain_step : (c : Option Tree) → value_formed c ≡ true → IsPlain (step_text c)
+plain_step : (c : Option Tree) → value_formed is_name c ≡ true → IsPlain (step_text c)
 plain_step None f = refl
 plain_step (Some t) f = plain_text t f
 
 -- the DO variable and the parameters
-plain_range : (name : List ℕ) (a b : Tree) (c : Option Tree) → (is_name name && (formed a && (formed b && value_formed c))) ≡ true
+plain_range : (name : List ℕ) (a b : Tree) (c : Option Tree) → (is_name name && (formed is_name a && (formed is_name b && value_formed is_name c))) ≡ true
     → IsPlain (name ++ (61 ∷ (text_of a ++ (44 ∷ (text_of b ++ step_text c)))))
 plain_range name a b c f =
-    let (is, rest) = and_true (is_name name) (formed a && (formed b && value_formed c)) f in
-    let (first, others) = and_true (formed a) (formed b && value_formed c) rest in
-    let (second, third) = and_true (formed b) (value_formed c) others in
+    let (is, rest) = and_true (is_name name) (formed is_name a && (formed is_name b && value_formed is_name c)) f in
+    let (first, others) = and_true (formed is_name a) (formed is_name b && value_formed is_name c) rest in
+    let (second, third) = and_true (formed is_name b) (value_formed is_name c) others in
     both name (61 ∷ (text_of a ++ (44 ∷ (text_of b ++ step_text c)))) (plain_name name is)
     (both (text_of a) (44 ∷ (text_of b ++ step_text c)) (plain_text a first) (both (text_of b) (step_text c) (plain_text b second) (plain_step c third)))
 
@@ -91,7 +91,7 @@ kind_starts Integer text = refl
 kind_starts Logical text = refl
 
 -- a statement's text without its blanks
-pub squeezed_statement : (s : Statement) → statement_formed s ≡ true → squeezed (statement_text s) ≡ bare_text s
+pub squeezed_statement : (s : Statement) → statement_formed is_name s ≡ true → squeezed (statement_text s) ≡ bare_text s
 squeezed_statement (Statement.Subroutine name []) f =
     ap (λ z. codes "SUBROUTINE" ++ z) (squeezed_plain name (plain_name name (and_true (is_name name) true f).0))
 squeezed_statement (Statement.Subroutine name (n ∷ names)) f =
@@ -99,7 +99,7 @@ squeezed_statement (Statement.Subroutine name (n ∷ names)) f =
     ap (λ z. codes "SUBROUTINE" ++ z) (squeezed_plain (behind name (n ∷ names)) (plain_behind name (n ∷ names) is all))
 squeezed_statement (Statement.Declare kind ds) f = squeezed_kind kind (declarations_text ds) (plain_declaration ds f)
 squeezed_statement (Statement.Dimension ds) f =
-    ap (λ z. codes "DIMENSION" ++ z) (squeezed_plain (declarations_text ds) (plain_declaration ds (and_true (declaration_formed ds) (all_bounded ds) f).0))
+    ap (λ z. codes "DIMENSION" ++ z) (squeezed_plain (declarations_text ds) (plain_declaration ds (and_true (declaration_formed is_name ds) (all_bounded ds) f).0))
 squeezed_statement (Statement.Preset gs) f = ap (λ z. codes "DATA" ++ z) (squeezed_plain (groups_text gs) (plain_data gs f))
 squeezed_statement (Statement.Assign name items t) f = squeezed_plain (statement_text (Statement.Assign name items t)) (plain_assign name items t f)
 squeezed_statement (Statement.Goto label) f = ap (λ z. codes "GOTO" ++ z) (squeezed_plain (decimal label) (plain_decimal label))
@@ -108,8 +108,8 @@ squeezed_statement (Statement.ArithIf t l m n) f =
     ap (λ z. codes "IF(" ++ z) (behind_plain (text_of t) (codes ") " ++ (decimal l ++ (44 ∷ (decimal m ++ (44 ∷ decimal n))))) _ (plain_text t f)
     (ap (λ z. 41 ∷ z) (squeezed_plain (decimal l ++ (44 ∷ (decimal m ++ (44 ∷ decimal n)))) (plain_labels l m n))))
 squeezed_statement (Statement.LogicalIf t s) f =
-    let (test, rest) = and_true (formed t) (is_action s && statement_formed s) f in
-    let (is, inner) = and_true (is_action s) (statement_formed s) rest in
+    let (test, rest) = and_true (formed is_name t) (is_action s && statement_formed is_name s) f in
+    let (is, inner) = and_true (is_action s) (statement_formed is_name s) rest in
     ap (λ z. codes "IF(" ++ z) (behind_plain (text_of t) (codes ") " ++ statement_text s) _ (plain_text t test) (ap (λ z. 41 ∷ z) (squeezed_statement s inner)))
 squeezed_statement (Statement.BlockIf t) f = ap (λ z. codes "IF(" ++ z) (behind_plain (text_of t) (codes ") THEN") (codes ")THEN") (plain_text t f) refl)
 squeezed_statement (Statement.ElseIf t) f = ap (λ z. codes "ELSEIF(" ++ z) (behind_plain (text_of t) (codes ") THEN") (codes ")THEN") (plain_text t f) refl)
@@ -124,13 +124,13 @@ squeezed_statement Statement.Stop f = refl
 squeezed_statement Statement.Trap f = refl
 squeezed_statement Statement.End f = refl
 
-pub printable_statement : (s : Statement) → statement_formed s ≡ true → list_all is_printable (statement_text s) ≡ true
+pub printable_statement : (s : Statement) → statement_formed is_name s ≡ true → list_all is_printable (statement_text s) ≡ true
 printable_statement (Statement.Subroutine name []) f = printable_plain name (plain_name name (and_true (is_name name) true f).0)
 printable_statement (Statement.Subroutine name (n ∷ names)) f =
     let (is, all) = and_true (is_name name) (list_all is_name (n ∷ names)) f in
     printable_plain (behind name (n ∷ names)) (plain_behind name (n ∷ names) is all)
 printable_statement (Statement.Declare kind ds) f = printable_kind kind (declarations_text ds) (plain_declaration ds f)
-printable_statement (Statement.Dimension ds) f = printable_plain (declarations_text ds) (plain_declaration ds (and_true (declaration_formed ds) (all_bounded ds) f).0)
+printable_statement (Statement.Dimension ds) f = printable_plain (declarations_text ds) (plain_declaration ds (and_true (declaration_formed is_name ds) (all_bounded ds) f).0)
 printable_statement (Statement.Preset gs) f = printable_plain (groups_text gs) (plain_data gs f)
 printable_statement (Statement.Assign name items t) f = printable_plain (statement_text (Statement.Assign name items t)) (plain_assign name items t f)
 printable_statement (Statement.Goto label) f = printable_plain (decimal label) (plain_decimal label)
@@ -139,8 +139,8 @@ printable_statement (Statement.ArithIf t l m n) f =
     printable_both (text_of t) (codes ") " ++ (decimal l ++ (44 ∷ (decimal m ++ (44 ∷ decimal n))))) (printable_plain (text_of t) (plain_text t f))
     (printable_plain (decimal l ++ (44 ∷ (decimal m ++ (44 ∷ decimal n)))) (plain_labels l m n))
 printable_statement (Statement.LogicalIf t s) f =
-    let (test, rest) = and_true (formed t) (is_action s && statement_formed s) f in
-    let (is, inner) = and_true (is_action s) (statement_formed s) rest in
+    let (test, rest) = and_true (formed is_name t) (is_action s && statement_formed is_name s) f in
+    let (is, inner) = and_true (is_action s) (statement_formed is_name s) rest in
     printable_both (text_of t) (codes ") " ++ statement_text s) (printable_plain (text_of t) (plain_text t test)) (printable_statement s inner)
 printable_statement (Statement.BlockIf t) f = printable_both (text_of t) (codes ") THEN") (printable_plain (text_of t) (plain_text t f)) refl
 printable_statement (Statement.ElseIf t) f = printable_both (text_of t) (codes ") THEN") (printable_plain (text_of t) (plain_text t f)) refl
@@ -163,14 +163,14 @@ starts_named : (name rest : List ℕ) → is_name name ≡ true → not (list_al
 starts_named [] rest h = cc
 starts_named (c ∷ text) rest h = starts c (text ++ rest) (not_blank c (plain_letter c (and_true (is_letter c) (list_all is_word text) h).0))
 
-pub statement_starts : (s : Statement) → statement_formed s ≡ true → not (list_all is_blank (piece (statement_text s) 0)) ≡ true
+pub statement_starts : (s : Statement) → statement_formed is_name s ≡ true → not (list_all is_blank (piece (statement_text s) 0)) ≡ true
 statement_starts (Statement.Subroutine name []) f = refl
 statement_starts (Statement.Subroutine name (n ∷ names)) f = refl
 statement_starts (Statement.Declare kind ds) f = kind_starts kind (declarations_text ds)
 statement_starts (Statement.Dimension ds) f = refl
 statement_starts (Statement.Preset gs) f = refl
 statement_starts (Statement.Assign name items t) f =
-    let (is, rest) = and_true (is_name name) (all_formed items && formed t) f in
+    let (is, rest) = and_true (is_name name) (all_formed is_name items && formed is_name t) f in
     rw (append_assoc name (list_text items) (61 ∷ text_of t)) (starts_named name (list_text items ++ (61 ∷ text_of t)) is)
 statement_starts (Statement.Goto label) f = refl
 statement_starts (Statement.ComputedGoto labels t) f = refl

@@ -5,6 +5,7 @@ use Rattle.std.specs.List.{slice_get, cons_option}
 use Rattle.f77_source.specs.Write.{is_bad_label, continuation_count, card_fault, card_faults}
 use Rattle.f77_source.specs.declared.fault.FormFault.{FormFault}
 use Rattle.f77_source.specs.declared.fault.FormFault.TheVariants.{BadLabel, TooManyContinuations}
+use Rattle.f77_tree.specs.Grammar.{is_name}
 use Rattle.f77_program.specs.Canonical.{statement_text}
 use Rattle.f77_program.specs.code.Formed.{statement_formed}
 use Rattle.f77_program.specs.Printing.{card_of, print_fault, print_faults}
@@ -19,14 +20,14 @@ use Rattle.f77_program.proofs.StatementPlain.{printable_statement}
 -- each statement is one that some text spells
 abbrev pub AreFormed : List LineFields → Type 0
 AreFormed [] = Unit {0}
-AreFormed (line ∷ lines) = (statement_formed line.stmt ≡ true) × AreFormed lines
+AreFormed (line ∷ lines) = (statement_formed is_name line.stmt ≡ true) × AreFormed lines
 
 pub program_formed : {before : Option Group} {lines : List LineFields} → IsProgram before lines → AreFormed lines
 program_formed IsProgram.finished = tt
 program_formed (IsProgram.next {line = line} may rest) = (is_formed line.stmt may.1, program_formed rest)
 
 -- a line's fault is what is told of its card's
-line_told : (line : LineFields) → statement_formed line.stmt ≡ true → option_map told_fault (card_fault (card_of line)) ≡ option_map Some (print_fault line)
+line_told : (line : LineFields) → statement_formed is_name line.stmt ≡ true → option_map told_fault (card_fault (card_of line)) ≡ option_map Some (print_fault line)
 unfolding card_fault print_fault
 line_told line f = rw (printable_statement line.stmt f) (step (is_bad_label line.label) (nat_lt 19 (continuation_count (statement_text line.stmt))))
   where

@@ -17,8 +17,8 @@ replaced (line ∷ lines) (suc i) statement = line ∷ replaced lines i statemen
 abbrev pub patched : List LineFields → ℕ → Statement → List LineFields
 patched program number statement = replaced program (number - 1) statement
 
--- It may stand there: the number, from 1, is that of a statement
--- of the same group, and some text spells the new one.
+-- It may stand there: the number, from 1, is that of a statement of the same group,
+-- and some text spells the new one, with names of six characters at most.
 pub record Fits (program : List LineFields) (number : ℕ) (statement : Statement) : Type 0 where
   pub line : LineFields
   pub counted : 1 ≤ number

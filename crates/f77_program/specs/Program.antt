@@ -3,7 +3,6 @@ use Rattle.std.specs.Prelude.{◌≡◌, ℕ, zero, suc, true, List, [], ◌∷�
 use Rattle.std.specs.List.{slice_get}
 use Rattle.f77_tree.specs.StatementGrammar.{IsFormed}
 use Rattle.f77_tree.specs.Statement.{statement_of, Statement}
-use Rattle.f77_tree.specs.Names.{statement_names}
 use Rattle.f77_program.specs.Group.{group_of, may_stand}
 use Rattle.f77_program.specs.declared.group.Group.{Group}
 use Rattle.f77_program.specs.declared.group.Group.TheVariants.{End}
@@ -22,8 +21,7 @@ line_of l = record { label = l.label; stmt = statement_of l.stmt; line = l.line 
 -- The line may stand behind a statement of this group, or first; some
 -- text spells its statement, with names of six characters at most.
 abbrev pub MayFollow : Option Group → LineFields → Type 0
-MayFollow before line = (may_stand before (group_of line.stmt) ≡ true)
-    × IsFormed line.stmt × (statement_names line.stmt ≡ true)
+MayFollow before line = (may_stand before (group_of line.stmt) ≡ true) × IsFormed line.stmt
 
 -- Formed statements in order, behind a statement of this group or from the start on, to the end.
 pub data IsProgram : Option Group → List LineFields → Type 0 where

@@ -3,25 +3,21 @@
 ghost use Rattle.std.specs.Prelude.{◌≡◌, ◌++◌, true, map, codes, OnOk, string_bytes};
 ghost use Rattle.std.specs.List.{list_all};
 ghost use Rattle.f77_tree.specs.Data.{data_group_of};
-ghost use Rattle.f77_tree.specs.Grammar as grammar;
 ghost use Rattle.f77_tree.specs.Joined.{separated};
 ghost use Rattle.f77_tree.specs.code.Joined.{some_all};
-ghost use Rattle.f77_tree.specs.Name.{is_short};
-ghost use Rattle.f77_tree.specs.Names as limits;
+ghost use Rattle.f77_tree.specs.Name.{is_symbolic};
 ghost use Rattle.f77_program.specs.Data as initial;
 ghost use Rattle.f77_program.specs.code.Data as initial_code;
 
 use crate::joined::{print_joined, print_names};
-use f77_tree::{Constant, DataGroup, Name, Value, known_names};
+use f77_tree::{Constant, DataGroup, Name, Value, are_short};
 use std::alloc::AllocError;
 
 #[tactic(auto, using(crate::proofs::JoinedForms::some_here, crate::proofs::JoinedForms::none_here))]
 fn are_names(names: &[Name]) -> bool
-    ensures formed { result ≡ some_all grammar.is_name names.now }
-    ensures short { list_all is_short names.now ≡ true }
+    ensures { result ≡ some_all is_symbolic names.now }
 {
-    known_names(names);
-    !names.is_empty()
+    !names.is_empty() && are_short(names)
 }
 
 #[tactic(auto, using(crate::proofs::DataForms::some_values))]
@@ -32,15 +28,13 @@ fn are_values(values: &[Value]) -> bool
 }
 
 fn is_group(group: &DataGroup) -> bool
-    ensures formed { result ≡ initial_code.is_group (data_group_of group.now) }
-    ensures short { limits.has_short_group_names (data_group_of group.now) ≡ true }
+    ensures { result ≡ initial_code.is_group is_symbolic (data_group_of group.now) }
 {
     are_names(&group.names) && are_values(&group.values)
 }
 
 fn are_groups(groups: &[DataGroup]) -> bool
-    ensures formed { result ≡ list_all initial_code.is_group (map data_group_of groups.now) }
-    ensures short { result ≡ true → limits.data_names (map data_group_of groups.now) ≡ true }
+    ensures { result ≡ list_all (initial_code.is_group is_symbolic) (map data_group_of groups.now) }
 {
     for group in groups {
         if !is_group(group) {
@@ -50,11 +44,11 @@ fn are_groups(groups: &[DataGroup]) -> bool
     true
 }
 
-/// Whether some text spells the groups, names, repeats and constants of any length and size allowed.
+/// Whether some text spells the groups, repeats and constants of any size allowed, with names of six characters at
+/// most.
 #[tactic(auto, using(crate::proofs::JoinedForms::some_seen, crate::proofs::JoinedForms::none_seen))]
 pub(crate) fn data_formed(groups: &[DataGroup]) -> bool
-    ensures formed { result ≡ initial_code.data_formed (map data_group_of groups.now) }
-    ensures short { result ≡ true → limits.data_names (map data_group_of groups.now) ≡ true }
+    ensures { result ≡ initial_code.data_formed is_symbolic (map data_group_of groups.now) }
 {
     !groups.is_empty() && are_groups(groups)
 }

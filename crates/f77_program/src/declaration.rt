@@ -3,7 +3,7 @@
 ghost use Rattle.std.specs.Prelude.{◌≡◌, ◌++◌, true, map, OnOk, string_bytes};
 ghost use Rattle.std.specs.List.{list_all};
 ghost use Rattle.f77_tree.specs.Declaration.{decl_of};
-ghost use Rattle.f77_tree.specs.Names as limits;
+ghost use Rattle.f77_tree.specs.Name.{is_symbolic};
 ghost use Rattle.f77_program.specs.Declaration as declared;
 ghost use Rattle.f77_program.specs.code.Declaration as declared_code;
 
@@ -11,24 +11,24 @@ use crate::joined::{print_joined, print_numbers};
 use f77_tree::Decl;
 use std::alloc::AllocError;
 
-/// What the type says of the name of each item, told of all of them.
-fn known(items: &[Decl])
-    ensures named { list_all declared_code.is_decl (map decl_of items.now) ≡ true }
-    ensures short { limits.declaration_names (map decl_of items.now) ≡ true }
+/// Whether each declared name has six characters at most.
+fn are_symbolic(items: &[Decl]) -> bool
+    ensures { result ≡ list_all (declared_code.is_decl is_symbolic) (map decl_of items.now) }
 {
     for item in items {
-        item.name.known();
+        if !item.name.is_short() {
+            return false;
+        }
     }
+    true
 }
 
-/// Whether some text spells the declared names, names and bounds of any length and size allowed.
+/// Whether some text spells the declared names, bounds of any size allowed, and they have six characters at most.
 #[tactic(auto, using(crate::proofs::JoinedForms::some_seen, crate::proofs::JoinedForms::none_seen))]
 pub(crate) fn declaration_formed(items: &[Decl]) -> bool
-    ensures formed { result ≡ declared_code.declaration_formed (map decl_of items.now) }
-    ensures short { limits.declaration_names (map decl_of items.now) ≡ true }
+    ensures { result ≡ declared_code.declaration_formed is_symbolic (map decl_of items.now) }
 {
-    known(items);
-    !items.is_empty()
+    !items.is_empty() && are_symbolic(items)
 }
 
 fn print_declaration(out: &mut String, item: &Decl) -> Result<(), AllocError>

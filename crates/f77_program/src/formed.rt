@@ -1,18 +1,17 @@
-//! Statements that some text spells.
+//! Statements that some text spells, with names of six characters at most.
 
-ghost use Rattle.std.specs.Prelude.{◌≡◌, ◌&&◌, true, false, map, option_map};
+ghost use Rattle.std.specs.Prelude.{◌≡◌, true, false, map, option_map};
 ghost use Rattle.f77_tree.specs.Grammar as grammar;
 ghost use Rattle.f77_tree.specs.StatementGrammar.{IsFormed};
 ghost use Rattle.f77_program.specs.Formed as forms;
 ghost use Rattle.f77_program.specs.code.Formed as forms_code;
-ghost use Rattle.f77_tree.specs.Name.{is_short};
-ghost use Rattle.f77_tree.specs.Names.{short_names, all_short_names, of_value, statement_names};
+ghost use Rattle.f77_tree.specs.Name.{is_symbolic};
 ghost use Rattle.f77_tree.specs.View.{tree_of, trees};
 ghost use Rattle.f77_tree.specs.Statement.{statement_of};
 
 use crate::data::data_formed;
 use crate::declaration::declaration_formed;
-use f77_tree::{Expr, Intrinsic, Name, Stmt, all_bounded, known_names};
+use f77_tree::{Expr, Intrinsic, Name, Stmt, all_bounded, are_short};
 
 #[tactic(auto, using(crate::proofs::Forming::some_items))]
 fn is_some_list(items: &[Expr]) -> bool
@@ -31,17 +30,14 @@ fn is_call(name: &Name, items: &[Expr]) -> bool
 
 #[tactic(auto, unfolding(crate::specs::code::Formed::is_reference))]
 fn is_reference(name: &Name, items: &[Expr]) -> bool
-    ensures reference { result ≡ forms_code.is_reference name.now (trees (map tree_of items.now)) }
-    ensures short { is_short name.now ≡ true }
+    ensures { result ≡ forms_code.is_reference is_symbolic name.now (trees (map tree_of items.now)) }
 {
-    name.known();
-    !is_call(name, items)
+    name.is_short() && !is_call(name, items)
 }
 
 #[cycle(formed)]
 fn formed(expr: &Expr) -> bool
-    ensures formed { result ≡ forms_code.formed (tree_of expr.now) }
-    ensures short { result ≡ true → short_names (tree_of expr.now) ≡ true }
+    ensures { result ≡ forms_code.formed is_symbolic (tree_of expr.now) }
 {
     match expr {
         Expr::Number(_) | Expr::Truth(_) => true,
@@ -55,8 +51,7 @@ fn formed(expr: &Expr) -> bool
 
 #[cycle(formed)]
 fn all_formed(items: &[Expr]) -> bool
-    ensures formed { result ≡ forms_code.all_formed (trees (map tree_of items.now)) }
-    ensures short { result ≡ true → all_short_names (trees (map tree_of items.now)) ≡ true }
+    ensures { result ≡ forms_code.all_formed is_symbolic (trees (map tree_of items.now)) }
 {
     for item in items {
         if !formed(item) {
@@ -67,8 +62,7 @@ fn all_formed(items: &[Expr]) -> bool
 }
 
 fn value_formed(value: Option<&Expr>) -> bool
-    ensures formed { result ≡ forms_code.value_formed (option_map (λ value. tree_of value.now) value.entry) }
-    ensures short { result ≡ true → of_value short_names (option_map (λ value. tree_of value.now) value.entry) ≡ true }
+    ensures { result ≡ forms_code.value_formed is_symbolic (option_map (λ value. tree_of value.now) value.entry) }
 {
     match value {
         None => true,
@@ -77,21 +71,15 @@ fn value_formed(value: Option<&Expr>) -> bool
 }
 
 fn statement_formed(stmt: &Stmt) -> bool
-    ensures formed { result ≡ forms_code.statement_formed (statement_of stmt.now) }
-    ensures short { result ≡ true → statement_names (statement_of stmt.now) ≡ true }
+    ensures { result ≡ forms_code.statement_formed is_symbolic (statement_of stmt.now) }
 {
     match stmt {
-        Stmt::Subroutine { name, arguments } => {
-            name.known();
-            known_names(arguments);
-            true
-        }
+        Stmt::Subroutine { name, arguments } => { name.is_short() && are_short(arguments) }
         Stmt::Declare { items, .. } => declaration_formed(items),
         Stmt::Dimension { items } => declaration_formed(items) && all_bounded(items),
         Stmt::Preset { groups } => data_formed(groups),
         Stmt::Assign { target, value } => {
-            target.name.known();
-            all_formed(&target.subscripts) && formed(value)
+            target.name.is_short() && all_formed(&target.subscripts) && formed(value)
         }
         Stmt::LogicalIf {
             condition,
@@ -103,10 +91,7 @@ fn statement_formed(stmt: &Stmt) -> bool
             last,
             step,
             ..
-        } => {
-            variable.known();
-            formed(first) && formed(last) && value_formed(step.as_ref())
-        }
+        } => { variable.is_short() && formed(first) && formed(last) && value_formed(step.as_ref()) }
         _ => stmt.has_labels() && value_formed(stmt.value()),
     }
 }
@@ -118,11 +103,10 @@ pub fn is_action(stmt: &Stmt) -> bool
     stmt.form().acts()
 }
 
-/// Whether some text spells the statement, names and constants of any length and size allowed.
+/// Whether some text spells the statement, constants of any size allowed, and its names have six characters at most.
 #[tactic(auto, using(crate::proofs::StatementForming::formed_spelled, crate::proofs::StatementForming::not_formed))]
 pub fn is_formed(stmt: &Stmt) -> bool
     ensures formed { result ≡ true → IsFormed (statement_of stmt.now) }
-    ensures short { result ≡ true → statement_names (statement_of stmt.now) ≡ true }
     ensures unformed { result ≡ false → ¬ (IsFormed (statement_of stmt.now)) }
 {
     statement_formed(stmt)

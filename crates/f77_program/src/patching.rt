@@ -23,8 +23,8 @@ fn with_stmt(line: &Line, stmt: &Stmt) -> Result<Line, AllocError>
 }
 
 impl Program {
-    /// Whether the statement may stand in the place of the one of this number, which is 1
-    /// for SUBROUTINE: it is of the same group, and some text spells it. It takes no memory.
+    /// Whether the statement may stand in the place of the one of this number, which is 1 for SUBROUTINE: it is of the
+    /// same group, some text spells it, and its names have six characters at most. It takes no memory.
     pub fn fits(&self, number: usize, stmt: &Stmt) -> bool
         ensures yes { result ≡ true → Fits (map line_of self.now) number (statement_of stmt.now) }
         ensures no { result ≡ false → ¬ (Fits (map line_of self.now) number (statement_of stmt.now)) }
@@ -41,7 +41,6 @@ impl Program {
         ensures { IfOk result
             (λ program. map line_of program ≡ patched (map line_of self.now) number (statement_of stmt.now)) }
     {
-        let _formed = is_formed(stmt);
         let mut lines = self.lines().to_vec(self.allocator())?;
         let changed = with_stmt(&lines[number - 1], stmt)?;
         lines[number - 1] = Shared::new(self.allocator(), changed)?;

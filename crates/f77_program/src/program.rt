@@ -53,7 +53,7 @@ impl Eq for Line {
 }
 
 /// A subroutine: SUBROUTINE first, then declarations, then DATA, then what is executed, END last and only there (ANSI
-/// X3.9-1978, 3.5), each a statement that some text spells.
+/// X3.9-1978, 3.5), each a statement that some text spells, with names of six characters at most.
 #[derive(Debug, Drop)]
 pub struct Program {
     lines: Vec<Shared<Line>>,
@@ -137,8 +137,8 @@ impl Program {
         Program { lines }
     }
 
-    /// The program of these lines, None where they are none: each
-    /// statement in its place, and one that some text spells.
+    /// The program of these lines, None where they are none: each statement in its
+    /// place, and one that some text spells, with names of six characters at most.
     pub fn of(alloc: Global, lines: Vec<Line>) -> Result<Option<Program>, SyntaxFault>
         ensures given { IfOk result (λ answer. IfSome answer (λ program. program ≡ lines.items)) }
         ensures program { IfOk result (λ answer. IsSome answer → IsProgram None (map line_of lines.items)) }

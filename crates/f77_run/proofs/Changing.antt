@@ -15,6 +15,7 @@ use Rattle.f77_tree.specs.declared.tree.Kind.{Kind}
 use Rattle.f77_actions.specs.declared.action.Action.{Action, Loop}
 use Rattle.f77_actions.specs.declared.resolved.Resolved.{Resolved}
 use Rattle.f77_actions.specs.Number.{fits}
+use Rattle.f77_legal.specs.Alone.{StandsAlone}
 use Rattle.f77_legal.specs.Frames.{HaveOneFrame, frame, framed}
 use Rattle.f77_legal.specs.Labels.{nth_statement}
 use Rattle.f77_legal.specs.Legal.{IsLegal}
@@ -242,6 +243,12 @@ module _ (checked : CheckedFields) (change : Option Change) (fields : ChangedFie
     (stmt : Statement) where
   pub fits_here : Fits (map line_of fields.checked.program) number stmt → Fits (map line_of checked.program) number stmt
   fits_here = subst (λ (checked : CheckedFields). Fits (map line_of checked.program) number stmt) (sym (program_of checked change fields view))
+
+  pub alone_here : StandsAlone fields.checked.names (map line_of fields.checked.program) (number - 1) stmt
+      → StandsAlone checked.names (map line_of checked.program) (number - 1) stmt
+  alone_here =
+      subst (λ (checked : CheckedFields). StandsAlone checked.names (map line_of checked.program) (number - 1) stmt)
+      (sym (program_of checked change fields view))
 
   pub legal_here : IsLegal (patched (map line_of fields.checked.program) number stmt) → IsLegal (patched (map line_of checked.program) number stmt)
   legal_here = subst (λ (checked : CheckedFields). IsLegal (patched (map line_of checked.program) number stmt)) (sym (program_of checked change fields view))

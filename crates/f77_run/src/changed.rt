@@ -1,12 +1,12 @@
 //! Runs of a program with one statement changed, one change after another.
 
-ghost use Rattle.std.specs.Prelude.{◌≡◌, ◌<◌, true, false, length, map, slice_set, None, IfOk, IfErr, OnOk};
+ghost use Rattle.std.specs.Prelude.{◌≡◌, ◌<◌, ◌-◌, length, map, slice_set, None, IfOk, IfErr, OnOk};
 ghost use Rattle.std.specs.Bool.{Decides};
 ghost use Rattle.f77_program.specs.Patching.{Fits, patched};
 ghost use Rattle.f77_program.specs.Program.{line_of};
 ghost use Rattle.f77_tree.specs.Statement.{statement_of};
+ghost use Rattle.f77_legal.specs.Alone.{StandsAlone};
 ghost use Rattle.f77_legal.specs.Legal.{IsLegal};
-ghost use Rattle.f77_legal.specs.declared.fault.CheckFault.TheVariants as refused;
 ghost use Rattle.f77_code.specs.Exchange.{HaveOneOwn, IsAllOwn, IsChangedCode, own_instructions};
 ghost use Rattle.f77_code.specs.Program.{IsCode};
 ghost use Rattle.f77_code.specs.Together.{AgreeButAt};
@@ -22,7 +22,7 @@ use crate::parting::comes_alike;
 use crate::registers::{Registers, add_constants};
 use crate::visits::Visits;
 use crate::workspace::{Workspace, code_of};
-use f77_check::{Action, CheckFault, Checked, Resolved};
+use f77_check::{Checked, Resolved};
 use f77_code::ChangedCode;
 use f77_meaning::{Arg, Outcome, RunFault};
 use f77_tree::Stmt;
@@ -47,12 +47,9 @@ pub struct ChangedRunner<'a> {
     code: ChangedCode,
     space: Workspace,
     change: Option<Change>,
-    /// In the place of each statement the one that it was changed to last, in whose memory the next is resolved.
-    last: Vec<Resolved>,
 }
 
 impl<'a> Model for ChangedRunner<'a> {
-    ghost use Rattle.std.specs.Prelude.{◌≡◌, length};
     ghost use Rattle.std.specs.Coded.{codes};
     ghost use Rattle.f77_tree.specs.contracts.tree.Expr as expr;
     ghost use Rattle.f77_tree.specs.contracts.statement.Stmt as stmt;
@@ -77,29 +74,7 @@ impl<'a> Model for ChangedRunner<'a> {
     ghost view = { λ runner. changed_fields runner.checked.now runner.change };
 
     ghost invariant = { λ runner. IsChanged (changed_fields runner.checked.now runner.change)
-        runner.code runner.space.image
-        × (length runner.last.items ≡ length runner.checked.now.statements) };
-}
-
-/// What stands where no changed statement was resolved yet.
-fn no_statement(alloc: Global) -> Resolved {
-    Resolved {
-        action: Action::Continue,
-        next: 0,
-        ends: Vec::new(alloc),
-    }
-}
-
-/// The place of each of so many statements, where none was changed yet.
-fn no_statements(alloc: Global, count: usize) -> Result<Vec<Resolved>, RunFault>
-    ensures count { IfOk result (λ list. length list.items ≡ count) }
-    ensures memory { IfErr result (λ e. e ≡ fault.Memory) }
-{
-    let mut list = Vec::with_capacity(alloc, count)?;
-    for _statement in 0..count {
-        list.push(no_statement(alloc))?;
-    }
-    Ok(list)
+        runner.code runner.space.image };
 }
 
 /// The code and the registers at the start of its runs are those of the program itself again.
@@ -160,46 +135,48 @@ impl<'a> ChangedRunner<'a> {
     {
         let code = code_of(alloc, checked)?;
         let space = Workspace::of(alloc, checked, &code)?;
-        let last = no_statements(alloc, checked.statements().len())?;
         Ok(ChangedRunner {
             alloc,
             checked,
             code: ChangedCode::of(code),
             space,
             change: None,
-            last,
         })
     }
 
     /// From now on the runs are those of the program with this statement in the place of the one of this number, from
-    /// 1, and every other one its own: whether the change is judged by the changed statement alone. Where it is not,
-    /// the runs are those of the program itself. No memory is taken for what the last changed statement there has.
-    pub fn change(&mut self, number: usize, stmt: &Stmt) -> Result<bool, CheckFault>
+    /// 1, and every other one its own: the changed program is legal by that statement alone. For want of memory, N1,
+    /// they are those of the program itself.
+    pub fn change(&mut self, number: usize, stmt: &Stmt) -> Result<(), RunFault>
         requires fits { Fits (map line_of self.old.checked.program) number (statement_of stmt.now) }
+        requires alone { StandsAlone self.old.checked.names (map line_of self.old.checked.program) (number - 1)
+            (statement_of stmt.now) }
         requires legal { IsLegal (patched (map line_of self.old.checked.program) number (statement_of stmt.now)) }
         ensures program { self.new.checked ≡ self.old.checked }
-        ensures changed { IfOk result (λ alone. alone ≡ true → changed_program self.new
+        ensures changed { OnOk result (changed_program self.new
             ≡ patched (map line_of self.old.checked.program) number (statement_of stmt.now)) }
-        ensures unchanged { IfOk result (λ alone. alone ≡ false
-            → changed_program self.new ≡ map line_of self.old.checked.program) }
-        ensures memory { IfErr result (λ fault. fault ≡ refused.Memory) }
+        ensures memory { IfErr result (λ e. e ≡ fault.Memory) }
     {
         restore(self.checked, &mut self.code, &mut self.space.image);
         self.change = None;
         let place = number - 1;
-        let last = &mut self.last[place];
-        if !self.checked.resolve_in_place(number, stmt, last)? {
-            return Ok(false);
-        }
+        let Ok(resolved) = self.checked.resolved(number, stmt) else {
+            return Err(RunFault::Memory);
+        };
         let image = &mut self.space.image;
-        if put(self.alloc, self.checked, &mut self.code, image, place, last).is_err() {
-            return Err(CheckFault::Memory);
-        }
+        put(
+            self.alloc,
+            self.checked,
+            &mut self.code,
+            image,
+            place,
+            &resolved,
+        )?;
         self.change = Some(Change {
             place,
             stmt: Snapshot::of(stmt),
         });
-        Ok(true)
+        Ok(())
     }
 
     /// Whether the run of the changed program with these values of the dummy arguments, in order, for so

@@ -1,15 +1,16 @@
 -- What the limits say of the text and of the statement that is kept, they say of the one that the text spells.
-use Rattle.std.proofs.Common.{◌≡◌, ◌⊎◌, inl, inr, ◌≤◌, ◌<◌, ℕ, List, Bool, true, false, refl, ap, sym, ◌∙◌, subst}
+use Rattle.std.proofs.Common.{◌≡◌, ◌⊎◌, inl, inr, ◌≤◌, ◌<◌, ℕ, List, true, refl, ap, sym, ◌∙◌, subst}
 use Rattle.f77_program.specs.declared.fault.SyntaxFault.{SyntaxFault}
 use Rattle.f77_program.specs.declared.fault.SyntaxFault.TheVariants.{Memory, Unknown, BadName}
 use Rattle.f77_tree.specs.Statement.{Statement}
-use Rattle.f77_tree.specs.StatementGrammar.{SpellsStatement}
+use Rattle.f77_tree.specs.StatementGrammar.{SpellsStatement, IsFormed}
 use Rattle.f77_syntax.specs.code.StatementView.{clip_statement}
 use Rattle.f77_syntax.specs.TextLimits.{character_count, most_characters, IsTooDeep}
 use Rattle.f77_tree.specs.Names.{statement_names}
 use Rattle.f77_tree.specs.Limits.{most_nodes, statement_constants, statement_nodes}
 use Rattle.f77_syntax.specs.Parsing.{IsAdmitted, IsCardRefused}
 use Rattle.f77_syntax.specs.code.Parsing.{IsOutside}
+use Rattle.f77_syntax.proofs.FormedClip.{short_told, long_told}
 use Rattle.f77_syntax.proofs.StatementClip.{statement_constants_clip, statement_nodes_clip, statement_kept}
 
 -- a text within the limits on texts, and the statement that was kept of it
@@ -18,34 +19,29 @@ pub record Kept (text : List ℕ) (got : Statement) : Type 0 where
   pub flat : ¬ (IsTooDeep text)
   pub spells : (s : Statement) × SpellsStatement text s × (got ≡ clip_statement s)
 
--- whether the names of the statement that the text spells are short, where this one was kept of it
-abbrev pub SaysNames : List ℕ → Statement → Bool → Type 0
-SaysNames text got b = (s : Statement) → SpellsStatement text s → got ≡ clip_statement s → b ≡ statement_names s
-
-pub bad_name : (line : ℕ) (text : List ℕ) (got : Statement) (b : Bool) → Kept text got → SaysNames text got b → b ≡ false → IsCardRefused line text (BadName line)
-bad_name line text got b k e f =
+pub bad_name : (line : ℕ) (text : List ℕ) (got : Statement) → Kept text got → ¬ (IsFormed got) → IsCardRefused line text (BadName line)
+bad_name line text got k unformed =
     let (s, p, same) = k.spells in
-    IsCardRefused.name k.characters k.flat p (sym (e s p same) ∙ f)
+    IsCardRefused.name k.characters k.flat p (long_told got s unformed p same)
 
 -- a statement that is kept is outside the limits where the one that the text spells is
-pub outside : (line : ℕ) (text : List ℕ) (got : Statement) (b : Bool) {fault : SyntaxFault} → Kept text got → SaysNames text got b → b ≡ true
+pub outside : (line : ℕ) (text : List ℕ) (got : Statement) {fault : SyntaxFault} → Kept text got → IsFormed got
     → IsOutside line got fault → (fault ≡ Memory) ⊎ IsCardRefused line text fault
-outside line text got b k e f IsOutside.memory = inl refl
-outside line text got b k e f (IsOutside.constant h) =
+outside line text got k f IsOutside.memory = inl refl
+outside line text got k f (IsOutside.constant h) =
     let (s, p, same) = k.spells in
-    inr (IsCardRefused.constant k.characters k.flat p (sym (e s p same) ∙ f) (sym (statement_constants_clip s) ∙ ap statement_constants (sym same) ∙ h))
-outside line text got b k e f (IsOutside.nodes h more) =
+    inr (IsCardRefused.constant k.characters k.flat p (short_told got s f same) (sym (statement_constants_clip s) ∙ ap statement_constants (sym same) ∙ h))
+outside line text got k f (IsOutside.nodes h more) =
     let (s, p, same) = k.spells in
     let count : statement_nodes got ≡ statement_nodes s = ap statement_nodes same ∙ statement_nodes_clip s in
-    inr (IsCardRefused.nodes k.characters k.flat p (sym (e s p same) ∙ f)
+    inr (IsCardRefused.nodes k.characters k.flat p (short_told got s f same)
     (sym (statement_constants_clip s) ∙ ap statement_constants (sym same) ∙ h) (subst (λ n. most_nodes < n) count more))
 
-pub all_well : (text : List ℕ) (got : Statement) (b : Bool) → Kept text got → SaysNames text got b → b ≡ true
-    → statement_constants got ≡ true → statement_nodes got ≤ most_nodes → IsAdmitted text got
-all_well text got b k e f h few =
+pub all_well : (text : List ℕ) (got : Statement) → Kept text got → IsFormed got → statement_constants got ≡ true → statement_nodes got ≤ most_nodes → IsAdmitted text got
+all_well text got k f h few =
     let (s, p, same) = k.spells in
     let small : statement_constants s ≡ true = sym (statement_constants_clip s) ∙ ap statement_constants (sym same) ∙ h in
-    let short : statement_names s ≡ true = sym (e s p same) ∙ f in
+    let short = short_told got s f same in
     let is : s ≡ got = sym (statement_kept s short small) ∙ sym same in
     record {
       characters = k.characters;

@@ -78,7 +78,7 @@ pub simple_word : (s : List ℕ) → strip (codes "GOTO") s ≡ None → simple_
 unfolding simple_at
 simple_word s e = rw e refl
 
-action_clip : (u : Statement) → is_action (clip_statement u) ≡ is_action u
+pub action_clip : (u : Statement) → is_action (clip_statement u) ≡ is_action u
 action_clip (Statement.LogicalIf t s) = refl
 action_clip _ = refl
 

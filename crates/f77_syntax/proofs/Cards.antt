@@ -34,7 +34,7 @@ more_faults all cards others card last g s first p may same keeps fault is =
 
 pub are_program : {before : Option Group} {cards : List CardFields} {lines : List LineFields} → AreLines before cards lines → IsProgram before lines
 are_program AreLines.finished = IsProgram.finished
-are_program (AreLines.next {card = card} s p may rest) = IsProgram.next (may, spelled_is_formed p.spells, p.names) (are_program rest)
+are_program (AreLines.next {card = card} s p may rest) = IsProgram.next (may, spelled_is_formed p.spells p.names) (are_program rest)
 
 pub end_lines : (all rest : List CardFields) (last : Option Group) (lines : List LineFields) → rest ≡ [] → last ≡ Some End
     → ((more : List LineFields) → AreLines last rest more → AreLines None all (lines ++ more)) → AreLines None all lines

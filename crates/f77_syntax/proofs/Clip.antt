@@ -53,7 +53,7 @@ pub small_clipped : (n : ℕ) → nat_le n 2147483647 ≡ true → clipped n ≡
 small_clipped n e = grind (arith, nat_tests)
 
 pub short_cut : (name : List ℕ) → is_short name ≡ true → cut name ≡ name
-short_cut name e = let few : length name ≤ 6 = grind (arith, nat_tests) in take_all 6 name few
+short_cut name e = let few : length name ≤ 7 = grind (arith, nat_tests) in take_all 7 name few
 
 pub short_cuts : (names : List (List ℕ)) → list_all is_short names ≡ true → map cut names ≡ names
 short_cuts [] h = refl

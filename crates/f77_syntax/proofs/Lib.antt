@@ -29,9 +29,7 @@ pub mod StatementGives
 pub mod BranchGives
 pub mod Clip
 pub mod StatementClip
-pub mod WordLengths
-pub mod ItemLengths
-pub mod StatementLengths
+pub mod FormedClip
 pub mod Admit
 pub mod Exact
 pub mod Cards

@@ -9,8 +9,8 @@ use Rattle.f77_source.specs.Law.{squeezed, HasInitialLine, IsReadAs}
 use Rattle.f77_source.specs.Write.{written, is_printable, is_bad_label, continuation_count, card_fault, card_faults}
 use Rattle.f77_source.specs.declared.fault.FormFault.{FormFault}
 use Rattle.f77_source.specs.declared.fault.FormFault.TheVariants.{BadLabel, TooManyContinuations}
+use Rattle.f77_tree.specs.Grammar.{is_name}
 use Rattle.f77_tree.specs.StatementGrammar.{IsFormed}
-use Rattle.f77_tree.specs.Names.{statement_names}
 use Rattle.f77_program.specs.Canonical.{statement_text}
 use Rattle.f77_program.specs.code.Formed.{statement_formed}
 use Rattle.f77_program.specs.Printing.{card_of, printed, AreAlike, unnumbered}
@@ -29,7 +29,7 @@ or_true : (b : Bool) → (b || true) ≡ true
 or_true true = refl
 or_true false = refl
 
-has_line : (line : LineFields) → statement_formed line.stmt ≡ true → HasInitialLine (card_of line)
+has_line : (line : LineFields) → statement_formed is_name line.stmt ≡ true → HasInitialLine (card_of line)
 has_line line f = rw (statement_starts line.stmt f) (or_true (is_some line.label))
 
 pub have_lines : (lines : List LineFields) → AreFormed lines → All HasInitialLine (map card_of lines)
@@ -51,14 +51,14 @@ few_lines card p e = step (is_bad_label card.label) (nat_lt 19 (continuation_cou
     step false true is f = cc
     step false false is f = let few = ltb-false 19 (continuation_count card.text) is in omega arith
 
-admitted : (line : LineFields) → IsFormed line.stmt → statement_names line.stmt ≡ true → KeepsLimits line.stmt → card_fault (card_of line) ≡ None
+admitted : (line : LineFields) → IsFormed line.stmt → KeepsLimits line.stmt → card_fault (card_of line) ≡ None
     → IsAdmitted (squeezed (statement_text line.stmt)) line.stmt
-admitted line f n k e = record {
+admitted line f k e = record {
   characters = let few = few_lines (card_of line) (printable_statement line.stmt (is_formed line.stmt f)) e in
       omega (arith, squeezed_short (statement_text line.stmt), characters_few (squeezed (statement_text line.stmt)));
   flat = k.flat;
   spells = reads_back line.stmt f k.unmutated k.constants;
-  names = n;
+  names = f.2;
   constants = k.constants;
   nodes = k.nodes;
 }
@@ -81,7 +81,7 @@ read_again (IsProgram.next {line = line} {lines = lines} may rest) keeps none (c
     let more_texts : map (λ card. card.text) read ≡ map (λ card. squeezed card.text) (map card_of lines) = cc in
     let (found, are, alike) = read_again rest (All-tail (λ line. KeepsLimits line.stmt) line lines keeps) others read more_labels more_texts in
     let is : IsAdmitted card.text line.stmt =
-    subst (λ z. IsAdmitted z line.stmt) (sym text) (admitted line may.1 may.2 (All-head (λ line. KeepsLimits line.stmt) line lines keeps) first) in
+    subst (λ z. IsAdmitted z line.stmt) (sym text) (admitted line may.1 (All-head (λ line. KeepsLimits line.stmt) line lines keeps) first) in
     (line_with card line.stmt ∷ found, AreLines.next line.stmt is may.0 are, ap (λ z. (z, line.stmt) ∷ map unnumbered found) label ∙ ap (λ z. (line.label, line.stmt) ∷ z) alike)
 
 pub prints_back : (source : List ℕ) (lines : List LineFields) → IsProgram None lines → card_faults (map card_of lines) ≡ [] → source ≡ printed lines

@@ -12,5 +12,4 @@ pub mod Condition
 pub mod Subroutine
 pub mod DoLoop
 pub mod Statement
-pub mod NameLengths
 pub mod Parsing

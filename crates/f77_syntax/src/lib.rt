@@ -15,7 +15,6 @@ mod goto;
 mod joined;
 mod label;
 pub mod law;
-mod name_lengths;
 mod names;
 mod parsing;
 mod printing;

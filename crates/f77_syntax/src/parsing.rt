@@ -16,10 +16,9 @@ ghost use Rattle.f77_syntax.specs.code.StatementView.{clip_statement};
 ghost use Rattle.f77_program.specs.declared.group.Group.TheVariants.{End};
 
 use crate::fault::ReadError;
-use crate::name_lengths::has_short_names;
 use crate::statement::statement;
 use crate::text_limits::{MOST_CHARACTERS, character_count, is_too_deep};
-use f77_program::{Group, Line, Program, SyntaxFault, group_of, is_end};
+use f77_program::{Group, Line, Program, SyntaxFault, group_of, is_end, is_formed};
 use f77_source::Card;
 use f77_tree::{Shared, Stmt, are_small, nodes};
 use std::alloc::Global;
@@ -68,7 +67,8 @@ fn limited(alloc: Global, line: u32, text: &[u8]) -> Result<Stmt, SyntaxFault>
         return Err(SyntaxFault::TooDeep(line));
     }
     let stmt = spelled(alloc, line, text)?;
-    if !has_short_names(&stmt, text) {
+    // The text spells it: where it is not formed, a name is too long.
+    if !is_formed(&stmt) {
         return Err(SyntaxFault::BadName(line));
     }
     within_limits(alloc, line, &stmt)?;

@@ -4,11 +4,11 @@ use Rattle.std.specs.Prelude.{IsUtf8, min, nat_le, replicate}
 use Rattle.std.specs.List.{list_all}
 use Rattle.std.specs.Str.{IsAscii}
 use Rattle.std.proofs.lemmas.Bool.Decides.{nat_tests}
-use Rattle.std.proofs.lemmas.List.{length-take, take_all, drop-replicate}
+use Rattle.std.proofs.lemmas.List.{take_all, drop-replicate}
 use Rattle.std.proofs.lemmas.Str.{IsUtf8-from_ascii}
 use Rattle.std.proofs.lemmas.Str.Ascii.{IsAscii-nil, IsAscii-cons}
 use Rattle.f77_tree.specs.Grammar.{is_letter, is_word, is_name}
-use Rattle.f77_tree.specs.Name.{is_short, cut}
+use Rattle.f77_tree.specs.Name.{cut}
 use Rattle.f77_tree.specs.Name.{padded, IsPadded}
 use Rattle.f77_tree.specs.Grammar.{word}
 use Rattle.f77_tree.proofs.Words.{name_words}
@@ -32,10 +32,7 @@ words_take (suc n) (c ∷ s) e = let (first, others) = and_true (is_word c) (lis
 
 pub cut_named : (s : List ℕ) → is_name s ≡ true → is_name (cut s) ≡ true
 cut_named [] e = cc
-cut_named (c ∷ s) e = let (first, others) = and_true (is_letter c) (list_all is_word s) e in rw first (words_take 5 s others)
-
-pub cut_short : (s : List ℕ) → is_short (cut s) ≡ true
-cut_short s = let k = length-take 6 s in grind (arith, nat_tests)
+cut_named (c ∷ s) e = let (first, others) = and_true (is_letter c) (list_all is_word s) e in rw first (words_take 6 s others)
 
 -- a name with blanks behind it
 blanks_end : (n : ℕ) → EndsWord (replicate n 32)
@@ -43,23 +40,23 @@ blanks_end zero = tt
 blanks_end (suc n) = refl
 
 pub padded_word : (name : List ℕ) → is_name name ≡ true → word (padded name) ≡ name
-padded_word name n = word_front name (replicate (6 - length name) 32) (name_words name n) (blanks_end (6 - length name))
+padded_word name n = word_front name (replicate (7 - length name) 32) (name_words name n) (blanks_end (7 - length name))
 
-pub padded_well : (name : List ℕ) → is_name name ≡ true → is_short name ≡ true → IsPadded (padded name)
-padded_well name n s = let same = padded_word name n in record { named = rw same n; short = rw same s; padding = rw same refl }
+pub padded_well : (name : List ℕ) → is_name name ≡ true → IsPadded (padded name)
+padded_well name n = let same = padded_word name n in record { named = rw same n; padding = rw same refl }
 
--- the first six characters, written over six blanks
-take_least : (s : List ℕ) (m : ℕ) → m ≡ min (length s) 6 → take m s ≡ cut s
-take_least s m e = by_test (nat_le (length s) 6) refl
+-- the first seven characters, written over seven blanks
+take_least : (s : List ℕ) (m : ℕ) → m ≡ min (length s) 7 → take m s ≡ cut s
+take_least s m e = by_test (nat_le (length s) 7) refl
   where
-    by_test : (b : Bool) → nat_le (length s) 6 ≡ b → take m s ≡ cut s
+    by_test : (b : Bool) → nat_le (length s) 7 ≡ b → take m s ≡ cut s
     by_test true h =
-        let few : length s ≤ 6 = grind (arith, nat_tests) in
-        let all : length s ≤ m = omega (arith, e) in take_all m s all ∙ sym (take_all 6 s few)
-    by_test false h = let most : m ≡ 6 = grind (arith, nat_tests) in ap (λ k. take k s) most
+        let few : length s ≤ 7 = grind (arith, nat_tests) in
+        let all : length s ≤ m = omega (arith, e) in take_all m s all ∙ sym (take_all 7 s few)
+    by_test false h = let most : m ≡ 7 = grind (arith, nat_tests) in ap (λ k. take k s) most
 
-pub written_over : (s w : List ℕ) (m : ℕ) → m ≡ min (length s) 6 → w ≡ take m s → w ++ drop (length (take m s)) (replicate 6 32) ≡ padded (cut s)
+pub written_over : (s w : List ℕ) (m : ℕ) → m ≡ min (length s) 7 → w ≡ take m s → w ++ drop (length (take m s)) (replicate 7 32) ≡ padded (cut s)
 written_over s w m e is =
     let same = take_least s m e in
-    ap (λ (z : List ℕ). z ++ drop (length (take m s)) (replicate 6 32)) (is ∙ same) ∙ ap (λ (z : List ℕ). cut s ++ drop (length z) (replicate 6 32)) same
-    ∙ ap (λ z. cut s ++ z) (drop-replicate (length (cut s)) 6 32)
+    ap (λ (z : List ℕ). z ++ drop (length (take m s)) (replicate 7 32)) (is ∙ same) ∙ ap (λ (z : List ℕ). cut s ++ drop (length z) (replicate 7 32)) same
+    ∙ ap (λ z. cut s ++ z) (drop-replicate (length (cut s)) 7 32)

@@ -5,6 +5,7 @@ use Rattle.std.specs.Cmp.Lexicographic.{pointwise}
 use Rattle.std.specs.Option.{option_eq}
 use Rattle.std.specs.Str.{bytes_eq}
 use Rattle.f77_tree.specs.declared.form.Form.{Form}
+use Rattle.f77_tree.specs.Form.{is_executable}
 use Rattle.f77_tree.specs.declared.statement.Stmt.{Stmt}
 use Rattle.f77_tree.specs.declared.statement.Stmt.TheOpen.{Stmt-F}
 use Rattle.f77_tree.specs.declared.statement.Stmt.TheFolds.{fold-Stmt}
@@ -87,6 +88,10 @@ form_of Statement.Return = Form.Return
 form_of Statement.Stop = Form.Stop
 form_of Statement.Trap = Form.Trap
 form_of Statement.End = Form.End
+
+-- it is executable (ANSI X3.9-1978, 7.1)
+abbrev pub is_executable_statement : Statement → Bool
+is_executable_statement s = is_executable (form_of s)
 
 -- the expression of a statement that has one: what it
 -- assigns, tests or chooses by; a DO has parameters instead

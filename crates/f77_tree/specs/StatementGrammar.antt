@@ -8,6 +8,7 @@ use Rattle.f77_tree.specs.declared.intrinsic.Intrinsic.TheVariants.{Iabs}
 use Rattle.f77_tree.specs.Statement.{Statement, Change, changed_by}
 use Rattle.f77_tree.specs.Tree.{Tree, Trees, DeclFields, GroupFields}
 use Rattle.f77_tree.specs.Grammar.{is_number, is_name, Spells, SpellsReference}
+use Rattle.f77_tree.specs.Names.{statement_names}
 use Rattle.f77_tree.specs.Joined.{Joined}
 use Rattle.f77_tree.specs.Declaration.{SpellsDecls, all_bounded}
 use Rattle.f77_tree.specs.Data.{SpellsGroups}
@@ -131,6 +132,6 @@ in_text s = changed_by parts_in_text s
 abbrev pub IsUnmutated : Statement → Type 0
 IsUnmutated s = in_text s ≡ s
 
--- some text spells the statement
+-- some text spells the statement, and its names have six characters at most
 abbrev pub IsFormed : Statement → Type 0
-IsFormed s = (text : List ℕ) × SpellsStatement text (in_text s)
+IsFormed s = (text : List ℕ) × SpellsStatement text (in_text s) × (statement_names s ≡ true)

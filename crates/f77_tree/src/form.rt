@@ -1,7 +1,7 @@
 //! The forms of statements.
 
 ghost use Rattle.std.specs.Prelude.{◌≡◌};
-ghost use Rattle.f77_tree.specs.Form.{acts};
+ghost use Rattle.f77_tree.specs.Form.{acts, is_executable};
 
 /// What a statement is, apart from what it names and computes (ANSI X3.9-1978, 7.1).
 #[derive(Clone, Copy, Debug, PartialEq, Eq)]
@@ -47,6 +47,16 @@ pub enum Form {
 }
 
 impl Form {
+    /// Whether a statement of this form is executable (7.1).
+    pub fn is_executable(self) -> bool
+        ensures { result ≡ is_executable self }
+    {
+        !matches!(
+            self,
+            Form::Subroutine | Form::Declare | Form::Dimension | Form::Preset
+        )
+    }
+
     /// Whether a statement of this form may stand in a logical IF (11.5): it is
     /// executable, and no DO, no block IF and nothing of its, no logical IF and not END.
     pub fn acts(self) -> bool

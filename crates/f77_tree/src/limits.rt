@@ -1,4 +1,4 @@
-//! The limits of a statement, asked of its nodes. That on names a `Name` keeps.
+//! The limits of a statement that are asked of its nodes.
 
 ghost use Rattle.std.specs.Prelude.{◌≡◌, map};
 ghost use Rattle.std.specs.List.{list_all};
@@ -11,13 +11,13 @@ use crate::node::Node;
 use crate::{Constant, Decl, Expr, Value};
 
 /// The largest INTEGER constant.
-const LARGEST: u32 = 2_147_483_647;
+pub const LARGEST_INTEGER: u32 = 2_147_483_647;
 
 fn is_small_tree(expr: &Expr) -> bool
     ensures { result ≡ limits.is_small_node (NodeOf.Part (tree_of expr.now)) }
 {
     match expr {
-        Expr::Number(number) => *number <= LARGEST,
+        Expr::Number(number) => *number <= LARGEST_INTEGER,
         _ => true,
     }
 }
@@ -25,14 +25,14 @@ fn is_small_tree(expr: &Expr) -> bool
 fn has_small_bounds(item: &Decl) -> bool
     ensures { result ≡ limits.is_small_node (NodeOf.Declared (decl_of item.now)) }
 {
-    item.bounds.iter().all(|bound| *bound <= LARGEST)
+    item.bounds.iter().all(|bound| *bound <= LARGEST_INTEGER)
 }
 
 fn is_small_constant(constant: Constant) -> bool
     ensures { result ≡ limits.small_constant constant }
 {
     match constant {
-        Constant::Number(number) => number.unsigned_abs() <= LARGEST,
+        Constant::Number(number) => number.unsigned_abs() <= LARGEST_INTEGER,
         Constant::Truth(_) => true,
     }
 }
@@ -40,7 +40,7 @@ fn is_small_constant(constant: Constant) -> bool
 fn is_small_value(value: &Value) -> bool
     ensures { result ≡ limits.is_small_node (NodeOf.Initial value.now) }
 {
-    1 <= value.times && value.times <= LARGEST && is_small_constant(value.constant)
+    1 <= value.times && value.times <= LARGEST_INTEGER && is_small_constant(value.constant)
 }
 
 fn is_label(label: u32) -> bool

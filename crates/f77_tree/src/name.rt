@@ -8,7 +8,7 @@ ghost use Rattle.std.specs.Cmp.{partial_equiv_from_equiv};
 ghost use Rattle.std.specs.Cmp.Rules.{hashing};
 ghost use Rattle.std.proofs.Common.{rules};
 ghost use Rattle.f77_tree.specs.Grammar as grammar;
-ghost use Rattle.f77_tree.specs.Name.{cut, is_short, padded};
+ghost use Rattle.f77_tree.specs.Name.{cut, is_short, is_symbolic, padded};
 
 use crate::characters::{is_name, split_word};
 use std::fmt::{self, Debug, Display, Formatter};
@@ -19,13 +19,17 @@ use std::str;
 /// The most characters of a name (ANSI X3.9-1978, 2.2).
 pub const LONGEST_NAME: usize = 6;
 
-/// A symbolic name (ANSI X3.9-1978, 2.2): 1 to 6 letters and digits, the first of them a letter.
+/// How many characters are kept: the last of them tells that a name is too long.
+const KEPT: usize = LONGEST_NAME + 1;
+
+/// A symbolic name (ANSI X3.9-1978, 2.2): 1 to 6 letters and digits, the first of them a letter;
+/// or the first seven of a longer one, which no program has.
 ///
 /// They lie in the value itself, so a copy takes no memory.
 #[derive(Clone, Copy, Drop)]
 pub struct Name {
     /// With blanks behind them.
-    letters: [u8; LONGEST_NAME],
+    letters: [u8; KEPT],
 }
 
 impl Model for Name {
@@ -46,10 +50,10 @@ impl Model for Name {
 }
 
 /// Whether two names lie in the same characters: most names differ in one of the first.
-fn are_same(one: &[u8; LONGEST_NAME], other: &[u8; LONGEST_NAME]) -> bool
+fn are_same(one: &[u8; KEPT], other: &[u8; KEPT]) -> bool
     ensures { result ≡ bytes_eq one.now other.now }
 {
-    for place in 0..LONGEST_NAME {
+    for place in 0..KEPT {
         if one[place] != other[place] {
             return false;
         }
@@ -97,13 +101,13 @@ impl Display for Name {
 }
 
 impl Name {
-    /// The name of the first six of these letters and digits. It takes no memory.
+    /// The name of the first seven of these letters and digits. It takes no memory.
     pub fn beginning(letters: &[u8]) -> Name
         requires { grammar.is_name letters.now ≡ true }
         ensures { result ≡ cut letters.now }
     {
-        let front = &letters[..letters.len().min(LONGEST_NAME)];
-        let mut field = [b' '; LONGEST_NAME];
+        let front = &letters[..letters.len().min(KEPT)];
+        let mut field = [b' '; KEPT];
         field[..front.len()].copy_from_slice(front);
         Name { letters: field }
     }
@@ -123,7 +127,6 @@ impl Name {
     pub fn as_str(&self) -> &str
         ensures letters { result.now ≡ self.now }
         ensures name { grammar.is_name self.now ≡ true }
-        ensures short { is_short self.now ≡ true }
     {
         let (letters, _) = split_word(&self.letters);
         match str::from_utf8(letters) {
@@ -132,21 +135,18 @@ impl Name {
         }
     }
 
-    /// What the type says of the name. It takes no memory and no time.
-    pub fn known(&self)
+    /// Whether it has six characters at most. It takes no memory.
+    pub fn is_short(&self) -> bool
+        ensures short { result ≡ is_short self.now }
         ensures name { grammar.is_name self.now ≡ true }
-        ensures short { is_short self.now ≡ true }
     {
-        let _letters = self.letters;
+        self.letters[LONGEST_NAME] == b' '
     }
 }
 
-/// What the type says of each of the names, told of all of them.
-pub fn known_names(names: &[Name])
-    ensures named { list_all grammar.is_name names.now ≡ true }
-    ensures short { list_all is_short names.now ≡ true }
+/// Whether each of the names has six characters at most. It takes no memory.
+pub fn are_short(names: &[Name]) -> bool
+    ensures { result ≡ list_all is_symbolic names.now }
 {
-    for name in names {
-        name.known();
-    }
+    names.iter().all(|name| name.is_short())
 }

@@ -1,12 +1,11 @@
 //! Values that have several owners.
 
-ghost use Rattle.std.specs.Prelude.{◌≡◌, true, false, IfOk};
+ghost use Rattle.std.specs.Prelude.{◌≡◌, IfOk};
 ghost use Rattle.std.specs.Arc.{arc_value};
 
 use std::alloc::{AllocError, Global};
 use std::fmt::{self, Debug, Formatter};
 use std::marker::Model;
-use std::mem;
 use std::ops::Deref;
 use std::sync::Arc;
 
@@ -30,22 +29,6 @@ impl<T: Drop> Shared<T> {
         Ok(Shared {
             value: Arc::new(alloc, value)?,
         })
-    }
-
-    /// The value and this one change places, where the value has one owner: whether it has. It takes no memory.
-    pub fn exchange(&mut self, value: &mut T) -> bool
-        ensures put { result ≡ true → self.new ≡ value.old }
-        ensures back { result ≡ true → value.new ≡ self.old }
-        ensures kept { result ≡ false → self.new ≡ self.old }
-        ensures left { result ≡ false → value.new ≡ value.old }
-    {
-        match Arc::get_mut(&mut self.value) {
-            Some(own) => {
-                mem::swap(own, value);
-                true
-            }
-            None => false,
-        }
     }
 }
 

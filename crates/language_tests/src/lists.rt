@@ -2,13 +2,14 @@
 
 ghost use Rattle.std.specs.Prelude.{◌≤◌};
 
+use f77_tree::Stmt;
 use mothra_ops::listing::{Limits, Listing};
-use mothra_ops::{Edit, Op, OpsFault};
+use mothra_ops::{Edit, Mutant, Op, OpsFault};
 use samples::parts;
 use std::process::Abort;
 use std::test::Fail;
 
-/// A list of so many edits, of which each such is kept.
+/// A list of so many mutants, of which each such is kept.
 fn filled(
     rt: &impl AllocGlobal,
     every: u32,
@@ -19,21 +20,25 @@ fn filled(
 {
     let mut listing = Listing::new(rt.alloc(), Op::Uoi, every, limits);
     for rank in 0..count {
-        listing.add(Edit {
-            op: Op::Uoi,
-            statement: 2,
-            position: 2,
-            rank,
+        listing.add(Mutant {
+            edit: Edit {
+                op: Op::Uoi,
+                statement: 2,
+                position: 2,
+                rank,
+            },
+            stmt: Stmt::Continue,
+            is_alone: false,
         })?;
     }
     Ok(listing)
 }
 
-/// How many edits are kept and of how many, or why there is no list.
+/// How many mutants are kept and of how many, or why there is no list.
 fn told(rt: &impl AllocGlobal, filled: Result<Listing, OpsFault>) -> Result<String, Fail> {
     match filled {
         Ok(listing) => {
-            let kept = listing.edits().len();
+            let kept = listing.mutants().len();
             let whole = listing.whole();
             Ok(format!(in rt.alloc(); "{kept} of {whole}")?)
         }
@@ -41,7 +46,7 @@ fn told(rt: &impl AllocGlobal, filled: Result<Listing, OpsFault>) -> Result<Stri
     }
 }
 
-/// Each row is how many edits are put into a list, and what comes of it.
+/// Each row is how many mutants are put into a list, and what comes of it.
 fn assert_filled(
     rt: &(impl AllocGlobal + Abort),
     every: u32,

@@ -1,7 +1,7 @@
 //! Each allocation can be refused: a change is then answered with want of memory, and else undisturbed, and the program
 //! that is changed stays as it was.
 
-use crate::patches::{patch_fault, patched_fault};
+use crate::patches::{judged_fault, patched_fault};
 use f77_check::{CheckFault, Checked};
 use f77_syntax::Stmt;
 use samples::{checked, held, holder, number_and_text, program};
@@ -39,7 +39,7 @@ fn assert_answers(
     want: &Option<CheckFault>,
 ) {
     assert_answer(rt, patched_fault(old, number, stmt), want);
-    assert_answer(rt, patch_fault(old, number, stmt), want);
+    assert_answer(rt, judged_fault(old, number, stmt), want);
 }
 
 /// Asks twice. Where a statement is not made for want of memory nothing is asked.

@@ -8,12 +8,16 @@ use std::alloc::Global;
 use std::process::Abort;
 use std::test::Fail;
 
-/// What `patch_fault` answers, None where the statement does not fit.
-pub(crate) fn patch_fault(old: &Checked, number: usize, stmt: &Stmt) -> Option<Option<CheckFault>> {
+/// The fault that `judge` answers, None where the statement does not fit.
+pub(crate) fn judged_fault(
+    old: &Checked,
+    number: usize,
+    stmt: &Stmt,
+) -> Option<Option<CheckFault>> {
     if !old.fits(number, stmt) {
         return None;
     }
-    Some(old.patch_fault(number, stmt))
+    Some(old.judge(number, stmt).err())
 }
 
 /// The fault that `patched` answers, None where the statement does not fit.
@@ -74,8 +78,8 @@ fn assert_agreed(
 ) -> Result<(), Fail> {
     let whole = whole_fault(rt, old, number, stmt)?;
     assert!(rt;
-        patch_fault(old, number, stmt) == whole,
-        "patch_fault {number} {stmt:?}"
+        judged_fault(old, number, stmt) == whole,
+        "judge {number} {stmt:?}"
     );
     assert!(rt;
         patched_fault(old, number, stmt) == whole,

@@ -11,7 +11,7 @@ ghost use Rattle.mothra_ops.specs.declared.fault.OpsFault.TheVariants.{Memory};
 
 use crate::fault::Fault;
 use crate::program::legal_program_of;
-use mothra_ops::{Mutants, Op, OpsFault, Plan};
+use mothra_ops::{Op, OpsFault, Plan};
 use std::alloc::{AllocError, Global};
 
 /// Adds the line of an operator: how many mutants it has.
@@ -23,50 +23,31 @@ fn push_count(text: &mut String, op: Op, count: u32) -> Result<(), AllocError>
 }
 
 /// Adds the line of an operator's mutant.
-fn push_mutant(
-    text: &mut String,
-    mutants: &mut Mutants<'_>,
-    op: Op,
-    number: u32,
-) -> Result<(), OpsFault>
-    ensures plan { mutants.new ≡ mutants.old }
+fn push_mutant(text: &mut String, plan: &Plan, op: Op, number: u32) -> Result<(), OpsFault>
     ensures line { OnOk result
-        (string_bytes text.new ≡ string_bytes text.old ++ (mutant_text mutants.old op number ++ codes "\n")) }
+        (string_bytes text.new ≡ string_bytes text.old ++ (mutant_text plan.now op number ++ codes "\n")) }
     ensures memory { IfErr result (λ fault. fault ≡ Memory) }
 {
-    mutants.push_text(text, op, number)?;
+    plan.push_text(text, op, number)?;
     text.push_str("\n")?;
     Ok(())
 }
 
 /// Adds the lines of an operator: how many mutants it has, and each by its number.
-fn push_operator(
-    text: &mut String,
-    plan: &Plan,
-    mutants: &mut Mutants<'_>,
-    op: Op,
-) -> Result<(), OpsFault>
-    requires { mutants.old ≡ plan.now }
-    ensures plan { mutants.new ≡ mutants.old }
+fn push_operator(text: &mut String, plan: &Plan, op: Op) -> Result<(), OpsFault>
     ensures lines { OnOk result (string_bytes text.new ≡ string_bytes text.old ++ plan_lines plan.now op) }
     ensures memory { IfErr result (λ fault. fault ≡ Memory) }
 {
     let count = plan.count(op);
     push_count(text, op, count)?;
     for index in 0..count {
-        push_mutant(text, mutants, op, index + 1)?;
+        push_mutant(text, plan, op, index + 1)?;
     }
     Ok(())
 }
 
 /// Adds the lines of each operator that was asked for, in their order. It answers how many mutants there are in all.
-fn push_operators(
-    text: &mut String,
-    plan: &Plan,
-    mutants: &mut Mutants<'_>,
-) -> Result<u64, OpsFault>
-    requires { mutants.old ≡ plan.now }
-    ensures plan { mutants.new ≡ mutants.old }
+fn push_operators(text: &mut String, plan: &Plan) -> Result<u64, OpsFault>
     ensures lines { OnOk result (string_bytes text.new ≡ string_bytes text.old ++ asked_lines plan.now) }
     ensures total { IfOk result (λ total. total ≡ asked_total plan.now) }
     ensures memory { IfErr result (λ fault. fault ≡ Memory) }
@@ -74,7 +55,7 @@ fn push_operators(
     let mut total = 0;
     for op in Op::ALL {
         if plan.asked(op) {
-            push_operator(text, plan, mutants, op)?;
+            push_operator(text, plan, op)?;
             total += u64::from(plan.count(op));
         }
     }
@@ -86,9 +67,8 @@ fn text_of(alloc: Global, plan: &Plan) -> Result<String, OpsFault>
     ensures text { IfOk result (λ text. string_bytes text ≡ plan_text plan.now) }
     ensures memory { IfErr result (λ fault. fault ≡ Memory) }
 {
-    let mut mutants = Mutants::of(alloc, plan)?;
     let mut text = String::new(alloc);
-    let total = push_operators(&mut text, plan, &mut mutants)?;
+    let total = push_operators(&mut text, plan)?;
     write!(text, "TOTAL {total}\n")?;
     Ok(text)
 }

@@ -12,7 +12,7 @@ use crate::matrix::{Entry, Matrix};
 use f77_legal::heading::unit;
 use f77_program::Line;
 use f77_tree::Shared;
-use mothra_ops::{Mutants, Op, Plan, push_name, write_name};
+use mothra_ops::{Op, Plan, push_name, write_name};
 use mothra_verdicts::{Bench, BenchFault};
 use std::alloc::{AllocError, Global};
 
@@ -150,25 +150,21 @@ fn push_survivors(text: &mut String, plan: &Plan, entries: &[Entry]) -> Result<(
         (string_bytes text.new ≡ string_bytes text.old ++ flat_map (survivor_line plan.now) entries.now) }
     ensures memory { IfErr result (λ fault. fault ≡ Memory) }
 {
-    let Ok(mut mutants) = Mutants::of(*text.allocator(), plan) else {
-        return Err(BenchFault::Memory);
-    };
     for entry in entries {
-        push_survivor(text, &mut mutants, entry)?;
+        push_survivor(text, plan, entry)?;
     }
     Ok(())
 }
 
-fn push_survivor(text: &mut String, mutants: &mut Mutants, entry: &Entry) -> Result<(), BenchFault>
-    ensures plan { mutants.new ≡ mutants.old }
-    ensures text { OnOk result (string_bytes text.new ≡ string_bytes text.old ++ survivor_line mutants.old entry.now) }
+fn push_survivor(text: &mut String, plan: &Plan, entry: &Entry) -> Result<(), BenchFault>
+    ensures text { OnOk result (string_bytes text.new ≡ string_bytes text.old ++ survivor_line plan.now entry.now) }
     ensures memory { IfErr result (λ fault. fault ≡ Memory) }
 {
     if entry.declared || entry.is_killed() {
         return Ok(());
     }
     text.push_str("SURVIVOR ")?;
-    let Ok(()) = mutants.push_text(text, entry.ticket.op, entry.ticket.number) else {
+    let Ok(()) = plan.push_text(text, entry.ticket.op, entry.ticket.number) else {
         return Err(BenchFault::Memory);
     };
     Ok(text.push('\n')?)

@@ -3,7 +3,7 @@
 ghost use Rattle.std.specs.Prelude.{◌≡◌, IfErr, IfOk, IfSome};
 ghost use Rattle.f77_program.specs.Patching.{patched};
 ghost use Rattle.f77_tree.specs.Statement.{statement_of};
-ghost use Rattle.mothra_ops.specs.Edits.{IsMutant};
+ghost use Rattle.mothra_ops.specs.Made.{IsMadeMutant};
 ghost use Rattle.mothra_ops.specs.Mutants.{program_of};
 ghost use Rattle.mothra_equivalents.specs.code.Equivalents.{IsEquivalentBy};
 ghost use Rattle.mothra_equivalents.specs.Equivalents.{IsMutantBy};
@@ -16,14 +16,14 @@ use f77_conditions::conditions::Conditions;
 use f77_equivalence::invariant::Invariant;
 use f77_finder::finding::entries_of;
 use mothra_codes::Ticket;
-use mothra_ops::{Mutant, Mutants, OpsFault, Plan};
+use mothra_ops::{Mutant, OpsFault, Plan};
 use std::alloc::Global;
 use std::marker::Model;
 
 /// The mutants of a plan, with what is known throughout the runs of its program.
 #[derive(Drop)]
 pub(crate) struct Prover<'a> {
-    mutants: Mutants<'a>,
+    plan: &'a Plan,
     invariant: Invariant<'a>,
     conditions: Option<Conditions<'a>>,
     work: Work,
@@ -52,9 +52,9 @@ impl<'a> Model for Prover<'a> {
       action.the_row.coded,
     ) };
 
-    ghost view = { λ prover. prover.mutants };
+    ghost view = { λ prover. prover.plan.now };
 
-    ghost invariant = { λ prover. (prover.invariant.checked ≡ prover.mutants.checked)
+    ghost invariant = { λ prover. (prover.invariant.checked ≡ prover.plan.now.checked)
         × IfSome prover.conditions (λ conditions. conditions.checked ≡ prover.invariant.checked) };
 }
 
@@ -70,9 +70,8 @@ impl<'a> Prover<'a> {
             Some(invariant) => {
                 let work = Work::of(alloc, checked, invariant.entries())?;
                 let conditions = Conditions::of(alloc, checked)?;
-                let mutants = Mutants::of(alloc, plan)?;
                 Ok(Some(Prover {
-                    mutants,
+                    plan,
                     invariant,
                     conditions,
                     work,
@@ -83,14 +82,14 @@ impl<'a> Prover<'a> {
     }
 
     /// The rule by which the mutant is equivalent, if one says so.
-    fn judge(&mut self, alloc: Global, mutant: Mutant) -> Result<Option<Why>, OpsFault>
-        requires { IsMutant (program_of self.old) mutant.number (statement_of mutant.stmt) }
+    fn judge(&mut self, alloc: Global, mutant: &Mutant) -> Result<Option<Why>, OpsFault>
+        requires { IsMadeMutant self.old.checked mutant.now }
         ensures plan { self.new ≡ self.old }
         ensures equivalent { IfOk result (λ found. IfSome found (λ why. IsEquivalentBy why (program_of self.old)
-            (patched (program_of self.old) mutant.number (statement_of mutant.stmt)))) }
+            (patched (program_of self.old) mutant.now.edit.statement (statement_of mutant.now.stmt)))) }
         ensures memory { IfErr result (λ fault. fault ≡ Memory) }
     {
-        self.work.spend(mutant.number);
+        self.work.spend(mutant.number());
         rule_of(alloc, &self.invariant, &self.conditions, mutant)
     }
 
@@ -103,7 +102,7 @@ impl<'a> Prover<'a> {
         if self.work.is_done() {
             return Ok(None);
         }
-        match self.mutants.mutant(alloc, ticket.op, ticket.number)? {
+        match self.plan.mutant(ticket.op, ticket.number) {
             Some(mutant) => self.judge(alloc, mutant),
             None => Ok(None),
         }

@@ -7,6 +7,7 @@ ghost use Rattle.f77_program.specs.Program.{line_of};
 ghost use Rattle.f77_tree.specs.Statement.{statement_of};
 ghost use Rattle.f77_equivalence.specs.Equivalent.{IsEquivalent};
 ghost use Rattle.mothra_ops.specs.Edits.{IsMutant};
+ghost use Rattle.mothra_ops.specs.Made.{IsMadeMutant};
 ghost use Rattle.mothra_ops.specs.declared.fault.OpsFault.TheVariants.{Memory};
 ghost use Rattle.mothra_equivalents.specs.code.Equivalents.{IsEquivalentBy};
 ghost use Rattle.mothra_equivalents.specs.declared.why.Why.TheVariants.{Spare};
@@ -30,11 +31,13 @@ fn is_unread_throughout(
     mutant: &Mutant,
     resolved: &Shared<Resolved>,
 ) -> Result<bool, AllocError>
-    requires mutant { IsMutant (map line_of invariant.now.checked.program) mutant.now.number
+    requires mutant { IsMutant (map line_of invariant.now.checked.program) mutant.now.edit.statement
         (statement_of mutant.now.stmt) }
-    requires in_place { IsInPlace invariant.now.checked mutant.now.number (statement_of mutant.now.stmt) resolved.now }
+    requires in_place { IsInPlace invariant.now.checked mutant.now.edit.statement (statement_of mutant.now.stmt)
+        resolved.now }
     ensures { IfOk result (λ yes. yes ≡ true → IsEquivalent (map line_of invariant.now.checked.program)
-        (patched (map line_of invariant.now.checked.program) mutant.now.number (statement_of mutant.now.stmt))) }
+        (patched (map line_of invariant.now.checked.program) mutant.now.edit.statement
+        (statement_of mutant.now.stmt))) }
 {
     let checked = invariant.checked();
     let entries = invariant.entries();
@@ -42,7 +45,7 @@ fn is_unread_throughout(
         alloc,
         checked,
         entries,
-        mutant.number,
+        mutant.number(),
         &mutant.stmt,
         resolved,
     )
@@ -57,18 +60,20 @@ fn is_told_throughout(
     resolved: &Shared<Resolved>,
 ) -> Result<bool, AllocError>
     requires one { IfSome conditions.now (λ told. told.checked ≡ invariant.now.checked) }
-    requires mutant { IsMutant (map line_of invariant.now.checked.program) mutant.now.number
+    requires mutant { IsMutant (map line_of invariant.now.checked.program) mutant.now.edit.statement
         (statement_of mutant.now.stmt) }
-    requires in_place { IsInPlace invariant.now.checked mutant.now.number (statement_of mutant.now.stmt) resolved.now }
+    requires in_place { IsInPlace invariant.now.checked mutant.now.edit.statement (statement_of mutant.now.stmt)
+        resolved.now }
     ensures { IfOk result (λ yes. yes ≡ true → IsEquivalent (map line_of invariant.now.checked.program)
-        (patched (map line_of invariant.now.checked.program) mutant.now.number (statement_of mutant.now.stmt))) }
+        (patched (map line_of invariant.now.checked.program) mutant.now.edit.statement
+        (statement_of mutant.now.stmt))) }
 {
     match conditions {
         Some(conditions) => is_equivalent_where_told(
             alloc,
             invariant,
             conditions,
-            mutant.number,
+            mutant.number(),
             &mutant.stmt,
             resolved,
         ),
@@ -96,13 +101,15 @@ fn rule_in_place(
     resolved: &Shared<Resolved>,
 ) -> Result<Option<Why>, AllocError>
     requires one { IfSome conditions.now (λ told. told.checked ≡ invariant.now.checked) }
-    requires mutant { IsMutant (map line_of invariant.now.checked.program) mutant.now.number
+    requires mutant { IsMutant (map line_of invariant.now.checked.program) mutant.now.edit.statement
         (statement_of mutant.now.stmt) }
-    requires in_place { IsInPlace invariant.now.checked mutant.now.number (statement_of mutant.now.stmt) resolved.now }
+    requires in_place { IsInPlace invariant.now.checked mutant.now.edit.statement (statement_of mutant.now.stmt)
+        resolved.now }
     ensures { IfOk result (λ found. IfSome found (λ why. IsEquivalentBy why (map line_of invariant.now.checked.program)
-        (patched (map line_of invariant.now.checked.program) mutant.now.number (statement_of mutant.now.stmt)))) }
+        (patched (map line_of invariant.now.checked.program) mutant.now.edit.statement
+        (statement_of mutant.now.stmt)))) }
 {
-    let number = mutant.number;
+    let number = mutant.number();
     if is_equivalent(alloc, invariant, number, &mutant.stmt, resolved)? {
         if is_unreached(invariant.entries(), number - 1) {
             return Ok(Some(Why::Unreached));
@@ -124,46 +131,26 @@ fn rule_in_place(
 
 /// The first rule by which the mutant is equivalent. None is tried where the changed
 /// statement does not stand alone: in a declaration, in DATA, at the label of a DO.
-fn rule_for(
+pub(crate) fn rule_of(
     alloc: Global,
     invariant: &Invariant<'_>,
     conditions: &Option<Conditions<'_>>,
     mutant: &Mutant,
 ) -> Result<Option<Why>, OpsFault>
     requires one { IfSome conditions.now (λ told. told.checked ≡ invariant.now.checked) }
-    requires mutant { IsMutant (map line_of invariant.now.checked.program) mutant.now.number
-        (statement_of mutant.now.stmt) }
+    requires made { IsMadeMutant invariant.now.checked mutant.now }
     ensures equivalent { IfOk result
         (λ found. IfSome found (λ why. IsEquivalentBy why (map line_of invariant.now.checked.program)
-        (patched (map line_of invariant.now.checked.program) mutant.now.number (statement_of mutant.now.stmt)))) }
+        (patched (map line_of invariant.now.checked.program) mutant.now.edit.statement
+        (statement_of mutant.now.stmt)))) }
     ensures memory { IfErr result (λ fault. fault ≡ Memory) }
 {
-    match invariant
-        .checked()
-        .resolved_in_place(mutant.number, &mutant.stmt)
-    {
-        Ok(Some(resolved)) => Ok(rule_in_place(alloc, invariant, conditions, mutant, &resolved)?),
-        Ok(None) => Ok(None),
+    if !mutant.is_alone {
+        return Ok(None);
+    }
+    match invariant.checked().resolved(mutant.number(), &mutant.stmt) {
+        Ok(resolved) => Ok(rule_in_place(alloc, invariant, conditions, mutant, &resolved)?),
         // A legal program is refused for want of memory alone.
         Err(_) => Err(OpsFault::Memory),
     }
-}
-
-/// The first rule by which the mutant is equivalent, which is let go.
-pub(crate) fn rule_of(
-    alloc: Global,
-    invariant: &Invariant<'_>,
-    conditions: &Option<Conditions<'_>>,
-    mutant: Mutant,
-) -> Result<Option<Why>, OpsFault>
-    requires one { IfSome conditions.now (λ told. told.checked ≡ invariant.now.checked) }
-    requires mutant { IsMutant (map line_of invariant.now.checked.program) mutant.number (statement_of mutant.stmt) }
-    ensures equivalent { IfOk result
-        (λ found. IfSome found (λ why. IsEquivalentBy why (map line_of invariant.now.checked.program)
-        (patched (map line_of invariant.now.checked.program) mutant.number (statement_of mutant.stmt)))) }
-    ensures memory { IfErr result (λ fault. fault ≡ Memory) }
-{
-    let found = rule_for(alloc, invariant, conditions, &mutant);
-    drop(mutant);
-    found
 }

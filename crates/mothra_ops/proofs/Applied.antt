@@ -1,23 +1,62 @@
 -- Whether an edit is one of its operator's, by what it makes.
-use Rattle.std.proofs.Common.{◌≡◌, List, Some, None, refl, ap, sym, ◌∙◌, subst}
+use Rattle.std.proofs.Common.{◌≡◌, List, map, Option, Some, None, Result, Ok, Err, refl, ap, sym, ◌∙◌, subst}
+use Rattle.std.specs.Prelude.{IfNone, IfOk, IfSome, option_map}
 use Rattle.std.proofs.lemmas.Option.{none-some, same_Some}
-use Rattle.f77_program.specs.Program.{LineFields}
-use Rattle.f77_tree.specs.Statement.{Statement}
+use Rattle.f77_check.specs.Checked.{CheckedFields}
+use Rattle.f77_program.specs.Program.{LineFields, line_of}
+use Rattle.f77_tree.specs.Node.{NodeOf}
+use Rattle.f77_tree.specs.Sites.{changed}
+use Rattle.f77_tree.specs.Statement.{statement_of, Statement}
 use Rattle.mothra_ops.specs.code.Edits.{IsMadeBy}
-use Rattle.mothra_ops.specs.Edits.{IsMutant, made}
-use Rattle.mothra_ops.specs.Pools.{PoolFields, pools_of}
+use Rattle.mothra_ops.specs.code.Original.{HasStatement}
+use Rattle.mothra_ops.specs.Edits.{IsMember, IsMutant, made}
+use Rattle.mothra_ops.specs.Made.{IsMadeMutant}
+use Rattle.mothra_ops.specs.Pools.{pools_of}
 use Rattle.mothra_ops.specs.declared.edit.Edit.{Edit}
+use Rattle.mothra_ops.specs.declared.fault.OpsFault.{OpsFault}
+use Rattle.mothra_ops.specs.declared.mutant.Mutant.{Mutant}
+use Rattle.mothra_ops.proofs.Members.{steps}
 
-module _ (pools : PoolFields) (program : List LineFields) (edit : Edit) (drawn : pools ≡ pools_of program) where
-  pub none_made : None ≡ made pools program edit → IsMadeBy program edit None
-  none_made none = λ m. none-some m.statement (none ∙ ap (λ (p : PoolFields). made p program edit) drawn ∙ m.makes)
+pub none_made : (program : List LineFields) (edit : Edit) → made (pools_of program) program edit ≡ None → IsMadeBy program edit None
+none_made program edit none = λ m. none-some m.statement (sym none ∙ m.makes)
 
-  module _ (s : Statement) (makes : Some s ≡ made pools program edit) where
-    pub no_mutant_made : ¬ (IsMutant program edit.statement s) → IsMadeBy program edit None
-    no_mutant_made isnt = λ m. isnt (subst (IsMutant program edit.statement) (same_Some _ _ (sym m.makes ∙ sym (ap (λ (p : PoolFields). made p program edit) drawn) ∙ sym makes)) m.mutant)
-
-    pub mutant_made : IsMutant program edit.statement s → IsMadeBy program edit (Some s)
-    mutant_made mutant = (
-      record { own = refl; statement = s; makes = sym (makes ∙ ap (λ (p : PoolFields). made p program edit) drawn); mutant = mutant },
+-- the statement of a mutant that was made by the edit
+pub is_made_by : (checked : CheckedFields) (edit : Edit) (mutant : Mutant) → mutant.edit ≡ edit → IsMadeMutant checked mutant
+    → (member : IsMember edit.op (map line_of checked.program) edit) × (member.statement ≡ statement_of mutant.stmt)
+is_made_by checked edit mutant same is =
+    let program = map line_of checked.program in
+    let s = statement_of mutant.stmt in (
+      record {
+        own = refl;
+        statement = s;
+        makes = subst (λ (e : Edit). made (pools_of program) program e ≡ Some s) same is.makes;
+        mutant = subst (λ (e : Edit). IsMutant program e.statement s) same is.mutant;
+      },
       refl,
     )
+
+-- what the edit makes by this node
+module _ (checked : CheckedFields) (edit : Edit) (node : NodeOf)
+    (makes : (s : Statement) → HasStatement (map line_of checked.program) edit.statement s
+    → made (pools_of (map line_of checked.program)) (map line_of checked.program) edit ≡ Some (changed s edit.position node)) where
+  abbrev IsOwn : Option Mutant → Type 0
+  IsOwn found = IfSome found (λ (mutant : Mutant). (mutant.edit ≡ edit) × IsMadeMutant checked mutant)
+
+  abbrev IsNone : Option Mutant → Type 0
+  IsNone found = IfNone found ((s : Statement) → HasStatement (map line_of checked.program) edit.statement s
+      → ¬ (IsMutant (map line_of checked.program) edit.statement (changed s edit.position node)))
+
+  abbrev IsFound : Option Mutant → Type 0
+  IsFound found = IsMadeBy (map line_of checked.program) edit (option_map (λ (mutant : Mutant). statement_of mutant.stmt) found)
+
+  found_by : (found : Option Mutant) → IsOwn found → IsNone found → IsFound found
+  found_by (Some mutant) own none = is_made_by checked edit mutant own.0 own.1
+  found_by None own none = λ m.
+      let program = map line_of checked.program in
+      let k = steps (pools_of program) program edit m.statement m.makes in
+      let has : HasStatement program edit.statement k.line.stmt = ap (option_map (λ (l : LineFields). l.stmt)) k.of_line in
+      none k.line.stmt has (subst (IsMutant program edit.statement) (same_Some _ _ (sym m.makes ∙ makes k.line.stmt has)) m.mutant)
+
+  pub mutant_found : (result : Result (Option Mutant) OpsFault) → IfOk result IsOwn → IfOk result IsNone → IfOk result IsFound
+  mutant_found (Ok found) own none = found_by found own none
+  mutant_found (Err fault) own none = tt

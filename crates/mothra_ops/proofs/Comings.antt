@@ -7,7 +7,7 @@ use Rattle.f77_tree.specs.Statement.{Statement}
 use Rattle.f77_tree.specs.Sites.{changed}
 use Rattle.mothra_ops.specs.Edits.{IsCountedList, IsMember, IsMutant, IsNoList, IsTooLong, Lists, most_edits, most_whole, numbered, thinned}
 use Rattle.mothra_ops.specs.code.Listing.{HasCome, So}
-use Rattle.mothra_ops.specs.Listing.{HoldsEdits, longest}
+use Rattle.mothra_ops.specs.Listing.{HoldsEdits, edits_in, longest}
 use Rattle.mothra_ops.specs.code.Original.{HasStatement, StandsAt}
 use Rattle.mothra_ops.specs.Pools.{pools_of}
 use Rattle.mothra_ops.specs.Replacements.{gives}
@@ -16,6 +16,8 @@ use Rattle.mothra_ops.specs.declared.fault.OpsFault.{OpsFault}
 use Rattle.mothra_ops.specs.declared.fault.OpsFault.TheVariants.{Memory, TooMany}
 use Rattle.mothra_ops.specs.declared.listing.Limits.{Limits}
 use Rattle.mothra_ops.specs.declared.listing.Listing.{Listing}
+use Rattle.mothra_ops.specs.declared.mutant.Mutant.{Mutant}
+use Rattle.std.proofs.lemmas.List.{length-map}
 use Rattle.mothra_codes.specs.declared.op.Op.{Op}
 use Rattle.mothra_ops.proofs.Cursor.{edit_at, kept, passed_by, first_rank, next_node, next_statement, starts, ends}
 use Rattle.mothra_ops.proofs.Members.{own_op, rank_first, statement_first, statement_last, position_last, rank_last, member_here, mutant_here}
@@ -28,7 +30,7 @@ abbrev pub Overflows : Listing → Edit → Type 0
 Overflows old edit = (whole : List Edit) → HoldsEdits old whole
     → (old.limits.kept < length (thinned old.every (whole ++ edit ∷ []))) ⊎ (old.limits.whole < length (whole ++ edit ∷ []))
 
--- the same list with other memory
+-- ranks are counted from 1
 pub come_first : (l : Listing) (program : List LineFields) (s p : ℕ) → HasCome l program s p 0 → HasCome l program s p 1
 come_first l program s p come = record {
   limits = come.limits;
@@ -104,13 +106,16 @@ come_at_start l program limits holds = record {
 }
 
 pub come_to_end : (l : Listing) (program : List LineFields) (s : ℕ) → length program < s → HasCome l program s 0 0
-    → IsCountedList l.op program l.every l.edits.items l.whole
+    → IsCountedList l.op program l.every (edits_in l) l.whole
 come_to_end l program s past come = record {
   list = record {
     whole = come.found;
     lists = ends (IsMember l.op program) come.found s come.lists (λ e m. let low = statement_last l.op program e m in omega (arith, low, past));
     is = come.holds.edits;
-    few = let e : l.limits.kept ≡ most_edits = ap (λ (limits : Limits). limits.kept) come.limits in omega (arith, e, come.holds.few);
+    few =
+        let e : l.limits.kept ≡ most_edits = ap (λ (limits : Limits). limits.kept) come.limits in
+        let long : length (edits_in l) ≡ length l.mutants.items = length-map l.mutants.items (λ (mutant : Mutant). mutant.edit) in
+        omega (arith, e, long, come.holds.few);
     few_whole = let e : l.limits.whole ≡ most_whole = ap (λ (limits : Limits). limits.whole) come.limits in omega (arith, e, come.holds.few_whole);
   };
   counted = come.holds.whole;

@@ -16,7 +16,8 @@ use Rattle.f77_tree.specs.Node.{NodeOf}
 use Rattle.f77_tree.specs.declared.tree.Expr.TheViews as views
 use Rattle.f77_tree.specs.declared.tree.Kind.{Kind}
 use Rattle.f77_legal.specs.Names.{Symbol}
-use Rattle.mothra_ops.specs.Pools.{Reference, as_tree, reference_of, same_reference, scalar}
+use Rattle.mothra_ops.specs.Pools.{Reference, as_tree, same_reference, scalar}
+use Rattle.mothra_ops.specs.code.Pools.{reference_of}
 use Rattle.mothra_ops.specs.Replacements.{as_variable, is_element, is_constant, drawn, kind_of_expression, others}
 
 -- each as its expression does

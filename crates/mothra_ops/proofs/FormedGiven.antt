@@ -10,7 +10,8 @@ use Rattle.f77_tree.specs.declared.operator.Sign.TheVariants.{Minus}
 use Rattle.f77_tree.specs.declared.tree.Kind.{Kind}
 use Rattle.f77_tree.specs.declared.tree.Kind.TheVariants.{Integer, Logical}
 use Rattle.f77_tree.specs.Comparing.{same_operator, same_tree, same_kind}
-use Rattle.f77_tree.specs.Grammar.{is_call, is_name}
+use Rattle.f77_tree.specs.Grammar.{is_call}
+use Rattle.f77_tree.specs.Name.{is_symbolic}
 use Rattle.f77_tree.specs.Statement.{Statement, form_of, same_statement}
 use Rattle.f77_tree.specs.Tree.{Tree, Trees}
 use Rattle.f77_tree.proofs.Tests.{and_true}
@@ -39,13 +40,13 @@ AllFormed ts = All IsFormedTree ts
 no_trees : AllFormed []
 no_trees = All-nil IsFormedTree
 
-one_tree : (t : Tree) → formed t ≡ true → AllFormed (t ∷ [])
+one_tree : (t : Tree) → formed is_symbolic t ≡ true → AllFormed (t ∷ [])
 one_tree t f = All-cons IsFormedTree t [] f no_trees
 
-two_trees : (t u : Tree) → formed t ≡ true → formed u ≡ true → AllFormed (t ∷ (u ∷ []))
+two_trees : (t u : Tree) → formed is_symbolic t ≡ true → formed is_symbolic u ≡ true → AllFormed (t ∷ (u ∷ []))
 two_trees t u f g = All-cons IsFormedTree t (u ∷ []) f (one_tree u g)
 
-three_trees : (t u v : Tree) → formed t ≡ true → formed u ≡ true → formed v ≡ true → AllFormed (t ∷ (u ∷ (v ∷ [])))
+three_trees : (t u v : Tree) → formed is_symbolic t ≡ true → formed is_symbolic u ≡ true → formed is_symbolic v ≡ true → AllFormed (t ∷ (u ∷ (v ∷ [])))
 three_trees t u v f g h = All-cons IsFormedTree t (u ∷ (v ∷ [])) f (two_trees u v g h)
 
 -- what a test chooses
@@ -82,22 +83,22 @@ no_function : (name : Symbol) (items : Trees) → IsNoFunction name → is_call 
 no_function name Trees.None own = refl
 no_function name (Trees.Then t ts) own = own
 
-comparable_formed : (pools : PoolFields) → AreFormed pools → (r : Reference) → all_formed r.subscripts ≡ true → AllReferences (comparable pools r)
+comparable_formed : (pools : PoolFields) → AreFormed pools → (r : Reference) → all_formed is_symbolic r.subscripts ≡ true → AllReferences (comparable pools r)
 comparable_formed pools are r f =
     All-map IsFormedReference (λ other. record { name = other; subscripts = r.subscripts }) (filter (is_comparable pools r.name) pools.arrays)
     (All-weaker (λ other. IsNamed other × IsNoFunction other) (λ other. IsFormedTree (Tree.Reference other r.subscripts))
-    (λ other own. rw (a_reference other r.subscripts (no_function other r.subscripts own.1) own.0, f) refl) (filter (is_comparable pools r.name) pools.arrays)
+    (λ other own. rw (a_reference is_symbolic other r.subscripts (no_function other r.subscripts own.1) own.0, f) refl) (filter (is_comparable pools r.name) pools.arrays)
     (All-filter (is_comparable pools r.name) (λ other. IsNamed other × IsNoFunction other) pools.arrays are.arrays))
 
-absolute_value_formed : (t : Tree) → formed t ≡ true → formed (absolute_value t) ≡ true
+absolute_value_formed : (t : Tree) → formed is_symbolic t ≡ true → formed is_symbolic (absolute_value t) ≡ true
 unfolding is_some_list
 absolute_value_formed t f = rw f refl
 
-absolute_formed : (t : Tree) → formed t ≡ true → AllFormed (absolute t)
+absolute_formed : (t : Tree) → formed is_symbolic t ≡ true → AllFormed (absolute t)
 absolute_formed t f =
     three_trees (absolute_value t) (Tree.Signed Minus (absolute_value t)) (Tree.ZeroPush t) (absolute_value_formed t f) (absolute_value_formed t f) f
 
-unary_formed : (kind : Kind) (t : Tree) → formed t ≡ true → AllFormed (with_unary kind t)
+unary_formed : (kind : Kind) (t : Tree) → formed is_symbolic t ≡ true → AllFormed (with_unary kind t)
 unary_formed Integer t f =
     three_trees (Tree.Signed Minus t) (Tree.Binary operator.Add t (Tree.Number 1)) (Tree.Binary operator.Subtract t (Tree.Number 1)) f (rw f refl) (rw f refl)
 unary_formed Logical t f = one_tree (Tree.Not t) f
@@ -106,7 +107,7 @@ lowered_formed : (n : ℕ) → AllFormed (lowered n)
 lowered_formed zero = one_tree (Tree.Signed Minus (Tree.Number 1)) refl
 lowered_formed (suc n) = chosen IsFormedTree (nat_le n largest_integer) (Tree.Number n ∷ []) [] (one_tree (Tree.Number n) refl) no_trees
 
-altered_formed : (t : Tree) → formed t ≡ true → AllFormed (altered t)
+altered_formed : (t : Tree) → formed is_symbolic t ≡ true → AllFormed (altered t)
 altered_formed (Tree.Number n) f =
     All-append IsFormedTree (raised n) (lowered n)
     (chosen IsFormedTree (nat_lt n largest_integer) (Tree.Number (n + 1) ∷ []) [] (one_tree (Tree.Number (n + 1)) refl) no_trees)
@@ -115,16 +116,16 @@ altered_formed (Tree.Truth b) f = one_tree (Tree.Truth (not b)) refl
 altered_formed _ f = no_trees
 
 group_formed : (group : List Operator) (more : Tree → Tree → List Tree)
-    → ((a b : Tree) → formed a ≡ true → formed b ≡ true → AllFormed (more a b)) → (t : Tree) → formed t ≡ true → AllFormed (with_group group more t)
+    → ((a b : Tree) → formed is_symbolic a ≡ true → formed is_symbolic b ≡ true → AllFormed (more a b)) → (t : Tree) → formed is_symbolic t ≡ true → AllFormed (with_group group more t)
 group_formed group more each (Tree.Binary op a b) f =
-    let (first, second) = and_true (formed a) (formed b) f in
+    let (first, second) = and_true (formed is_symbolic a) (formed is_symbolic b) f in
     chosen IsFormedTree (is_in group op) (exchanged group op a b ++ more a b) []
     (All-append IsFormedTree (exchanged group op a b) (more a b)
     (each_mapped IsFormedTree (λ o. Tree.Binary o a b) (filter (λ o. not (same_operator o op)) group) (λ o. f))
     (each a b first second)) no_trees
 group_formed group more each _ f = no_trees
 
-operands_formed : (a b : Tree) → formed a ≡ true → formed b ≡ true → AllFormed (operands a b)
+operands_formed : (a b : Tree) → formed is_symbolic a ≡ true → formed is_symbolic b ≡ true → AllFormed (operands a b)
 operands_formed a b first second = two_trees a b first second
 
 truths_formed : AllFormed truths
@@ -141,7 +142,7 @@ part_fit : (ts : List Tree) → AllFormed ts → All IsFit (map NodeOf.Part ts)
 part_fit ts all = All-map IsFit NodeOf.Part ts all
 
 target_fit : (r : Reference) → IsFormedReference r → IsFit (as_target r)
-target_fit r f = let (is, other, all) = reference_formed r.name r.subscripts f in rw (is, all) refl
+target_fit r f = let (is, other, all) = reference_formed is_symbolic r.name r.subscripts f in rw (is, all) refl
 
 targets_fit : (rs : List Reference) → AllReferences rs → All IsFit (map as_target rs)
 targets_fit rs all = All-map IsFit as_target rs (All-weaker IsFormedReference (λ r. IsFit (as_target r)) target_fit rs all)
@@ -149,33 +150,33 @@ targets_fit rs all = All-map IsFit as_target rs (All-weaker IsFormedReference (�
 variables_fit : (rs : List Reference) → AllReferences rs → All IsFit (map as_variable rs)
 variables_fit rs all =
     All-map IsFit as_variable rs
-    (All-weaker IsFormedReference (λ r. IsFit (as_variable r)) (λ r f. (reference_formed r.name r.subscripts f).0) rs all)
+    (All-weaker IsFormedReference (λ r. IsFit (as_variable r)) (λ r f. (reference_formed is_symbolic r.name r.subscripts f).0) rs all)
 
 -- what operators put in the place of expressions, of references, and of DO variables
-parts_fit : (give : Tree → List Tree) → ((t : Tree) → formed t ≡ true → AllFormed (give t)) → (node : NodeOf) → node_formed node ≡ true
+parts_fit : (give : Tree → List Tree) → ((t : Tree) → formed is_symbolic t ≡ true → AllFormed (give t)) → (node : NodeOf) → node_formed node ≡ true
     → All IsFit (in_parts give node)
 parts_fit give each (NodeOf.Part t) f = part_fit (give t) (each t f)
 parts_fit give each _ f = no_nodes
 
-computed_fit : (give : Tree → List Tree) → ((t : Tree) → formed t ≡ true → AllFormed (give t)) → (node : NodeOf) → node_formed node ≡ true
+computed_fit : (give : Tree → List Tree) → ((t : Tree) → formed is_symbolic t ≡ true → AllFormed (give t)) → (node : NodeOf) → node_formed node ≡ true
     → All IsFit (in_computed give node)
 computed_fit give each node f =
     parts_fit (λ t. if is_constant t then [] else give t) (λ t g. chosen IsFormedTree (is_constant t) [] (give t) no_trees (each t g)) node f
 
 abbrev Gives : (Reference → List Reference) → Type 0
-Gives give = (r : Reference) → all_formed r.subscripts ≡ true → AllReferences (give r)
+Gives give = (r : Reference) → all_formed is_symbolic r.subscripts ≡ true → AllReferences (give r)
 
 places_fit : (give : Reference → List Reference) → Gives give → (node : NodeOf) → node_formed node ≡ true → All IsFit (in_places give node)
 places_fit give each (NodeOf.Part t) f = by t f
   where
-    by : (t : Tree) → formed t ≡ true → All IsFit (in_places give (NodeOf.Part t))
+    by : (t : Tree) → formed is_symbolic t ≡ true → All IsFit (in_places give (NodeOf.Part t))
     by (Tree.Reference name items) f =
         let r : Reference = record { name = name; subscripts = items } in
-        part_fit (map as_tree (give r)) (trees_formed (give r) (each r (reference_formed name items f).2))
+        part_fit (map as_tree (give r)) (trees_formed (give r) (each r (reference_formed is_symbolic name items f).2))
     by _ f = no_nodes
 places_fit give each (NodeOf.Target name items) f =
     let r : Reference = record { name = name; subscripts = items } in
-    targets_fit (give r) (each r (and_true (is_name name) (all_formed items) f).1)
+    targets_fit (give r) (each r (and_true (is_symbolic name) (all_formed is_symbolic items) f).1)
 places_fit give each _ f = no_nodes
 
 in_variables_fit : (give : Reference → List Reference) → Gives give → (node : NodeOf) → node_formed node ≡ true → All IsFit (in_variables give node)

@@ -6,8 +6,8 @@ use Rattle.std.specs.Option.{IfSome}
 use Rattle.std.proofs.lemmas.List.{map-append}
 use Rattle.std.proofs.lemmas.List.Elements.{All-nil, All-cons, All-head, All-tail, All-append, All-filter, All-same}
 use Rattle.f77_tree.specs.Comparing.{same_tree}
-use Rattle.f77_tree.specs.Grammar.{is_name}
-use Rattle.f77_tree.specs.Statement.{Statement}
+use Rattle.f77_tree.specs.Name.{is_symbolic}
+use Rattle.f77_tree.specs.Statement.{Statement, is_executable_statement}
 use Rattle.f77_tree.specs.Tree.{Tree, Trees}
 use Rattle.f77_tree.proofs.Tests.{and_true}
 use Rattle.f77_tree.specs.Node.{NodeOf, node_name, names_of, nodes_of}
@@ -17,7 +17,7 @@ use Rattle.f77_program.proofs.Forming.{a_reference}
 use Rattle.f77_legal.specs.Legal.{IsLegal, is_array}
 use Rattle.f77_legal.specs.Names.{Symbol, Mention, mentions, mentions_of, name_in, symbols}
 use Rattle.f77_legal.proofs.Among.{once_all}
-use Rattle.mothra_ops.specs.Pools.{PoolFields, Reference, array_reference, as_tree, constant, each_once, executable_nodes, is_executable, pools_of, same_reference, scalar}
+use Rattle.mothra_ops.specs.Pools.{PoolFields, Reference, array_reference, as_tree, constant, each_once, executable_nodes, pools_of, same_reference, scalar}
 use Rattle.mothra_ops.proofs.FormedNodes.{IsFormedLine, IsFormedNode, IsFormedTree, IsNamed, IsNoFunction, both_parts, lines_formed, nodes_formed, symbols_named, symbols_no_functions}
 
 -- some text spells it
@@ -32,7 +32,7 @@ pub record AreFormed (pools : PoolFields) : Type 0 where
   pub constants : All IsFormedTree pools.constants
 
 pub scalar_formed : (name : Symbol) → IsNamed name → IsFormedReference (scalar name)
-scalar_formed name is = rw (a_reference name Trees.None refl is) refl
+scalar_formed name is = rw (a_reference is_symbolic name Trees.None refl is) refl
 
 all_each_once : {X : Type 0} (P : X → Type 0) (same : X → X → Bool) (xs : List X) → All P xs → All P (each_once same xs)
 all_each_once P same [] all = All-nil P
@@ -61,7 +61,7 @@ references_formed : (nodes : List NodeOf) → All IsOwn nodes → All IsFormedRe
 references_formed [] all = All-nil IsFormedReference
 references_formed (node ∷ nodes) all = by node (All-head IsOwn node nodes all) (references_formed nodes (All-tail IsOwn node nodes all))
   where
-    by_tree : (t : Tree) → formed t ≡ true → All IsFormedReference (filter_map array_reference nodes)
+    by_tree : (t : Tree) → formed is_symbolic t ≡ true → All IsFormedReference (filter_map array_reference nodes)
         → All IsFormedReference (filter_map array_reference (NodeOf.Part t ∷ nodes))
     by_tree (Tree.Reference name (Trees.Then t ts)) f rest =
         All-cons IsFormedReference (record { name = name; subscripts = Trees.Then t ts }) (filter_map array_reference nodes) f rest
@@ -69,9 +69,9 @@ references_formed (node ∷ nodes) all = by node (All-head IsOwn node nodes all)
 
     by : (n : NodeOf) → IsOwn n → All IsFormedReference (filter_map array_reference nodes) → All IsFormedReference (filter_map array_reference (n ∷ nodes))
     by (NodeOf.Target name (Trees.Then t ts)) own rest =
-        let (is, items) = and_true (is_name name) (all_formed (Trees.Then t ts)) own.0 in
+        let (is, items) = and_true (is_symbolic name) (all_formed is_symbolic (Trees.Then t ts)) own.0 in
         All-cons IsFormedReference (record { name = name; subscripts = Trees.Then t ts }) (filter_map array_reference nodes)
-        (rw (a_reference name (Trees.Then t ts) own.1 is, items) refl) rest
+        (rw (a_reference is_symbolic name (Trees.Then t ts) own.1 is, items) refl) rest
     by (NodeOf.Part t) own rest = by_tree t own.0 rest
     by _ own rest = rest
 
@@ -91,11 +91,11 @@ plain_names : (names : List Symbol) → map name_in (map Mention.Plain names) �
 plain_names [] = refl
 plain_names (name ∷ names) = ap (λ (ns : List Symbol). name ∷ ns) (plain_names names)
 
-own_executed : (s : Statement) → statement_formed s ≡ true → All IsNoFunction (map name_in (map Mention.Plain (names_of s))) → All IsOwn (nodes_of s)
+own_executed : (s : Statement) → statement_formed is_symbolic s ≡ true → All IsNoFunction (map name_in (map Mention.Plain (names_of s))) → All IsOwn (nodes_of s)
 own_executed s f names = own_each (nodes_of s) (nodes_formed s f) (All-same IsNoFunction (names_of s) _ (sym (plain_names (names_of s))) names)
 
-own_of : (s : Statement) → statement_formed s ≡ true → All IsNoFunction (map name_in (mentions_of s))
-    → All IsOwn (if is_executable s then nodes_of s else [])
+own_of : (s : Statement) → statement_formed is_symbolic s ≡ true → All IsNoFunction (map name_in (mentions_of s))
+    → All IsOwn (if is_executable_statement s then nodes_of s else [])
 own_of (Statement.Subroutine name arguments) f names = All-nil IsOwn
 own_of (Statement.Declare kind ds) f names = All-nil IsOwn
 own_of (Statement.Dimension ds) f names = All-nil IsOwn
@@ -107,7 +107,7 @@ own_nodes [] formed names = All-nil IsOwn
 own_nodes (line ∷ lines) formed names =
     let parts = both_parts IsNoFunction (map name_in (mentions_of line.stmt)) (map name_in (mentions lines))
     (All-same IsNoFunction _ (map name_in (mentions (line ∷ lines))) (sym (map-append name_in (mentions_of line.stmt) (mentions lines))) names) in
-    All-append IsOwn (if is_executable line.stmt then nodes_of line.stmt else []) (executable_nodes lines)
+    All-append IsOwn (if is_executable_statement line.stmt then nodes_of line.stmt else []) (executable_nodes lines)
     (own_of line.stmt (All-head IsFormedLine line lines formed) parts.0)
     (own_nodes lines (All-tail IsFormedLine line lines formed) parts.1)
 

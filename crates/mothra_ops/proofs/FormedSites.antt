@@ -6,7 +6,8 @@ use Rattle.std.proofs.lemmas.List.Elements.{All-nil, All-cons, All-append, All-m
 use Rattle.f77_tree.specs.declared.data.Value.{Value}
 use Rattle.f77_tree.specs.Form.{acts}
 use Rattle.f77_tree.specs.Tree.{Tree, Trees, GroupFields}
-use Rattle.f77_tree.specs.Grammar.{is_call, is_name}
+use Rattle.f77_tree.specs.Grammar.{is_call}
+use Rattle.f77_tree.specs.Name.{is_symbolic}
 use Rattle.f77_tree.specs.Joined.{has_items}
 use Rattle.f77_tree.specs.code.Joined.{some_all}
 use Rattle.f77_tree.specs.Statement.{Statement, form_of}
@@ -23,7 +24,7 @@ use Rattle.mothra_ops.proofs.FormedNodes.{each_mapped, each_of_some, node_formed
 
 -- what may stand in the place of a node: what some text spells, and of statements what may stand in a logical IF
 abbrev pub is_fit : NodeOf → Bool
-is_fit (NodeOf.Itself s) = is_action s && statement_formed s
+is_fit (NodeOf.Itself s) = is_action s && statement_formed is_symbolic s
 is_fit node = node_formed node
 
 pub always : {X : Type 0} (P : X → Type 0) (xs : List X) → ((x : X) → P x) → All P xs
@@ -39,56 +40,56 @@ unfolding is_some_list
 call_kept name t ts Trees.None some = cc
 call_kept name t ts (Trees.Then u us) some = refl
 
-reference_kept : (name : List ℕ) (t : Tree) (ts items : Trees) → formed (Tree.Reference name (Trees.Then t ts)) ≡ true
-    → (all_formed items ≡ true) × (is_some_list items ≡ true) → formed (Tree.Reference name items) ≡ true
+reference_kept : (name : List ℕ) (t : Tree) (ts items : Trees) → formed is_symbolic (Tree.Reference name (Trees.Then t ts)) ≡ true
+    → (all_formed is_symbolic items ≡ true) × (is_some_list items ≡ true) → formed is_symbolic (Tree.Reference name items) ≡ true
 reference_kept name t ts items f (all, some) =
-    let (is, other, before) = reference_formed name (Trees.Then t ts) f in
-    rw (a_reference name items (call_kept name t ts items some ∙ other) is, all) refl
+    let (is, other, before) = reference_formed is_symbolic name (Trees.Then t ts) f in
+    rw (a_reference is_symbolic name items (call_kept name t ts items some ∙ other) is, all) refl
 
 module _ (node : NodeOf) (fit : is_fit node ≡ true) where
   abbrev pub FormedTree : Site Tree → Type 0
-  FormedTree site = formed (site.1 node) ≡ true
+  FormedTree site = formed is_symbolic (site.1 node) ≡ true
 
   abbrev FormedItems : Site Trees → Type 0
-  FormedItems site = (all_formed (site.1 node) ≡ true) × (is_some_list (site.1 node) ≡ true)
+  FormedItems site = (all_formed is_symbolic (site.1 node) ≡ true) × (is_some_list (site.1 node) ≡ true)
 
-  part_by : (n : NodeOf) (t : Tree) → is_fit n ≡ true → formed t ≡ true → formed (part_or t n) ≡ true
+  part_by : (n : NodeOf) (t : Tree) → is_fit n ≡ true → formed is_symbolic t ≡ true → formed is_symbolic (part_or t n) ≡ true
   part_by (NodeOf.Part u) t h f = h
   part_by _ t h f = f
 
-  then_formed : (t : Tree) → formed t ≡ true → All FormedTree (parts_behind t) → All FormedTree (part_then t (parts_behind t))
+  then_formed : (t : Tree) → formed is_symbolic t ≡ true → All FormedTree (parts_behind t) → All FormedTree (part_then t (parts_behind t))
   then_formed t f rest = All-cons FormedTree (NodeOf.Part t, part_or t) (parts_behind t) (part_by node t fit f) rest
 
   mutual
-    parts_put : (t : Tree) → formed t ≡ true → All FormedTree (parts_behind t)
+    parts_put : (t : Tree) → formed is_symbolic t ≡ true → All FormedTree (parts_behind t)
     parts_put (Tree.Number n) f = All-nil FormedTree
     parts_put (Tree.Truth b) f = All-nil FormedTree
     parts_put (Tree.Reference name Trees.None) f = All-nil FormedTree
     parts_put (Tree.Reference name (Trees.Then t ts)) f =
         All-map FormedTree (site_within (Tree.Reference name)) (item_sites (Trees.Then t ts))
-        (All-weaker FormedItems (λ site. formed (Tree.Reference name (site.1 node)) ≡ true) (λ site h. reference_kept name t ts (site.1 node) f h)
-        (item_sites (Trees.Then t ts)) (items_put (Trees.Then t ts) (reference_formed name (Trees.Then t ts) f).2))
+        (All-weaker FormedItems (λ site. formed is_symbolic (Tree.Reference name (site.1 node)) ≡ true) (λ site h. reference_kept name t ts (site.1 node) f h)
+        (item_sites (Trees.Then t ts)) (items_put (Trees.Then t ts) (reference_formed is_symbolic name (Trees.Then t ts) f).2))
     parts_put (Tree.Call g items) f =
         All-map FormedTree (site_within (Tree.Call g)) (item_sites items)
-        (All-weaker FormedItems (λ site. formed (Tree.Call g (site.1 node)) ≡ true) (λ site h. rw (h.1, h.0) refl)
-        (item_sites items) (items_put items (and_true (is_some_list items) (all_formed items) f).1))
+        (All-weaker FormedItems (λ site. formed is_symbolic (Tree.Call g (site.1 node)) ≡ true) (λ site h. rw (h.1, h.0) refl)
+        (item_sites items) (items_put items (and_true (is_some_list items) (all_formed is_symbolic items) f).1))
     parts_put (Tree.Signed sign t) f = All-map FormedTree (site_within (Tree.Signed sign)) (tree_sites t) (then_formed t f (parts_put t f))
     parts_put (Tree.Not t) f = All-map FormedTree (site_within Tree.Not) (tree_sites t) (then_formed t f (parts_put t f))
     parts_put (Tree.Binary op a b) f =
-        let (first, second) = and_true (formed a) (formed b) f in
+        let (first, second) = and_true (formed is_symbolic a) (formed is_symbolic b) f in
         All-append FormedTree (map (site_within (λ c. Tree.Binary op c b)) (tree_sites a)) (map (site_within (Tree.Binary op a)) (tree_sites b))
         (All-map FormedTree (site_within (λ c. Tree.Binary op c b)) (tree_sites a)
-        (All-weaker FormedTree (λ site. formed (Tree.Binary op (site.1 node) b) ≡ true) (λ site h. rw (h, second) refl) (tree_sites a)
+        (All-weaker FormedTree (λ site. formed is_symbolic (Tree.Binary op (site.1 node) b) ≡ true) (λ site h. rw (h, second) refl) (tree_sites a)
         (then_formed a first (parts_put a first))))
         (All-map FormedTree (site_within (Tree.Binary op a)) (tree_sites b)
-        (All-weaker FormedTree (λ site. formed (Tree.Binary op a (site.1 node)) ≡ true) (λ site h. rw (first, h) refl) (tree_sites b)
+        (All-weaker FormedTree (λ site. formed is_symbolic (Tree.Binary op a (site.1 node)) ≡ true) (λ site h. rw (first, h) refl) (tree_sites b)
         (then_formed b second (parts_put b second))))
     parts_put (Tree.ZeroPush t) f = All-map FormedTree (site_within Tree.ZeroPush) (tree_sites t) (then_formed t f (parts_put t f))
 
-    items_put : (items : Trees) → all_formed items ≡ true → All FormedItems (item_sites items)
+    items_put : (items : Trees) → all_formed is_symbolic items ≡ true → All FormedItems (item_sites items)
     items_put Trees.None f = All-nil FormedItems
     items_put (Trees.Then t ts) f =
-        let (first, others) = and_true (formed t) (all_formed ts) f in
+        let (first, others) = and_true (formed is_symbolic t) (all_formed is_symbolic ts) f in
         All-append FormedItems (map (site_within (λ u. Trees.Then u ts)) (tree_sites t)) (map (site_within (Trees.Then t)) (item_sites ts))
         (All-map FormedItems (site_within (λ u. Trees.Then u ts)) (tree_sites t)
         (All-weaker FormedTree (λ site. FormedItems (site_within (λ u. Trees.Then u ts) site)) (λ site h. (rw (h, others) refl, some_then (site.1 node) ts)) (tree_sites t)
@@ -97,23 +98,23 @@ module _ (node : NodeOf) (fit : is_fit node ≡ true) where
         (All-weaker FormedItems (λ site. FormedItems (site_within (Trees.Then t) site)) (λ site h. (rw (first, h.0) refl, some_then t (site.1 node))) (item_sites ts)
         (items_put ts others)))
 
-  tree_put : (t : Tree) → formed t ≡ true → All FormedTree (tree_sites t)
+  tree_put : (t : Tree) → formed is_symbolic t ≡ true → All FormedTree (tree_sites t)
   tree_put t f = then_formed t f (parts_put t f)
 
-  step_put : (c : Option Tree) → value_formed c ≡ true → All (λ site. value_formed (site.1 node) ≡ true) (step_sites c)
-  step_put None f = All-nil (λ site. value_formed (site.1 node) ≡ true)
-  step_put (Some t) f = All-map (λ site. value_formed (site.1 node) ≡ true) (site_within Some) (tree_sites t) (tree_put t f)
+  step_put : (c : Option Tree) → value_formed is_symbolic c ≡ true → All (λ site. value_formed is_symbolic (site.1 node) ≡ true) (step_sites c)
+  step_put None f = All-nil (λ site. value_formed is_symbolic (site.1 node) ≡ true)
+  step_put (Some t) f = All-map (λ site. value_formed is_symbolic (site.1 node) ≡ true) (site_within Some) (tree_sites t) (tree_put t f)
 
   -- the reference that an assignment assigns to
   abbrev FormedTarget : Site (List ℕ × Trees) → Type 0
-  FormedTarget site = (is_name (site.1 node).0 ≡ true) × (all_formed (site.1 node).1 ≡ true)
+  FormedTarget site = (is_symbolic (site.1 node).0 ≡ true) × (all_formed is_symbolic (site.1 node).1 ≡ true)
 
-  target_by : (n : NodeOf) (name : List ℕ) (items : Trees) → is_fit n ≡ true → is_name name ≡ true → all_formed items ≡ true
-      → (is_name (target_or (name, items) n).0 ≡ true) × (all_formed (target_or (name, items) n).1 ≡ true)
-  target_by (NodeOf.Target other others) name items h is all = and_true (is_name other) (all_formed others) h
+  target_by : (n : NodeOf) (name : List ℕ) (items : Trees) → is_fit n ≡ true → is_symbolic name ≡ true → all_formed is_symbolic items ≡ true
+      → (is_symbolic (target_or (name, items) n).0 ≡ true) × (all_formed is_symbolic (target_or (name, items) n).1 ≡ true)
+  target_by (NodeOf.Target other others) name items h is all = and_true (is_symbolic other) (all_formed is_symbolic others) h
   target_by _ name items h is all = (is, all)
 
-  target_put : (name : List ℕ) (items : Trees) → is_name name ≡ true → all_formed items ≡ true → All FormedTarget (target_sites (name, items))
+  target_put : (name : List ℕ) (items : Trees) → is_symbolic name ≡ true → all_formed is_symbolic items ≡ true → All FormedTarget (target_sites (name, items))
   target_put name items is all =
       All-cons FormedTarget (NodeOf.Target name items, target_or (name, items)) (map (site_within (λ others. (name, others))) (item_sites items))
       (target_by node name items fit is all)
@@ -136,11 +137,11 @@ module _ (node : NodeOf) (fit : is_fit node ≡ true) where
         (All-map FormedList (site_within (λ ys. x ∷ ys)) (list_sites of xs)
         (All-weaker FormedList (λ site. FormedList (site_within (λ ys. x ∷ ys) site)) (λ site e. (rw (first, e.0) refl, refl)) (list_sites of xs) (list_put xs others)))
 
-  group_put : (g : GroupFields) → is_group g ≡ true → All (λ site. is_group (site.1 node) ≡ true) (group_sites g)
+  group_put : (g : GroupFields) → is_group is_symbolic g ≡ true → All (λ site. is_group is_symbolic (site.1 node) ≡ true) (group_sites g)
   group_put g h =
-      let (named, valued) = and_true (some_all is_name g.names) (some_all any_value g.values) h in
+      let (named, valued) = and_true (some_all is_symbolic g.names) (some_all any_value g.values) h in
       let whole : List Value → GroupFields = λ values. record { names = g.names; values = values } in
-      let P : Site GroupFields → Type 0 = λ site. is_group (site.1 node) ≡ true in
+      let P : Site GroupFields → Type 0 = λ site. is_group is_symbolic (site.1 node) ≡ true in
       All-append P (map (λ name. fixed g (NodeOf.Named name)) g.names) (map (site_within whole) (list_sites value_sites g.values))
       (each_mapped P (λ name. fixed g (NodeOf.Named name)) g.names (λ name. h))
       (All-map P (site_within whole) (list_sites value_sites g.values)
@@ -152,16 +153,16 @@ module _ (node : NodeOf) (fit : is_fit node ≡ true) where
 
   -- a statement
   abbrev pub Keeps : Statement → Site Statement → Type 0
-  Keeps s site = (statement_formed (site.1 node) ≡ true) × (form_of (site.1 node) ≡ form_of s)
+  Keeps s site = (statement_formed is_symbolic (site.1 node) ≡ true) × (form_of (site.1 node) ≡ form_of s)
 
-  inner_by : (n : NodeOf) (s : Statement) → is_fit n ≡ true → is_action s ≡ true → statement_formed s ≡ true
-      → (is_action (statement_or s n) ≡ true) × (statement_formed (statement_or s n) ≡ true)
-  inner_by (NodeOf.Itself other) s h is f = and_true (is_action other) (statement_formed other) h
+  inner_by : (n : NodeOf) (s : Statement) → is_fit n ≡ true → is_action s ≡ true → statement_formed is_symbolic s ≡ true
+      → (is_action (statement_or s n) ≡ true) × (statement_formed is_symbolic (statement_or s n) ≡ true)
+  inner_by (NodeOf.Itself other) s h is f = and_true (is_action other) (statement_formed is_symbolic other) h
   inner_by _ s h is f = (is, f)
 
   -- of a statement that has expressions in one place
-  by_trees : (s : Statement) (whole : Tree → Statement) (t : Tree) → formed t ≡ true
-      → ((u : Tree) → formed u ≡ true → (statement_formed (whole u) ≡ true) × (form_of (whole u) ≡ form_of s))
+  by_trees : (s : Statement) (whole : Tree → Statement) (t : Tree) → formed is_symbolic t ≡ true
+      → ((u : Tree) → formed is_symbolic u ≡ true → (statement_formed is_symbolic (whole u) ≡ true) × (form_of (whole u) ≡ form_of s))
       → All (Keeps s) (map (site_within whole) (tree_sites t))
   by_trees s whole t f kept =
       All-map (Keeps s) (site_within whole) (tree_sites t)
@@ -169,14 +170,14 @@ module _ (node : NodeOf) (fit : is_fit node ≡ true) where
 
   -- and of one that has labels, which are of any size
   by_labels : (s : Statement) (whole : ℕ → Statement) (label : ℕ)
-      → ((l : ℕ) → (statement_formed (whole l) ≡ true) × (form_of (whole l) ≡ form_of s)) → All (Keeps s) (map (site_within whole) (label_sites label))
+      → ((l : ℕ) → (statement_formed is_symbolic (whole l) ≡ true) × (form_of (whole l) ≡ form_of s)) → All (Keeps s) (map (site_within whole) (label_sites label))
   by_labels s whole label kept = each_mapped (Keeps s) (site_within whole) (label_sites label) (λ site. kept (site.1 node))
 
-  name_by : (n : NodeOf) (name : List ℕ) → is_fit n ≡ true → is_name name ≡ true → is_name (name_or name n) ≡ true
+  name_by : (n : NodeOf) (name : List ℕ) → is_fit n ≡ true → is_symbolic name ≡ true → is_symbolic (name_or name n) ≡ true
   name_by (NodeOf.Named other) name h is = h
   name_by _ name h is = is
 
-  pub behind_put : (s : Statement) → statement_formed s ≡ true → All (Keeps s) (sites_behind s)
+  pub behind_put : (s : Statement) → statement_formed is_symbolic s ≡ true → All (Keeps s) (sites_behind s)
   behind_put (Statement.Subroutine name names) f =
       each_mapped (Keeps (Statement.Subroutine name names)) (λ n. fixed (Statement.Subroutine name names) (NodeOf.Named n)) names (λ n. (f, refl))
   behind_put (Statement.Declare kind ds) f =
@@ -185,12 +186,12 @@ module _ (node : NodeOf) (fit : is_fit node ≡ true) where
       each_mapped (Keeps (Statement.Dimension ds)) (λ d. fixed (Statement.Dimension ds) (NodeOf.Declared d)) ds (λ d. (f, refl))
   behind_put (Statement.Preset gs) f =
       All-map (Keeps (Statement.Preset gs)) (site_within Statement.Preset) (list_sites group_sites gs)
-      (All-weaker (FormedList is_group group_sites group_put) (λ site. Keeps (Statement.Preset gs) (site_within Statement.Preset site))
-      (λ site e. (some_of_each is_group (site.1 node) e.1 e.0, refl)) (list_sites group_sites gs)
-      (list_put is_group group_sites group_put gs (each_of_some is_group gs f)))
+      (All-weaker (FormedList (is_group is_symbolic) group_sites group_put) (λ site. Keeps (Statement.Preset gs) (site_within Statement.Preset site))
+      (λ site e. (some_of_each (is_group is_symbolic) (site.1 node) e.1 e.0, refl)) (list_sites group_sites gs)
+      (list_put (is_group is_symbolic) group_sites group_put gs (each_of_some (is_group is_symbolic) gs f)))
   behind_put (Statement.Assign name items t) f =
-      let (is, rest) = and_true (is_name name) (all_formed items && formed t) f in
-      let (all, value) = and_true (all_formed items) (formed t) rest in
+      let (is, rest) = and_true (is_symbolic name) (all_formed is_symbolic items && formed is_symbolic t) f in
+      let (all, value) = and_true (all_formed is_symbolic items) (formed is_symbolic t) rest in
       let s : Statement = Statement.Assign name items t in
       let whole : List ℕ × Trees → Statement = λ place. Statement.Assign place.0 place.1 t in
       All-append (Keeps s) (map (site_within whole) (target_sites (name, items))) (map (site_within (Statement.Assign name items)) (tree_sites t))
@@ -200,7 +201,7 @@ module _ (node : NodeOf) (fit : is_fit node ≡ true) where
       (by_trees s (Statement.Assign name items) t value (λ u h. (rw (is, all, h) refl, refl)))
   behind_put (Statement.Goto label) f = by_labels (Statement.Goto label) Statement.Goto label (λ l. (refl, refl))
   behind_put (Statement.ComputedGoto labels t) f =
-      let (some, value) = and_true (has_items labels) (formed t) f in
+      let (some, value) = and_true (has_items labels) (formed is_symbolic t) f in
       let s : Statement = Statement.ComputedGoto labels t in
       let whole : List ℕ → Statement = λ ls. Statement.ComputedGoto ls t in
       All-append (Keeps s) (map (site_within whole) (list_sites label_sites labels)) (map (site_within (Statement.ComputedGoto labels)) (tree_sites t))
@@ -226,8 +227,8 @@ module _ (node : NodeOf) (fit : is_fit node ≡ true) where
       (All-append (Keeps s) (map (site_within (λ k. Statement.ArithIf t l k n)) (label_sites m)) (map (site_within (Statement.ArithIf t l m)) (label_sites n))
       (by_labels s (λ k. Statement.ArithIf t l k n) m (λ k. (f, refl))) (by_labels s (Statement.ArithIf t l m) n (λ k. (f, refl)))))
   behind_put (Statement.LogicalIf t inner) f =
-      let (test, rest) = and_true (formed t) (is_action inner && statement_formed inner) f in
-      let (is, own) = and_true (is_action inner) (statement_formed inner) rest in
+      let (test, rest) = and_true (formed is_symbolic t) (is_action inner && statement_formed is_symbolic inner) f in
+      let (is, own) = and_true (is_action inner) (statement_formed is_symbolic inner) rest in
       let s : Statement = Statement.LogicalIf t inner in
       let first = inner_by node inner fit is own in
       All-append (Keeps s) (map (site_within (λ u. Statement.LogicalIf u inner)) (tree_sites t))
@@ -243,9 +244,9 @@ module _ (node : NodeOf) (fit : is_fit node ≡ true) where
   behind_put Statement.Else f = All-nil (Keeps Statement.Else)
   behind_put Statement.EndIf f = All-nil (Keeps Statement.EndIf)
   behind_put (Statement.Loop label name a b c) f =
-      let (is, rest) = and_true (is_name name) (formed a && (formed b && value_formed c)) f in
-      let (first, others) = and_true (formed a) (formed b && value_formed c) rest in
-      let (second, third) = and_true (formed b) (value_formed c) others in
+      let (is, rest) = and_true (is_symbolic name) (formed is_symbolic a && (formed is_symbolic b && value_formed is_symbolic c)) f in
+      let (first, others) = and_true (formed is_symbolic a) (formed is_symbolic b && value_formed is_symbolic c) rest in
+      let (second, third) = and_true (formed is_symbolic b) (value_formed is_symbolic c) others in
       let s : Statement = Statement.Loop label name a b c in
       let lasts = map (site_within (λ u. Statement.Loop label name a u c)) (tree_sites b) ++ map (site_within (Statement.Loop label name a b)) (step_sites c) in
       let firsts = map (site_within (λ u. Statement.Loop label name u b c)) (tree_sites a) ++ lasts in
@@ -260,7 +261,7 @@ module _ (node : NodeOf) (fit : is_fit node ≡ true) where
       (All-append (Keeps s) (map (site_within (λ u. Statement.Loop label name a u c)) (tree_sites b)) (map (site_within (Statement.Loop label name a b)) (step_sites c))
       (by_trees s (λ u. Statement.Loop label name a u c) b second (λ u h. (rw (is, first, h, third) refl, refl)))
       (All-map (Keeps s) (site_within (Statement.Loop label name a b)) (step_sites c)
-      (All-weaker (λ site. value_formed (site.1 node) ≡ true) (λ site. Keeps s (site_within (Statement.Loop label name a b) site))
+      (All-weaker (λ site. value_formed is_symbolic (site.1 node) ≡ true) (λ site. Keeps s (site_within (Statement.Loop label name a b) site))
       (λ site h. (rw (is, first, second, h) refl, refl)) (step_sites c) (step_put c third))))))
   behind_put Statement.Continue f = All-nil (Keeps Statement.Continue)
   behind_put Statement.Return f = All-nil (Keeps Statement.Return)

@@ -8,7 +8,8 @@ use Rattle.f77_tree.specs.declared.form.Form.{Form}
 use Rattle.f77_tree.specs.View.{trees, reference_fields}
 use Rattle.f77_tree.specs.declared.tree.Ref.{Ref}
 use Rattle.f77_legal.specs.Names.{Symbol}
-use Rattle.mothra_ops.specs.Pools.{PoolFields, Reference, as_tree, reference_of, scalar}
+use Rattle.mothra_ops.specs.Pools.{PoolFields, Reference, as_tree, scalar}
+use Rattle.mothra_ops.specs.code.Pools.{reference_of}
 use Rattle.mothra_ops.specs.Replacements.{as_target, as_variable, is_element, is_scalar, comparable, of_elements, of_scalars, other_references, in_place, in_places, in_statements, replacements}
 use Rattle.mothra_codes.specs.declared.op.Op.{Op}
 use Rattle.mothra_codes.specs.declared.op.Op.TheVariants.{Aar, Abs, Acr, Aor, Asr, Car, Cnr, Crp, Csr}

@@ -1,7 +1,6 @@
 -- Lists that are the same behind so many items.
-use Rattle.std.proofs.Common.{arith, ◌≡◌, ◌∙◌, ◌+◌, ◌-◌, ◌<◌, ◌≤◌, ℕ, zero, suc, List, [], ◌∷◌, ap, drop, refl, sym}
+use Rattle.std.proofs.Common.{arith, ◌≡◌, ◌∙◌, ◌+◌, ◌-◌, ◌<◌, ℕ, zero, suc, List, [], ◌∷◌, ap, drop, refl, sym}
 use Rattle.std.specs.Prelude.{slice_get}
-use Rattle.std.proofs.lemmas.List.{drop-drop}
 use Rattle.mothra_ops.specs.Edits.{numbered}
 
 item_behind : {X : Type 0} (xs : List X) (n k j : ℕ) → n + k ≡ j → slice_get (drop n xs) k ≡ slice_get xs j
@@ -17,9 +16,3 @@ module _ {X : Type 0} (xs ys : List X) (n : ℕ) (same : drop n xs ≡ drop n ys
   numbered_behind (suc k) behind =
       let e : n + (k - n) ≡ k = omega arith in
       sym (item_behind xs n (k - n) k e) ∙ ap (λ (zs : List X). slice_get zs (k - n)) same ∙ item_behind ys n (k - n) k e
-
-  pub same_behind : (r : ℕ) → n ≤ r → drop r xs ≡ drop r ys
-  same_behind r behind =
-      let e : n + (r - n) ≡ r = omega arith in
-      ap (λ (j : ℕ). drop j xs) (sym e) ∙ sym (drop-drop (r - n) n xs) ∙ ap (drop (r - n)) same
-      ∙ drop-drop (r - n) n ys ∙ ap (λ (j : ℕ). drop j ys) e

@@ -19,14 +19,11 @@ mod NodeLists
 mod Applied
 mod Plans
 mod Numbered
-mod Taken
 mod GivenMakes
-mod Copying
-mod Changes
-mod MutantChanges
 mod Shapes
 mod FormedNodes
 mod FormedSites
 mod FormedPools
 mod FormedGiven
 mod MadeFits
+mod MadeBy

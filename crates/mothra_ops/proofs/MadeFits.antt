@@ -3,9 +3,10 @@ use Rattle.std.proofs.Common.{◌≡◌, ◌≤◌, ◌-◌, ℕ, zero, suc, Lis
 use Rattle.std.specs.Prelude.{◌↔◌, ◌&&◌, not, slice_get}
 use Rattle.std.specs.List.{All}
 use Rattle.std.proofs.lemmas.List.Elements.{All-nil, All-cons}
-use Rattle.std.proofs.lemmas.Option.{get_or_from_slice_get, none-some, same_Some, slice_get_within}
+use Rattle.std.proofs.lemmas.Option.{none-some, same_Some}
 use Rattle.f77_tree.specs.declared.form.Form.{Form}
 use Rattle.f77_tree.specs.Statement.{Statement, form_of, same_statement}
+use Rattle.f77_tree.specs.Name.{is_symbolic}
 use Rattle.f77_tree.specs.Node.{NodeOf, nodes_of}
 use Rattle.f77_tree.specs.Sites.{Site, sites, sites_behind, statement_or}
 use Rattle.f77_program.specs.Formed.{is_action}
@@ -28,14 +29,7 @@ use Rattle.mothra_ops.proofs.FormedNodes.{IsFormedLine, IsFormedNode, lines_form
 use Rattle.mothra_ops.proofs.FormedPools.{pools_formed}
 use Rattle.mothra_ops.proofs.FormedSites.{behind_put}
 use Rattle.mothra_ops.proofs.Members.{node_there, steps}
-
--- what holds of each item holds of one that is found
-at_place : {X : Type 0} (P : X → Type 0) (xs : List X) (k : ℕ) (x : X) → All P xs → slice_get xs k ≡ Some x → P x
-at_place P xs k x all at = subst P (get_or_from_slice_get xs k x x at) (all k x (slice_get_within xs k x at))
-
-at_number : {X : Type 0} (P : X → Type 0) (xs : List X) (k : ℕ) (x : X) → All P xs → numbered xs k ≡ Some x → P x
-at_number P xs zero x all at = absurd (none-some x at)
-at_number P xs (suc k) x all at = at_place P xs k x all at
+use Rattle.mothra_ops.proofs.Numbered.{at_number, at_place}
 
 counted : (program : List LineFields) (number : ℕ) (line : LineFields) → numbered program number ≡ Some line
     → (1 ≤ number) × (slice_get program (number - 1) ≡ Some line)
@@ -80,21 +74,21 @@ module _ (pools : PoolFields) (s : Statement) where
   gives_of_group op =
       chosen (IsOfGroup s) (stands_in op s) (replacements op pools (NodeOf.Itself s)) [] (replacements_of_group op) (All-nil (IsOfGroup s))
 
-whole_formed : (s : Statement) (new : NodeOf) → IsFit new → statement_formed s ≡ true → statement_formed (statement_or s new) ≡ true
-whole_formed s (NodeOf.Itself other) fit f = (and_true (is_action other) (statement_formed other) fit).1
+whole_formed : (s : Statement) (new : NodeOf) → IsFit new → statement_formed is_symbolic s ≡ true → statement_formed is_symbolic (statement_or s new) ≡ true
+whole_formed s (NodeOf.Itself other) fit f = (and_true (is_action other) (statement_formed is_symbolic other) fit).1
 whole_formed s _ fit f = f
 
 -- a statement that may stand in the place of another one
 abbrev MayReplace : Statement → Statement → Type 0
-MayReplace old new = (statement_formed new ≡ true) × (group_of new ≡ group_of old)
+MayReplace old new = (statement_formed is_symbolic new ≡ true) × (group_of new ≡ group_of old)
 
-may_replace : (pools : PoolFields) (op : Op) (s : Statement) (position rank : ℕ) (site : Site Statement) (new : NodeOf) → statement_formed s ≡ true
+may_replace : (pools : PoolFields) (op : Op) (s : Statement) (position rank : ℕ) (site : Site Statement) (new : NodeOf) → statement_formed is_symbolic s ≡ true
     → IsFit new → slice_get (sites s) position ≡ Some site → numbered (gives op pools s site.0) rank ≡ Some new → MayReplace s (site.1 new)
 may_replace pools op s zero rank site new f fit at given =
     subst (λ (x : Site Statement). numbered (gives op pools s x.0) rank ≡ Some new → MayReplace s (x.1 new)) (same_Some _ _ at)
     (λ whole. (whole_formed s new fit f, at_number (IsOfGroup s) (gives op pools s (NodeOf.Itself s)) rank new (gives_of_group pools s op) whole)) given
 may_replace pools op s (suc p) rank site new f fit at given =
-    let kept = at_place (λ (x : Site Statement). (statement_formed (x.1 new) ≡ true) × (form_of (x.1 new) ≡ form_of s)) (sites_behind s) p site
+    let kept = at_place (λ (x : Site Statement). (statement_formed is_symbolic (x.1 new) ≡ true) × (form_of (x.1 new) ≡ form_of s)) (sites_behind s) p site
     (behind_put new fit s f) at in
     (kept.0, ap form_group kept.1)
 

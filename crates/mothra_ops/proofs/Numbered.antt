@@ -1,62 +1,75 @@
--- The edits of a plan by number, and what they make.
-use Rattle.std.proofs.Common.{◌≡◌, ◌≤◌, ◌*◌, ◌∙◌, ℕ, zero, suc, true, List, [], Option, Some, None, refl, sym, ap, subst}
-use Rattle.std.specs.Prelude.{Contains, is_some, slice_get}
+-- The mutants of a plan by number.
+use Rattle.std.proofs.Common.{arith, ltb, ◌≡◌, ◌≤◌, ◌-◌, ◌∙◌, ℕ, zero, suc, List, [], length, map, get_or, Option, Some, None, refl, sym, ap, subst}
+use Rattle.std.specs.Prelude.{IfSome, is_some, slice_get}
 use Rattle.std.specs.Borrow.{Bor}
-use Rattle.std.specs.Option.{option_map, option_map_or}
-use Rattle.std.proofs.lemmas.List.Elements.{Contains-get_or}
-use Rattle.std.proofs.lemmas.Option.{none-some, same_Some, slice_get_within, get_or_from_slice_get}
+use Rattle.std.specs.List.{All}
+use Rattle.std.specs.Option.{option_and_then, option_map, option_map_or}
+use Rattle.std.proofs.lemmas.Bool.{ltb-false, ltb-true}
+use Rattle.std.proofs.lemmas.Option.{get_or_from_slice_get, none-some, slice_get-map, slice_get_past, slice_get_read, slice_get_within}
 use Rattle.f77_tree.specs.Statement.{Statement}
-use Rattle.mothra_ops.specs.Edits.{IsMember, IsMutant, numbered, thinned}
-use Rattle.mothra_ops.specs.Mutants.{MutantFields, mutant_made, program_of}
-use Rattle.mothra_ops.specs.Plan.{ListFields, PlanFields, IsPlan, asked, edits_of, list_of_operator}
-use Rattle.mothra_ops.specs.declared.edit.Edit.{Edit}
-use Rattle.mothra_ops.proofs.Thinning.{thinned_items}
+use Rattle.mothra_ops.specs.Edits.{numbered}
+use Rattle.mothra_ops.specs.Made.{IsMadeMutant}
+use Rattle.mothra_ops.specs.Mutants.{mutant_fields, mutant_made, mutant_of, program_of}
+use Rattle.mothra_ops.specs.Plan.{ListFields, PlanFields, edits_of, list_fields, list_of_operator}
+use Rattle.mothra_ops.specs.declared.listing.Listing.{Listing}
+use Rattle.mothra_ops.specs.declared.mutant.Mutant.{Mutant}
 use Rattle.mothra_codes.specs.declared.op.Op.{Op}
 
 pub nothing_numbered : {X : Type 0} (k : ℕ) → numbered {X = X} [] k ≡ None
 nothing_numbered zero = refl
 nothing_numbered (suc k) = refl
 
-listed : {X : Type 0} (xs : List X) (k : ℕ) (x : X) → slice_get xs k ≡ Some x → Contains xs x
-listed xs k x at = subst (Contains xs) (get_or_from_slice_get xs k x x at) (Contains-get_or xs k x (slice_get_within xs k x at))
+-- what holds of each item holds of one that is found
+pub at_place : {X : Type 0} (P : X → Type 0) (xs : List X) (k : ℕ) (x : X) → All P xs → slice_get xs k ≡ Some x → P x
+at_place P xs k x all at = subst P (get_or_from_slice_get xs k x x at) (all k x (slice_get_within xs k x at))
 
--- an item of a thinned list is one of the whole list
-of_thinned : {X : Type 0} (q : ℕ) (xs : List X) (number : ℕ) (x : X) → 1 ≤ q → numbered (thinned q xs) number ≡ Some x → Contains xs x
-of_thinned q xs zero x some at = absurd (none-some x at)
-of_thinned q xs (suc k) x some at = listed xs (k * q) x (sym (thinned_items q xs k some) ∙ at)
+pub at_number : {X : Type 0} (P : X → Type 0) (xs : List X) (k : ℕ) (x : X) → All P xs → numbered xs k ≡ Some x → P x
+at_number P xs zero x all at = absurd (none-some x at)
+at_number P xs (suc k) x all at = at_place P xs k x all at
 
--- the edit that is found is the plan's of this number
-pub at_number : (inside plan : PlanFields) (op : Op) (number : ℕ) (answer : Option (Bor Edit)) (edit : Bor Edit) → inside ≡ plan
-    → option_map (λ (e : Bor Edit). e.now) answer ≡ numbered (edits_of inside op) number → answer ≡ Some edit → numbered (edits_of plan op) number ≡ Some edit.now
-at_number inside plan op number answer edit same is some =
-    ap (λ (p : PlanFields). numbered (edits_of p op) number) (sym same) ∙ sym is ∙ ap (option_map (λ (e : Bor Edit). e.now)) some
+-- what is found at a number, as it is read
+found_at : {X : Type 0} (xs : List X) (k : ℕ) (found : Option (Bor X)) → is_some found ≡ ltb k (length xs)
+    → IfSome found (λ (x : Bor X). x.now ≡ get_or xs k x.now) → option_map (λ (x : Bor X). x.now) found ≡ slice_get xs k
+found_at xs k (Some x) there is = sym (slice_get_read xs (length xs) k x.now refl (ltb-true k (length xs) (sym there)) is)
+found_at xs k None there is = sym (slice_get_past xs k (ltb-false k (length xs) (sym there)))
 
-module _ (plan : PlanFields) (is : IsPlan plan) (op : Op) (number : ℕ) (edit : Edit) (at : numbered (edits_of plan op) number ≡ Some edit) where
-  was_asked : asked plan op ≡ true
-  was_asked = by (list_of_operator plan op) refl
-    where
-      by : (o : Option ListFields) → list_of_operator plan op ≡ o → is_some (list_of_operator plan op) ≡ true
-      by (Some list) e = ap is_some e
-      by None e = absurd (none-some edit (sym (nothing_numbered number)
-          ∙ ap (λ (o : Option ListFields). numbered (option_map_or (λ list. list.edits) o []) number) (sym e) ∙ at))
+pub found_numbered : {X : Type 0} (xs : List X) (number : ℕ) (found : Option (Bor X)) → 1 ≤ number → is_some found ≡ ltb (number - 1) (length xs)
+    → IfSome found (λ (x : Bor X). x.now ≡ get_or xs (number - 1) x.now) → option_map (λ (x : Bor X). x.now) found ≡ numbered xs number
+found_numbered xs zero found some there is = absurd (omega (arith, some))
+found_numbered xs (suc k) found some there is = let e : suc k - 1 ≡ k = omega arith in found_at xs (suc k - 1) found there is ∙ ap (slice_get xs) e
 
-  pub member : IsMember op (program_of plan) edit
-  member =
-      let list = (is.lists op was_asked).list in
-      (list.lists.exactly edit).0 (of_thinned plan.every list.whole number edit is.some (ap (λ (edits : List Edit). numbered edits number) (sym list.is) ∙ at))
+pub seen : {X Y : Type 0} (f : X → Y) (found : Option (Bor X)) → option_map (λ (x : Bor X). f x.now) found ≡ option_map f (option_map (λ (x : Bor X). x.now) found)
+seen f (Some x) = refl
+seen f None = refl
 
-  pub the_mutant : mutant_made (program_of plan) edit ≡ Some (record { number = edit.statement; statement = member.statement })
-  the_mutant = ap (option_map (λ (s : Statement). record { number = edit.statement; statement = s })) member.makes
+pub holds_there : {X : Type 0} (P : X → Type 0) (xs : List X) (number : ℕ) (found : Option (Bor X)) → All P xs
+    → option_map (λ (x : Bor X). x.now) found ≡ numbered xs number → IfSome found (λ (x : Bor X). P x.now)
+holds_there P xs number (Some x) all is = at_number P xs number x.now all (sym is)
+holds_there P xs number None all is = tt
 
-  -- what a number's edit makes is a mutant
-  pub numbered_mutant : (mutant : MutantFields) → Some mutant ≡ mutant_made (program_of plan) edit → IsMutant (program_of plan) mutant.number mutant.statement
-  numbered_mutant mutant makes =
-      subst (λ (fields : MutantFields). IsMutant (program_of plan) fields.number fields.statement) (sym (same_Some _ _ (makes ∙ the_mutant))) member.mutant
+numbered-map : {X Y : Type 0} (f : X → Y) (xs : List X) (number : ℕ) → numbered (map f xs) number ≡ option_map f (numbered xs number)
+numbered-map f xs zero = refl
+numbered-map f xs (suc k) = slice_get-map f xs k
 
-  -- and it makes one
-  pub some_mutant : None ≡ mutant_made (program_of plan) edit → ⊥
-  some_mutant none = none-some (record { number = edit.statement; statement = member.statement }) (none ∙ the_mutant)
+module _ (plan : PlanFields) (op : Op) (number : ℕ) where
+  -- where no edit has the number, no mutant has it
+  no_mutant : numbered (edits_of plan op) number ≡ None → mutant_of plan op number ≡ None
+  no_mutant none = ap (option_and_then (mutant_made (program_of plan))) none
 
--- the edit's mutant, of the statement that it makes
-abbrev pub of_edit : Edit → Statement → MutantFields
-of_edit edit statement = record { number = edit.statement; statement = statement }
+  -- the plan's list of the operator
+  module _ (list : Listing) (is : list_of_operator plan op ≡ Some (list_fields list)) where
+    pub edit_there : option_map (λ (mutant : Mutant). mutant.edit) (numbered list.mutants.items number) ≡ numbered (edits_of plan op) number
+    edit_there =
+        sym (numbered-map (λ (mutant : Mutant). mutant.edit) list.mutants.items number)
+        ∙ sym (ap (λ (o : Option ListFields). numbered (option_map_or (λ list. list.edits) o []) number) is)
+
+    module _ (all : All (IsMadeMutant plan.checked) list.mutants.items) where
+      mutant_there : (found : Option Mutant) → numbered list.mutants.items number ≡ found → option_map mutant_fields found ≡ mutant_of plan op number
+      mutant_there None none = sym (no_mutant (sym edit_there ∙ ap (option_map (λ (mutant : Mutant). mutant.edit)) none))
+      mutant_there (Some mutant) at =
+          let own = at_number (IsMadeMutant plan.checked) list.mutants.items number mutant all at in
+          sym (ap (option_and_then (mutant_made (program_of plan))) (sym edit_there ∙ ap (option_map (λ (mutant : Mutant). mutant.edit)) at)
+          ∙ ap (option_map (λ (s : Statement). record { number = mutant.edit.statement; statement = s })) own.makes)
+
+      pub mutant_listed : option_map mutant_fields (numbered list.mutants.items number) ≡ mutant_of plan op number
+      mutant_listed = mutant_there (numbered list.mutants.items number) refl

@@ -1,7 +1,7 @@
 -- The lists of a plan that is being made.
 use Rattle.std.proofs.Common.{◌≡◌, ◌<◌, ◌≤◌, ◌⊎◌, ◌+◌, ◌++◌, ℕ, zero, suc, List, [], ◌∷◌, map, filter, take, Bool, true, false}
 use Rattle.std.proofs.Common.{eqb, nat_eq, Option, Some, None, refl, sym, ap, ◌∙◌, cond, arith, inl, inr, subst, Bor, true≢false}
-use Rattle.std.specs.Prelude.{All, Contains, is_some}
+use Rattle.std.specs.Prelude.{All, Contains, IfSome, is_some}
 use Rattle.std.specs.Bool.{Decides}
 use Rattle.std.specs.List.{find}
 use Rattle.std.specs.Option.{option_map, option_map_or, option_or}
@@ -15,6 +15,7 @@ use Rattle.f77_check.specs.Checked.{CheckedFields}
 use Rattle.mothra_ops.specs.Edits.{IsCountedList, IsList, IsNoList, IsTooLong}
 use Rattle.mothra_codes.specs.Op.{all_ops, index}
 use Rattle.mothra_codes.specs.code.Op.{op_at}
+use Rattle.mothra_ops.specs.Listing.{edits_in}
 use Rattle.mothra_ops.specs.Plan.{ListFields, HasOneEach, IsPlan, IsNoPlan, asked, plan_fields, list_fields}
 use Rattle.mothra_ops.specs.declared.edit.Edit.{Edit}
 use Rattle.mothra_ops.specs.declared.fault.OpsFault.{OpsFault}
@@ -23,11 +24,12 @@ use Rattle.mothra_ops.specs.declared.listing.Listing.{Listing}
 use Rattle.mothra_codes.specs.declared.op.Op.{Op}
 use Rattle.mothra_codes.specs.declared.op.Op.TheVariants.{Aar}
 use Rattle.mothra_codes.proofs.Operators.{same_op, index_below, op_at-index}
+use Rattle.mothra_ops.proofs.Numbered.{seen}
 
 -- the list of an operator that is asked for
 pub record IsListOf (ops : List Op) (program : List LineFields) (every : ℕ) (list : Listing) : Type 0 where
   pub asked : Contains ops list.op
-  pub counted : IsCountedList list.op program every list.edits.items list.whole
+  pub counted : IsCountedList list.op program every (edits_in list) list.whole
 
 abbrev pub is_of : Op → Listing → Bool
 is_of op list = eqb (index list.op) (index op)
@@ -176,12 +178,12 @@ one_more ops program every count lists list at has own = record {
 }
 
 pub one_more_listed : (ops : List Op) (program : List LineFields) (every count : ℕ) (lists : List Listing) (list : Listing) (op : Op) → index op ≡ count
-    → list.op ≡ op → HasLists ops program every count lists → Contains ops op → IsCountedList op program every list.edits.items list.whole
+    → list.op ≡ op → HasLists ops program every count lists → Contains ops op → IsCountedList op program every (edits_in list) list.whole
     → HasLists ops program every (count + 1) (lists ++ list ∷ [])
 one_more_listed ops program every count lists list op at own has asked counted =
     one_more ops program every count lists list (ap index own ∙ at) has (record {
       asked = subst (Contains ops) (sym own) asked;
-      counted = subst (λ (o : Op). IsCountedList o program every list.edits.items list.whole) (sym own) counted;
+      counted = subst (λ (o : Op). IsCountedList o program every (edits_in list) list.whole) (sym own) counted;
     })
 
 one_number : (a b : ℕ) → nat_eq a b ≡ true → a ≡ b
@@ -218,7 +220,7 @@ too_long_next : (ops : List Op) (program : List LineFields) (every count : ℕ) 
     → HasLists ops program every count lists → Contains ops other → index other < index op → (edits : List Edit) × IsList other program every edits
 too_long_next ops program every count lists op other at has asked less =
     let one = one_of ops program every lists other (find (is_of other) lists) has.own refl (has.complete other (omega (arith, at, less)) asked) in
-    (one.0.edits.items, subst (λ (o : Op). IsList o program every one.0.edits.items) one.2.own one.2.holds.counted.list)
+    (edits_in one.0, subst (λ (o : Op). IsList o program every (edits_in one.0)) one.2.own one.2.holds.counted.list)
 
 pub no_plan : (ops : List Op) (program : List LineFields) (every count : ℕ) (lists : List Listing) (op : Op) (fault : OpsFault) → index op ≡ count
     → HasLists ops program every count lists → Contains ops op → IsNoList op program every fault → IsNoPlan ops program every fault
@@ -250,7 +252,7 @@ was_asked ops program every lists has op t =
     subst (Contains ops) one.2.own one.2.holds.asked
 
 counted_of : (op : Op) (program : List LineFields) (every : ℕ) (answer : Option ListFields) (list : Listing) → answer ≡ Some (list_fields list)
-    → IsCountedList op program every list.edits.items list.whole
+    → IsCountedList op program every (edits_in list) list.whole
     → IsCountedList op program every (option_map_or (λ (fields : ListFields). fields.edits) answer []) (option_map_or (λ (fields : ListFields). fields.whole) answer 0)
 counted_of op program every answer list e counted =
     subst
@@ -265,12 +267,12 @@ counted_list : (ops : List Op) (program : List LineFields) (every : ℕ) (lists 
 counted_list ops program every lists op has one =
     counted_of op program every (find (λ (fields : ListFields). eqb (index fields.op) (index op)) (map list_fields lists)) one.0
     (sym (find_fields op lists) ∙ ap (option_map list_fields) one.1)
-    (subst (λ (o : Op). IsCountedList o program every one.0.edits.items one.0.whole) one.2.own one.2.holds.counted)
+    (subst (λ (o : Op). IsCountedList o program every (edits_in one.0) one.0.whole) one.2.own one.2.holds.counted)
 
 alike : (a b : Bool) → (a ≡ true → b ≡ true) → (b ≡ true → a ≡ true) → a ≡ b
-alike true b there back = sym (there refl)
-alike false true there back = absurd (true≢false (sym (back refl)))
-alike false false there back = refl
+alike true b forth back = sym (forth refl)
+alike false true forth back = absurd (true≢false (sym (back refl)))
+alike false false forth back = refl
 
 operators_of : (ops : List Op) (checked : CheckedFields) (every : ℕ) (lists : List Listing)
     → HasLists ops (map line_of checked.program) every 22 lists
@@ -299,11 +301,12 @@ is_plan ops checked every lists some has = record {
       (one_of ops (map line_of checked.program) every lists op (find (is_of op) lists) has.own refl (sym (asked_as op lists) ∙ t));
 }
 
-map_twice : (answer : Option (Bor Listing))
-    → option_map (λ (list : Bor Listing). list_fields list.now) answer ≡ option_map list_fields (option_map (λ (list : Bor Listing). list.now) answer)
-map_twice (Some list) = refl
-map_twice None = refl
-
 pub fields_found : (op : Op) (lists : List Listing) (answer : Option (Bor Listing)) → option_map (λ (list : Bor Listing). list.now) answer ≡ find (is_of op) lists
     → option_map (λ (list : Bor Listing). list_fields list.now) answer ≡ find (λ fields. eqb (index fields.op) (index op)) (map list_fields lists)
-fields_found op lists answer e = map_twice answer ∙ ap (option_map list_fields) e ∙ find_fields op lists
+fields_found op lists answer e = seen list_fields answer ∙ ap (option_map list_fields) e ∙ find_fields op lists
+
+-- what holds of each list holds of the one that is found
+pub holds_of_found : (P : Listing → Type 0) (op : Op) (lists : List Listing) (answer : Option (Bor Listing)) → All P lists
+    → option_map (λ (list : Bor Listing). list.now) answer ≡ find (is_of op) lists → IfSome answer (λ (list : Bor Listing). P list.now)
+holds_of_found P op lists (Some list) all e = (found P op lists list.now all (sym e)).holds
+holds_of_found P op lists None all e = tt

@@ -1,6 +1,7 @@
 -- A mutant takes the arguments of its program: what an edit changes says nothing of the dummy arguments.
 use Rattle.std.proofs.Common.{◌≡◌, ◌∙◌, ◌-◌, ℕ, zero, suc, List, [], ◌∷◌, ◌++◌, Bool, true, false, true≢false, cond, Option, Some, None, refl, sym, ap, subst, map, filter}
-use Rattle.std.specs.Prelude.{is_some, option_map, slice_get, if◌then◌else◌}
+use Rattle.std.specs.Borrow.{Bor}
+use Rattle.std.specs.Prelude.{IfSome, is_some, slice_get, if◌then◌else◌}
 use Rattle.std.specs.List.{filter_map}
 use Rattle.std.specs.Option.{option_and_then}
 use Rattle.std.specs.Str.{bytes_eq}
@@ -8,24 +9,25 @@ use Rattle.std.proofs.lemmas.List.Elements.{filter-append, filter_map-append}
 use Rattle.std.proofs.lemmas.Option.{none-some, same_Some, option_and_then_some}
 use Rattle.f77_program.specs.Group.{group_of}
 use Rattle.f77_tree.specs.Node.{NodeOf, names_of}
-use Rattle.f77_program.specs.Program.{LineFields}
+use Rattle.f77_program.specs.Program.{LineFields, line_of}
 use Rattle.f77_program.specs.Patching.{Fits, replaced, patched}
-use Rattle.f77_tree.specs.Statement.{Statement}
+use Rattle.f77_tree.specs.Statement.{Statement, is_executable_statement, statement_of}
 use Rattle.f77_program.specs.declared.group.Group.{Group}
 use Rattle.f77_program.specs.declared.group.Group.TheVariants.{Subroutine, Declaration}
 use Rattle.f77_tree.specs.declared.tree.Kind.TheVariants.{Integer}
 use Rattle.f77_legal.specs.Heading.{dummies_of, dummies}
 use Rattle.f77_legal.specs.Names.{Symbol, Mention, Plain, name_in, mentions_of, mentions, kind_in, bounds_in, some_items, first_item_or}
 use Rattle.f77_legal.specs.Presets.{product}
-use Rattle.f77_check.specs.Checked.{shapes}
+use Rattle.f77_check.specs.Checked.{CheckedFields, shapes}
 use Rattle.f77_tree.specs.Sites.{Site, sites}
 use Rattle.mothra_codes.specs.declared.op.Op.{Op}
 use Rattle.mothra_codes.specs.declared.op.Op.TheVariants.{Der, Dsa, Glr}
 use Rattle.mothra_ops.specs.Edits.{made, numbered}
-use Rattle.mothra_ops.specs.Mutants.{MutantFields, mutant_made}
-use Rattle.mothra_ops.specs.Pools.{PoolFields, pools_of, is_executable}
+use Rattle.mothra_ops.specs.Made.{IsMadeMutant}
+use Rattle.mothra_ops.specs.Pools.{PoolFields, pools_of}
 use Rattle.mothra_ops.specs.Replacements.{gives, replacements, stands_in}
 use Rattle.mothra_ops.specs.declared.edit.Edit.{Edit}
+use Rattle.mothra_ops.specs.declared.mutant.Mutant.{Mutant}
 use Rattle.mothra_ops.proofs.MakesMutant.{counted_at}
 use Rattle.mothra_ops.proofs.Numbered.{nothing_numbered}
 
@@ -97,7 +99,7 @@ shapes_replaced p i line s at old new =
     }) (dummies_replaced p i line s at old new k)
 
 -- a statement in which an operator has sites is quiet
-executable_quiet : (s : Statement) → is_executable s ≡ true → is_quiet (group_of s) ≡ true
+executable_quiet : (s : Statement) → is_executable_statement s ≡ true → is_quiet (group_of s) ≡ true
 executable_quiet (Statement.Subroutine name names) stands = absurd (true≢false (sym stands))
 executable_quiet (Statement.Declare kind declarations) stands = absurd (true≢false (sym stands))
 executable_quiet (Statement.Dimension declarations) stands = absurd (true≢false (sym stands))
@@ -155,21 +157,14 @@ module _ (program : List LineFields) (edit : Edit) (statement : Statement) (make
       at_line : LineFields → Option Statement
       at_line line = option_and_then (at_site line.stmt) (slice_get (sites line.stmt) edit.position)
 
+  -- what an edit makes takes the arguments of the program
   pub made_shapes : Fits program edit.statement statement → shapes (patched program edit.statement statement) ≡ shapes program
   made_shapes fits =
       let old = changes_quiet fits.line (sym (counted_at program edit.statement fits.counted) ∙ fits.at) in
       shapes_replaced program (edit.statement - 1) fits.line statement fits.at old (ap is_quiet fits.group ∙ old)
 
--- what an edit makes takes the arguments of the program
-pub edit_shapes : (program : List LineFields) (edit : Edit) (mutant : MutantFields) → Some mutant ≡ mutant_made program edit → Fits program mutant.number mutant.statement
-    → shapes (patched program mutant.number mutant.statement) ≡ shapes program
-edit_shapes program edit mutant makes fits = by (made (pools_of program) program edit) refl (sym makes)
-  where
-    by : (o : Option Statement) → made (pools_of program) program edit ≡ o
-        → option_map (λ statement. record { number = edit.statement; statement = statement }) o ≡ Some mutant
-        → shapes (patched program mutant.number mutant.statement) ≡ shapes program
-    by None e h = absurd (none-some mutant h)
-    by (Some statement) e h =
-        let same : record { number = edit.statement; statement = statement } ≡ mutant = same_Some _ _ h in
-        subst (λ (m : MutantFields). shapes (patched program m.number m.statement) ≡ shapes program) same
-        (made_shapes program edit statement e (subst (λ (m : MutantFields). Fits program m.number m.statement) (sym same) fits))
+-- so does each mutant that is found
+pub shapes_found : (checked : CheckedFields) (found : Option (Bor Mutant)) → IfSome found (λ (mutant : Bor Mutant). IsMadeMutant checked mutant.now)
+    → IfSome found (λ (mutant : Bor Mutant). shapes (patched (map line_of checked.program) mutant.now.edit.statement (statement_of mutant.now.stmt)) ≡ shapes (map line_of checked.program))
+shapes_found checked (Some mutant) own = made_shapes (map line_of checked.program) mutant.now.edit (statement_of mutant.now.stmt) own.makes own.mutant.fits
+shapes_found checked None own = tt

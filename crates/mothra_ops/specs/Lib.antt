@@ -1,11 +1,8 @@
 pub mod Pools
 pub mod Replacements
 pub mod Edits
-pub mod Change
-pub mod Original
-pub mod Given
-pub mod Giving
 pub mod Listing
 pub mod Plan
 pub mod Mutants
+pub mod Made
 pub mod code

@@ -7,12 +7,11 @@ use Rattle.f77_program.specs.Program.{LineFields, line_of}
 use Rattle.f77_tree.specs.Statement.{statement_of, Statement}
 use Rattle.mothra_codes.specs.Op.{code_of}
 use Rattle.mothra_codes.specs.declared.op.Op.{Op}
-use Rattle.mothra_ops.specs.Change.{ChangeFields, statement_made}
 use Rattle.mothra_ops.specs.Edits.{made, numbered}
 use Rattle.mothra_ops.specs.Plan.{PlanFields, edits_of}
 use Rattle.mothra_ops.specs.Pools.{pools_of}
 use Rattle.mothra_ops.specs.declared.edit.Edit.{Edit}
-use Rattle.mothra_ops.specs.declared.mutants.Mutant.{Mutant}
+use Rattle.mothra_ops.specs.declared.mutant.Mutant.{Mutant}
 
 -- the number of the statement that is changed, and what stands in its place
 pub record MutantFields : Type 0 where
@@ -20,7 +19,8 @@ pub record MutantFields : Type 0 where
   pub statement : Statement
 
 abbrev pub mutant_fields : Mutant → MutantFields
-mutant_fields mutant = record { number = mutant.number; statement = statement_of mutant.stmt }
+mutant_fields mutant =
+    record { number = mutant.edit.statement; statement = statement_of mutant.stmt }
 
 abbrev pub program_of : PlanFields → List LineFields
 program_of plan = map line_of plan.checked.program
@@ -30,12 +30,6 @@ abbrev pub mutant_made : List LineFields → Edit → Option MutantFields
 mutant_made program edit =
     option_map (λ statement. record { number = edit.statement; statement = statement })
     (made (pools_of program) program edit)
-
--- the mutant that a change makes of these statements, if they have one of its number
-abbrev pub mutant_by : List Statement → ChangeFields → Option MutantFields
-mutant_by statements change =
-    option_map (λ statement. record { number = change.number; statement = statement })
-    (statement_made statements change)
 
 -- what the operator's edit of this number makes, none where it has no such edit
 abbrev pub mutant_of : PlanFields → Op → ℕ → Option MutantFields

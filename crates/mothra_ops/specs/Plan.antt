@@ -5,6 +5,7 @@ use Rattle.std.specs.Option.{option_map_or}
 use Rattle.f77_program.specs.Program.{LineFields, line_of}
 use Rattle.f77_check.specs.Checked.{CheckedFields}
 use Rattle.mothra_ops.specs.Edits.{IsCountedList, IsList, IsTooLong}
+use Rattle.mothra_ops.specs.Listing.{edits_in}
 use Rattle.mothra_codes.specs.Op.{all_ops, index}
 use Rattle.mothra_ops.specs.declared.edit.Edit.{Edit}
 use Rattle.mothra_ops.specs.declared.fault.OpsFault.{OpsFault}
@@ -25,7 +26,8 @@ pub record PlanFields : Type 0 where
   pub lists : List ListFields
 
 abbrev pub list_fields : Listing → ListFields
-list_fields listing = record { op = listing.op; edits = listing.edits.items; whole = listing.whole }
+list_fields listing =
+    record { op = listing.op; edits = edits_in listing; whole = listing.whole }
 
 abbrev pub plan_fields : CheckedFields → ℕ → List Listing → PlanFields
 plan_fields checked every lists =

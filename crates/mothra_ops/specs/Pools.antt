@@ -1,23 +1,18 @@
 -- What the operators draw from: the scalars and arrays of a
 -- program, its array references, its constants and its labels.
-use Rattle.std.specs.Prelude.{ℕ, ◌+◌, ◌&&◌, Bool, true, false, not, nat_eq, nat_le, List, [], ◌∷◌}
-use Rattle.std.specs.Prelude.{filter, map, Option, Some, None, if◌then◌else◌}
+use Rattle.std.specs.Prelude.{ℕ, ◌+◌, ◌&&◌, Bool, not, nat_eq, nat_le, List, [], ◌∷◌}
+use Rattle.std.specs.Prelude.{filter, Option, Some, None, if◌then◌else◌}
 use Rattle.std.specs.List.{flat_map, filter_map, list_any, range_with_len}
 use Rattle.std.specs.Str.{bytes_eq}
-use Rattle.f77_tree.specs.declared.form.Form.{Form}
-use Rattle.f77_tree.specs.Statement.{form_of, Statement}
+use Rattle.f77_tree.specs.Statement.{is_executable_statement}
 use Rattle.f77_tree.specs.Comparing.{same_tree, same_trees}
 use Rattle.f77_tree.specs.Node.{NodeOf, nodes_of}
 use Rattle.f77_program.specs.Program.{LineFields}
 use Rattle.f77_tree.specs.Tree.{Tree, Trees}
-use Rattle.f77_tree.specs.View.{trees, tree_of, reference_fields}
 use Rattle.f77_tree.specs.declared.tree.Kind.{Kind}
-use Rattle.f77_tree.specs.declared.tree.Ref.{Ref}
 use Rattle.f77_legal.specs.Labels.{labels}
 use Rattle.f77_legal.specs.Legal.{is_array}
-use Rattle.f77_legal.specs.NameTable.{kind_at, array_bounds}
 use Rattle.f77_legal.specs.Names.{Symbol, symbols, kind_of, bounds_of}
-use Rattle.mothra_ops.specs.declared.pools.Pools.{Pools}
 
 -- a scalar or an array element: a name with subscripts, of which a scalar has none
 pub record Reference : Type 0 where
@@ -51,22 +46,10 @@ largest_of (n ∷ ns) = if nat_le n (largest_of ns) then largest_of ns else n
 abbrev pub ascending : List ℕ → List ℕ
 ascending ns = filter (λ n. list_any (nat_eq n) ns) (range_with_len 0 (largest_of ns + 1))
 
--- the forms of executable statements (ANSI X3.9-1978, 7.1)
-abbrev pub executes : Form → Bool
-executes Form.Subroutine = false
-executes Form.Declare = false
-executes Form.Dimension = false
-executes Form.Preset = false
-executes _ = true
-
--- an executable statement
-abbrev pub is_executable : Statement → Bool
-is_executable statement = executes (form_of statement)
-
 -- the nodes of the executable statements, in order
 abbrev pub executable_nodes : List LineFields → List NodeOf
 executable_nodes program =
-    flat_map (λ line. if is_executable line.stmt then nodes_of line.stmt else []) program
+    flat_map (λ line. if is_executable_statement line.stmt then nodes_of line.stmt else []) program
 
 -- an array element, also where it is assigned to
 abbrev pub array_reference : NodeOf → Option Reference
@@ -104,23 +87,4 @@ pools_of program = record {
   references = each_once same_reference (filter_map array_reference (executable_nodes program));
   constants = each_once same_tree (filter_map constant (executable_nodes program));
   labels = ascending (labels program);
-}
-
--- what a reference of the program stands for
-abbrev pub reference_of : Ref → Reference
-reference_of reference = record {
-  name = (reference_fields reference).0;
-  subscripts = trees (reference_fields reference).1;
-}
-
--- what pools of the program stand for
-abbrev pub pool_fields : Pools → PoolFields
-pool_fields pools = record {
-  kinds = kind_at pools.names;
-  bounds = array_bounds pools.names;
-  scalars = pools.scalars.items;
-  arrays = pools.arrays.items;
-  references = map (λ reference. reference_of reference.now) pools.references.items;
-  constants = map (λ constant. tree_of constant.now) pools.constants.items;
-  labels = pools.labels.items;
 }

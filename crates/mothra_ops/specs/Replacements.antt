@@ -6,7 +6,7 @@ use Rattle.std.specs.Prelude.{length, map, filter, if◌then◌else◌}
 use Rattle.std.specs.List.{list_any}
 use Rattle.std.specs.Str.{bytes_eq}
 use Rattle.f77_tree.specs.Comparing.{same_tree, same_operator, same_kind}
-use Rattle.f77_tree.specs.Statement.{same_statement, form_of, Statement}
+use Rattle.f77_tree.specs.Statement.{same_statement, form_of, is_executable_statement, Statement}
 use Rattle.f77_tree.specs.Limits.{largest_integer}
 use Rattle.f77_tree.specs.Node.{NodeOf}
 use Rattle.f77_tree.specs.Tree.{Tree, Trees}
@@ -21,7 +21,7 @@ use Rattle.f77_tree.specs.declared.tree.Kind.{Kind}
 use Rattle.f77_tree.specs.declared.tree.Kind.TheVariants.{Integer, Logical}
 use Rattle.f77_legal.specs.Kinds.{result_kind}
 use Rattle.f77_legal.specs.Names.{Symbol}
-use Rattle.mothra_ops.specs.Pools.{PoolFields, Reference, as_tree, is_executable, same_reference, scalar}
+use Rattle.mothra_ops.specs.Pools.{PoolFields, Reference, as_tree, same_reference, scalar}
 use Rattle.mothra_codes.specs.declared.op.Op.{Op}
 use Rattle.mothra_codes.specs.declared.op.Op.TheVariants.{Aar, Abs, Acr, Aor, Asr, Car, Cnr, Crp, Csr, Der, Dsa}
 use Rattle.mothra_codes.specs.declared.op.Op.TheVariants.{Glr, Lcr, Ror, Rsr, San, Sar, Scr, Sdl, Src, Svr, Uoi}
@@ -279,8 +279,8 @@ is_preset _ = false
 abbrev pub stands_in : Op → Statement → Bool
 stands_in Der s = is_loop_form (form_of s)
 stands_in Dsa s = is_preset (form_of s)
-stands_in Glr s = is_executable s && not (is_loop_form (form_of s))
-stands_in _ s = is_executable s
+stands_in Glr s = is_executable_statement s && not (is_loop_form (form_of s))
+stands_in _ s = is_executable_statement s
 
 -- what an operator gives a node of a statement
 abbrev pub gives : Op → PoolFields → Statement → NodeOf → List NodeOf

@@ -1,4 +1,5 @@
 pub mod Edits
 pub mod Original
-pub mod Given
 pub mod Listing
+pub mod Pools
+pub mod Drawn

@@ -12,11 +12,8 @@ ghost use Rattle.mothra_ops.specs.declared.fault.OpsFault.TheVariants.{Memory};
 
 use crate::fault::OpsFault;
 use f77_legal::{Names, result_kind};
-use f77_tree::{Expr, Intrinsic, Kind, Operator, Sign};
+use f77_tree::{Expr, Intrinsic, Kind, LARGEST_INTEGER, Operator, Sign};
 use std::alloc::Global;
-
-/// The largest INTEGER.
-const MOST: u32 = 2_147_483_647;
 
 const ARITHMETIC: &[Operator] = &[
     Operator::Add,
@@ -183,7 +180,7 @@ fn add_lowered(alloc: Global, list: &mut Vec<Expr>, number: u32) -> Result<(), O
 {
     if number == 0 {
         list.push(negated(alloc, Expr::Number(1))?)?;
-    } else if number - 1 <= MOST {
+    } else if number - 1 <= LARGEST_INTEGER {
         list.push(Expr::Number(number - 1))?;
     }
     Ok(())
@@ -197,7 +194,7 @@ pub(crate) fn altered(alloc: Global, expr: &Expr) -> Result<Vec<Expr>, OpsFault>
     let mut list = Vec::new(alloc);
     match expr {
         Expr::Number(number) => {
-            if *number < MOST {
+            if *number < LARGEST_INTEGER {
                 list.push(Expr::Number(*number + 1))?;
             }
             add_lowered(alloc, &mut list, *number)?;

@@ -28,8 +28,9 @@ pub fn thinned_items()
     ensures { (q : ℕ) (edits : List Edit) (k : ℕ) → 1 ≤ q → slice_get (thinned q edits) k ≡ slice_get edits (k * q) }
 {}
 
-/// What an operator makes of a statement of a legal program may stand there: some text spells it, and it is of the same
-/// group. So the operator's list leaves out only what is illegal or the same program.
+/// What an operator makes of a statement of a legal program may stand there: some text spells it, its names have six
+/// characters at most, and it is of the same group. So the operator's list leaves out only what is illegal or the same
+/// program.
 pub fn legal_members()
     ensures fits { (program : List LineFields) (edit : Edit) (statement : Statement)
         → IsProgram None program → IsLegal program

@@ -1,19 +1,15 @@
 //! The operators of the mutation analyser.
 #![tactic(auto)]
 
-mod change;
-mod copies;
 mod edit;
 mod editing;
 mod expressions;
 mod fault;
-mod given;
-mod giving;
 mod in_expressions;
 mod in_places;
 pub mod law;
 pub mod listing;
-mod mutants;
+mod mutant;
 mod node_lists;
 mod original;
 mod places;
@@ -24,11 +20,9 @@ mod replacing;
 mod site;
 mod statements;
 
-pub use change::Change;
-pub use copies::Copies;
 pub use edit::Edit;
 pub use editing::{apply, edits};
 pub use fault::OpsFault;
 pub use mothra_codes::Op;
-pub use mutants::{Mutant, Mutants, push_name, write_name};
+pub use mutant::{Mutant, push_name, write_name};
 pub use plan::Plan;

@@ -1,4 +1,4 @@
-//! A list of edits as far as it has come.
+//! The list of an operator's mutants as far as it has come.
 
 ghost use Rattle.std.specs.Prelude.{◌≡◌, ◌⊎◌, ◌++◌, ◌∷◌, [], ◌<◌, ◌≤◌, List, OnOk, IfErr, length};
 ghost use Rattle.mothra_ops.specs.Edits.{thinned};
@@ -6,8 +6,8 @@ ghost use Rattle.mothra_ops.specs.Listing.{HoldsEdits, longest};
 ghost use Rattle.mothra_ops.specs.declared.edit.Edit.{Edit};
 ghost use Rattle.mothra_ops.specs.declared.fault.OpsFault.TheVariants.{Memory, TooMany};
 
-use crate::edit::Edit;
 use crate::fault::OpsFault;
+use crate::mutant::Mutant;
 use mothra_codes::Op;
 use std::alloc::Global;
 
@@ -32,40 +32,41 @@ impl Limits {
     }
 }
 
-/// An operator's list, thinned, with the number of edits of the whole one.
+/// The mutants of an operator's list, thinned, with the number of edits of the whole one.
 #[derive(Debug, Drop)]
 pub struct Listing {
     pub(crate) op: Op,
     /// Of the whole list each such, from the first, is kept.
     pub(crate) every: u32,
     pub(crate) limits: Limits,
-    pub(crate) edits: Vec<Edit>,
+    pub(crate) mutants: Vec<Mutant>,
     /// How many edits the whole list has.
     pub(crate) whole: u32,
 }
 
 impl Listing {
-    /// A list of no edit.
+    /// A list of no mutant.
     pub fn new(alloc: Global, op: Op, every: u32, limits: Limits) -> Listing
         ensures op { result.op ≡ op }
         ensures every { result.every ≡ every }
         ensures limits { result.limits ≡ limits }
+        ensures none { result.mutants.items ≡ [] }
         ensures empty { HoldsEdits result [] }
     {
         Listing {
             op,
             every,
             limits,
-            edits: Vec::new(alloc),
+            mutants: Vec::new(alloc),
             whole: 0,
         }
     }
 
-    /// The edits that are kept. It takes no memory.
-    pub fn edits(&self) -> &[Edit]
-        ensures { result.now ≡ self.now.edits.items }
+    /// The mutants that are kept. It takes no memory.
+    pub fn mutants(&self) -> &[Mutant]
+        ensures { result.now ≡ self.now.mutants.items }
     {
-        self.edits.as_slice()
+        self.mutants.as_slice()
     }
 
     /// How many edits the whole list has. It takes no memory.
@@ -75,27 +76,29 @@ impl Listing {
         self.whole
     }
 
-    /// Puts the next edit of the whole list into it.
-    pub fn add(&mut self, edit: Edit) -> Result<(), OpsFault>
+    /// Puts the mutant of the next edit of the whole list into it.
+    pub fn add(&mut self, mutant: Mutant) -> Result<(), OpsFault>
         requires { 1 ≤ self.now.every }
         ensures same_op { self.new.op ≡ self.old.op }
         ensures same_every { self.new.every ≡ self.old.every }
         ensures same_limits { self.new.limits ≡ self.old.limits }
+        ensures mutants { OnOk result ((self.new.mutants.items ≡ self.old.mutants.items)
+            ⊎ (self.new.mutants.items ≡ self.old.mutants.items ++ mutant ∷ [])) }
         ensures added { OnOk result
-            ((whole : List Edit) → HoldsEdits self.old whole → HoldsEdits self.new (whole ++ edit ∷ [])) }
+            ((whole : List Edit) → HoldsEdits self.old whole → HoldsEdits self.new (whole ++ mutant.edit ∷ [])) }
         ensures refused { IfErr result (λ fault. (fault ≡ Memory) ⊎ ((fault ≡ TooMany self.old.op)
             × ((whole : List Edit) → HoldsEdits self.old whole
-            → (self.old.limits.kept < length (thinned self.old.every (whole ++ edit ∷ [])))
-            ⊎ (self.old.limits.whole < length (whole ++ edit ∷ []))))) }
+            → (self.old.limits.kept < length (thinned self.old.every (whole ++ mutant.edit ∷ [])))
+            ⊎ (self.old.limits.whole < length (whole ++ mutant.edit ∷ []))))) }
     {
         if self.whole >= self.limits.whole {
             return Err(OpsFault::TooMany(self.op));
         }
         if self.whole % self.every == 0 {
-            if self.edits.len() >= self.limits.kept {
+            if self.mutants.len() >= self.limits.kept {
                 return Err(OpsFault::TooMany(self.op));
             }
-            self.edits.push(edit)?;
+            self.mutants.push(mutant)?;
         }
         self.whole += 1;
         Ok(())

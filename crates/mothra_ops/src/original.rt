@@ -5,12 +5,12 @@ ghost use Rattle.std.specs.Coded.{Coded-set};
 
 use crate::edit::Edit;
 use crate::fault::OpsFault;
-use crate::given::Given;
+use crate::mutant::Mutant;
 use crate::node_lists::NodeLists;
 use crate::pools::Pools;
 use crate::replacing::gives;
 use f77_check::{CheckFault, Checked};
-use f77_tree::{Replacement, Stmt};
+use f77_tree::{Replacement, Stmt, exchange};
 use std::alloc::Global;
 
 /// A checked program, with what the operators draw from it.
@@ -23,15 +23,21 @@ pub(crate) struct Original<'a> {
 }
 
 impl<'a> Original<'a> {
-    ghost use Rattle.std.specs.Prelude.{◌↔◌, ◌<◌, ◌+◌, ◌^◌, length, map, option_map, IfOk, IfErr, IsTrue};
+    ghost use Rattle.std.specs.Prelude.{◌<◌, ◌+◌, ◌-◌, ◌^◌, true, length, map, option_map};
+    ghost use Rattle.std.specs.Prelude.{Some, IfOk, IfErr, IfNone, IfSome};
+    ghost use Rattle.f77_legal.specs.Alone.{StandsAlone};
+    ghost use Rattle.f77_program.specs.Patching.{Fits};
     ghost use Rattle.f77_tree.specs.Replacement.{replacement_of};
-    ghost use Rattle.f77_tree.specs.Statement.{statement_of};
+    ghost use Rattle.f77_tree.specs.Sites.{changed};
+    ghost use Rattle.f77_tree.specs.Statement.{Statement, statement_of};
     ghost use Rattle.mothra_ops.specs.declared.fault.OpsFault.TheVariants.{Memory};
     ghost use Rattle.mothra_ops.specs.code.Edits.{IsMadeBy};
-    ghost use Rattle.mothra_ops.specs.Edits.{IsMutant};
-    ghost use Rattle.mothra_ops.specs.Given.{given_at};
-    ghost use Rattle.mothra_ops.specs.Original.{IsOriginal, lines_of};
-    ghost use Rattle.mothra_ops.specs.Pools.{pool_fields};
+    ghost use Rattle.mothra_ops.specs.Edits.{IsMutant, made};
+    ghost use Rattle.mothra_ops.specs.Made.{IsMadeMutant};
+    ghost use Rattle.mothra_ops.specs.code.Original.{HasStatement, given_at};
+    ghost use Rattle.mothra_ops.specs.code.Drawn.{IsOriginal, lines_of};
+    ghost use Rattle.mothra_ops.specs.Pools.{pools_of};
+    ghost use Rattle.mothra_ops.specs.code.Pools.{pool_fields};
 
     pub(crate) fn of(alloc: Global, checked: &'a Checked) -> Result<Original<'a>, OpsFault>
         ensures original { IfOk result (λ original. IsOriginal original) }
@@ -47,22 +53,60 @@ impl<'a> Original<'a> {
         })
     }
 
-    /// Whether the statement makes a mutant in the place of the one with this number.
-    pub(crate) fn is_mutant(&self, number: usize, made: &Stmt) -> Result<bool, OpsFault>
-        ensures decided { IfOk result
-            (λ yes. IsTrue yes ↔ IsMutant (lines_of self.now) number (statement_of made.now)) }
+    /// What is told of this statement in the place of the one of this number, which is `old`: whether the mutant is
+    /// legal by the statement alone; nothing where it makes none.
+    fn judged(&self, number: usize, old: &Stmt, made: &Stmt) -> Result<Option<bool>, OpsFault>
+        requires old { HasStatement (lines_of self.now) number (statement_of old.now) }
+        requires fits { Fits (lines_of self.now) number (statement_of made.now) }
+        ensures mutant { IfOk result
+            (λ told. IfSome told (λ _. IsMutant (lines_of self.now) number (statement_of made.now))) }
+        ensures alone { IfOk result (λ told. IfSome told (λ is_alone. is_alone ≡ true
+            → StandsAlone self.now.checked.now.names (lines_of self.now) (number - 1) (statement_of made.now))) }
+        ensures none { IfOk result
+            (λ told. IfNone told (¬ (IsMutant (lines_of self.now) number (statement_of made.now)))) }
         ensures memory { IfErr result (λ fault. fault ≡ Memory) }
     {
-        let Some(line) = self.checked.program().line(number) else {
-            return Ok(false);
-        };
-        if *made == line.stmt || !self.checked.fits(number, made) {
-            return Ok(false);
+        if made == old {
+            return Ok(None);
         }
-        match self.checked.patch_fault(number, made) {
-            None => Ok(true),
-            Some(CheckFault::Memory) => Err(OpsFault::Memory),
-            Some(_) => Ok(false),
+        match self.checked.judge(number, made) {
+            Ok(is_alone) => Ok(Some(is_alone)),
+            Err(CheckFault::Memory) => Err(OpsFault::Memory),
+            Err(_) => Ok(None),
+        }
+    }
+
+    /// The mutant that the edit makes by this node, if it makes one.
+    pub(crate) fn mutant_by(
+        &self,
+        edit: Edit,
+        node: &mut Replacement,
+    ) -> Result<Option<Mutant>, OpsFault>
+        requires original { IsOriginal self.now }
+        requires position { edit.position + 1 < 2 ^ 64 }
+        requires made { (s : Statement) → HasStatement (lines_of self.now) edit.statement s
+            → made (pools_of (lines_of self.now)) (lines_of self.now) edit
+            ≡ Some (changed s edit.position (replacement_of node.old)) }
+        ensures mutant { IfOk result
+            (λ found. IfSome found (λ mutant. (mutant.edit ≡ edit) × IsMadeMutant self.now.checked.now mutant)) }
+        ensures none { IfOk result (λ found. IfNone found
+            ((s : Statement) → HasStatement (lines_of self.now) edit.statement s
+            → ¬ (IsMutant (lines_of self.now) edit.statement (changed s edit.position (replacement_of node.old))))) }
+        ensures memory { IfErr result (λ fault. fault ≡ Memory) }
+    {
+        let Some(line) = self.checked.program().line(edit.statement) else {
+            return Ok(None);
+        };
+        let mut made = line.stmt.clone()?;
+        exchange(&mut made, edit.position, node);
+        // That what an operator makes may stand there is `law::legal_members`.
+        match self.judged(edit.statement, &line.stmt, &made)? {
+            Some(is_alone) => Ok(Some(Mutant {
+                edit,
+                stmt: made,
+                is_alone,
+            })),
+            None => Ok(None),
         }
     }
 
@@ -84,24 +128,17 @@ impl<'a> Original<'a> {
         }
     }
 
-    /// The statement that the edit makes, where that makes a mutant.
-    pub(crate) fn mutant_made(&self, alloc: Global, edit: &Edit) -> Result<Option<Stmt>, OpsFault>
+    /// The mutant that the edit makes, if it makes one.
+    pub(crate) fn mutant(&self, alloc: Global, edit: &Edit) -> Result<Option<Mutant>, OpsFault>
+        requires { IsOriginal self.now }
         ensures made { IfOk result
-            (λ made. IsOriginal self.now → IsMadeBy (lines_of self.now) edit.now (option_map statement_of made)) }
+            (λ found. IsMadeBy (lines_of self.now) edit.now (option_map (λ mutant. statement_of mutant.stmt) found)) }
         ensures memory { IfErr result (λ fault. fault ≡ Memory) }
     {
-        let Some(line) = self.checked.program().line(edit.statement) else {
+        let mut given = self.given(alloc, edit)?;
+        if edit.rank == 0 || edit.rank > given.len() {
             return Ok(None);
-        };
-        let mut given = Given::of(alloc, self, edit)?;
-        let Some(change) = given.take(edit) else {
-            return Ok(None);
-        };
-        let made = change.made(&line.stmt)?;
-        if self.is_mutant(edit.statement, &made)? {
-            Ok(Some(made))
-        } else {
-            Ok(None)
         }
+        self.mutant_by(*edit, &mut given[edit.rank - 1])
     }
 }

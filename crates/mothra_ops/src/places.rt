@@ -3,7 +3,8 @@
 ghost use Rattle.std.specs.Prelude.{◌≡◌, ◌&&◌, not, map, filter, IfOk, IfErr};
 ghost use Rattle.f77_tree.specs.Comparing.{same_tree, same_kind};
 ghost use Rattle.f77_tree.specs.View.{tree_of};
-ghost use Rattle.mothra_ops.specs.Pools.{as_tree, pool_fields, reference_of, same_reference, scalar};
+ghost use Rattle.mothra_ops.specs.Pools.{as_tree, same_reference, scalar};
+ghost use Rattle.mothra_ops.specs.code.Pools.{pool_fields, reference_of};
 ghost use Rattle.mothra_ops.specs.Replacements as model;
 ghost use Rattle.mothra_ops.specs.Replacements.{others};
 ghost use Rattle.mothra_ops.specs.declared.fault.OpsFault.TheVariants.{Memory};

@@ -1,8 +1,11 @@
 //! Plans: which mutants there are of a program, for the operators that are asked for.
 
-ghost use Rattle.std.specs.Prelude.{◌≡◌, ◌↔◌, ◌≤◌, map, length, option_map, Contains, IfOk, IfErr, IsTrue};
+ghost use Rattle.std.specs.Prelude.{◌≡◌, ◌↔◌, ◌≤◌, map, length, option_map, All, Contains, IfOk, IfErr, IfSome, IsTrue};
 ghost use Rattle.std.specs.Coded.{codes};
+ghost use Rattle.f77_check.specs.Checked.{shapes};
+ghost use Rattle.f77_program.specs.Patching.{patched};
 ghost use Rattle.f77_program.specs.Program.{line_of};
+ghost use Rattle.f77_tree.specs.Statement.{statement_of};
 ghost use Rattle.f77_tree.specs.contracts.tree.Expr as expr;
 ghost use Rattle.f77_tree.specs.contracts.statement.Stmt as stmt;
 ghost use Rattle.f77_actions.specs.contracts.action.Action as action;
@@ -11,13 +14,15 @@ ghost use Rattle.f77_actions.specs.contracts.expression.Element as element;
 ghost use Rattle.f77_actions.specs.contracts.expression.Number as number;
 ghost use Rattle.mothra_ops.specs.Edits.{numbered};
 ghost use Rattle.mothra_codes.specs.declared.op.Op.{Op};
+ghost use Rattle.mothra_ops.specs.Made.{AreMade, IsMadeMutant};
+ghost use Rattle.mothra_ops.specs.Mutants.{mutant_fields, mutant_of, program_of};
 ghost use Rattle.mothra_ops.specs.Plan.{PlanFields, IsPlan, IsNoPlan, plan_fields, list_fields};
 ghost use Rattle.mothra_ops.specs.Plan.{list_of_operator, asked, edits_of, whole_of};
 
-use crate::copies::Copies;
 use crate::edit::Edit;
 use crate::fault::OpsFault;
 use crate::listing::Listing;
+use crate::mutant::Mutant;
 use crate::original::Original;
 use f77_check::Checked;
 use mothra_codes::Op;
@@ -48,7 +53,8 @@ impl Model for Plan {
 
     ghost view = { λ plan. plan_fields plan.checked plan.every plan.lists.items };
 
-    ghost invariant = { λ plan. IsPlan (plan_fields plan.checked plan.every plan.lists.items) };
+    ghost invariant = { λ plan. IsPlan (plan_fields plan.checked plan.every plan.lists.items)
+        × AreMade plan.checked plan.lists.items };
 }
 
 /// The lists of these operators in their order, each thinned. What they draw from is found once.
@@ -57,14 +63,14 @@ fn lists(alloc: Global, checked: &Checked, ops: &[Op], every: u32) -> Result<Vec
     ensures asked { IfOk result
         (λ lists. (op : Op) → IsTrue (asked (plan_fields checked.now every lists.items) op) ↔ Contains ops.now op) }
     ensures lists { IfOk result (λ lists. IsPlan (plan_fields checked.now every lists.items)) }
+    ensures made { IfOk result (λ lists. AreMade checked.now lists.items) }
     ensures refused { IfErr result (λ fault. IsNoPlan ops.now (map line_of checked.now.program) every fault) }
 {
     let original = Original::of(alloc, checked)?;
-    let mut copies = Copies::of(alloc, checked)?;
     let mut lists = Vec::new(alloc);
     for op in Op::ALL {
         if ops.contains(&op) {
-            lists.push(original.listing(alloc, op, every, &mut copies)?)?;
+            lists.push(original.listing(alloc, op, every)?)?;
         }
     }
     Ok(lists)
@@ -93,6 +99,7 @@ impl Plan {
     /// The list of an operator that was asked for. It takes no memory.
     fn list(&self, op: Op) -> Option<&Listing>
         ensures list { option_map (λ list. list_fields list.now) result ≡ list_of_operator self.now op }
+        ensures made { IfSome result (λ list. All (IsMadeMutant self.now.checked) list.now.mutants.items) }
         ensures plan { IsPlan self.now }
     {
         self.lists.iter().find(|list| list.op == op)
@@ -126,7 +133,7 @@ impl Plan {
         ensures plan { IsPlan self.now }
     {
         match self.list(op) {
-            Some(list) => list.edits.len() as u32,
+            Some(list) => list.mutants.len() as u32,
             None => 0,
         }
     }
@@ -147,10 +154,27 @@ impl Plan {
         ensures edit { option_map (λ edit. edit.now) result ≡ numbered (edits_of self.now op) number }
         ensures plan { IsPlan self.now }
     {
+        match self.mutant(op, number) {
+            Some(mutant) => Some(&mutant.edit),
+            None => None,
+        }
+    }
+
+    /// The operator's mutant of this number, from 1; none where the plan has no such mutant. It takes no memory.
+    pub fn mutant(&self, op: Op, number: u32) -> Option<&Mutant>
+        ensures mutant { option_map (λ mutant. mutant_fields mutant.now) result ≡ mutant_of self.now op number }
+        ensures edit { option_map (λ mutant. mutant.now.edit) result ≡ numbered (edits_of self.now op) number }
+        ensures made { IfSome result (λ mutant. IsMadeMutant self.now.checked mutant.now) }
+        // It takes the arguments that the program takes.
+        ensures shapes { IfSome result
+            (λ mutant. shapes (patched (program_of self.now) mutant.now.edit.statement (statement_of mutant.now.stmt))
+            ≡ shapes (program_of self.now)) }
+        ensures plan { IsPlan self.now }
+    {
         let list = self.list(op)?;
         if number == 0 {
             return None;
         }
-        list.edits.get(number as usize - 1)
+        list.mutants.get(number as usize - 1)
     }
 }

@@ -6,7 +6,6 @@ ghost use Rattle.indexmap.specs.IndexMap.{keys};
 ghost use Rattle.f77_tree.specs.Comparing.{same_tree};
 ghost use Rattle.f77_tree.specs.Node.{node_of};
 ghost use Rattle.f77_program.specs.Program.{line_of};
-ghost use Rattle.f77_tree.specs.Statement.{statement_of};
 ghost use Rattle.f77_tree.specs.View.{tree_of};
 ghost use Rattle.f77_legal.specs.Labels as labelled;
 ghost use Rattle.f77_legal.specs.Legal.{is_array};
@@ -14,7 +13,8 @@ ghost use Rattle.f77_legal.specs.Names.{some_items, symbols};
 ghost use Rattle.f77_legal.specs.NameTable.{IsNameTable, array_bounds};
 ghost use Rattle.mothra_ops.specs.Pools as model;
 ghost use Rattle.mothra_ops.specs.Pools.{each_once, ascending, array_reference};
-ghost use Rattle.mothra_ops.specs.Pools.{constant, pools_of, pool_fields, reference_of, same_reference};
+ghost use Rattle.mothra_ops.specs.Pools.{constant, pools_of, same_reference};
+ghost use Rattle.mothra_ops.specs.code.Pools.{pool_fields, reference_of};
 ghost use Rattle.mothra_ops.specs.declared.fault.OpsFault.TheVariants.{Memory};
 
 use crate::fault::{OpsFault, memory_fault};
@@ -22,7 +22,7 @@ use crate::places::is_element;
 use f77_check::Checked;
 use f77_legal::Names;
 use f77_program::Line;
-use f77_tree::{Expr, Form, Name, Node, Ref, Shared, Stmt, nodes};
+use f77_tree::{Expr, Name, Node, Ref, Shared, nodes};
 use std::alloc::Global;
 
 /// What the operators draw from: the names of a program with their kinds and bounds, its scalars and arrays, its array
@@ -42,16 +42,6 @@ pub(crate) struct Pools<'a> {
     pub(crate) labels: Vec<u32>,
 }
 
-/// Whether the statement is executable (ANSI X3.9-1978, 7.1).
-pub(crate) fn is_executable(stmt: &Stmt) -> bool
-    ensures { result ≡ model.is_executable (statement_of stmt.now) }
-{
-    !matches!(
-        stmt.form(),
-        Form::Subroutine | Form::Declare | Form::Dimension | Form::Preset
-    )
-}
-
 /// The nodes of the executable statements, in order.
 fn executable_nodes<'a>(alloc: Global, lines: &'a [Shared<Line>]) -> Result<Vec<Node<'a>>, OpsFault>
     ensures nodes { IfOk result (λ list. map node_of list.items ≡ model.executable_nodes (map line_of lines.now)) }
@@ -59,7 +49,7 @@ fn executable_nodes<'a>(alloc: Global, lines: &'a [Shared<Line>]) -> Result<Vec<
 {
     let mut list = Vec::new(alloc);
     for line in lines {
-        if is_executable(&line.stmt) {
+        if line.stmt.form().is_executable() {
             list.append(&mut nodes(alloc, &line.stmt)?)?;
         }
     }

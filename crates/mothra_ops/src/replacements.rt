@@ -4,7 +4,8 @@ ghost use Rattle.std.specs.Prelude.{◌≡◌, map, IfOk, IfErr};
 ghost use Rattle.f77_tree.specs.Node.{NodeOf};
 ghost use Rattle.f77_tree.specs.View.{tree_of};
 ghost use Rattle.f77_tree.specs.Replacement.{replacement_of};
-ghost use Rattle.mothra_ops.specs.Pools.{as_tree, reference_of};
+ghost use Rattle.mothra_ops.specs.Pools.{as_tree};
+ghost use Rattle.mothra_ops.specs.code.Pools.{reference_of};
 ghost use Rattle.mothra_ops.specs.Replacements.{as_target, as_variable};
 ghost use Rattle.mothra_ops.specs.declared.fault.OpsFault.TheVariants.{Memory};
 

@@ -4,14 +4,15 @@ ghost use Rattle.std.specs.Prelude.{◌≡◌, ◌∷◌, [], not, map, if◌the
 ghost use Rattle.f77_tree.specs.Statement.{same_statement, statement_of};
 ghost use Rattle.f77_tree.specs.Node.{NodeOf, node_of};
 ghost use Rattle.f77_tree.specs.Replacement.{replacement_of};
-ghost use Rattle.mothra_ops.specs.Pools.{PoolFields, pool_fields};
+ghost use Rattle.mothra_ops.specs.Pools.{PoolFields};
+ghost use Rattle.mothra_ops.specs.code.Pools.{pool_fields};
 ghost use Rattle.mothra_ops.specs.Replacements as model;
 ghost use Rattle.mothra_ops.specs.declared.fault.OpsFault.TheVariants.{Memory};
 
 use crate::fault::OpsFault;
 use crate::in_expressions::in_expression;
 use crate::in_places::{in_target, in_variable};
-use crate::pools::{Pools, is_executable};
+use crate::pools::Pools;
 use crate::replacements::{in_labels, in_parts, in_values};
 use crate::statements::{acts, acts_or_continues, next_constants, other_labels};
 use f77_tree::{Form, Node, Replacement, Stmt, Value};
@@ -39,8 +40,8 @@ fn stands_in(op: Op, stmt: &Stmt) -> bool
     match op {
         Op::Der => is_loop(stmt.form()),
         Op::Dsa => is_preset(stmt.form()),
-        Op::Glr => is_executable(stmt) && !is_loop(stmt.form()),
-        _ => is_executable(stmt),
+        Op::Glr => stmt.form().is_executable() && !is_loop(stmt.form()),
+        _ => stmt.form().is_executable(),
     }
 }
 

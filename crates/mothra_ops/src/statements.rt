@@ -6,11 +6,11 @@ ghost use Rattle.mothra_ops.specs.Replacements.{next_constants};
 ghost use Rattle.mothra_ops.specs.declared.fault.OpsFault.TheVariants.{Memory};
 
 use crate::fault::OpsFault;
-use f77_tree::{Constant, Form, Stmt, Value};
+use f77_tree::{Constant, Form, LARGEST_INTEGER, Stmt, Value};
 use std::alloc::Global;
 
 /// The largest INTEGER that DATA gives, and the size of the least one.
-const MOST: i32 = 2_147_483_647;
+const LARGEST: i32 = LARGEST_INTEGER as i32;
 
 /// Whether a statement of this form does something that may be left out.
 pub(crate) fn acts(form: Form) -> bool
@@ -51,10 +51,10 @@ pub(crate) fn next_constants(alloc: Global, constant: Constant) -> Result<Vec<Co
     let mut list = Vec::new(alloc);
     match constant {
         Constant::Number(number) => {
-            if number < MOST {
+            if number < LARGEST {
                 list.push(Constant::Number(number + 1))?;
             }
-            if number > -MOST {
+            if number > -LARGEST {
                 list.push(Constant::Number(number - 1))?;
             }
         }

@@ -18,7 +18,8 @@ use Rattle.f77_actions.specs.contracts.expression.Condition as condition
 use Rattle.f77_actions.specs.contracts.action.Action as action
 use Rattle.f77_actions.specs.contracts.resolved.Resolved as resolved
 use Rattle.f77_check.specs.contracts.checked.Checked as checked
-use Rattle.mothra_ops.proofs.listing.Listing.TheSendSync as listing
+use Rattle.mothra_ops.specs.contracts.listing.Listing as listing
+use Rattle.mothra_ops.specs.contracts.mutant.Mutant as mutant
 use Rattle.mothra_ops.specs.contracts.plan.Plan as plan
 use Rattle.mothra_verdicts.specs.contracts.bench.Bench as bench
 use Rattle.mothra_verdicts.specs.contracts.bench.Bench.TheInside as inside
@@ -85,8 +86,17 @@ resolved_sync = search (element_knot.crosses, condition_knot.crosses, action_kno
 pub checked_sync : IsSync checked.the_row
 checked_sync = search (program_sync, resolved_send, resolved_sync, crosses, sendable) depth 60 fits 200000
 
+mutant_send : IsSend mutant.the_row
+mutant_send = search (expr_knot.crosses, stmt_knot.crosses, crosses, sendable) depth 60 fits 20000
+
+mutant_sync : IsSync mutant.the_row
+mutant_sync = search (expr_knot.crosses, stmt_knot.crosses, crosses, sendable) depth 60 fits 20000
+
+listing_sync : IsSync listing.the_row
+listing_sync = search (mutant_send, mutant_sync, crosses, sendable) depth 60 fits 20000
+
 pub plan_sync : IsSync plan.the_row
-plan_sync = search (checked_sync, listing.the_sync, crosses, sendable) depth 60 fits 20000
+plan_sync = search (checked_sync, listing_sync, crosses, sendable) depth 60 fits 20000
 
 tests_sync : IsSync (values.the_row (values.the_row arg.the_row))
 tests_sync = search (crosses, sendable) depth 60 fits 20000

@@ -1,18 +1,15 @@
 -- Which tests kill a mutant, and that it is told in one way.
-use Rattle.std.proofs.Common.{inl, inr, None, ◌≡◌, arith, ◌∙◌, ℕ, zero, suc, List, [], ◌∷◌, Bool, true, false, true≢false, not, length, refl, sym, subst}
-use Rattle.std.specs.Prelude.{◌≤◌}
+use Rattle.std.proofs.Common.{◌≡◌, ◌∙◌, ℕ, List, [], ◌∷◌, Bool, true, false, true≢false, not, refl, sym, subst}
 use Rattle.std.specs.Bool.{Decides}
-use Rattle.std.proofs.lemmas.Option.{none-some, same_Some, slice_get_cases}
+use Rattle.std.proofs.lemmas.Option.{same_Some}
 use Rattle.f77_program.specs.Program.{LineFields}
 use Rattle.f77_meaning.specs.Interpreter.{IsOutcomeOf, OneAnswer}
 use Rattle.f77_meaning.specs.declared.argument.Arg.{Arg}
 use Rattle.f77_meaning.specs.declared.outcome.Outcome.{Outcome}
-use Rattle.mothra_ops.specs.Edits.{numbered}
 use Rattle.mothra_ops.specs.Mutants.{MutantFields, program_of}
-use Rattle.mothra_ops.specs.Plan.{PlanFields, edits_of}
 use Rattle.mothra_codes.specs.declared.ticket.Ticket.{Ticket}
 use Rattle.mothra_verdicts.specs.Bench.{BenchFields}
-use Rattle.mothra_verdicts.specs.Verdict.{HasMutant, IsAlone, IsKill, IsVerdict, killed, mutated, survived}
+use Rattle.mothra_verdicts.specs.Verdict.{IsAlone, IsKill, IsVerdict, killed, mutated, survived}
 
 -- the outcome is another one, or it is the same
 pub is_kill : (program mutant : List LineFields) (arguments : List Arg) (steps : ℕ) (outcome other : Outcome) (same : Bool) → Decides same (outcome ≡ other)
@@ -51,14 +48,3 @@ one_verdict answer bench ticket kills others is are =
     let same : are.mutant ≡ is.mutant = same_Some _ _ (sym are.is ∙ is.is) in
     one_row answer program (mutated program is.mutant) bench.steps bench.tests kills others is.alone
     (subst (λ (mutant : MutantFields). IsAlone program (mutated program mutant) bench.steps bench.tests others) same are.alone)
-
--- a plan without an edit of this number has no mutant of it
-nothing_numbered : {X : Type 0} (xs : List X) (n : ℕ) → numbered xs n ≡ None → 1 ≤ n → n ≤ length xs → ⊥
-nothing_numbered xs zero none some within = omega (arith, some)
-nothing_numbered xs (suc k) none some within = elim (slice_get_cases xs k).1 [
-  | inl (x, low, at, is) ↦ none-some x (sym none ∙ at)
-  | inr (high, past) ↦ omega (arith, within, high)
-]
-
-pub no_mutant : (plan : PlanFields) (ticket : Ticket) → numbered (edits_of plan ticket.op) ticket.number ≡ None → ¬ (HasMutant plan ticket)
-no_mutant plan ticket none has = nothing_numbered (edits_of plan ticket.op) ticket.number none has.0 has.1

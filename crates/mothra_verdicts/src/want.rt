@@ -3,13 +3,11 @@
 ghost use Rattle.std.specs.Prelude.{◌≡◌};
 ghost use Rattle.f77_legal.specs.declared.fault.CheckFault.TheVariants as check;
 ghost use Rattle.f77_meaning.specs.declared.outcome.RunFault.TheVariants as run;
-ghost use Rattle.mothra_ops.specs.declared.fault.OpsFault.TheVariants as plan;
 ghost use Rattle.mothra_verdicts.specs.declared.fault.BenchFault.TheVariants.{Memory};
 
 use crate::fault::BenchFault;
 use f77_legal::CheckFault;
 use f77_meaning::RunFault;
-use mothra_ops::OpsFault;
 
 /// Of a run whose arguments fit.
 pub(crate) fn of_run(fault: RunFault) -> BenchFault
@@ -19,17 +17,6 @@ pub(crate) fn of_run(fault: RunFault) -> BenchFault
     match fault {
         RunFault::Memory => BenchFault::Memory,
         RunFault::ArgumentCount | RunFault::ArgumentShape(_) => unreachable!(),
-    }
-}
-
-/// Of a mutant of a plan.
-pub(crate) fn of_plan(fault: OpsFault) -> BenchFault
-    requires { fault ≡ plan.Memory }
-    ensures { result ≡ Memory }
-{
-    match fault {
-        OpsFault::Memory => BenchFault::Memory,
-        OpsFault::NotASite | OpsFault::TooMany(_) => unreachable!(),
     }
 }
 

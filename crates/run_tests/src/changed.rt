@@ -20,16 +20,17 @@ fn is_noticed(
     row: &Run<'_>,
     room: usize,
 ) -> Result<Option<bool>, Fail> {
-    if !old.fits(number, stmt) || old.patch_fault(number, stmt).is_some() {
+    if !old.fits(number, stmt) {
         return Err(Fail::new("the statement does not fit"));
+    }
+    if !old.judge(number, stmt)? {
+        return Ok(None);
     }
     let mut room = room;
     let mut own = Runner::of(rt.alloc(), old)?;
     let course = own.course(rt.alloc(), &row.arguments, row.steps, &mut room)?;
     let mut runner = ChangedRunner::of(rt.alloc(), old)?;
-    if !runner.change(number, stmt)? {
-        return Ok(None);
-    }
+    runner.change(number, stmt)?;
     let same = runner.comes_to(&course.visits, &row.arguments, row.steps, &course.outcome)?;
     Ok(Some(!same))
 }

@@ -101,7 +101,7 @@ fn start_values(unit: &Unit<'_>, arguments: &[Arg]) -> Result<Store, Halt> {
     Ok(s)
 }
 
-/// `is_executable` (f77_check/specs/Start.antt; 7.1).
+/// `is_executable` (f77_tree/specs/Form.antt; 7.1).
 fn is_executable(stmt: &Stmt) -> bool {
     !matches!(
         stmt,

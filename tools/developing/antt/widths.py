@@ -9,8 +9,6 @@ from developing.antt.reaching import OPEN, Reached
 # The widest line of a definition that public contracts reach, and that of each folder of a crate.
 OPEN_WIDEST = 100
 WIDEST = {"specs": 120, "src": 120, "proofs": 200}
-# A file with a wider line, for which all crates above its own would have to be proved anew.
-WIDER = {"owing.rt": 122}
 # A text in quotation marks, which may have several lines; comments and signs have marks that begin none.
 QUOTED = re.compile(r'(//[^\n]*|b?\'(?:[^\'\\]|\\.)\')|r(#+)".*?"\2|b?r?"(?:[^"\\]|\\.)*"', re.S)
 # The formatter has an attribute in one line.
@@ -45,6 +43,6 @@ def wide_of(reached: Reached) -> Iterator[str]:
     narrow = open_lines(reached)
     for file, text in texts_in(reached.repository.root):
         for at, width in enumerate(widths_in(text)):
-            most = OPEN_WIDEST if (file, at) in narrow else WIDER.get(file.name, WIDEST[file.parts[2]])
+            most = OPEN_WIDEST if (file, at) in narrow else WIDEST[file.parts[2]]
             if width > most:
                 yield f"{file}:{at + 1}: {width} columns, and {most} at most are wanted"

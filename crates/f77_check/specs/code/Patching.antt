@@ -7,7 +7,7 @@ use Rattle.f77_tree.specs.Statement.{Statement}
 use Rattle.f77_legal.specs.Legal.{IsLegal}
 use Rattle.f77_legal.specs.Names.{Symbol}
 use Rattle.f77_legal.specs.Frames.{framed}
-use Rattle.f77_legal.specs.code.Patches.{MayStandAt, StandsAlone}
+use Rattle.f77_legal.specs.Alone.{MayStandAt, StandsAlone}
 
 -- the frame stays where the statement i is changed to this one, which may end the DOs that end there
 pub record FrameStays (program : List LineFields) (i : ℕ) (statement : Statement) : Type 0 where

@@ -1,8 +1,7 @@
 -- Whether some text spells initial values (ANSI X3.9-1978, section 9).
 -- Private functions and proofs alone cite what stands here.
-use Rattle.std.specs.Prelude.{List, Bool, true, ◌&&◌}
+use Rattle.std.specs.Prelude.{ℕ, List, Bool, true, ◌&&◌}
 use Rattle.f77_tree.specs.declared.data.Value.{Value}
-use Rattle.f77_tree.specs.Grammar.{is_name}
 use Rattle.f77_tree.specs.code.Joined.{some_all}
 use Rattle.f77_tree.specs.Tree.{GroupFields}
 
@@ -10,9 +9,9 @@ use Rattle.f77_tree.specs.Tree.{GroupFields}
 abbrev pub any_value : Value → Bool
 any_value v = true
 
--- a group has a name at least, and a value at least
-abbrev pub is_group : GroupFields → Bool
-is_group g = some_all is_name g.names && some_all any_value g.values
+-- a group has a name at least, each of them passing the test, and a value at least
+abbrev pub is_group : (List ℕ → Bool) → GroupFields → Bool
+is_group named g = some_all named g.names && some_all any_value g.values
 
-abbrev pub data_formed : List GroupFields → Bool
-data_formed gs = some_all is_group gs
+abbrev pub data_formed : (List ℕ → Bool) → List GroupFields → Bool
+data_formed named gs = some_all (is_group named) gs

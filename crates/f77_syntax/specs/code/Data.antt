@@ -78,7 +78,7 @@ groups_within (suc n) s = group_at s >>= λ x. with_groups (groups_within n) x.0
 unfoldable pub groups_at : List ℕ → Option (List GroupFields)
 groups_at s = groups_within (suc (length s)) s
 
--- What the code keeps of them: the first six characters of a name, a repeat that is
+-- What the code keeps of them: the first seven characters of a name, a repeat that is
 -- too large as the least one that is, a number that is too large as -2147483648.
 abbrev pub clipped_constant : ℤ → ℤ
 clipped_constant z = if nat_le (magnitude z) largest_integer then z else negsuc largest_integer

@@ -38,7 +38,8 @@ decl_at s = name_at s >>= λ x. read_bounds x.0 x.1 (tree_after 40 x.1)
 unfoldable pub declarations_at : List ℕ → Option (List DeclFields)
 declarations_at s = items_at decl_at s >>= λ x. value_ended x.0 x.1
 
--- What the code keeps of them: the first six characters of a name, a bound that is too large as the least one that is.
+-- What the code keeps of them: the first seven characters of a name, a bound that
+-- is too large as the least one that is.
 abbrev pub clip_decl : DeclFields → DeclFields
 clip_decl d = record { name = cut d.name; bounds = map clipped d.bounds }
 

@@ -15,7 +15,7 @@ name_at s = if is_name (word s) then Some (word s, past_word s) else None
 unfoldable pub names_at : List ℕ → Option (List (List ℕ) × List ℕ)
 names_at s = items_at name_at s
 
--- What the code keeps of a name: its first six characters.
+-- What the code keeps of a name: its first seven characters.
 abbrev pub IsName : Name × Bor (List ℕ) → List ℕ × List ℕ → Type 0
 IsName x a = (x.0 ≡ cut a.0) × (x.1.now ≡ a.1)
 

@@ -28,6 +28,6 @@ arguments_at name (c ∷ r) =
 unfoldable pub subroutine_at : List ℕ → Option Statement
 subroutine_at s = if is_name (word s) then arguments_at (word s) (past_word s) else None
 
--- what the code keeps of the dummy arguments: the first six characters of each
+-- what the code keeps of the dummy arguments: the first seven characters of each
 abbrev pub AreDummies : Vec Name Global → List (List ℕ) → Type 0
 AreDummies x a = x.items ≡ map cut a

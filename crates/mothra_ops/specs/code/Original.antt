@@ -1,12 +1,16 @@
 -- A program that mutants are made of.
 -- Private functions and proofs alone cite what stands here.
-use Rattle.std.specs.Prelude.{◌≡◌, ℕ, List, Option, Some, Vec, map, option_map, slice_get}
+use Rattle.std.specs.Prelude.{◌≡◌, ℕ, List, [], Option, Some, Vec, map, option_map, slice_get}
+use Rattle.std.specs.Option.{option_map_or}
 use Rattle.std.specs.declared.alloc.Global.{Global}
 use Rattle.f77_tree.specs.Node.{NodeOf, node_of, nodes_of}
 use Rattle.f77_program.specs.Program.{LineFields}
 use Rattle.f77_tree.specs.Statement.{statement_of, Statement}
 use Rattle.f77_tree.specs.declared.node.Node.{Node}
+use Rattle.mothra_codes.specs.declared.op.Op.{Op}
 use Rattle.mothra_ops.specs.Edits.{numbered}
+use Rattle.mothra_ops.specs.Pools.{PoolFields}
+use Rattle.mothra_ops.specs.Replacements.{gives}
 use Rattle.mothra_ops.specs.declared.site.Site.{Site}
 
 -- the statement of this number
@@ -31,3 +35,10 @@ nodes_at program number = option_map (λ line. nodes_of line.stmt) (numbered pro
 abbrev pub AreNodesOf : List LineFields → List (Vec Node Global) → Type 0
 AreNodesOf program lists =
     map (λ list. map node_of list.items) lists ≡ map (λ line. nodes_of line.stmt) program
+
+-- what the operator gives the node at this position of the
+-- statement of this number; nothing where there is no such node
+abbrev pub given_at : PoolFields → List LineFields → Op → ℕ → ℕ → List NodeOf
+given_at pools program op statement position =
+    option_map_or (λ line. option_map_or (gives op pools line.stmt) (slice_get (nodes_of line.stmt) position) [])
+    (numbered program statement) []

@@ -5,7 +5,5 @@ use Rattle.equivalents_app.proofs.telling.push_equivalents.Given as goal
 
 -- what is written is the lines of the mutants so far
 abbrev pub invariant-loop-equivalent : goal.invariant-loop-equivalent
-invariant-loop-equivalent l = record {
-  plan : l.mutants ≡ l.plan;
-  lines : string_bytes l.text ≡ string_bytes l.fn.text ++ flat_map (equivalent_line l.plan) (take l.equivalent-index l.list);
-}
+invariant-loop-equivalent l =
+    string_bytes l.text ≡ string_bytes l.fn.text ++ flat_map (equivalent_line l.plan) (take l.equivalent-index l.list)

@@ -1,6 +1,5 @@
 use Rattle.std.proofs.Common.{rules, ◌∙◌, ◌++◌, ℕ, ap, codes, string_bytes}
 use Rattle.mothra_ops.specs.Mutants.{change_text, mutant_fields, program_of}
-use Rattle.mothra_ops.specs.Plan.{PlanFields}
 use Rattle.equivalents_app.specs.Telling.{reason_text}
 use Rattle.equivalents_app.proofs.Parts.{three_parts}
 use Rattle.equivalents_app.proofs.telling.push_mutant.Goals as goal
@@ -14,5 +13,5 @@ returns-clause-line c =
     three_parts old (reason_text c.args.plan.now.every c.args.equivalent) (change_text (program_of c.args.plan.now) mutant) (codes "\n")
     reasoned changed (string_bytes c.push_str.new.self)
     (c.in_ok-push_reason.ensures ∙ ap (λ (every : ℕ). old ++ reason_text every c.args.equivalent) c.every.ensures)
-    (c.in_ok-push_change.ensures.text ∙ ap (λ (plan : PlanFields). reasoned ++ change_text (program_of plan) mutant) c.requires)
+    c.in_ok-push_change.ensures.text
     (search rules)

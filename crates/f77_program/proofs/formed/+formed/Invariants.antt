@@ -1,12 +1,11 @@
 use Rattle.std.proofs.Common.{◌≡◌, drop}
 use Rattle.std.specs.Prelude.{map}
 use Rattle.f77_program.specs.code.Formed.{all_formed}
-use Rattle.f77_tree.specs.Names.{all_short_names}
+use Rattle.f77_tree.specs.Name.{is_symbolic}
 use Rattle.f77_tree.specs.View.{tree_of, trees}
 use Rattle.f77_program.proofs.formed.+formed.Given as goal
 
--- the answers rest on the other items
+-- the answer rests on the other items
 abbrev pub invariant-all_formed-loop-item : goal.invariant-all_formed-loop-item
 invariant-all_formed-loop-item l =
-    (all_formed (trees (map tree_of l.items)) ≡ all_formed (trees (map tree_of (drop l.item-index l.items))))
-    × (all_short_names (trees (map tree_of l.items)) ≡ all_short_names (trees (map tree_of (drop l.item-index l.items))))
+    all_formed is_symbolic (trees (map tree_of l.items)) ≡ all_formed is_symbolic (trees (map tree_of (drop l.item-index l.items)))

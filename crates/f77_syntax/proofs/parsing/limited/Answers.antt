@@ -13,14 +13,14 @@ returns-in_err-stmt c =
     let p = err_from_is_err_and c.from_residual.result c.from_residual.ensures.1 in
     rw (p.1, p.2) (not_spelled c.args.line c.args.text.now c.in_err-stmt.field-0.0 c.requires (c.is_too_deep.ensures.flat c.if-is_too_deep.false) c.in_err-stmt.ensures)
 
-pub returns-then-not-has_short_names : goal.returns-then-not-has_short_names
-returns-then-not-has_short_names c =
+pub returns-then-not-is_formed : goal.returns-then-not-is_formed
+returns-then-not-is_formed c =
     let k : Kept c.args.text.now (statement_of c.in_ok-stmt.stmt) = record {
       characters = c.requires;
       flat = c.is_too_deep.ensures.flat c.if-is_too_deep.false;
       spells = c.in_ok-stmt.ensures;
     } in
-    inr (bad_name c.args.line c.args.text.now _ c.has_short_names.result k c.has_short_names.ensures c.if-not-has_short_names.true)
+    inr (bad_name c.args.line c.args.text.now _ k (c.is_formed.ensures.unformed c.if-not-is_formed.true))
 
 pub returns-in_err-within_limits : goal.returns-in_err-within_limits
 returns-in_err-within_limits c =
@@ -30,7 +30,7 @@ returns-in_err-within_limits c =
       spells = c.in_ok-stmt.ensures;
     } in
     let p = err_from_is_err_and c.from_residual-in_err-within_limits.result c.from_residual-in_err-within_limits.ensures.1 in
-    rw (p.1, p.2) (outside c.args.line c.args.text.now _ c.has_short_names.result k c.has_short_names.ensures c.if-not-has_short_names.false c.in_err-within_limits.ensures.refused)
+    rw (p.1, p.2) (outside c.args.line c.args.text.now _ k (c.is_formed.ensures.formed c.if-not-is_formed.false) c.in_err-within_limits.ensures.refused)
 
 pub returns : goal.returns
 returns c =
@@ -39,4 +39,4 @@ returns c =
       flat = c.is_too_deep.ensures.flat c.if-is_too_deep.false;
       spells = c.in_ok-stmt.ensures;
     } in
-    all_well c.args.text.now _ c.has_short_names.result k c.has_short_names.ensures c.if-not-has_short_names.false c.in_ok-within_limits.ensures.constants c.in_ok-within_limits.ensures.few
+    all_well c.args.text.now _ k (c.is_formed.ensures.formed c.if-not-is_formed.false) c.in_ok-within_limits.ensures.constants c.in_ok-within_limits.ensures.few

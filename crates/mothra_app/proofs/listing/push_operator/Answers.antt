@@ -1,6 +1,4 @@
-use Rattle.std.proofs.Common.{◌∙◌, ◌+◌, ◌++◌, codes, ap, sym, append_assoc, append-nil, arith, string_bytes}
-use Rattle.mothra_ops.specs.Mutants.{mutant_text}
-use Rattle.mothra_ops.specs.Plan.{PlanFields}
+use Rattle.std.proofs.Common.{◌∙◌, ◌+◌, ◌++◌, ap, sym, append_assoc, append-nil, arith, string_bytes}
 use Rattle.mothra_app.specs.Listing.{count_line}
 use Rattle.mothra_app.proofs.ListedLines.{lines_behind, mutant_more, no_mutant_more, part_more}
 use Rattle.mothra_app.proofs.listing.push_operator.Goals as goal
@@ -9,25 +7,16 @@ pub loop-index-init : goal.loop-index-init
 loop-index-init c =
     let plan = c.args.plan.now in
     let op = c.args.op in
-    record {
-      plan = c.requires;
-      lines = ap (λ t. t ++ lines_behind plan op 0) c.in_ok-push_count.ensures
-          ∙ append_assoc (string_bytes c.args.text.now) (count_line op c.count-count.result) (lines_behind plan op 0)
-          ∙ ap (λ n. string_bytes c.args.text.now ++ (count_line op n ++ lines_behind plan op 0)) c.count-count.ensures.count;
-    }
+    ap (λ t. t ++ lines_behind plan op 0) c.in_ok-push_count.ensures
+    ∙ append_assoc (string_bytes c.args.text.now) (count_line op c.count-count.result) (lines_behind plan op 0)
+    ∙ ap (λ n. string_bytes c.args.text.now ++ (count_line op n ++ lines_behind plan op 0)) c.count-count.ensures.count
 
 pub loop-index-preserved : goal.loop-index-preserved
 loop-index-preserved c =
     let plan = c.args.plan.now in
     let i = c.loop-index.index in
-    record {
-      plan = c.in_ok-push_mutant.ensures.plan ∙ c.loop-index.invariant.plan;
-      lines = part_more (string_bytes c.loop-index.text) (string_bytes c.push_mutant.new.text) _ (lines_behind plan c.args.op i) (lines_behind plan c.args.op (i + 1)) _
-          (c.in_ok-push_mutant.ensures.line
-          ∙ ap (λ (p : PlanFields). string_bytes c.loop-index.text ++ (mutant_text p c.args.op (i + 1) ++ codes "\n")) c.loop-index.invariant.plan)
-          (mutant_more plan c.args.op i (omega (arith, c.count-count.ensures.count, c.loop-index-test.true)))
-          c.loop-index.invariant.lines;
-    }
+    part_more (string_bytes c.loop-index.text) (string_bytes c.push_mutant.new.text) _ (lines_behind plan c.args.op i) (lines_behind plan c.args.op (i + 1)) _
+    c.in_ok-push_mutant.ensures.line (mutant_more plan c.args.op i (omega (arith, c.count-count.ensures.count, c.loop-index-test.true))) c.loop-index.invariant
 
 pub returns-clause-lines : goal.returns-clause-lines
 returns-clause-lines c =
@@ -35,4 +24,4 @@ returns-clause-lines c =
     let i = c.loop-index.index in
     sym (append-nil (string_bytes c.loop-index.text))
     ∙ ap (λ rest. string_bytes c.loop-index.text ++ rest) (sym (no_mutant_more plan c.args.op i (omega (arith, c.count-count.ensures.count, c.loop-index-test.false))))
-    ∙ c.loop-index.invariant.lines
+    ∙ c.loop-index.invariant

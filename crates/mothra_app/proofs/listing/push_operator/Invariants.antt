@@ -5,7 +5,4 @@ use Rattle.mothra_app.proofs.listing.push_operator.Given as goal
 
 -- what is written, and then the lines of the other mutants, is all that is to be written
 abbrev pub invariant-loop-index : goal.invariant-loop-index
-invariant-loop-index l = record {
-  plan : l.mutants ≡ l.plan;
-  lines : string_bytes l.text ++ lines_behind l.plan l.op l.index ≡ string_bytes l.fn.text ++ plan_lines l.plan l.op;
-}
+invariant-loop-index l = string_bytes l.text ++ lines_behind l.plan l.op l.index ≡ string_bytes l.fn.text ++ plan_lines l.plan l.op

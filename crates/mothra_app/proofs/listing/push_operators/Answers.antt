@@ -17,7 +17,6 @@ loop-op-preserved c = elim c.if-asked.branch [
       let count : w.count.result ≡ length (edits_of plan (op_at i)) = w.count.ensures.count in
       let counts : count_behind plan i ≡ length (edits_of plan (op_at i)) + count_behind plan (i + 1) = counts_more plan i c.loop-op-test.true is in
       record {
-        plan = w.mutants-is ∙ w.in_ok-push_operator.ensures.plan ∙ c.loop-op.invariant.plan;
         lines = ap (λ t. t ++ operators_behind plan (i + 1)) text
             ∙ part_more (string_bytes c.loop-op.text) (string_bytes w.push_operator.new.text) (plan_lines plan (op_at i)) (operators_behind plan i) (operators_behind plan (i + 1))
             (string_bytes c.args.text.now ++ asked_lines plan) w.in_ok-push_operator.ensures.lines (lines_more plan i c.loop-op-test.true is) c.loop-op.invariant.lines;
@@ -31,7 +30,6 @@ loop-op-preserved c = elim c.if-asked.branch [
       let text : string_bytes c.if-asked.text ≡ string_bytes c.loop-op.text = ap string_bytes w.text-is in
       let counts : count_behind plan i ≡ count_behind plan (i + 1) = counts_as_before plan i c.loop-op-test.true is in
       record {
-        plan = w.mutants-is ∙ c.loop-op.invariant.plan;
         lines = ap (λ t. t ++ operators_behind plan (i + 1)) text
             ∙ ap (λ rest. string_bytes c.loop-op.text ++ rest) (sym (lines_as_before plan i c.loop-op-test.true is))
             ∙ c.loop-op.invariant.lines;

@@ -7,7 +7,6 @@ use Rattle.mothra_app.proofs.listing.push_operators.Given as goal
 -- what is written, and then the lines of the other operators, is all that is to be written, and so are the counts
 abbrev pub invariant-loop-op : goal.invariant-loop-op
 invariant-loop-op l = record {
-  plan : l.mutants ≡ l.plan;
   lines : string_bytes l.text ++ operators_behind l.plan l.op-index ≡ string_bytes l.fn.text ++ asked_lines l.plan;
   total : l.total + count_behind l.plan l.op-index ≡ asked_total l.plan;
   below : l.total ≤ 4294967295 * l.op-index;

@@ -5,7 +5,4 @@ use Rattle.mothra_bench.specs.Report.{survivor_line}
 use Rattle.mothra_bench.proofs.report.push_survivors.Given as goal
 
 abbrev pub invariant-loop-entry : goal.invariant-loop-entry
-invariant-loop-entry l = record {
-  plan : l.mutants ≡ l.plan;
-  text : string_bytes l.text ≡ string_bytes l.fn.text ++ flat_map (survivor_line l.plan) (take l.entry-index l.entries);
-}
+invariant-loop-entry l = string_bytes l.text ≡ string_bytes l.fn.text ++ flat_map (survivor_line l.plan) (take l.entry-index l.entries)

@@ -2,7 +2,7 @@ use Rattle.std.proofs.Common.{map, ap, ◌∙◌}
 use Rattle.std.proofs.lemmas.Result.{IfOk-weaker}
 use Rattle.f77_tree.specs.Node.{NodeOf}
 use Rattle.f77_tree.specs.View.{tree_of}
-use Rattle.mothra_ops.specs.Pools.{pool_fields}
+use Rattle.mothra_ops.specs.code.Pools.{pool_fields}
 use Rattle.mothra_ops.proofs.InPlaces.{part_in_place}
 use Rattle.mothra_ops.proofs.in_expressions.in_expression.Goals as goal
 

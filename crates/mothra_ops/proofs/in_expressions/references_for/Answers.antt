@@ -1,7 +1,8 @@
 use Rattle.std.proofs.Common.{ap, map, sym, ◌∙◌}
 use Rattle.std.proofs.lemmas.Result.{IfOk-weaker}
 use Rattle.f77_tree.specs.View.{tree_of}
-use Rattle.mothra_ops.specs.Pools.{as_tree, pool_fields}
+use Rattle.mothra_ops.specs.Pools.{as_tree}
+use Rattle.mothra_ops.specs.code.Pools.{pool_fields}
 use Rattle.mothra_ops.proofs.Elements.{references_apart}
 use Rattle.mothra_ops.proofs.in_expressions.references_for.Goals as goal
 

@@ -1,6 +1,7 @@
 use Rattle.std.proofs.Common.{map, ap, ◌∙◌}
 use Rattle.std.proofs.lemmas.Result.{IfOk-weaker}
-use Rattle.mothra_ops.specs.Pools.{pool_fields, reference_of, scalar}
+use Rattle.mothra_ops.specs.Pools.{scalar}
+use Rattle.mothra_ops.specs.code.Pools.{pool_fields, reference_of}
 use Rattle.mothra_ops.specs.Replacements.{comparable, other_references}
 use Rattle.mothra_ops.proofs.InPlaces.{at_element, nothing_in_element}
 use Rattle.mothra_ops.proofs.in_places.in_element.Goals as goal

@@ -1,6 +1,7 @@
 use Rattle.std.proofs.Common.{map, ap, ◌∙◌}
 use Rattle.std.proofs.lemmas.Result.{IfOk-weaker}
-use Rattle.mothra_ops.specs.Pools.{pool_fields, reference_of, scalar}
+use Rattle.mothra_ops.specs.Pools.{scalar}
+use Rattle.mothra_ops.specs.code.Pools.{pool_fields, reference_of}
 use Rattle.mothra_ops.specs.Replacements.{other_references}
 use Rattle.mothra_ops.proofs.InPlaces.{at_scalar, nothing_in_scalar}
 use Rattle.mothra_ops.proofs.in_places.in_scalar.Goals as goal

@@ -1,6 +1,7 @@
 use Rattle.std.proofs.Common.{ap, map, ◌∙◌}
 use Rattle.std.proofs.lemmas.Result.{IfOk-weaker}
-use Rattle.mothra_ops.specs.Pools.{Reference, pool_fields, scalar}
+use Rattle.mothra_ops.specs.Pools.{Reference, scalar}
+use Rattle.mothra_ops.specs.code.Pools.{pool_fields}
 use Rattle.mothra_ops.specs.Replacements.{other_references}
 use Rattle.mothra_ops.proofs.InPlaces.{of_variable}
 use Rattle.mothra_ops.proofs.in_places.in_variable.Goals as goal

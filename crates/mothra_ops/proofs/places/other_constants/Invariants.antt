@@ -2,7 +2,7 @@ use Rattle.std.proofs.Common.{◌≡◌, not, map, filter, take}
 use Rattle.std.specs.Prelude.{◌&&◌}
 use Rattle.f77_tree.specs.Comparing.{same_tree, same_kind}
 use Rattle.f77_tree.specs.View.{tree_of}
-use Rattle.mothra_ops.specs.Pools.{pool_fields}
+use Rattle.mothra_ops.specs.code.Pools.{pool_fields}
 use Rattle.mothra_ops.specs.Replacements as model
 use Rattle.mothra_ops.proofs.places.other_constants.Given as goal
 

@@ -6,7 +6,8 @@ use Rattle.f77_tree.specs.View.{trees}
 use Rattle.f77_tree.specs.declared.tree.Ref.{Ref}
 use Rattle.f77_tree.specs.Comparing.{same_kind}
 use Rattle.f77_legal.specs.Names.{Symbol}
-use Rattle.mothra_ops.specs.Pools.{pool_fields, reference_of, same_reference}
+use Rattle.mothra_ops.specs.Pools.{same_reference}
+use Rattle.mothra_ops.specs.code.Pools.{pool_fields, reference_of}
 use Rattle.mothra_ops.proofs.Filters.{pushed, skipped}
 use Rattle.mothra_ops.proofs.places.other_references.Goals.{then-is_drawn+in_ok-clone+in_ok-push, else-is_drawn}
 use Rattle.mothra_ops.proofs.places.other_references.Goals as goal

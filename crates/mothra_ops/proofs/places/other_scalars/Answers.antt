@@ -2,7 +2,8 @@ use Rattle.std.proofs.Common.{not, sym, ◌∙◌, ap, subst, get_or, length, �
 use Rattle.f77_legal.specs.Names.{Symbol}
 use Rattle.std.specs.Prelude.{◌&&◌}
 use Rattle.f77_tree.specs.Comparing.{same_kind}
-use Rattle.mothra_ops.specs.Pools.{pool_fields, reference_of, same_reference, scalar}
+use Rattle.mothra_ops.specs.Pools.{same_reference, scalar}
+use Rattle.mothra_ops.specs.code.Pools.{pool_fields, reference_of}
 use Rattle.mothra_ops.proofs.Filters.{pushed, skipped}
 use Rattle.mothra_ops.proofs.places.other_scalars.Goals.{then-is_drawn_scalar+in_ok-push, else-is_drawn_scalar}
 use Rattle.mothra_ops.proofs.places.other_scalars.Goals as goal

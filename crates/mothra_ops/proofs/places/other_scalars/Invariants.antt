@@ -1,7 +1,8 @@
 use Rattle.std.proofs.Common.{◌≡◌, not, map, filter, take}
 use Rattle.std.specs.Prelude.{◌&&◌}
 use Rattle.f77_tree.specs.Comparing.{same_kind}
-use Rattle.mothra_ops.specs.Pools.{pool_fields, reference_of, same_reference, scalar}
+use Rattle.mothra_ops.specs.Pools.{same_reference, scalar}
+use Rattle.mothra_ops.specs.code.Pools.{pool_fields, reference_of}
 use Rattle.mothra_ops.proofs.places.other_scalars.Given as goal
 
 abbrev pub invariant-loop-name : goal.invariant-loop-name

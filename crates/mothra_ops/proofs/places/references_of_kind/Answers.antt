@@ -5,7 +5,7 @@ use Rattle.f77_tree.specs.View.{trees}
 use Rattle.f77_tree.specs.declared.tree.Ref.{Ref}
 use Rattle.f77_tree.specs.Comparing.{same_kind}
 use Rattle.f77_legal.specs.Names.{Symbol}
-use Rattle.mothra_ops.specs.Pools.{pool_fields, reference_of}
+use Rattle.mothra_ops.specs.code.Pools.{pool_fields, reference_of}
 use Rattle.mothra_ops.proofs.Filters.{pushed, skipped}
 use Rattle.mothra_ops.proofs.places.references_of_kind.Goals.{then-is_reference_of_kind+in_ok-clone+in_ok-push, else-is_reference_of_kind}
 use Rattle.mothra_ops.proofs.places.references_of_kind.Goals as goal

@@ -1,6 +1,6 @@
 use Rattle.std.proofs.Common.{◌≡◌, map, filter, take}
 use Rattle.f77_tree.specs.Comparing.{same_kind}
-use Rattle.mothra_ops.specs.Pools.{pool_fields, reference_of}
+use Rattle.mothra_ops.specs.code.Pools.{pool_fields, reference_of}
 use Rattle.mothra_ops.proofs.places.references_of_kind.Given as goal
 
 abbrev pub invariant-loop-reference : goal.invariant-loop-reference

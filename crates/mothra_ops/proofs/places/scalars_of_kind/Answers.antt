@@ -1,7 +1,8 @@
 use Rattle.std.proofs.Common.{sym, ◌∙◌, ap, subst, get_or, length, ◌<◌}
 use Rattle.f77_legal.specs.Names.{Symbol}
 use Rattle.f77_tree.specs.Comparing.{same_kind}
-use Rattle.mothra_ops.specs.Pools.{pool_fields, reference_of, scalar}
+use Rattle.mothra_ops.specs.Pools.{scalar}
+use Rattle.mothra_ops.specs.code.Pools.{pool_fields, reference_of}
 use Rattle.mothra_ops.proofs.Filters.{pushed, skipped}
 use Rattle.mothra_ops.proofs.places.scalars_of_kind.Goals.{then-is_of_kind+in_ok-push, else-is_of_kind}
 use Rattle.mothra_ops.proofs.places.scalars_of_kind.Goals as goal

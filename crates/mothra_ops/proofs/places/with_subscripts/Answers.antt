@@ -1,7 +1,8 @@
 use Rattle.std.proofs.Common.{List, sym, ◌∙◌, ap, subst, get_or, length, ◌<◌}
 use Rattle.f77_legal.specs.Names.{Symbol}
 use Rattle.f77_tree.specs.Tree.{Tree}
-use Rattle.mothra_ops.specs.Pools.{Reference, pool_fields, reference_of}
+use Rattle.mothra_ops.specs.Pools.{Reference}
+use Rattle.mothra_ops.specs.code.Pools.{pool_fields, reference_of}
 use Rattle.mothra_ops.specs.Replacements as model
 use Rattle.f77_tree.proofs.Views.{ref_view}
 use Rattle.mothra_ops.proofs.Filters.{pushed, skipped}

@@ -1,5 +1,5 @@
 use Rattle.std.proofs.Common.{◌≡◌, map, filter, take}
-use Rattle.mothra_ops.specs.Pools.{pool_fields, reference_of}
+use Rattle.mothra_ops.specs.code.Pools.{pool_fields, reference_of}
 use Rattle.mothra_ops.specs.Replacements as model
 use Rattle.mothra_ops.proofs.places.with_subscripts.Given as goal
 

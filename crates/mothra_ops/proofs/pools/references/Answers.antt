@@ -5,6 +5,7 @@ use Rattle.std.specs.List.{list_any}
 use Rattle.f77_tree.specs.Node.{node_of}
 use Rattle.f77_tree.specs.declared.tree.Ref.{Ref}
 use Rattle.mothra_ops.specs.Pools as model
+use Rattle.mothra_ops.specs.code.Pools.{reference_of}
 use Rattle.mothra_ops.specs.Pools.{same_reference}
 use Rattle.mothra_ops.proofs.Elements.{reference_equiv}
 use Rattle.mothra_ops.proofs.PoolLists.{passed_over, known_before, listed_new}
@@ -13,7 +14,7 @@ use Rattle.mothra_ops.proofs.pools.references.Goals as goal
 
 pub loop-node-preserved : goal.loop-node-preserved
 loop-node-preserved c =
-    let g = λ (known : Bor Ref). model.reference_of known.now in
+    let g = λ (known : Bor Ref). reference_of known.now in
     elim c.match-array_reference.branch [
       | in-Some+then-not-contains+in_ok-push w ↦ rw w.list-is (
           listed_new same_reference reference_equiv model.array_reference node_of g c.args.nodes.now c.loop-node.node-index c.node-item.result

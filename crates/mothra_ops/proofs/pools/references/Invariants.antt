@@ -1,7 +1,8 @@
 use Rattle.std.proofs.Common.{◌≡◌, map, take}
 use Rattle.std.specs.List.{filter_map}
 use Rattle.f77_tree.specs.Node.{node_of}
-use Rattle.mothra_ops.specs.Pools.{each_once, array_reference, reference_of, same_reference}
+use Rattle.mothra_ops.specs.Pools.{each_once, array_reference, same_reference}
+use Rattle.mothra_ops.specs.code.Pools.{reference_of}
 use Rattle.mothra_ops.proofs.pools.references.Given as goal
 
 abbrev pub invariant-loop-node : goal.invariant-loop-node

@@ -1,7 +1,8 @@
 use Rattle.std.proofs.Common.{map, ◌++◌, ◌∷◌, [], ap, sym, ◌∙◌}
 use Rattle.std.proofs.lemmas.List.{map-append}
 use Rattle.f77_tree.specs.View.{tree_of}
-use Rattle.mothra_ops.specs.Pools.{as_tree, reference_of}
+use Rattle.mothra_ops.specs.Pools.{as_tree}
+use Rattle.mothra_ops.specs.code.Pools.{reference_of}
 use Rattle.mothra_ops.proofs.Elements.{as_expression}
 use Rattle.mothra_ops.proofs.replacements.expressions.Goals as goal
 

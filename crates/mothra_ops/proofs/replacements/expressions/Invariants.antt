@@ -1,6 +1,7 @@
 use Rattle.std.proofs.Common.{◌≡◌, map}
 use Rattle.f77_tree.specs.View.{tree_of}
-use Rattle.mothra_ops.specs.Pools.{as_tree, reference_of}
+use Rattle.mothra_ops.specs.Pools.{as_tree}
+use Rattle.mothra_ops.specs.code.Pools.{reference_of}
 use Rattle.mothra_ops.proofs.replacements.expressions.Given as goal
 
 abbrev pub invariant-loop-reference : goal.invariant-loop-reference

@@ -1,7 +1,7 @@
 use Rattle.std.proofs.Common.{map, ◌++◌, ◌∷◌, [], ap, sym, ◌∙◌}
 use Rattle.std.proofs.lemmas.List.{map-append}
 use Rattle.f77_tree.specs.Replacement.{replacement_of}
-use Rattle.mothra_ops.specs.Pools.{reference_of}
+use Rattle.mothra_ops.specs.code.Pools.{reference_of}
 use Rattle.mothra_ops.specs.Replacements.{as_variable}
 use Rattle.mothra_ops.proofs.Elements.{named}
 use Rattle.mothra_ops.proofs.replacements.in_variables.Goals as goal

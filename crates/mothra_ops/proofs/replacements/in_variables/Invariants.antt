@@ -1,6 +1,6 @@
 use Rattle.std.proofs.Common.{◌≡◌, map}
 use Rattle.f77_tree.specs.Replacement.{replacement_of}
-use Rattle.mothra_ops.specs.Pools.{reference_of}
+use Rattle.mothra_ops.specs.code.Pools.{reference_of}
 use Rattle.mothra_ops.specs.Replacements.{as_variable}
 use Rattle.mothra_ops.proofs.replacements.in_variables.Given as goal
 

@@ -4,7 +4,7 @@ use Rattle.indexmap.specs.IndexMap.{keys}
 use Rattle.f77_program.specs.Program.{line_of}
 use Rattle.f77_check.specs.code.Kept.{is_kept}
 use Rattle.f77_check.specs.Slots.{first_slot, slot_kinds}
-use Rattle.f77_check.specs.Start.{is_executable_statement}
+use Rattle.f77_tree.specs.Statement.{is_executable_statement}
 use Rattle.f77_check.proofs.DataNames.{has_slots, dummies_kept}
 use Rattle.f77_check.proofs.FirstExecutable.{first_executable}
 use Rattle.f77_legal.proofs.Positions.{position-map}

@@ -2,7 +2,7 @@ use Rattle.std.proofs.Common.{None, map, sym, ◌∙◌, ap, subst}
 use Rattle.f77_program.specs.Program.{line_of, IsProgram}
 use Rattle.f77_tree.specs.Statement.{statement_of}
 use Rattle.f77_program.proofs.Lines.{same_lines}
-use Rattle.f77_program.proofs.Patches.{changed_lines, changed_program, short_names}
+use Rattle.f77_program.proofs.Patches.{changed_lines, changed_program}
 use Rattle.f77_program.proofs.program.Program.with_statement.Goals as goal
 
 pub from_lines-requires : goal.from_lines-requires
@@ -11,8 +11,7 @@ from_lines-requires c =
     let is = changed_lines c.args.self.now c.args.number _ c.requires c.in_ok-lines.lines.items c.index.result.now c.in_ok-lines-2.field-0 same
     c.index.ensures (ap line_of c.in_ok-lines-2.ensures
     ∙ c.in_ok-changed.ensures ∙ ap (λ line. record (line_of line) { stmt = statement_of c.args.stmt.now }) c.deref.ensures) in
-    subst (IsProgram None) (sym is) (changed_program c.args.self.now c.args.number _ c.requires c.lines.ensures.program
-    (short_names _ c.requires.formed c.is_formed-formed.result c.is_formed-formed.ensures.short c.is_formed-formed.ensures.unformed))
+    subst (IsProgram None) (sym is) (changed_program c.args.self.now c.args.number _ c.requires c.lines.ensures.program)
 
 pub returns : goal.returns
 returns c =

@@ -24,7 +24,7 @@ comes_alike-requires c =
     let viewed : changed_fields checked (Some change) ≡ c.args.self.now = ap (changed_fields checked) (sym c.in-Some.is) ∙ c.self.view_is in
     let same : checked ≡ c.args.self.now.checked = ap (λ (changed : ChangedFields). changed.checked) viewed in
     let is : IsChanged (changed_fields checked (Some change)) code image
-    = subst (λ (o : Option Change). IsChanged (changed_fields checked o) code image) c.in-Some.is c.self.invariant.0 in
+    = subst (λ (o : Option Change). IsChanged (changed_fields checked o) code image) c.in-Some.is c.self.invariant in
     let follows : IsFollowed checked arguments c.args.steps visits
     = subst (λ (checked : CheckedFields). IsFollowed checked arguments c.args.steps visits) (sym same) c.requires.visits in
     let at : slice_get visits.list.items change.place ≡ Some passed

@@ -1,12 +1,13 @@
 use Rattle.std.proofs.Common.{◌≡◌, ◌+◌, drop, length, map}
+use Rattle.std.specs.List.{All}
 use Rattle.f77_tree.specs.Node.{node_of}
 use Rattle.f77_tree.specs.Replacement.{replacement_of}
 use Rattle.f77_tree.specs.Statement.{statement_of}
+use Rattle.mothra_ops.specs.Made.{IsMadeMutant}
 use Rattle.mothra_ops.specs.code.Listing.{HasCome}
-use Rattle.mothra_ops.specs.Original.{IsOriginal, lines_of}
-use Rattle.mothra_ops.specs.Pools.{pool_fields}
+use Rattle.mothra_ops.specs.code.Drawn.{lines_of}
+use Rattle.mothra_ops.specs.code.Pools.{pool_fields}
 use Rattle.mothra_ops.specs.Replacements.{gives}
-use Rattle.mothra_ops.specs.code.Original.{IsSiteOf}
 use Rattle.mothra_ops.proofs.original.Original.list_site.Given as goal
 
 abbrev pub invariant-loop-k : goal.invariant-loop-k
@@ -16,7 +17,7 @@ invariant-loop-k l = record {
   count : length l.replacements.items ≡ l.k-end;
   left : drop l.k (map replacement_of l.replacements.items)
       ≡ drop l.k (gives l.fn.listing.op (pool_fields l.self.pools) (statement_of l.site.stmt.now) (node_of l.site.node));
-  copy : statement_of l.copy ≡ statement_of l.site.stmt.now;
-  come : IsOriginal l.self → IsSiteOf (lines_of l.self) l.site → HasCome l.fn.listing (lines_of l.self) l.site.number l.site.position 0
+  made : All (IsMadeMutant l.self.checked.now) l.fn.listing.mutants.items → All (IsMadeMutant l.self.checked.now) l.listing.mutants.items;
+  come : HasCome l.fn.listing (lines_of l.self) l.site.number l.site.position 0
       → HasCome l.listing (lines_of l.self) l.site.number l.site.position (l.k + 1);
 }

@@ -1,9 +1,0 @@
-use Rattle.std.proofs.Common.{map}
-use Rattle.f77_program.specs.Patching.{replaced}
-use Rattle.f77_program.specs.Program.{line_of}
-use Rattle.f77_tree.specs.Statement.{statement_of}
-use Rattle.f77_check.proofs.checked.Checked.resolve_in_place.Given as goal
-
--- the changed program
-abbrev pub ghost-resolve_for : goal.ghost-resolve_for
-ghost-resolve_for a = replaced (map line_of a.self.now.program) a.i (statement_of a.stmt.now)

@@ -1,0 +1,9 @@
+use Rattle.std.proofs.Common.{map}
+use Rattle.f77_program.specs.Patching.{replaced}
+use Rattle.f77_program.specs.Program.{line_of}
+use Rattle.f77_tree.specs.Statement.{statement_of}
+use Rattle.f77_check.proofs.checked.Checked.resolved.Given as goal
+
+-- the changed program
+abbrev pub ghost-resolved_for : goal.ghost-resolved_for
+ghost-resolved_for a = replaced (map line_of a.self.now.program) a.i (statement_of a.stmt.now)

@@ -1,0 +1,14 @@
+use Rattle.std.proofs.Common.{◌≡◌, map, take}
+use Rattle.std.specs.List.{slice_get}
+use Rattle.f77_program.specs.Program.{line_of}
+use Rattle.f77_legal.specs.Clause.{breaks}
+use Rattle.f77_legal.specs.Legal.{clauses}
+use Rattle.f77_legal.specs.Tables.{AreTables}
+use Rattle.f77_legal.specs.code.Broken.{breaches}
+use Rattle.f77_legal.proofs.tables.Tables.first_of_all.Given as goal
+
+-- what the statements before this one break
+abbrev pub invariant-loop-i : goal.invariant-loop-i
+invariant-loop-i l =
+    AreTables l.self (map line_of l.lines)
+    → l.first ≡ slice_get (breaches (λ clause. breaks clause (map line_of l.lines)) (take l.i (map line_of l.lines)) clauses) 0

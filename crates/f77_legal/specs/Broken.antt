@@ -1,0 +1,15 @@
+-- What is told of a statement by itself.
+use Rattle.std.specs.Prelude.{Bool, true, false, Option, Some, None}
+use Rattle.f77_legal.specs.declared.broken.Broken.{Broken}
+use Rattle.f77_legal.specs.declared.broken.Broken.TheVariants.{First, UnknownName}
+use Rattle.f77_legal.specs.declared.clause.Clause.{Clause}
+
+-- the table has each name of the statement
+abbrev pub has_known_names : Broken → Bool
+has_known_names UnknownName = false
+has_known_names _ = true
+
+-- the clause that the statement breaks, and none that is tested before it
+abbrev pub clause_told : Broken → Option Clause
+clause_told (First clause) = Some clause
+clause_told _ = None

@@ -1,0 +1,308 @@
+//! The first clause that a statement breaks, told in one walk over its expressions.
+
+ghost use Rattle.std.specs.Prelude.{◌≡◌, ◌==◌, true, length, map, not, option_map};
+ghost use Rattle.std.specs.List.{find};
+ghost use Rattle.f77_program.specs.Program.{line_of};
+ghost use Rattle.f77_tree.specs.Comparing as comparing;
+ghost use Rattle.f77_tree.specs.Statement.{statement_of};
+ghost use Rattle.f77_tree.specs.View.{tree_of, trees};
+ghost use Rattle.f77_legal.specs.Broken.{clause_told, has_known_names};
+ghost use Rattle.f77_legal.specs.Clause.{breaks};
+ghost use Rattle.f77_legal.specs.Dimensions.{all_fit, dimensions_fit, fits_bounds, value_fits};
+ghost use Rattle.f77_legal.specs.Kinds.{are_integer, is_of_kind, is_of_kind_if_given, kinds_agree};
+ghost use Rattle.f77_legal.specs.Legal as legal;
+ghost use Rattle.f77_legal.specs.NameTable.{array_bounds, has_name, kind_at};
+ghost use Rattle.f77_legal.specs.Patches.{items_pass, names_pass, tree_passes, value_passes};
+ghost use Rattle.f77_legal.specs.Tables.{AreTables, Serve};
+ghost use Rattle.f77_legal.specs.code.Broken as broken;
+ghost use Rattle.f77_legal.specs.code.Broken.{Adds, first_breach};
+ghost use Rattle.f77_tree.specs.declared.tree.Kind.TheVariants.{Integer};
+
+use crate::clause::Clause;
+use crate::dimensions::{are_shapes, takes};
+use crate::kinds::{operand_kind, result_kind, same_kind};
+use crate::labels::{ends_badly, jumps_badly, names_no_label};
+use crate::loops::sets_variable;
+use crate::names::Names;
+use crate::tables::Tables;
+use f77_program::Line;
+use f77_tree::{Expr, Kind, Name, Shared, Stmt};
+
+/// What is told of a statement by itself.
+#[derive(Clone, Copy, Debug, PartialEq, Eq)]
+pub enum Broken {
+    /// It breaks no clause.
+    Nothing,
+    /// It breaks this clause, and none that is tested before it.
+    First(Clause),
+    /// It has a name that the table has not: the whole program has to be judged.
+    UnknownName,
+}
+
+/// What is wrong with what was seen of a statement.
+#[derive(Clone, Copy)]
+pub(crate) struct Flaws {
+    /// It has a name that the table has not.
+    names: bool,
+    /// Its kinds do not agree.
+    kinds: bool,
+    /// Its bounds, subscripts or arguments are not in order.
+    bounds: bool,
+}
+
+impl Flaws {
+    /// A part of the kind `own` stands where one of the kind `wanted` has to.
+    fn check_kind(&mut self, own: Kind, wanted: Kind)
+        ensures { Adds self.old self.new true (comparing.same_kind own wanted) true }
+    {
+        if !same_kind(own, wanted) {
+            self.kinds = true;
+        }
+    }
+
+    /// Whether so many subscripts or arguments, or such bounds, are in order.
+    fn check_bounds(&mut self, are_right: bool)
+        ensures { Adds self.old self.new true true are_right }
+    {
+        if !are_right {
+            self.bounds = true;
+        }
+    }
+
+    /// A name with so many subscripts: its kind, which is INTEGER where the table has it not.
+    fn check_name(&mut self, names: &Names, name: &Name, subscripts: usize) -> Kind
+        ensures kind { result ≡ kind_at names.now name.now }
+        ensures flaws { Adds self.old self.new (has_name names.now name.now) true
+            (subscripts == length (array_bounds names.now name.now)) }
+    {
+        match names.facts.get(name) {
+            Some(facts) => {
+                self.check_bounds(subscripts == facts.bounds.len());
+                facts.kind
+            }
+            None => {
+                self.names = true;
+                self.check_bounds(subscripts == 0);
+                Kind::Integer
+            }
+        }
+    }
+
+    /// An expression that has to be of this kind.
+    #[cycle(flaws)]
+    #[tactic(auto, using(crate::proofs::Counts::count_trees))]
+    fn check_tree(&mut self, names: &Names, kind: Kind, expr: &Expr)
+        ensures { Adds self.old self.new (tree_passes (has_name names.now) (tree_of expr.now))
+            (is_of_kind (kind_at names.now) kind (tree_of expr.now))
+            (fits_bounds (array_bounds names.now) (tree_of expr.now)) }
+    {
+        match expr {
+            Expr::Number(_) => self.check_kind(Kind::Integer, kind),
+            Expr::Truth(_) => self.check_kind(Kind::Logical, kind),
+            Expr::Reference(place) => {
+                let own = self.check_name(names, &place.name, place.subscripts.len());
+                self.check_kind(own, kind);
+                self.check_items(names, &place.subscripts);
+            }
+            Expr::Call(function, arguments) => {
+                self.check_kind(Kind::Integer, kind);
+                self.check_bounds(takes(*function, arguments.len()));
+                self.check_items(names, arguments);
+            }
+            Expr::Signed(_, inner) | Expr::ZeroPush(inner) => {
+                self.check_kind(Kind::Integer, kind);
+                self.check_tree(names, Kind::Integer, inner);
+            }
+            Expr::Not(inner) => {
+                self.check_kind(Kind::Logical, kind);
+                self.check_tree(names, Kind::Logical, inner);
+            }
+            Expr::Binary(operator, left, right) => {
+                let operands = operand_kind(*operator);
+                self.check_kind(result_kind(*operator), kind);
+                self.check_tree(names, operands, left);
+                self.check_tree(names, operands, right);
+            }
+        }
+    }
+
+    /// Subscripts or arguments, each of which has to be INTEGER.
+    #[cycle(flaws)]
+    fn check_items(&mut self, names: &Names, items: &[Expr])
+        ensures { Adds self.old self.new (items_pass (has_name names.now) (trees (map tree_of items.now)))
+            (are_integer (kind_at names.now) (trees (map tree_of items.now)))
+            (all_fit (array_bounds names.now) (trees (map tree_of items.now))) }
+    {
+        for item in items {
+            self.check_tree(names, Kind::Integer, item);
+        }
+    }
+
+    /// An expression, if any, that has to be INTEGER.
+    fn check_value(&mut self, names: &Names, value: Option<&Expr>)
+        ensures { let tree = option_map (λ value. tree_of value.now) value.entry in
+            Adds self.old self.new (value_passes (has_name names.now) tree)
+            (is_of_kind_if_given (kind_at names.now) Integer tree) (value_fits (array_bounds names.now) tree) }
+    {
+        if let Some(value) = value {
+            self.check_tree(names, Kind::Integer, value);
+        }
+    }
+
+    /// A statement: what its own rule says of its expressions, and of its target
+    /// or DO variable (5.1, 5.4, 10.1, 10.2, 11.4 to 11.10, 15.10).
+    #[tactic(auto, using(crate::proofs::Counts::count_trees))]
+    fn check_statement(&mut self, names: &Names, stmt: &Stmt)
+        ensures { Adds self.old self.new (names_pass (has_name names.now) (statement_of stmt.now))
+            (kinds_agree (kind_at names.now) (statement_of stmt.now))
+            (dimensions_fit (array_bounds names.now) (statement_of stmt.now)) }
+    {
+        match stmt {
+            Stmt::Declare { items, .. } | Stmt::Dimension { items } => {
+                self.check_bounds(are_shapes(items));
+            }
+            Stmt::Assign { target, value } => {
+                let kind = self.check_name(names, &target.name, target.subscripts.len());
+                self.check_items(names, &target.subscripts);
+                self.check_tree(names, kind, value);
+            }
+            Stmt::LogicalIf {
+                condition,
+                statement,
+            } => {
+                self.check_tree(names, Kind::Logical, condition);
+                self.check_statement(names, statement);
+            }
+            Stmt::BlockIf { condition } | Stmt::ElseIf { condition } => {
+                self.check_tree(names, Kind::Logical, condition);
+            }
+            Stmt::Loop {
+                variable,
+                first,
+                last,
+                step,
+                ..
+            } => {
+                let own = self.check_name(names, variable, 0);
+                self.check_kind(own, Kind::Integer);
+                self.check_tree(names, Kind::Integer, first);
+                self.check_tree(names, Kind::Integer, last);
+                self.check_value(names, step.as_ref());
+            }
+            _ => self.check_value(names, stmt.value()),
+        }
+    }
+
+    /// What is wrong with the names, kinds and bounds of the statement.
+    fn of(names: &Names, stmt: &Stmt) -> Flaws
+        ensures names { result.names ≡ not (names_pass (has_name names.now) (statement_of stmt.now)) }
+        ensures kinds { result.kinds ≡ not (kinds_agree (kind_at names.now) (statement_of stmt.now)) }
+        ensures bounds { result.bounds ≡ not (dimensions_fit (array_bounds names.now) (statement_of stmt.now)) }
+    {
+        let mut flaws = Flaws {
+            names: false,
+            kinds: false,
+            bounds: false,
+        };
+        flaws.check_statement(names, stmt);
+        flaws
+    }
+}
+
+/// What was found first, or this clause on this line, where it is tested before that.
+fn earlier(first: Option<(Clause, u32)>, clause: Option<Clause>, line: u32) -> Option<(Clause, u32)>
+    ensures { result ≡ broken.earlier first clause line }
+{
+    let Some(clause) = clause else {
+        return first;
+    };
+    let Some((other, _)) = first else {
+        return Some((clause, line));
+    };
+    if clause.rank() < other.rank() {
+        return Some((clause, line));
+    }
+    first
+}
+
+impl Tables {
+    /// The first clause on labels, blocks and loops that the statement breaks.
+    fn first_of_control(&self, lines: &[Shared<Line>], i: usize, stmt: &Stmt) -> Option<Clause>
+        ensures { let program = map line_of lines.now in Serve self.now program
+            → result ≡ find (λ clause. breaks clause program i (statement_of stmt.now)) legal.control_clauses }
+    {
+        if names_no_label(&self.labels, stmt) {
+            return Some(Clause::NamedLabels);
+        }
+        if jumps_badly(&self.labels, lines, stmt) {
+            return Some(Clause::Targets);
+        }
+        if ends_badly(&self.labels, lines, stmt) {
+            return Some(Clause::Terminals);
+        }
+        if self.blocks.breaks(lines, i) || self.ranges.breaks_range(i) {
+            return Some(Clause::Nests);
+        }
+        if self.jumps_in(i, stmt) {
+            return Some(Clause::Jumps);
+        }
+        if sets_variable(&self.ranges, lines, i, stmt) {
+            return Some(Clause::Variables);
+        }
+        None
+    }
+
+    /// The first clause, in the order of test, that the statement with these flaws breaks.
+    fn first_clause(
+        &self,
+        flaws: Flaws,
+        lines: &[Shared<Line>],
+        i: usize,
+        stmt: &Stmt,
+    ) -> Option<Clause>
+        requires kinds { flaws.kinds ≡ not (kinds_agree (kind_at self.now.names) (statement_of stmt.now)) }
+        requires bounds { flaws.bounds ≡ not (dimensions_fit (array_bounds self.now.names) (statement_of stmt.now)) }
+        ensures { let program = map line_of lines.now in
+            Serve self.now program → result ≡ legal.first_clause program i (statement_of stmt.now) }
+    {
+        if flaws.kinds {
+            return Some(Clause::Kinds);
+        }
+        if flaws.bounds {
+            return Some(Clause::Bounds);
+        }
+        self.first_of_control(lines, i, stmt)
+    }
+
+    /// What is told of the statement `stmt` in the place of the statement `i`, from 0: the first clause,
+    /// in the order of test, that it breaks, where the table has its names. It takes no memory.
+    pub fn first_broken(&self, lines: &[Shared<Line>], i: usize, stmt: &Stmt) -> Broken
+        ensures names { names_pass (has_name self.now.names) (statement_of stmt.now) ≡ has_known_names result }
+        ensures first { let program = map line_of lines.now in Serve self.now program → has_known_names result ≡ true
+            → clause_told result ≡ legal.first_clause program i (statement_of stmt.now) }
+    {
+        let flaws = Flaws::of(&self.names, stmt);
+        if flaws.names {
+            return Broken::UnknownName;
+        }
+        match self.first_clause(flaws, lines, i, stmt) {
+            Some(clause) => Broken::First(clause),
+            None => Broken::Nothing,
+        }
+    }
+
+    /// The first of all clauses, in the order of test, that a statement breaks, and the line of the first that does.
+    #[tactic(auto, using(crate::proofs::Served::own_tables_serve))]
+    pub(crate) fn first_of_all(&self, lines: &[Shared<Line>]) -> Option<(Clause, u32)>
+        ensures { AreTables self.now (map line_of lines.now) → result ≡ first_breach (map line_of lines.now) }
+    {
+        let mut first: Option<(Clause, u32)> = None;
+        for i in 0..lines.len() {
+            let line = &lines[i];
+            let flaws = Flaws::of(&self.names, &line.stmt);
+            let clause = self.first_clause(flaws, lines, i, &line.stmt);
+            first = earlier(first, clause, line.line);
+        }
+        first
+    }
+}

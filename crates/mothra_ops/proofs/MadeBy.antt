@@ -1,0 +1,42 @@
+-- What is found of a statement that an edit makes by a node.
+use Rattle.std.proofs.Common.{◌≡◌, ◌-◌, true, Bool, map, Some, ap, sym, ◌∙◌, subst}
+use Rattle.f77_check.specs.Checked.{CheckedFields, IsChecked}
+use Rattle.f77_legal.specs.Alone.{StandsAlone}
+use Rattle.f77_program.specs.Patching.{Fits}
+use Rattle.f77_program.specs.Program.{line_of, line_at}
+use Rattle.f77_program.specs.declared.program.Line.{Line}
+use Rattle.f77_tree.specs.Node.{NodeOf}
+use Rattle.f77_tree.specs.Sites.{changed}
+use Rattle.f77_tree.specs.Statement.{statement_of, Statement}
+use Rattle.f77_tree.specs.declared.statement.Stmt.{Stmt}
+use Rattle.std.proofs.lemmas.Option.{same_Some}
+use Rattle.mothra_ops.specs.code.Original.{HasStatement}
+use Rattle.mothra_ops.specs.Edits.{IsMutant, made}
+use Rattle.mothra_ops.specs.Made.{IsMadeMutant}
+use Rattle.mothra_ops.specs.Pools.{pools_of}
+use Rattle.mothra_ops.specs.declared.edit.Edit.{Edit}
+use Rattle.mothra_ops.proofs.MadeFits.{made_fits}
+use Rattle.mothra_ops.proofs.MakesMutant.{line_stands}
+
+-- the edit puts this node into this line's statement, which makes this one
+module _ (checked : CheckedFields) (edit : Edit) (node : NodeOf) (line : Line) (stmt : Stmt)
+    (makes : (s : Statement) → HasStatement (map line_of checked.program) edit.statement s
+    → made (pools_of (map line_of checked.program)) (map line_of checked.program) edit ≡ Some (changed s edit.position node))
+    (at : line_at checked.program edit.statement ≡ Some line) (put : statement_of stmt ≡ changed (statement_of line.stmt) edit.position node) where
+  makes_there : made (pools_of (map line_of checked.program)) (map line_of checked.program) edit ≡ Some (statement_of stmt)
+  makes_there = makes (statement_of line.stmt) (line_stands checked.program edit.statement line at) ∙ ap (λ (s : Statement). Some s) (sym put)
+
+  pub fits_there : IsChecked checked → Fits (map line_of checked.program) edit.statement (statement_of stmt)
+  fits_there is = made_fits (map line_of checked.program) is.formed is.legal edit (statement_of stmt) makes_there
+
+  pub none_there : ¬ (IsMutant (map line_of checked.program) edit.statement (statement_of stmt))
+      → (s : Statement) → HasStatement (map line_of checked.program) edit.statement s
+      → ¬ (IsMutant (map line_of checked.program) edit.statement (changed s edit.position node))
+  none_there isnt s has m =
+      let same : changed s edit.position node ≡ statement_of stmt = same_Some _ _ (sym (makes s has) ∙ makes_there) in
+      isnt (subst (IsMutant (map line_of checked.program) edit.statement) same m)
+
+  pub mutant_there : IsMutant (map line_of checked.program) edit.statement (statement_of stmt)
+      → (is_alone : Bool) → (is_alone ≡ true → StandsAlone checked.names (map line_of checked.program) (edit.statement - 1) (statement_of stmt))
+      → IsMadeMutant checked (record { edit = edit; stmt = stmt; is_alone = is_alone })
+  mutant_there mutant is_alone alone = record { makes = makes_there; mutant = mutant; alone = alone }

@@ -1,8 +1,0 @@
-use Rattle.std.proofs.Common.{◌≡◌, map, take}
-use Rattle.f77_program.specs.Program.{line_of}
-use Rattle.f77_tree.specs.Statement.{statement_of}
-use Rattle.mothra_ops.specs.Change.{statements_of}
-use Rattle.mothra_ops.proofs.copies.Copies.of.Given as goal
-
-abbrev pub invariant-loop-line : goal.invariant-loop-line
-invariant-loop-line l = map statement_of l.list.items ≡ statements_of (map line_of (take l.line-index l.lines))

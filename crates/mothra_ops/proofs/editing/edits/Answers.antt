@@ -1,0 +1,25 @@
+use Rattle.std.proofs.Common.{arith, rules, ◌≡◌, ◌∙◌, map, ap, subst, sym}
+use Rattle.std.proofs.lemmas.List.{take_all}
+use Rattle.f77_check.specs.Checked.{CheckedFields}
+use Rattle.f77_program.specs.Program.{line_of}
+use Rattle.mothra_ops.specs.Edits.{IsList, IsNoList}
+use Rattle.mothra_ops.specs.Listing.{edits_in}
+use Rattle.mothra_ops.specs.code.Drawn.{lines_of}
+use Rattle.mothra_ops.specs.declared.mutant.Mutant.{Mutant}
+use Rattle.mothra_ops.proofs.editing.edits.Goals as goal
+
+pub returns-in_err-listing-clause-refused : goal.returns-in_err-listing-clause-refused
+returns-in_err-listing-clause-refused c =
+    let told : IsNoList c.args.op (map line_of c.args.checked.now.program) c.args.every c.in_err-listing.field-0.0 =
+    subst (λ (x : CheckedFields). IsNoList c.args.op (map line_of x.program) c.args.every c.in_err-listing.field-0.0) c.in_ok-original.ensures.program c.in_err-listing.ensures.refused in
+    search rules
+
+pub returns-clause-list : goal.returns-clause-list
+returns-clause-list c =
+    let held = c.deref-mutant-items.result.now in
+    let edit_made = λ (mutant : Mutant). mutant.edit in
+    let all : c.loop-mutant.edits.items ≡ edits_in c.in_ok-listing.listing =
+    c.loop-mutant.invariant ∙ ap (map edit_made) (take_all c.loop-mutant.mutant-index held (omega (arith, c.loop-mutant-test.false))
+    ∙ c.deref-mutant-items.ensures.value) in
+    subst (λ (x : CheckedFields). IsList c.args.op (map line_of x.program) c.args.every c.loop-mutant.edits.items) c.in_ok-original.ensures.program
+    (subst (IsList c.args.op (lines_of c.in_ok-original.original) c.args.every) (sym all) c.in_ok-listing.ensures.list.list)

@@ -1,0 +1,14 @@
+-- A program with what the operators draw from.
+-- Private functions and proofs alone cite what stands here.
+use Rattle.std.specs.Prelude.{◌≡◌, List, map}
+use Rattle.f77_program.specs.Program.{LineFields, line_of}
+use Rattle.mothra_ops.specs.Pools.{pools_of}
+use Rattle.mothra_ops.specs.code.Pools.{pool_fields}
+use Rattle.mothra_ops.specs.declared.original.Original.{Original}
+
+abbrev pub lines_of : Original → List LineFields
+lines_of original = map line_of original.checked.now.program
+
+-- its pools are those of the program
+abbrev pub IsOriginal : Original → Type 0
+IsOriginal original = pool_fields original.pools ≡ pools_of (lines_of original)

@@ -1,0 +1,149 @@
+//! Mutants, and how they are written.
+
+ghost use Rattle.std.specs.Prelude.{◌≡◌, ◌++◌, string_bytes, IfOk, IfErr, OnOk, OnErr};
+ghost use Rattle.f77_program.specs.Canonical.{statement_text};
+ghost use Rattle.f77_tree.specs.Statement.{statement_of};
+ghost use Rattle.mothra_ops.specs.Mutants.{change_text, line_number_at, mutant_fields};
+ghost use Rattle.mothra_ops.specs.Mutants.{mutant_name, mutant_text, program_of};
+ghost use Rattle.mothra_ops.specs.declared.fault.OpsFault.TheVariants.{Memory};
+
+use crate::edit::Edit;
+use crate::fault::OpsFault;
+use crate::plan::Plan;
+use f77_program::{SyntaxFault, print_stmt};
+use f77_tree::Stmt;
+use mothra_codes::Op;
+use std::alloc::{AllocError, Global};
+
+/// Room for as many characters as most lines about a mutant have.
+const LINE: usize = 96;
+
+/// Room for as many characters as most names of mutants have.
+const NAME: usize = 24;
+
+/// A legal program that is another one by one statement.
+#[derive(Debug, Drop)]
+pub struct Mutant {
+    /// What makes it.
+    pub edit: Edit,
+    /// What stands in the place of the statement of the edit.
+    pub stmt: Stmt,
+    /// Whether it is legal by that statement alone.
+    pub is_alone: bool,
+}
+
+impl Mutant {
+    /// The number of the statement that is changed, from 1. It takes no memory.
+    pub fn number(&self) -> usize
+        ensures { result ≡ self.now.edit.statement }
+    {
+        self.edit.statement
+    }
+}
+
+impl Plan {
+    /// The line number of a statement; 0 where the program has none of this number.
+    fn line_number(&self, number: usize) -> u32
+        ensures { result ≡ line_number_at (program_of self.now) number }
+    {
+        match self.program().program().line(number) {
+            Some(line) => line.line,
+            None => 0,
+        }
+    }
+
+    /// Where this mutant of the plan is changed: the line number of the statement, and the canonical text of what
+    /// stands in its place.
+    fn change(&self, alloc: Global, mutant: &Mutant) -> Result<String, OpsFault>
+        ensures text { IfOk result (λ text. string_bytes text
+            ≡ change_text (program_of self.now) (mutant_fields mutant.now)) }
+        ensures memory { IfErr result (λ fault. fault ≡ Memory) }
+    {
+        let line = self.line_number(mutant.number());
+        let mut text = String::with_capacity(alloc, LINE)?;
+        write!(text, "LINE {line} ")?;
+        let statement = printed(alloc, &mutant.stmt)?;
+        text.push_str(&statement)?;
+        Ok(text)
+    }
+
+    /// Appends where this mutant of the plan is changed: the line number of the statement, and the canonical text of
+    /// what stands in its place.
+    pub fn push_change(&self, text: &mut String, mutant: &Mutant) -> Result<(), OpsFault>
+        ensures text { OnOk result (string_bytes text.new ≡ string_bytes text.old
+            ++ change_text (program_of self.now) (mutant_fields mutant.now)) }
+        ensures unchanged { OnErr result (string_bytes text.new ≡ string_bytes text.old) }
+        ensures memory { IfErr result (λ fault. fault ≡ Memory) }
+    {
+        let change = self.change(*text.allocator(), mutant)?;
+        Ok(text.push_str(&change)?)
+    }
+
+    /// How the operator's mutant of this number is written; no text where the plan has no such mutant.
+    fn text_of(&self, alloc: Global, op: Op, number: u32) -> Result<String, OpsFault>
+        ensures text { IfOk result (λ text. string_bytes text ≡ mutant_text self.now op number) }
+        ensures memory { IfErr result (λ fault. fault ≡ Memory) }
+    {
+        let Some(mutant) = self.mutant(op, number) else {
+            return Ok(String::new(alloc));
+        };
+        let mut text = name(alloc, LINE, self.every(), op, number)?;
+        text.push(' ')?;
+        self.push_change(&mut text, mutant)?;
+        Ok(text)
+    }
+
+    /// Appends how the operator's mutant of this number is written: its name, the line number of the statement that it
+    /// changes, and the canonical text of what stands there. Nothing where the plan has no such mutant.
+    pub fn push_text(&self, text: &mut String, op: Op, number: u32) -> Result<(), OpsFault>
+        ensures text { OnOk result (string_bytes text.new ≡ string_bytes text.old ++ mutant_text self.now op number) }
+        ensures unchanged { OnErr result (string_bytes text.new ≡ string_bytes text.old) }
+        ensures memory { IfErr result (λ fault. fault ≡ Memory) }
+    {
+        let own = self.text_of(*text.allocator(), op, number)?;
+        Ok(text.push_str(&own)?)
+    }
+}
+
+/// The canonical text of a statement.
+fn printed(alloc: Global, stmt: &Stmt) -> Result<String, OpsFault>
+    ensures text { IfOk result (λ text. string_bytes text ≡ statement_text (statement_of stmt.now)) }
+    ensures memory { IfErr result (λ fault. fault ≡ Memory) }
+{
+    match print_stmt(alloc, stmt) {
+        Ok(text) => Ok(text),
+        Err(SyntaxFault::Memory) => Err(OpsFault::Memory),
+        Err(_) => unreachable!(),
+    }
+}
+
+/// Writes how a mutant is named in the place of what `name` has: the operator's code, its number,
+/// and its number in the whole list, of which each such item is kept.
+pub fn write_name(name: &mut String, every: u32, op: Op, number: u32) -> Result<(), AllocError>
+    ensures { OnOk result (string_bytes name.new ≡ mutant_name every op number) }
+{
+    let code = op.code();
+    let original = u64::from(number.saturating_sub(1)) * u64::from(every) + 1;
+    name.clear();
+    write!(name, "{code} {number} {original}")?;
+    Ok(())
+}
+
+/// How a mutant is named, in a text that has room for so many characters.
+fn name(alloc: Global, room: usize, every: u32, op: Op, number: u32) -> Result<String, AllocError>
+    ensures { IfOk result (λ name. string_bytes name ≡ mutant_name every op number) }
+{
+    let mut name = String::with_capacity(alloc, room)?;
+    write_name(&mut name, every, op, number)?;
+    Ok(name)
+}
+
+/// Appends how a mutant is named.
+pub fn push_name(text: &mut String, every: u32, op: Op, number: u32) -> Result<(), AllocError>
+    ensures text { OnOk result (string_bytes text.new ≡ string_bytes text.old ++ mutant_name every op number) }
+    ensures unchanged { OnErr result (string_bytes text.new ≡ string_bytes text.old) }
+{
+    // The contract of `write!` does not say what a refusal leaves.
+    let name = name(*text.allocator(), NAME, every, op, number)?;
+    text.push_str(&name)
+}
