@@ -5,7 +5,7 @@ from unittest import mock
 
 import running
 from developing import tables
-from developing.tables import crates_of, first_sentence, tools_of, with_table, wrong_bodies_of
+from developing.tables import cases_of, crates_of, first_sentence, tools_of, with_table, wrong_bodies_of
 from running import Folder, refuses
 
 PAGE = "# A\n\n<!-- made by tools/tables: crates -->\n{}<!-- end of crates -->\n\nB\n"
@@ -56,6 +56,12 @@ class Made(Folder):
         self.put("crates/low/must-fail/one_told_as_two.edit", "")
         self.assertEqual(list(wrong_bodies_of(self.folder))[1:], [("`low`", "one told as two")])
 
+    def test_a_function_with_a_case_for_each_expression(self) -> None:
+        self.put("crates/low/src/tree.rt", "pub enum Expr {\n    Not(u8),\n    /// Two.\n    Both { x: u8 },\n}\n")
+        one = "impl A {\n    pub fn one(&self) {\n        Expr::Not | Expr::Both\n    }\n\n"
+        self.put("crates/mid/src/a.rt", one + "    fn other() {\n        Expr::Not | Expr::Bother\n    }\n}\n")
+        self.assertEqual(list(cases_of(self.folder))[1:], [("`Expr`", "`one`", "`mid/src/a.rt`")])
+
     def test_a_first_sentence_ends_at_its_full_stop(self) -> None:
         for text, said in (("A `b.c` is. Not d.", "A `b.c` is"), ("A\n b\n\nc.", "A b"), ("A (1.5). B", "A (1.5)")):
             self.assertEqual(first_sentence(text), said)
@@ -63,7 +69,7 @@ class Made(Folder):
 
 class Repository(unittest.TestCase):
     def test_its_tables_are_as_the_code_is(self) -> None:
-        self.assertEqual(running.run("tables", "--check")[:2], (0, "4 tables are as the code is\n"))
+        self.assertEqual(running.run("tables", "--check")[:2], (0, "5 tables are as the code is\n"))
 
 
 if __name__ == "__main__":

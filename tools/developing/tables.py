@@ -3,7 +3,8 @@
     tools/tables [--check]
 
 A table stands on its page between two comments, `made by tools/tables: NAME` and `end of NAME`, and is written anew
-there: the crates with what each stands on, the tools, the modules of the package, the wrong bodies that the gate tries.
+there: the crates with what each stands on, the tools, the modules of the package, the wrong bodies that the gate tries,
+the functions that have a case for each expression or each statement.
 What a row says is the first sentence of the file that it is of. With --check nothing is written: each table that is
 another one is told, and the exit status is then 1.
 """
@@ -78,12 +79,39 @@ def wrong_bodies_of(root: Path) -> Rows:
         yield f"`{path.parent.parent.name}`", path.stem.replace("_", " ")
 
 
+def variants_of(text: str, name: str) -> list[str]:
+    """The variants of the enum of this name, where the file declares it."""
+    found = re.search(rf"^pub enum {name} \{{\n(.*?)^\}}", text, re.M | re.S)
+    return re.findall(r"^    ([A-Z]\w*)", found[1], re.M) if found else []
+
+
+def functions_of(text: str) -> Iterator[tuple[str, str]]:
+    """The name of each function of a file, and its text."""
+    for part in re.split(r"(?m)^(?=(?: {4})?(?:pub(?:\(crate\))? )?fn )", text)[1:]:
+        yield re.findall(r"fn (\w+)", part)[0], part
+
+
+def cases_of(root: Path) -> Rows:
+    """The functions of the product that name each variant of `Expr` or of `Stmt`."""
+    product = [crate for crate in read_crates(root) if not crate.endswith("_tests")]
+    files = [path for crate in product for path in sorted((root / "crates" / crate / "src").glob("**/*.rt"))]
+    texts = {path: path.read_text(encoding="utf-8") for path in files}
+    yield "A case for each", "Function", "File"
+    for name in ("Expr", "Stmt"):
+        variants = [each for text in texts.values() for each in variants_of(text, name)]
+        for path, text in texts.items():
+            for function, body in functions_of(text):
+                if variants and all(re.search(rf"\b{name}::{variant}\b", body) for variant in variants):
+                    yield f"`{name}`", f"`{function}`", f"`{path.relative_to(root / 'crates')}`"
+
+
 # Each table: its page, and what makes its rows, with the head in front.
 TABLES: dict[str, tuple[str, Callable[[Path], Rows]]] = {
     "crates": ("docs/ARCHITECTURE.md", crates_of),
     "tools": ("docs/ARCHITECTURE.md", tools_of),
     "modules": ("docs/ARCHITECTURE.md", modules_of),
     "wrong bodies": ("CONTRIBUTING.md", wrong_bodies_of),
+    "cases": ("CONTRIBUTING.md", cases_of),
 }
 
 
