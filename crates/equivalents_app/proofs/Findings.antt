@@ -11,8 +11,8 @@ use Rattle.mothra_equivalents.specs.declared.equivalents.Equivalent.{Equivalent}
 use Rattle.mothra_job.specs.Job.{JobFields}
 use Rattle.mothra_ops.specs.Mutants.{program_of}
 use Rattle.mothra_ops.specs.Plan.{IsFirstTooLong, IsNoPlan, IsPlan, PlanFields, asked}
-use Rattle.mothra_ops.specs.declared.fault.OpsFault.{OpsFault}
-use Rattle.mothra_ops.specs.declared.fault.OpsFault.TheVariants as ops
+use Rattle.mothra_replacements.specs.declared.fault.OpsFault.{OpsFault}
+use Rattle.mothra_replacements.specs.declared.fault.OpsFault.TheVariants as ops
 use Rattle.equivalents_app.specs.Finding.{IsFound}
 use Rattle.equivalents_app.specs.Room.{AreNamedMutants}
 use Rattle.equivalents_app.specs.Telling.{told_text}

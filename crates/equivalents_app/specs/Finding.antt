@@ -9,7 +9,7 @@ use Rattle.mothra_codes.specs.declared.op.Op.{Op}
 use Rattle.mothra_equivalents.specs.declared.equivalents.Equivalent.{Equivalent}
 use Rattle.mothra_job.specs.Job.{JobFields}
 use Rattle.mothra_ops.specs.Plan.{IsFirstTooLong, PlanFields}
-use Rattle.mothra_ops.specs.declared.fault.OpsFault.TheVariants.{TooMany}
+use Rattle.mothra_replacements.specs.declared.fault.OpsFault.TheVariants.{TooMany}
 use Rattle.equivalents_app.specs.Room.{AreNamedMutants}
 use Rattle.equivalents_app.specs.Telling.{told_text}
 use Rattle.equivalents_app.specs.declared.words.Inquiry.{Inquiry}

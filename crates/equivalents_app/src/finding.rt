@@ -2,7 +2,7 @@
 
 ghost use Rattle.std.specs.Prelude.{◌≡◌, ◌⊎◌, Ok, Err, Contains, IfErr, IfOk, MatchResult, string_bytes};
 ghost use Rattle.mothra_app.specs.Fault.{of_mutants};
-ghost use Rattle.mothra_ops.specs.declared.fault.OpsFault.TheVariants.{Memory};
+ghost use Rattle.mothra_replacements.specs.declared.fault.OpsFault.TheVariants.{Memory};
 ghost use Rattle.equivalents_app.specs.Finding.{IsFound};
 ghost use Rattle.equivalents_app.specs.Room.{AreNamedMutants};
 ghost use Rattle.equivalents_app.specs.Words.{IsInquiryBounded};

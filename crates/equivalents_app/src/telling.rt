@@ -4,7 +4,7 @@ ghost use Rattle.std.specs.Prelude.{◌≡◌, ◌++◌, IfErr, IfOk, OnOk, [], 
 ghost use Rattle.f77_tree.specs.Joined.{separated};
 ghost use Rattle.mothra_app.specs.Listing.{asked_total};
 ghost use Rattle.mothra_ops.specs.Mutants.{mutant_fields, original_number};
-ghost use Rattle.mothra_ops.specs.declared.fault.OpsFault.TheVariants.{Memory};
+ghost use Rattle.mothra_replacements.specs.declared.fault.OpsFault.TheVariants.{Memory};
 ghost use Rattle.equivalents_app.specs.Telling.{declarable, entry_text, equivalent_line};
 ghost use Rattle.equivalents_app.specs.Telling.{json_line, lines_text, rule_line};
 ghost use Rattle.equivalents_app.specs.Telling as definition;

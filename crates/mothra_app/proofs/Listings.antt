@@ -12,8 +12,8 @@ use Rattle.mothra_codes.specs.declared.op.Op.{Op}
 use Rattle.mothra_ops.specs.Edits.{IsList}
 use Rattle.mothra_ops.specs.Mutants.{program_of}
 use Rattle.mothra_ops.specs.Plan.{IsNoPlan, IsPlan, PlanFields, asked, edits_of}
-use Rattle.mothra_ops.specs.declared.fault.OpsFault.{OpsFault}
-use Rattle.mothra_ops.specs.declared.fault.OpsFault.TheVariants as ops
+use Rattle.mothra_replacements.specs.declared.fault.OpsFault.{OpsFault}
+use Rattle.mothra_replacements.specs.declared.fault.OpsFault.TheVariants as ops
 use Rattle.mothra_app.proofs.ListedLines.{asked_are_chosen}
 use Rattle.mothra_app.proofs.Memory.{legal_in_mutants, ops_in}
 

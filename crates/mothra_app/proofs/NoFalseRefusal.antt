@@ -9,7 +9,7 @@ use Rattle.f77_source.specs.declared.fault.FormFault.TheVariants as form
 use Rattle.f77_program.specs.declared.fault.SyntaxFault.TheVariants as syntax
 use Rattle.f77_legal.specs.declared.fault.CheckFault.TheVariants as check
 use Rattle.f77_meaning.specs.declared.outcome.RunFault.TheVariants as run
-use Rattle.mothra_ops.specs.declared.fault.OpsFault.TheVariants as ops
+use Rattle.mothra_replacements.specs.declared.fault.OpsFault.TheVariants as ops
 use Rattle.mothra_bench.specs.Analysis.{IsNoReport}
 use Rattle.mothra_verdicts.specs.declared.fault.BenchFault.{BenchFault}
 use Rattle.mothra_verdicts.specs.declared.fault.BenchFault.TheVariants as bench

@@ -10,7 +10,7 @@ use Rattle.mothra_codes.specs.declared.op.Op.{Op}
 use Rattle.mothra_ops.specs.Edits.{IsList, IsTooLong, most_edits, most_whole, thinned}
 use Rattle.mothra_ops.specs.Plan.{IsFirstTooLong}
 use Rattle.mothra_ops.specs.declared.edit.Edit.{Edit}
-use Rattle.mothra_ops.specs.declared.fault.OpsFault.TheVariants.{TooMany}
+use Rattle.mothra_replacements.specs.declared.fault.OpsFault.TheVariants.{TooMany}
 use Rattle.mothra_app.proofs.Chosen.{named_in, same_index}
 use Rattle.mothra_app.proofs.OneProgram.{Laws, one_legal, same_fault, same_program, never_both}
 

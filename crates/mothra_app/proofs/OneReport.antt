@@ -25,7 +25,7 @@ use Rattle.mothra_ops.specs.Edits.{numbered}
 use Rattle.mothra_ops.specs.Mutants.{edit_text, mutant_made, mutant_name, mutant_of, original_number, program_of}
 use Rattle.mothra_ops.specs.Plan.{IsFirstTooLong, PlanFields}
 use Rattle.mothra_ops.specs.declared.edit.Edit.{Edit}
-use Rattle.mothra_ops.specs.declared.fault.OpsFault.TheVariants.{TooMany}
+use Rattle.mothra_replacements.specs.declared.fault.OpsFault.TheVariants.{TooMany}
 use Rattle.mothra_app.proofs.AlikePlans.{AreAlike, alike, counted}
 use Rattle.mothra_app.proofs.OneBench.{ends_all, never_refused, one_refusal, refused, refused_moved}
 use Rattle.mothra_app.proofs.OneListing.{long_moved, never_long, one_first}

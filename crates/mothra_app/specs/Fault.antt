@@ -10,7 +10,7 @@ use Rattle.f77_legal.specs.declared.fault.CheckFault.TheVariants as check
 use Rattle.f77_meaning.specs.declared.outcome.RunFault.TheVariants as run
 use Rattle.mothra_cli.specs.declared.request.Request.{Request}
 use Rattle.mothra_cli.specs.declared.request.Request.TheVariants as command
-use Rattle.mothra_ops.specs.declared.fault.OpsFault.TheVariants as ops
+use Rattle.mothra_replacements.specs.declared.fault.OpsFault.TheVariants as ops
 
 -- want of memory for a program, F1 or S1; for a legal
 -- one, C1 too; for a run, N1 too; for its mutants, O1 too

@@ -6,7 +6,7 @@ use Rattle.f77_program.specs.declared.fault.SyntaxFault.TheVariants as syntax
 use Rattle.f77_legal.specs.declared.fault.CheckFault.TheVariants as check
 use Rattle.f77_meaning.specs.declared.outcome.RunFault.TheVariants as run
 use Rattle.mothra_codes.specs.declared.op.Op.{Op}
-use Rattle.mothra_ops.specs.declared.fault.OpsFault.TheVariants as ops
+use Rattle.mothra_replacements.specs.declared.fault.OpsFault.TheVariants as ops
 use Rattle.mothra_bench.specs.Analysis.{IsReport}
 use Rattle.mothra_verdicts.specs.Bench.{BenchFields}
 use Rattle.mothra_verdicts.specs.declared.fault.BenchFault.TheVariants as bench

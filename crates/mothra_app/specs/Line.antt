@@ -18,8 +18,8 @@ use Rattle.mothra_verdicts.specs.declared.fault.BenchFault.{BenchFault}
 use Rattle.mothra_verdicts.specs.declared.fault.BenchFault.TheVariants as bench
 use Rattle.mothra_codes.specs.Op.{code_of}
 use Rattle.mothra_codes.specs.declared.ticket.Ticket.{Ticket}
-use Rattle.mothra_ops.specs.declared.fault.OpsFault.{OpsFault}
-use Rattle.mothra_ops.specs.declared.fault.OpsFault.TheVariants as ops
+use Rattle.mothra_replacements.specs.declared.fault.OpsFault.{OpsFault}
+use Rattle.mothra_replacements.specs.declared.fault.OpsFault.TheVariants as ops
 
 abbrev pub plain_line : List ℕ → List ℕ
 plain_line code = codes "FAULT " ++ (code ++ codes "\n")

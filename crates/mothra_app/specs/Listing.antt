@@ -13,7 +13,7 @@ use Rattle.mothra_ops.specs.Edits.{IsList}
 use Rattle.mothra_ops.specs.Mutants.{edit_text}
 use Rattle.mothra_ops.specs.Plan.{IsFirstTooLong, PlanFields, asked, edits_of}
 use Rattle.mothra_ops.specs.declared.edit.Edit.{Edit}
-use Rattle.mothra_ops.specs.declared.fault.OpsFault.TheVariants.{TooMany}
+use Rattle.mothra_replacements.specs.declared.fault.OpsFault.TheVariants.{TooMany}
 
 -- ---- the lines
 

@@ -12,7 +12,7 @@ use Rattle.mothra_verdicts.specs.declared.fault.BenchFault.TheVariants.{Memory}
 use Rattle.mothra_codes.specs.declared.op.Op.{Op}
 use Rattle.mothra_ops.specs.Mutants.{program_of}
 use Rattle.mothra_ops.specs.Plan.{IsFirstTooLong, IsPlan, PlanFields, asked}
-use Rattle.mothra_ops.specs.declared.fault.OpsFault.TheVariants.{TooMany}
+use Rattle.mothra_replacements.specs.declared.fault.OpsFault.TheVariants.{TooMany}
 
 -- the plan of the program for these operators, of whose lists each item is kept that `--every` says
 pub record IsPlanOf (program : List LineFields) (ops : List Op) (every : ℕ)

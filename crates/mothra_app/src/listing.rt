@@ -7,7 +7,7 @@ ghost use Rattle.mothra_app.specs.Listing as definition;
 ghost use Rattle.mothra_app.specs.Listing.{IsListed, asked_total};
 ghost use Rattle.mothra_app.specs.code.Listing.{asked_lines, plan_lines, plan_text};
 ghost use Rattle.mothra_ops.specs.Mutants.{mutant_text};
-ghost use Rattle.mothra_ops.specs.declared.fault.OpsFault.TheVariants.{Memory};
+ghost use Rattle.mothra_replacements.specs.declared.fault.OpsFault.TheVariants.{Memory};
 
 use crate::fault::Fault;
 use crate::program::legal_program_of;

@@ -7,7 +7,7 @@ use Rattle.f77_tree.specs.Statement.{statement_of}
 use Rattle.mothra_codes.specs.declared.ticket.Ticket.{Ticket}
 use Rattle.mothra_ops.specs.Mutants.{mutant_fields, mutant_of, program_of}
 use Rattle.mothra_ops.specs.Plan.{PlanFields}
-use Rattle.mothra_ops.specs.declared.fault.OpsFault.{OpsFault}
+use Rattle.mothra_replacements.specs.declared.fault.OpsFault.{OpsFault}
 use Rattle.mothra_ops.specs.declared.mutant.Mutant.{Mutant}
 use Rattle.mothra_equivalents.specs.code.Equivalents.{IsEquivalentBy}
 use Rattle.mothra_equivalents.specs.Equivalents.{IsMutantBy}

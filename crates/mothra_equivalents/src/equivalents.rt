@@ -4,7 +4,7 @@ ghost use Rattle.std.specs.Prelude.{◌≡◌, ◌+◌, IfErr, IfOk, OnOk};
 ghost use Rattle.mothra_codes.specs.Op.{index};
 ghost use Rattle.mothra_equivalents.specs.Equivalents.{AreEquivalents};
 ghost use Rattle.mothra_equivalents.specs.code.Equivalents.{AreOf, IsFront};
-ghost use Rattle.mothra_ops.specs.declared.fault.OpsFault.TheVariants.{Memory};
+ghost use Rattle.mothra_replacements.specs.declared.fault.OpsFault.TheVariants.{Memory};
 
 use crate::prover::Prover;
 use crate::why::Why;

@@ -7,7 +7,7 @@ ghost use Rattle.mothra_ops.specs.Made.{IsMadeMutant};
 ghost use Rattle.mothra_ops.specs.Mutants.{program_of};
 ghost use Rattle.mothra_equivalents.specs.code.Equivalents.{IsEquivalentBy};
 ghost use Rattle.mothra_equivalents.specs.Equivalents.{IsMutantBy};
-ghost use Rattle.mothra_ops.specs.declared.fault.OpsFault.TheVariants.{Memory};
+ghost use Rattle.mothra_replacements.specs.declared.fault.OpsFault.TheVariants.{Memory};
 
 use crate::rules::rule_of;
 use crate::why::Why;

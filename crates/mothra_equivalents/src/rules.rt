@@ -8,7 +8,7 @@ ghost use Rattle.f77_tree.specs.Statement.{statement_of};
 ghost use Rattle.f77_equivalence.specs.Equivalent.{IsEquivalent};
 ghost use Rattle.mothra_ops.specs.Edits.{IsMutant};
 ghost use Rattle.mothra_ops.specs.Made.{IsMadeMutant};
-ghost use Rattle.mothra_ops.specs.declared.fault.OpsFault.TheVariants.{Memory};
+ghost use Rattle.mothra_replacements.specs.declared.fault.OpsFault.TheVariants.{Memory};
 ghost use Rattle.mothra_equivalents.specs.code.Equivalents.{IsEquivalentBy};
 ghost use Rattle.mothra_equivalents.specs.declared.why.Why.TheVariants.{Spare};
 

@@ -11,9 +11,9 @@ use Rattle.mothra_ops.specs.code.Edits.{IsMadeBy}
 use Rattle.mothra_ops.specs.code.Original.{HasStatement}
 use Rattle.mothra_ops.specs.Edits.{IsMember, IsMutant, made}
 use Rattle.mothra_ops.specs.Made.{IsMadeMutant}
-use Rattle.mothra_ops.specs.Pools.{pools_of}
+use Rattle.mothra_replacements.specs.Pools.{pools_of}
 use Rattle.mothra_ops.specs.declared.edit.Edit.{Edit}
-use Rattle.mothra_ops.specs.declared.fault.OpsFault.{OpsFault}
+use Rattle.mothra_replacements.specs.declared.fault.OpsFault.{OpsFault}
 use Rattle.mothra_ops.specs.declared.mutant.Mutant.{Mutant}
 use Rattle.mothra_ops.proofs.Members.{steps}
 

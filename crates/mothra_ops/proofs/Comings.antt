@@ -9,11 +9,11 @@ use Rattle.mothra_ops.specs.Edits.{IsCountedList, IsMember, IsMutant, IsNoList, 
 use Rattle.mothra_ops.specs.code.Listing.{HasCome, So}
 use Rattle.mothra_ops.specs.Listing.{HoldsEdits, edits_in, longest}
 use Rattle.mothra_ops.specs.code.Original.{HasStatement, StandsAt}
-use Rattle.mothra_ops.specs.Pools.{pools_of}
-use Rattle.mothra_ops.specs.Replacements.{gives}
+use Rattle.mothra_replacements.specs.Pools.{pools_of}
+use Rattle.mothra_replacements.specs.Replacements.{gives}
 use Rattle.mothra_ops.specs.declared.edit.Edit.{Edit}
-use Rattle.mothra_ops.specs.declared.fault.OpsFault.{OpsFault}
-use Rattle.mothra_ops.specs.declared.fault.OpsFault.TheVariants.{Memory, TooMany}
+use Rattle.mothra_replacements.specs.declared.fault.OpsFault.{OpsFault}
+use Rattle.mothra_replacements.specs.declared.fault.OpsFault.TheVariants.{Memory, TooMany}
 use Rattle.mothra_ops.specs.declared.listing.Limits.{Limits}
 use Rattle.mothra_ops.specs.declared.listing.Listing.{Listing}
 use Rattle.mothra_ops.specs.declared.mutant.Mutant.{Mutant}

@@ -13,8 +13,8 @@ use Rattle.f77_tree.specs.Sites.{Site, changed, sites}
 use Rattle.f77_tree.specs.declared.replacement.Replacement.{Replacement}
 use Rattle.mothra_ops.specs.Edits.{made, numbered}
 use Rattle.mothra_ops.specs.code.Original.{HasStatement, given_at}
-use Rattle.mothra_ops.specs.Pools.{PoolFields}
-use Rattle.mothra_ops.specs.Replacements.{gives}
+use Rattle.mothra_replacements.specs.Pools.{PoolFields}
+use Rattle.mothra_replacements.specs.Replacements.{gives}
 use Rattle.mothra_ops.specs.declared.edit.Edit.{Edit}
 use Rattle.mothra_ops.proofs.Made.{item_numbered, no_node, no_new, past, the_new}
 use Rattle.mothra_ops.proofs.MakesMutant.{line_numbered, line_stands}

@@ -1,13 +1,6 @@
-mod Rows
-mod Filters
 mod OrderedLists
 mod Thinning
 mod LongLists
-mod Elements
-mod Ascending
-pub mod PoolLists
-pub mod PoolLines
-mod InPlaces
 mod Thinned
 mod Cursor
 mod Members
@@ -21,9 +14,5 @@ mod Plans
 mod Numbered
 mod GivenMakes
 mod Shapes
-mod FormedNodes
-mod FormedSites
-mod FormedPools
-mod FormedGiven
 mod MadeFits
 mod MadeBy

@@ -14,8 +14,8 @@ use Rattle.f77_tree.specs.Sites.{Site, changed, sites}
 use Rattle.f77_tree.specs.declared.replacement.Replacement.{Replacement}
 use Rattle.mothra_ops.specs.Edits.{made, numbered}
 use Rattle.mothra_ops.specs.code.Original.{HasStatement}
-use Rattle.mothra_ops.specs.Pools.{PoolFields}
-use Rattle.mothra_ops.specs.Replacements.{gives}
+use Rattle.mothra_replacements.specs.Pools.{PoolFields}
+use Rattle.mothra_replacements.specs.Replacements.{gives}
 use Rattle.mothra_ops.specs.declared.edit.Edit.{Edit}
 use Rattle.mothra_codes.specs.declared.op.Op.{Op}
 use Rattle.mothra_ops.proofs.Left.{numbered_behind}

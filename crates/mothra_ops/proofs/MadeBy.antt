@@ -13,7 +13,7 @@ use Rattle.std.proofs.lemmas.Option.{same_Some}
 use Rattle.mothra_ops.specs.code.Original.{HasStatement}
 use Rattle.mothra_ops.specs.Edits.{IsMutant, made}
 use Rattle.mothra_ops.specs.Made.{IsMadeMutant}
-use Rattle.mothra_ops.specs.Pools.{pools_of}
+use Rattle.mothra_replacements.specs.Pools.{pools_of}
 use Rattle.mothra_ops.specs.declared.edit.Edit.{Edit}
 use Rattle.mothra_ops.proofs.MadeFits.{made_fits}
 use Rattle.mothra_ops.proofs.MakesMutant.{line_stands}

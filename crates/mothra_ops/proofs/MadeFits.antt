@@ -21,13 +21,13 @@ use Rattle.f77_legal.specs.Legal.{IsLegal}
 use Rattle.mothra_codes.specs.declared.op.Op.{Op}
 use Rattle.mothra_codes.specs.declared.op.Op.TheVariants.{Rsr, San, Sdl}
 use Rattle.mothra_ops.specs.Edits.{IsMember, MakesLegal, made, numbered}
-use Rattle.mothra_ops.specs.Pools.{PoolFields, pools_of}
-use Rattle.mothra_ops.specs.Replacements.{is_replaceable_action, acts_or_continues, gives, in_statements, replacements, stands_in}
+use Rattle.mothra_replacements.specs.Pools.{PoolFields, pools_of}
+use Rattle.mothra_replacements.specs.Replacements.{is_replaceable_action, acts_or_continues, gives, in_statements, replacements, stands_in}
 use Rattle.mothra_ops.specs.declared.edit.Edit.{Edit}
-use Rattle.mothra_ops.proofs.FormedGiven.{IsFit, chosen, gives_fit}
-use Rattle.mothra_ops.proofs.FormedNodes.{IsFormedLine, IsFormedNode, lines_formed, nodes_formed}
-use Rattle.mothra_ops.proofs.FormedPools.{pools_formed}
-use Rattle.mothra_ops.proofs.FormedSites.{behind_put}
+use Rattle.mothra_replacements.proofs.FormedGiven.{IsFit, chosen, gives_fit}
+use Rattle.mothra_replacements.proofs.FormedNodes.{IsFormedLine, IsFormedNode, lines_formed, nodes_formed}
+use Rattle.mothra_replacements.proofs.FormedPools.{pools_formed}
+use Rattle.mothra_replacements.proofs.FormedSites.{behind_put}
 use Rattle.mothra_ops.proofs.Members.{node_there, steps}
 use Rattle.mothra_ops.proofs.Numbered.{at_number, at_place}
 

@@ -10,8 +10,8 @@ use Rattle.f77_tree.specs.Sites.{Site, node_at, put_node, changed, sites}
 use Rattle.f77_tree.proofs.Numbering.{numbering}
 use Rattle.mothra_ops.specs.Edits.{IsMember, IsMutant, made, numbered}
 use Rattle.mothra_ops.specs.code.Original.{HasStatement, StandsAt}
-use Rattle.mothra_ops.specs.Pools.{PoolFields, pools_of}
-use Rattle.mothra_ops.specs.Replacements.{gives}
+use Rattle.mothra_replacements.specs.Pools.{PoolFields, pools_of}
+use Rattle.mothra_replacements.specs.Replacements.{gives}
 use Rattle.mothra_ops.specs.declared.edit.Edit.{Edit}
 use Rattle.mothra_codes.specs.declared.op.Op.{Op}
 use Rattle.mothra_ops.proofs.Cursor.{edit_at}

@@ -18,8 +18,8 @@ use Rattle.mothra_codes.specs.code.Op.{op_at}
 use Rattle.mothra_ops.specs.Listing.{edits_in}
 use Rattle.mothra_ops.specs.Plan.{ListFields, HasOneEach, IsPlan, IsNoPlan, asked, plan_fields, list_fields}
 use Rattle.mothra_ops.specs.declared.edit.Edit.{Edit}
-use Rattle.mothra_ops.specs.declared.fault.OpsFault.{OpsFault}
-use Rattle.mothra_ops.specs.declared.fault.OpsFault.TheVariants.{Memory, NotASite, TooMany}
+use Rattle.mothra_replacements.specs.declared.fault.OpsFault.{OpsFault}
+use Rattle.mothra_replacements.specs.declared.fault.OpsFault.TheVariants.{Memory, NotASite, TooMany}
 use Rattle.mothra_ops.specs.declared.listing.Listing.{Listing}
 use Rattle.mothra_codes.specs.declared.op.Op.{Op}
 use Rattle.mothra_codes.specs.declared.op.Op.TheVariants.{Aar}

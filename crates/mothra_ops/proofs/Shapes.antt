@@ -24,8 +24,8 @@ use Rattle.mothra_codes.specs.declared.op.Op.{Op}
 use Rattle.mothra_codes.specs.declared.op.Op.TheVariants.{Der, Dsa, Glr}
 use Rattle.mothra_ops.specs.Edits.{made, numbered}
 use Rattle.mothra_ops.specs.Made.{IsMadeMutant}
-use Rattle.mothra_ops.specs.Pools.{PoolFields, pools_of}
-use Rattle.mothra_ops.specs.Replacements.{gives, replacements, stands_in}
+use Rattle.mothra_replacements.specs.Pools.{PoolFields, pools_of}
+use Rattle.mothra_replacements.specs.Replacements.{gives, replacements, stands_in}
 use Rattle.mothra_ops.specs.declared.edit.Edit.{Edit}
 use Rattle.mothra_ops.specs.declared.mutant.Mutant.{Mutant}
 use Rattle.mothra_ops.proofs.MakesMutant.{counted_at}

@@ -8,13 +8,13 @@ use Rattle.f77_program.specs.Patching.{Fits, patched}
 use Rattle.f77_tree.specs.Statement.{Statement}
 use Rattle.f77_legal.specs.Labels.{nth_statement}
 use Rattle.f77_legal.specs.Legal.{IsLegal}
-use Rattle.mothra_ops.specs.Pools.{PoolFields, pools_of}
-use Rattle.mothra_ops.specs.Replacements.{gives}
+use Rattle.mothra_replacements.specs.Pools.{PoolFields, pools_of}
+use Rattle.mothra_replacements.specs.Replacements.{gives}
 use Rattle.f77_tree.specs.Node.{NodeOf}
 use Rattle.f77_tree.specs.Sites.{Site, sites, node_at, whole_with}
 use Rattle.mothra_ops.specs.declared.edit.Edit.{Edit}
-use Rattle.mothra_ops.specs.declared.fault.OpsFault.{OpsFault}
-use Rattle.mothra_ops.specs.declared.fault.OpsFault.TheVariants.{Memory, NotASite, TooMany}
+use Rattle.mothra_replacements.specs.declared.fault.OpsFault.{OpsFault}
+use Rattle.mothra_replacements.specs.declared.fault.OpsFault.TheVariants.{Memory, NotASite, TooMany}
 use Rattle.mothra_codes.specs.declared.op.Op.{Op}
 
 -- the item of this number, counted from 1

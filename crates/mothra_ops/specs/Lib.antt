@@ -1,5 +1,3 @@
-pub mod Pools
-pub mod Replacements
 pub mod Edits
 pub mod Listing
 pub mod Plan

@@ -6,7 +6,7 @@ use Rattle.f77_tree.specs.Statement.{statement_of}
 use Rattle.f77_legal.specs.Alone.{StandsAlone}
 use Rattle.f77_check.specs.Checked.{CheckedFields}
 use Rattle.mothra_ops.specs.Edits.{IsMutant, made}
-use Rattle.mothra_ops.specs.Pools.{pools_of}
+use Rattle.mothra_replacements.specs.Pools.{pools_of}
 use Rattle.mothra_ops.specs.declared.listing.Listing.{Listing}
 use Rattle.mothra_ops.specs.declared.mutant.Mutant.{Mutant}
 

@@ -9,7 +9,7 @@ use Rattle.mothra_codes.specs.Op.{code_of}
 use Rattle.mothra_codes.specs.declared.op.Op.{Op}
 use Rattle.mothra_ops.specs.Edits.{made, numbered}
 use Rattle.mothra_ops.specs.Plan.{PlanFields, edits_of}
-use Rattle.mothra_ops.specs.Pools.{pools_of}
+use Rattle.mothra_replacements.specs.Pools.{pools_of}
 use Rattle.mothra_ops.specs.declared.edit.Edit.{Edit}
 use Rattle.mothra_ops.specs.declared.mutant.Mutant.{Mutant}
 

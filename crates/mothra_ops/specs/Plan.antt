@@ -8,8 +8,8 @@ use Rattle.mothra_ops.specs.Edits.{IsCountedList, IsList, IsTooLong}
 use Rattle.mothra_ops.specs.Listing.{edits_in}
 use Rattle.mothra_codes.specs.Op.{all_ops, index}
 use Rattle.mothra_ops.specs.declared.edit.Edit.{Edit}
-use Rattle.mothra_ops.specs.declared.fault.OpsFault.{OpsFault}
-use Rattle.mothra_ops.specs.declared.fault.OpsFault.TheVariants.{Memory, NotASite, TooMany}
+use Rattle.mothra_replacements.specs.declared.fault.OpsFault.{OpsFault}
+use Rattle.mothra_replacements.specs.declared.fault.OpsFault.TheVariants.{Memory, NotASite, TooMany}
 use Rattle.mothra_ops.specs.declared.listing.Listing.{Listing}
 use Rattle.mothra_codes.specs.declared.op.Op.{Op}
 

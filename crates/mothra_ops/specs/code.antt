@@ -1,5 +1,4 @@
 pub mod Edits
 pub mod Original
 pub mod Listing
-pub mod Pools
 pub mod Drawn

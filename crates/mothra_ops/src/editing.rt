@@ -10,17 +10,16 @@ ghost use Rattle.mothra_ops.specs.Made.{IsMadeMutant};
 ghost use Rattle.mothra_ops.specs.code.Listing.{HasCome};
 ghost use Rattle.mothra_ops.specs.code.Original.{HasStatement, IsSiteOf};
 ghost use Rattle.mothra_ops.specs.code.Drawn.{IsOriginal, lines_of};
-ghost use Rattle.mothra_ops.specs.declared.fault.OpsFault.TheVariants.{Memory, NotASite};
+ghost use Rattle.mothra_replacements.specs.declared.fault.OpsFault.TheVariants.{Memory, NotASite};
 
 use crate::edit::Edit;
-use crate::fault::{OpsFault, memory_fault};
 use crate::listing::{Limits, Listing};
 use crate::original::Original;
-use crate::replacing::gives;
 use crate::site::Site;
 use f77_check::Checked;
 use f77_tree::Stmt;
 use mothra_codes::Op;
+use mothra_replacements::{OpsFault, gives, memory_fault};
 use std::alloc::Global;
 
 impl Original<'_> {

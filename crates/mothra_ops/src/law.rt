@@ -6,7 +6,7 @@ ghost use Rattle.f77_program.specs.Program.{IsProgram, LineFields};
 ghost use Rattle.f77_program.specs.Patching.{Fits};
 ghost use Rattle.f77_legal.specs.Legal.{IsLegal};
 ghost use Rattle.mothra_ops.specs.Edits.{Lists, IsMember, IsTooLong, MakesLegal, made, thinned, most_edits, most_whole};
-ghost use Rattle.mothra_ops.specs.Pools.{pools_of};
+ghost use Rattle.mothra_replacements.specs.Pools.{pools_of};
 ghost use Rattle.mothra_ops.specs.declared.edit.Edit.{Edit};
 ghost use Rattle.mothra_codes.specs.declared.op.Op.{Op};
 

@@ -4,11 +4,11 @@ ghost use Rattle.std.specs.Prelude.{◌≡◌, ◌⊎◌, ◌++◌, ◌∷◌, [
 ghost use Rattle.mothra_ops.specs.Edits.{thinned};
 ghost use Rattle.mothra_ops.specs.Listing.{HoldsEdits, longest};
 ghost use Rattle.mothra_ops.specs.declared.edit.Edit.{Edit};
-ghost use Rattle.mothra_ops.specs.declared.fault.OpsFault.TheVariants.{Memory, TooMany};
+ghost use Rattle.mothra_replacements.specs.declared.fault.OpsFault.TheVariants.{Memory, TooMany};
 
-use crate::fault::OpsFault;
 use crate::mutant::Mutant;
 use mothra_codes::Op;
+use mothra_replacements::OpsFault;
 use std::alloc::Global;
 
 /// How many edits a list may have.

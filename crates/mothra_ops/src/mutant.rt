@@ -5,14 +5,14 @@ ghost use Rattle.f77_program.specs.Canonical.{statement_text};
 ghost use Rattle.f77_tree.specs.Statement.{statement_of};
 ghost use Rattle.mothra_ops.specs.Mutants.{change_text, line_number_at, mutant_fields};
 ghost use Rattle.mothra_ops.specs.Mutants.{mutant_name, mutant_text, program_of};
-ghost use Rattle.mothra_ops.specs.declared.fault.OpsFault.TheVariants.{Memory};
+ghost use Rattle.mothra_replacements.specs.declared.fault.OpsFault.TheVariants.{Memory};
 
 use crate::edit::Edit;
-use crate::fault::OpsFault;
 use crate::plan::Plan;
 use f77_program::{SyntaxFault, print_stmt};
 use f77_tree::Stmt;
 use mothra_codes::Op;
+use mothra_replacements::OpsFault;
 use std::alloc::{AllocError, Global};
 
 /// Room for as many characters as most lines about a mutant have.

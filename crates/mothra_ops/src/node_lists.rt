@@ -5,11 +5,11 @@ ghost use Rattle.std.specs.Option.{option_and_then};
 ghost use Rattle.f77_tree.specs.Node.{node_of};
 ghost use Rattle.f77_program.specs.Program.{line_of};
 ghost use Rattle.mothra_ops.specs.code.Original.{nodes_at};
-ghost use Rattle.mothra_ops.specs.declared.fault.OpsFault.TheVariants.{Memory};
+ghost use Rattle.mothra_replacements.specs.declared.fault.OpsFault.TheVariants.{Memory};
 
-use crate::fault::OpsFault;
 use f77_program::Line;
 use f77_tree::{Node, Shared, nodes};
+use mothra_replacements::OpsFault;
 use std::alloc::Global;
 use std::marker::Model;
 

@@ -4,13 +4,11 @@ ghost use Rattle.std.specs.Prelude.{◌≡◌};
 ghost use Rattle.std.specs.Coded.{Coded-set};
 
 use crate::edit::Edit;
-use crate::fault::OpsFault;
 use crate::mutant::Mutant;
 use crate::node_lists::NodeLists;
-use crate::pools::Pools;
-use crate::replacing::gives;
 use f77_check::{CheckFault, Checked};
 use f77_tree::{Replacement, Stmt, exchange};
+use mothra_replacements::{OpsFault, Pools, gives, memory_fault};
 use std::alloc::Global;
 
 /// A checked program, with what the operators draw from it.
@@ -30,22 +28,27 @@ impl<'a> Original<'a> {
     ghost use Rattle.f77_tree.specs.Replacement.{replacement_of};
     ghost use Rattle.f77_tree.specs.Sites.{changed};
     ghost use Rattle.f77_tree.specs.Statement.{Statement, statement_of};
-    ghost use Rattle.mothra_ops.specs.declared.fault.OpsFault.TheVariants.{Memory};
+    ghost use Rattle.mothra_replacements.specs.declared.fault.OpsFault.TheVariants.{Memory};
     ghost use Rattle.mothra_ops.specs.code.Edits.{IsMadeBy};
     ghost use Rattle.mothra_ops.specs.Edits.{IsMutant, made};
     ghost use Rattle.mothra_ops.specs.Made.{IsMadeMutant};
     ghost use Rattle.mothra_ops.specs.code.Original.{HasStatement, given_at};
     ghost use Rattle.mothra_ops.specs.code.Drawn.{IsOriginal, lines_of};
-    ghost use Rattle.mothra_ops.specs.Pools.{pools_of};
-    ghost use Rattle.mothra_ops.specs.code.Pools.{pool_fields};
+    ghost use Rattle.mothra_replacements.specs.Pools.{pools_of};
+    ghost use Rattle.mothra_replacements.specs.Pools.{pool_fields};
 
     pub(crate) fn of(alloc: Global, checked: &'a Checked) -> Result<Original<'a>, OpsFault>
         ensures original { IfOk result (λ original. IsOriginal original) }
         ensures program { IfOk result (λ original. original.checked.now ≡ checked.now) }
         ensures memory { IfErr result (λ fault. fault ≡ Memory) }
     {
-        let pools = Pools::of(alloc, checked)?;
-        let nodes = NodeLists::of(alloc, checked.program().lines())?;
+        let lines = checked.program().lines();
+        let labels = match checked.labels() {
+            Ok(labels) => labels,
+            Err(fault) => return Err(memory_fault(fault)),
+        };
+        let pools = Pools::of(alloc, lines, labels)?;
+        let nodes = NodeLists::of(alloc, lines)?;
         Ok(Original {
             checked,
             pools,

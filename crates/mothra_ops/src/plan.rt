@@ -20,12 +20,12 @@ ghost use Rattle.mothra_ops.specs.Plan.{PlanFields, IsPlan, IsNoPlan, plan_field
 ghost use Rattle.mothra_ops.specs.Plan.{list_of_operator, asked, edits_of, whole_of};
 
 use crate::edit::Edit;
-use crate::fault::OpsFault;
 use crate::listing::Listing;
 use crate::mutant::Mutant;
 use crate::original::Original;
 use f77_check::Checked;
 use mothra_codes::Op;
+use mothra_replacements::OpsFault;
 use std::alloc::Global;
 use std::marker::Model;
 

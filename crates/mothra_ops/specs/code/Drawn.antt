@@ -2,8 +2,8 @@
 -- Private functions and proofs alone cite what stands here.
 use Rattle.std.specs.Prelude.{◌≡◌, List, map}
 use Rattle.f77_program.specs.Program.{LineFields, line_of}
-use Rattle.mothra_ops.specs.Pools.{pools_of}
-use Rattle.mothra_ops.specs.code.Pools.{pool_fields}
+use Rattle.mothra_replacements.specs.Pools.{pools_of}
+use Rattle.mothra_replacements.specs.Pools.{pool_fields}
 use Rattle.mothra_ops.specs.declared.original.Original.{Original}
 
 abbrev pub lines_of : Original → List LineFields

@@ -9,8 +9,8 @@ use Rattle.f77_tree.specs.Statement.{statement_of, Statement}
 use Rattle.f77_tree.specs.declared.node.Node.{Node}
 use Rattle.mothra_codes.specs.declared.op.Op.{Op}
 use Rattle.mothra_ops.specs.Edits.{numbered}
-use Rattle.mothra_ops.specs.Pools.{PoolFields}
-use Rattle.mothra_ops.specs.Replacements.{gives}
+use Rattle.mothra_replacements.specs.Pools.{PoolFields}
+use Rattle.mothra_replacements.specs.Replacements.{gives}
 use Rattle.mothra_ops.specs.declared.site.Site.{Site}
 
 -- the statement of this number

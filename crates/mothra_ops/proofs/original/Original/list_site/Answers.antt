@@ -14,13 +14,13 @@ use Rattle.f77_tree.specs.Replacement.{replacement_of}
 use Rattle.mothra_codes.specs.declared.op.Op.{Op}
 use Rattle.mothra_ops.specs.Edits.{IsMutant, IsTooLong, made, numbered}
 use Rattle.mothra_ops.specs.Made.{IsMadeMutant}
-use Rattle.mothra_ops.specs.Pools.{pools_of}
-use Rattle.mothra_ops.specs.code.Pools.{pool_fields}
-use Rattle.mothra_ops.specs.Replacements.{gives}
+use Rattle.mothra_replacements.specs.Pools.{pools_of}
+use Rattle.mothra_replacements.specs.Pools.{pool_fields}
+use Rattle.mothra_replacements.specs.Replacements.{gives}
 use Rattle.mothra_ops.specs.code.Original.{HasStatement, StandsAt}
 use Rattle.mothra_ops.specs.code.Drawn.{lines_of}
 use Rattle.mothra_ops.specs.declared.edit.Edit.{Edit}
-use Rattle.mothra_ops.specs.declared.fault.OpsFault.TheVariants.{Memory, TooMany}
+use Rattle.mothra_replacements.specs.declared.fault.OpsFault.TheVariants.{Memory, TooMany}
 use Rattle.mothra_ops.specs.declared.mutant.Mutant.{Mutant}
 use Rattle.mothra_ops.proofs.Comings.{Adds, Overflows, come_first, come_kept, come_passed, come_too_long, node_done, no_list, no_list_of}
 use Rattle.mothra_ops.proofs.Cursor.{edit_at}

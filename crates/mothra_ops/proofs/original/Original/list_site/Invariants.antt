@@ -6,8 +6,8 @@ use Rattle.f77_tree.specs.Statement.{statement_of}
 use Rattle.mothra_ops.specs.Made.{IsMadeMutant}
 use Rattle.mothra_ops.specs.code.Listing.{HasCome}
 use Rattle.mothra_ops.specs.code.Drawn.{lines_of}
-use Rattle.mothra_ops.specs.code.Pools.{pool_fields}
-use Rattle.mothra_ops.specs.Replacements.{gives}
+use Rattle.mothra_replacements.specs.Pools.{pool_fields}
+use Rattle.mothra_replacements.specs.Replacements.{gives}
 use Rattle.mothra_ops.proofs.original.Original.list_site.Given as goal
 
 abbrev pub invariant-loop-k : goal.invariant-loop-k

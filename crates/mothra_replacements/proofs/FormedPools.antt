@@ -1,0 +1,126 @@
+-- What the operators draw from in a legal program is formed.
+use Rattle.std.proofs.Common.{◌≡◌, List, [], ◌∷◌, Bool, true, Option, Some, None, filter, map, refl, sym, ap, if◌then◌else◌}
+use Rattle.std.specs.Prelude.{not}
+use Rattle.std.specs.List.{All, cons_option, filter_map}
+use Rattle.std.specs.Option.{IfSome}
+use Rattle.std.proofs.lemmas.List.{map-append}
+use Rattle.std.proofs.lemmas.List.Elements.{All-nil, All-cons, All-head, All-tail, All-append, All-filter, All-same}
+use Rattle.f77_tree.specs.Comparing.{same_tree}
+use Rattle.f77_tree.specs.Name.{is_symbolic}
+use Rattle.f77_tree.specs.Statement.{Statement, is_executable_statement}
+use Rattle.f77_tree.specs.Tree.{Tree, Trees}
+use Rattle.f77_tree.proofs.Tests.{and_true}
+use Rattle.f77_tree.specs.Node.{NodeOf, node_name, names_of, nodes_of}
+use Rattle.f77_program.specs.code.Formed.{all_formed, formed, statement_formed}
+use Rattle.f77_program.specs.Program.{IsProgram, LineFields}
+use Rattle.f77_program.proofs.Forming.{a_reference}
+use Rattle.f77_legal.specs.Legal.{IsLegal, is_array}
+use Rattle.f77_legal.specs.Names.{Symbol, Mention, mentions, mentions_of, name_in, symbols}
+use Rattle.f77_legal.proofs.Among.{once_all}
+use Rattle.mothra_replacements.specs.Pools.{PoolFields, Reference, array_reference, as_tree, constant, each_once, executable_nodes, pools_of, same_reference, scalar}
+use Rattle.mothra_replacements.proofs.FormedNodes.{IsFormedLine, IsFormedNode, IsFormedTree, IsNamed, IsNoFunction, both_parts, lines_formed, nodes_formed, symbols_named, symbols_no_functions}
+
+-- some text spells it
+abbrev pub IsFormedReference : Reference → Type 0
+IsFormedReference r = IsFormedTree (as_tree r)
+
+-- the pools hold what some text spells; the arrays bear names of no functions
+pub record AreFormed (pools : PoolFields) : Type 0 where
+  pub scalars : All IsNamed pools.scalars
+  pub arrays : All (λ name. IsNamed name × IsNoFunction name) pools.arrays
+  pub references : All IsFormedReference pools.references
+  pub constants : All IsFormedTree pools.constants
+
+pub scalar_formed : (name : Symbol) → IsNamed name → IsFormedReference (scalar name)
+scalar_formed name is = rw (a_reference is_symbolic name Trees.None refl is) refl
+
+all_each_once : {X : Type 0} (P : X → Type 0) (same : X → X → Bool) (xs : List X) → All P xs → All P (each_once same xs)
+all_each_once P same [] all = All-nil P
+all_each_once P same (x ∷ xs) all =
+    All-cons P x (filter (λ y. not (same x y)) (each_once same xs)) (All-head P x xs all)
+    (All-filter (λ y. not (same x y)) P (each_once same xs) (all_each_once P same xs (All-tail P x xs all)))
+
+constants_formed : (nodes : List NodeOf) → All IsFormedTree (filter_map constant nodes)
+constants_formed [] = All-nil IsFormedTree
+constants_formed (node ∷ nodes) = by node (constants_formed nodes)
+  where
+    by_tree : (t : Tree) → All IsFormedTree (filter_map constant nodes) → All IsFormedTree (filter_map constant (NodeOf.Part t ∷ nodes))
+    by_tree (Tree.Number n) rest = All-cons IsFormedTree (Tree.Number n) (filter_map constant nodes) refl rest
+    by_tree (Tree.Truth b) rest = All-cons IsFormedTree (Tree.Truth b) (filter_map constant nodes) refl rest
+    by_tree _ rest = rest
+
+    by : (n : NodeOf) → All IsFormedTree (filter_map constant nodes) → All IsFormedTree (filter_map constant (n ∷ nodes))
+    by (NodeOf.Part t) rest = by_tree t rest
+    by _ rest = rest
+
+-- a formed node that bears the name of no function
+abbrev IsOwn : NodeOf → Type 0
+IsOwn node = IsFormedNode node × IfSome (node_name node) IsNoFunction
+
+references_formed : (nodes : List NodeOf) → All IsOwn nodes → All IsFormedReference (filter_map array_reference nodes)
+references_formed [] all = All-nil IsFormedReference
+references_formed (node ∷ nodes) all = by node (All-head IsOwn node nodes all) (references_formed nodes (All-tail IsOwn node nodes all))
+  where
+    by_tree : (t : Tree) → formed is_symbolic t ≡ true → All IsFormedReference (filter_map array_reference nodes)
+        → All IsFormedReference (filter_map array_reference (NodeOf.Part t ∷ nodes))
+    by_tree (Tree.Reference name (Trees.Then t ts)) f rest =
+        All-cons IsFormedReference (record { name = name; subscripts = Trees.Then t ts }) (filter_map array_reference nodes) f rest
+    by_tree _ f rest = rest
+
+    by : (n : NodeOf) → IsOwn n → All IsFormedReference (filter_map array_reference nodes) → All IsFormedReference (filter_map array_reference (n ∷ nodes))
+    by (NodeOf.Target name (Trees.Then t ts)) own rest =
+        let (is, items) = and_true (is_symbolic name) (all_formed is_symbolic (Trees.Then t ts)) own.0 in
+        All-cons IsFormedReference (record { name = name; subscripts = Trees.Then t ts }) (filter_map array_reference nodes)
+        (rw (a_reference is_symbolic name (Trees.Then t ts) own.1 is, items) refl) rest
+    by (NodeOf.Part t) own rest = by_tree t own.0 rest
+    by _ own rest = rest
+
+-- the names that nodes bear, one by one
+first_named : (o : Option Symbol) (names : List Symbol) → All IsNoFunction (cons_option o names) → IfSome o IsNoFunction × All IsNoFunction names
+first_named None names all = (tt, all)
+first_named (Some name) names all = (All-head IsNoFunction name names all, All-tail IsNoFunction name names all)
+
+own_each : (nodes : List NodeOf) → All IsFormedNode nodes → All IsNoFunction (filter_map node_name nodes) → All IsOwn nodes
+own_each [] formed names = All-nil IsOwn
+own_each (node ∷ nodes) formed names =
+    let named = first_named (node_name node) (filter_map node_name nodes) names in
+    All-cons IsOwn node nodes (All-head IsFormedNode node nodes formed, named.0)
+    (own_each nodes (All-tail IsFormedNode node nodes formed) named.1)
+
+plain_names : (names : List Symbol) → map name_in (map Mention.Plain names) ≡ names
+plain_names [] = refl
+plain_names (name ∷ names) = ap (λ (ns : List Symbol). name ∷ ns) (plain_names names)
+
+own_executed : (s : Statement) → statement_formed is_symbolic s ≡ true → All IsNoFunction (map name_in (map Mention.Plain (names_of s))) → All IsOwn (nodes_of s)
+own_executed s f names = own_each (nodes_of s) (nodes_formed s f) (All-same IsNoFunction (names_of s) _ (sym (plain_names (names_of s))) names)
+
+own_of : (s : Statement) → statement_formed is_symbolic s ≡ true → All IsNoFunction (map name_in (mentions_of s))
+    → All IsOwn (if is_executable_statement s then nodes_of s else [])
+own_of (Statement.Subroutine name arguments) f names = All-nil IsOwn
+own_of (Statement.Declare kind ds) f names = All-nil IsOwn
+own_of (Statement.Dimension ds) f names = All-nil IsOwn
+own_of (Statement.Preset gs) f names = All-nil IsOwn
+own_of s f names = own_executed s f names
+
+own_nodes : (program : List LineFields) → All IsFormedLine program → All IsNoFunction (map name_in (mentions program)) → All IsOwn (executable_nodes program)
+own_nodes [] formed names = All-nil IsOwn
+own_nodes (line ∷ lines) formed names =
+    let parts = both_parts IsNoFunction (map name_in (mentions_of line.stmt)) (map name_in (mentions lines))
+    (All-same IsNoFunction _ (map name_in (mentions (line ∷ lines))) (sym (map-append name_in (mentions_of line.stmt) (mentions lines))) names) in
+    All-append IsOwn (if is_executable_statement line.stmt then nodes_of line.stmt else []) (executable_nodes lines)
+    (own_of line.stmt (All-head IsFormedLine line lines formed) parts.0)
+    (own_nodes lines (All-tail IsFormedLine line lines formed) parts.1)
+
+pub pools_formed : (program : List LineFields) → IsProgram None program → IsLegal program → AreFormed (pools_of program)
+pools_formed program is legal =
+    let lines = lines_formed program is in
+    let named = symbols_named program lines in
+    let others = symbols_no_functions program legal in
+    let nodes = executable_nodes program in
+    record {
+      scalars = All-filter (λ name. not (is_array program name)) IsNamed (symbols program) named;
+      arrays = All-filter (is_array program) (λ name. IsNamed name × IsNoFunction name) (symbols program) (λ k d low. (named k d low, others k d low));
+      references = all_each_once IsFormedReference same_reference (filter_map array_reference nodes)
+          (references_formed nodes (own_nodes program lines (once_all IsNoFunction (map name_in (mentions program)) others)));
+      constants = all_each_once IsFormedTree same_tree (filter_map constant nodes) (constants_formed nodes);
+    }

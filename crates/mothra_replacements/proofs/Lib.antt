@@ -1,0 +1,11 @@
+pub mod Rows
+pub mod Filters
+pub mod Elements
+pub mod Ascending
+pub mod PoolLists
+pub mod PoolLines
+pub mod InPlaces
+pub mod FormedNodes
+pub mod FormedSites
+pub mod FormedPools
+pub mod FormedGiven

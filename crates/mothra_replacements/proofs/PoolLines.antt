@@ -1,0 +1,63 @@
+-- The pools of a program: what a table of names tells.
+use Rattle.std.proofs.Common.{◌≡◌, ◌∷◌, [], ℕ, List, not, filter, refl, sym, ap, ◌∙◌}
+use Rattle.std.specs.Prelude.{is_some}
+use Rattle.std.specs.List.{filter_map}
+use Rattle.std.specs.Map.{keys_of}
+use Rattle.std.proofs.lemmas.Map.Made.{keys_of-map_values}
+use Rattle.indexmap.specs.IndexMap.{keys}
+use Rattle.f77_tree.specs.Comparing.{same_tree}
+use Rattle.f77_program.specs.Program.{LineFields}
+use Rattle.f77_tree.specs.Tree.{Tree}
+use Rattle.f77_tree.specs.declared.tree.Kind.{Kind}
+use Rattle.f77_legal.specs.Labels.{labels}
+use Rattle.f77_legal.specs.Legal.{is_array}
+use Rattle.f77_legal.specs.Names.{Symbol, mentions, symbols, some_items}
+use Rattle.f77_legal.specs.NameTable.{FactsFields, IsNameTable, facts_fields, facts_of, kind_at, array_bounds}
+use Rattle.f77_legal.specs.declared.names.Names.{Names}
+use Rattle.f77_legal.proofs.Lookups.{same_kinds, same_bounds}
+use Rattle.f77_legal.proofs.NameTables.{rows}
+use Rattle.mothra_replacements.specs.Pools.{PoolFields, Reference, pools_of, ascending, each_once, same_reference, array_reference, constant, executable_nodes}
+
+keys_rows : (f : Symbol → FactsFields) (names : List Symbol) → keys_of (rows f names) ≡ names
+keys_rows f [] = refl
+keys_rows f (name ∷ names) = ap (λ z. name ∷ z) (keys_rows f names)
+
+keys_are : (names : Names) (program : List LineFields) → IsNameTable names program → keys names.facts ≡ symbols program
+keys_are names program is =
+    sym (keys_of-map_values facts_fields names.facts.entries) ∙ (ap keys_of is ∙ keys_rows (facts_of (mentions program)) (symbols program))
+
+abbrev drawn_from : (Symbol → Kind) → (Symbol → List ℕ) → List Symbol → List Symbol → List Reference → List Tree → List ℕ → PoolFields
+drawn_from kinds bounds scalars arrays references constants ordered = record {
+  kinds = kinds;
+  bounds = bounds;
+  scalars = scalars;
+  arrays = arrays;
+  references = references;
+  constants = constants;
+  labels = ordered;
+}
+
+-- what the table of a program's names tells
+module _ (names : Names) (program : List LineFields) (is : IsNameTable names program) where
+  pub scalars_are : filter (λ name. not (is_some (some_items (array_bounds names name)))) (keys names.facts) ≡ filter (λ name. not (is_array program name)) (symbols program)
+  scalars_are = λ i. filter (λ name. not (is_some (some_items (same_bounds names program is i name)))) (keys_are names program is i)
+
+  pub arrays_are : filter (λ name. is_some (some_items (array_bounds names name))) (keys names.facts) ≡ filter (is_array program) (symbols program)
+  arrays_are = λ i. filter (λ name. is_some (some_items (same_bounds names program is i name))) (keys_are names program is i)
+
+  pub pools_are : (scalars arrays : List Symbol) (references : List Reference) (constants : List Tree) (ordered : List ℕ)
+      → scalars ≡ filter (λ name. not (is_array program name)) (symbols program)
+      → arrays ≡ filter (is_array program) (symbols program)
+      → references ≡ each_once same_reference (filter_map array_reference (executable_nodes program))
+      → constants ≡ each_once same_tree (filter_map constant (executable_nodes program))
+      → ordered ≡ ascending (labels program)
+      → drawn_from (kind_at names) (array_bounds names) scalars arrays references constants ordered ≡ pools_of program
+  pools_are scalars arrays references constants ordered without with_bounds referred constant_is sorted = λ i. record {
+    kinds = same_kinds names program is i;
+    bounds = same_bounds names program is i;
+    scalars = without i;
+    arrays = with_bounds i;
+    references = referred i;
+    constants = constant_is i;
+    labels = sorted i;
+  }

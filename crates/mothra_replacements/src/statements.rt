@@ -1,0 +1,64 @@
+//! What operators put in the place of a statement, a label or a value of DATA.
+
+ghost use Rattle.std.specs.Prelude.{◌≡◌, not, filter, nat_eq, IfOk, IfErr};
+ghost use Rattle.mothra_replacements.specs.Replacements as model;
+ghost use Rattle.mothra_replacements.specs.Replacements.{next_constants};
+ghost use Rattle.mothra_replacements.specs.declared.fault.OpsFault.TheVariants.{Memory};
+
+use crate::fault::OpsFault;
+use f77_tree::{Constant, Form, LARGEST_INTEGER, Stmt, Value};
+use std::alloc::Global;
+
+/// The largest INTEGER that DATA gives, and the size of the least one.
+const LARGEST: i32 = LARGEST_INTEGER as i32;
+
+/// Whether a statement of this form does something that may be left out.
+pub(crate) fn acts(form: Form) -> bool
+    ensures { result ≡ model.is_replaceable_action form }
+{
+    match form {
+        Form::LogicalIf => true,
+        Form::Continue | Form::Trap => false,
+        _ => form.acts(),
+    }
+}
+
+pub(crate) fn acts_or_continues(form: Form) -> bool
+    ensures { result ≡ model.acts_or_continues form }
+{
+    matches!(form, Form::Continue) || acts(form)
+}
+
+/// Each other label.
+pub(crate) fn other_labels(alloc: Global, labels: &[u32], own: u32) -> Result<Vec<u32>, OpsFault>
+    ensures list { IfOk result (λ list. list.items ≡ filter (λ other. not (nat_eq other own)) labels.now) }
+    ensures memory { IfErr result (λ fault. fault ≡ Memory) }
+{
+    let mut list = Vec::new(alloc);
+    for label in labels {
+        if *label != own {
+            list.push(*label)?;
+        }
+    }
+    Ok(list)
+}
+
+/// The constants of DATA next to this one: one more and one less, within the range; the other truth value.
+pub(crate) fn next_constants(alloc: Global, constant: Constant) -> Result<Vec<Constant>, OpsFault>
+    ensures list { IfOk result (λ list. list.items ≡ next_constants constant) }
+    ensures memory { IfErr result (λ fault. fault ≡ Memory) }
+{
+    let mut list = Vec::new(alloc);
+    match constant {
+        Constant::Number(number) => {
+            if number < LARGEST {
+                list.push(Constant::Number(number + 1))?;
+            }
+            if number > -LARGEST {
+                list.push(Constant::Number(number - 1))?;
+            }
+        }
+        Constant::Truth(truth) => list.push(Constant::Truth(!truth))?,
+    }
+    Ok(list)
+}
