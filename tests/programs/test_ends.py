@@ -15,7 +15,7 @@ from mutants import statuses
 
 class Signals(Room):
     def test_what_was_begun_ends_too_and_no_file_is_left(self) -> None:
-        slow = self.wrapped("slow", '[ "$1" = run ] && { echo $$ > pid; touch begun; exec sleep 60; }')
+        slow = self.wrapped("slow", '[ "$1" = run ] && { [ -e begun ] || { echo $$ > pid; touch begun; }; exec sleep 60; }')
         words = running.words_of("check", ["--mothra", slow, "--no-proofs", self.program, self.tests])
         for number in (signal.SIGTERM, signal.SIGHUP):
             with self.subTest(number.name):
