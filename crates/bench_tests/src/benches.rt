@@ -6,7 +6,7 @@ use f77_meaning::Values;
 use mothra_bench::{Bench, BenchFault, Row, Verdicts, collect, render};
 use mothra_exchange::{Gate, Pass, TableExchange, Tally, Ticket};
 use mothra_ops::{Op, Plan};
-use samples::{ADD, checked, suite};
+use samples::{ADD, checked, repeated, suite};
 use std::test::Fail;
 
 fn plan(rt: &impl AllocGlobal, statements: &str, ops: &[Op]) -> Result<Plan, Fail> {
@@ -32,6 +32,13 @@ pub(crate) fn bench(
 /// All operators on the sum of two numbers: 33 mutants.
 pub(crate) fn sum_bench(rt: &impl AllocGlobal) -> Result<Bench, Fail> {
     Ok(bench(rt, ADD, &Op::ALL, &[])??)
+}
+
+/// So many sums behind a RETURN, with these operators.
+pub(crate) fn sums(rt: &impl AllocGlobal, times: usize, ops: &[Op]) -> Result<Bench, Fail> {
+    let front = "SUBROUTINE MANY(I,J,K); RETURN";
+    let statements = repeated(rt, front, times, "; K=I+J", "; END")?;
+    Ok(bench(rt, statements.as_str(), ops, &[])??)
 }
 
 /// How many mutants each operator has.

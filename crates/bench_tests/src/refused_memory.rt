@@ -1,25 +1,35 @@
-//! Each allocation can be refused: four workers then end all the same, with each row, or with want of memory or of a
+//! Each allocation can be refused: the workers then end all the same, with each row, or with want of memory or of a
 //! thread. Every operator is closed in the end, also where the feeder could not begin that would close it.
 
-use crate::benches::{counts, sum_bench};
+ghost use Rattle.std.specs.Prelude.{◌≤◌};
+
+use crate::benches::{counts, sum_bench, sums};
 use crate::tricky::{Counted, Trick, Tricky};
 use mothra_bench::{Bench, BenchFault, drive};
 use mothra_exchange::TableExchange;
+use mothra_ops::Op;
 use std::process::Abort;
 use std::sync::Wait;
 use std::sync::atomic::Ordering;
 use std::test::Fail;
 use std::thread::Threads;
 
-/// Drives four workers through an exchange, whose making may be refused, too.
-fn assert_undisturbed<R: Abort + AllocGlobal + Threads + Wait + Sync>(rt: &R, bench: &Bench) {
+/// Drives workers through an exchange, whose making may be refused, too.
+fn assert_undisturbed<R: Abort + AllocGlobal + Threads + Wait + Sync>(
+    rt: &R,
+    bench: &Bench,
+    workers: u32,
+    mutants: usize,
+)
+    requires { (1 ≤ workers) × (workers ≤ 32) }
+{
     let Ok((inner, pass)) = TableExchange::<64>::new(rt.alloc(), counts(bench.plan())) else {
         return;
     };
     let counted = Counted::new();
     let (gate, pass) = Tricky::of(inner, pass, Trick::Nothing, &counted);
-    match drive(rt, rt.alloc(), gate, pass, bench, 4) {
-        Ok(driven) => assert_eq!(rt; driven.0.len(), 33usize),
+    match drive(rt, rt.alloc(), gate, pass, bench, workers) {
+        Ok(driven) => assert_eq!(rt; driven.0.len(), mutants),
         Err(fault) => assert!(rt; matches!(fault, BenchFault::Memory | BenchFault::Thread)),
     }
     assert_eq!(rt; counted.closes.load(Ordering::SeqCst), 22u64);
@@ -28,6 +38,14 @@ fn assert_undisturbed<R: Abort + AllocGlobal + Threads + Wait + Sync>(rt: &R, be
 #[test]
 fn refused_memory_ends_the_workers(rt: HostRuntime) -> Result<(), Fail> {
     let bench = sum_bench(&rt)?;
-    assert_undisturbed(&rt, &bench);
+    assert_undisturbed(&rt, &bench, 4, 33);
+    Ok(())
+}
+
+/// Of these tickets 64 may wait: a worker without memory takes on, or a feeder would wait for it.
+#[test]
+fn refused_memory_lets_workers_take_on(rt: HostRuntime) -> Result<(), Fail> {
+    let bench = sums(&rt, 12, &[Op::Svr])?;
+    assert_undisturbed(&rt, &bench, 1, 72);
     Ok(())
 }

@@ -3,7 +3,7 @@
 
 ghost use Rattle.std.specs.Prelude.{◌≡◌, ◌+◌, ◌≤◌, true};
 
-use crate::benches::{counts, report, sum_bench};
+use crate::benches::{counts, report, sum_bench, sums};
 use crate::tricky::{Counted, Trick, Tricky};
 use mothra_bench::{Bench, BenchFault, collect, drive, render};
 use mothra_exchange::{Gate, LockedExchange, TableExchange, Ticket};
@@ -144,6 +144,14 @@ fn assert_faults<R: Abort + AllocGlobal + Threads + Wait + Sync>(
 fn tell_the_fault_that_a_trick_leads_to(rt: HostRuntime) -> Result<(), Fail> {
     let bench = sum_bench(&rt)?;
     assert_faults(&rt, &bench)
+}
+
+/// Of 72 tickets 64 may wait: a worker with a fault takes on, or a feeder would wait for it.
+#[test]
+fn take_on_behind_a_fault(rt: HostRuntime) -> Result<(), Fail> {
+    let bench = sums(&rt, 12, &[Op::Svr])?;
+    let fault = Err(BenchFault::Stranger(NONE));
+    assert_tricked(&rt, &bench, Trick::Invents(0, NONE), 1, fault)
 }
 
 fn assert_reports<R: Abort + AllocGlobal + Threads + Wait + Sync>(

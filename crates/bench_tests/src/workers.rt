@@ -2,12 +2,11 @@
 
 ghost use Rattle.std.specs.Prelude.{◌≤◌};
 
-use crate::benches::{bench, counts, report, sum_bench};
+use crate::benches::{counts, report, sum_bench, sums};
 use crate::tricky::{Counted, Trick, Tricky};
 use mothra_bench::{Bench, analyse, drive};
 use mothra_exchange::TableExchange;
 use mothra_ops::Op;
-use samples::repeated;
 use std::process::Abort;
 use std::sync::Wait;
 use std::sync::atomic::Ordering;
@@ -77,14 +76,8 @@ fn write_the_same_report(rt: HostRuntime) -> Result<(), Fail> {
     assert_reports(&rt, &bench, report(&rt, &bench)?.as_str())
 }
 
-fn many(rt: &impl AllocGlobal) -> Result<Bench, Fail> {
-    let front = "SUBROUTINE MANY(I,J,K); RETURN";
-    let statements = repeated(rt, front, 310, "; K=I+J", "; END")?;
-    Ok(bench(rt, statements.as_str(), &Op::ALL, &[])??)
-}
-
 #[test]
 fn write_the_report_of_ten_thousand_mutants(rt: HostRuntime) -> Result<(), Fail> {
-    let bench = many(&rt)?;
+    let bench = sums(&rt, 310, &Op::ALL)?;
     assert_report(&rt, &bench, report(&rt, &bench)?.as_str(), 2, 1)
 }

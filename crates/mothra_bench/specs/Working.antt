@@ -1,5 +1,5 @@
 -- What a worker does with its pass, and what it answers.
-use Rattle.std.specs.Prelude.{◌≡◌, ℕ, ◌-◌, ◌≤◌, ⊤, Bool, true, List, ◌∷◌, ◌++◌, All}
+use Rattle.std.specs.Prelude.{◌≡◌, ℕ, ◌-◌, ◌≤◌, ⊤, Bool, true, false, List, ◌∷◌, ◌++◌, All}
 use Rattle.std.specs.Prelude.{Vec, Result, IfOk, IfErr}
 use Rattle.std.specs.declared.alloc.Global.{Global}
 use Rattle.mothra_codes.specs.declared.op.Op.{Op}
@@ -81,3 +81,4 @@ pub record Works (may keeps parts : Bool) (bench : BenchFields) (old new : View)
   pub records : keeps ≡ true → IfOk outcome (λ rows. TookRows old new rows.items)
   pub stranger : keeps ≡ true → IfErr outcome (NamesTaken bench.plan old new)
   pub over : keeps ≡ true → IfOk outcome (λ _. AreOver new)
+  pub stays : keeps ≡ true → may ≡ false → AreOver new

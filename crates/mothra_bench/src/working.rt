@@ -1,6 +1,6 @@
 //! Workers: they take tickets, and run their mutants.
 
-ghost use Rattle.std.specs.Prelude.{◌≡◌, ◌⊎◌, true, IfOk, IfErr, IfSome, IsSome};
+ghost use Rattle.std.specs.Prelude.{◌≡◌, ◌⊎◌, true, false, IfOk, IfErr, IfSome, IsSome};
 ghost use Rattle.mothra_codes.specs.declared.op.Op.{Op as OpModel};
 ghost use Rattle.mothra_verdicts.specs.Bench.{BenchFields};
 ghost use Rattle.mothra_bench.specs.Gathered.{AreVerdicts};
@@ -59,7 +59,7 @@ fn take_turn<G: Gate, R: Wait>(
     ensures over { G.keeps_records ≡ true → result ≡ Turn.Finished
         → IsOver (G.view pass.new) op
         × ((other : OpModel) → IsOver (G.view pass.old) other → IsOver (G.view pass.new) other) }
-    ensures gave_up { result ≡ Turn.GaveUp → IsSome gathered.new.fault }
+    ensures gave_up { result ≡ Turn.GaveUp → (G.may_give_up ≡ true) × IsSome gathered.new.fault }
     ensures verdicts { verdicts.new ≡ verdicts.old }
 {
     match gate.take(rt, pass, op) {
@@ -91,7 +91,7 @@ fn take_round<G: Gate, R: Wait>(
     ensures went { (bench : BenchFields) → IfSome verdicts.old (λ verdicts. verdicts ≡ bench)
         → Went bench G.may_give_up G.keeps_records (G.view pass.old) (G.view pass.new) gathered.old gathered.new }
     ensures over { G.keeps_records ≡ true → result ≡ Turn.Finished → AreOver (G.view pass.new) }
-    ensures gave_up { result ≡ Turn.GaveUp → IsSome gathered.new.fault }
+    ensures gave_up { result ≡ Turn.GaveUp → (G.may_give_up ≡ true) × IsSome gathered.new.fault }
     ensures verdicts { verdicts.new ≡ verdicts.old }
 {
     let mut round = Turn::Finished;
@@ -126,6 +126,7 @@ pub fn work<G: Gate, R: Wait>(
     ensures stranger { G.keeps_records ≡ true
         → IfErr result.1 (NamesTaken bench.now.plan (G.view pass) (G.view result.0)) }
     ensures over { G.keeps_records ≡ true → IfOk result.1 (λ _. AreOver (G.view result.0)) }
+    ensures stays { G.keeps_records ≡ true → G.may_give_up ≡ false → AreOver (G.view result.0) }
 {
     let mut verdicts = Verdicts::of(alloc, bench).ok();
     let mut gathered = Gathered::new(alloc);

@@ -1,4 +1,4 @@
-use Rattle.std.proofs.Common.{◌∙◌, Global, Vec, refl, ⊎_elim}
+use Rattle.std.proofs.Common.{◌∙◌, Global, Vec, refl, sym, true≢false, ⊎_elim}
 use Rattle.mothra_bench.specs.Working.{AreOver}
 use Rattle.mothra_verdicts.specs.declared.verdict.Row.{Row}
 use Rattle.mothra_bench.proofs.WorkerSteps.{answers, any_rows, faulty_answer, own_verdicts, same_verdicts, went_on, went_still}
@@ -54,6 +54,7 @@ returns-in-Finished g c =
       over = λ keeps.
           let all = (λ (rows : Vec Row Global). AreOver new) in
           ⊎_elim (λ is. any_rows (AreOver new) c.outcome.result (c.take_round.ensures.over keeps is))
-          (λ is. faulty_answer all c.take_round.new.gathered.fault c.take_round.new.gathered.rows c.outcome.result (c.take_round.ensures.gave_up is) c.outcome.ensures)
+          (λ is. faulty_answer all c.take_round.new.gathered.fault c.take_round.new.gathered.rows c.outcome.result (c.take_round.ensures.gave_up is).1 c.outcome.ensures)
           c.in-Finished.is;
+      stays = λ keeps never. ⊎_elim (c.take_round.ensures.over keeps) (λ is. absurd (true≢false (sym (c.take_round.ensures.gave_up is).0 ∙ never))) c.in-Finished.is;
     }
