@@ -49,3 +49,25 @@ fn refused_memory_lets_workers_take_on(rt: HostRuntime) -> Result<(), Fail> {
     assert_undisturbed(&rt, &bench, 1, 72);
     Ok(())
 }
+
+/// Over a gate that gives up at once: that a thread could not begin is told before it.
+fn assert_own_fault_first<R: Abort + AllocGlobal + Threads + Wait + Sync>(rt: &R, bench: &Bench) {
+    let Ok((inner, pass)) = TableExchange::<64>::new(rt.alloc(), counts(bench.plan())) else {
+        return;
+    };
+    let counted = Counted::new();
+    let (gate, pass) = Tricky::of(inner, pass, Trick::GivesUp(0), &counted);
+    let fault = drive(rt, rt.alloc(), gate, pass, bench, 2).err();
+    match counted.splits.load(Ordering::SeqCst) {
+        0 => assert_eq!(rt; fault, Some(BenchFault::Memory)),
+        1..=3 => assert_eq!(rt; fault, Some(BenchFault::Thread)),
+        _ => assert!(rt; matches!(fault, Some(BenchFault::Thread | BenchFault::Stalled))),
+    }
+}
+
+#[test]
+fn refused_memory_is_told_before_faults_of_workers(rt: HostRuntime) -> Result<(), Fail> {
+    let bench = sum_bench(&rt)?;
+    assert_own_fault_first(&rt, &bench);
+    Ok(())
+}

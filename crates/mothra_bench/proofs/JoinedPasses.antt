@@ -16,8 +16,8 @@ use Rattle.mothra_exchange.specs.Word.{AtMost}
 use Rattle.mothra_exchange.proofs.Counting.{times-append, times_closed-append}
 use Rattle.mothra_ops.specs.Plan.{PlanFields, edits_of}
 use Rattle.mothra_bench.specs.Closing.{count_of, seen_of}
-use Rattle.mothra_bench.specs.Driving.{AreComplete, IsNewPass, IsWhole, complete_word}
-use Rattle.mothra_bench.specs.code.Driving.{AreShared, IsDone, JoinsPass, KeepsFed, OnlySplit}
+use Rattle.mothra_bench.specs.Driving.{AreComplete, IsWhole, complete_word}
+use Rattle.mothra_bench.specs.code.Driving.{AreShared, IsDone, IsNewPass, JoinsPass, KeepsFed, OnlySplit}
 use Rattle.mothra_bench.specs.Feeding.{AreCounts, AreFed, IsReadyPass, HasClosed, HasOffered, IsFed, IsUntouched}
 use Rattle.mothra_bench.specs.Working.{AreOver}
 use Rattle.mothra_verdicts.specs.declared.fault.BenchFault.{BenchFault}

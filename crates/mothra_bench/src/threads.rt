@@ -2,8 +2,7 @@
 
 ghost use Rattle.std.specs.Prelude.{◌≡◌, ◌+◌, ◌++◌, true, IfOk, IfErr};
 ghost use Rattle.mothra_exchange.specs.declared.view.View.{View};
-ghost use Rattle.mothra_bench.specs.Driving.{IsNewPass};
-ghost use Rattle.mothra_bench.specs.code.Driving.{JoinsPass, KeepsFed};
+ghost use Rattle.mothra_bench.specs.code.Driving.{IsNewPass, JoinsPass, KeepsFed};
 ghost use Rattle.mothra_bench.specs.Feeding.{AreFed, Feeds, IsReadyPass, IsStalled};
 ghost use Rattle.mothra_bench.specs.Gathered.{AreVerdicts, tickets_in};
 ghost use Rattle.mothra_bench.specs.Working.{AreOver, IsNoWork, Works};
@@ -135,8 +134,6 @@ pub(crate) fn join_feeder<G: Gate, R: Threads>(
         × (other.counts ≡ (G.view feeder.entry.promise.pass.value).counts)
         × (IsReadyPass feeder.entry.promise.plan.now (G.view feeder.entry.promise.pass.value)
         → IfOk result (λ _. AreFed feeder.entry.promise.ops.now other)) }
-    ensures feeds { (back : View) × Feeds G.may_give_up G.keeps_records G.needs_parts feeder.entry.promise.plan.now
-        feeder.entry.promise.ops.now (G.view feeder.entry.promise.pass.value) back result }
 {
     let (other, outcome) = feeder.join(rt);
     gate.merge(pass, other);
@@ -162,13 +159,8 @@ pub(crate) fn join_worker<G: Gate, R: Threads>(
         → (G.view pass.new).part ≡ (G.view pass.old).part + (G.view worker.entry.promise.pass.value).part }
     ensures fed { G.keeps_records ≡ true → KeepsFed (G.view pass.old) (G.view pass.new) }
     ensures over { G.keeps_records ≡ true → IfOk result (λ _. AreOver (G.view pass.new)) }
-    ensures still_over { G.keeps_records ≡ true → AreOver (G.view pass.old) → AreOver (G.view pass.new) }
     ensures records { G.keeps_records ≡ true
         → IfOk result (λ rows. (G.view pass.new).taken ≡ (G.view pass.old).taken ++ tickets_in rows.items) }
-    ensures works { (back : View)
-        × Works G.may_give_up G.keeps_records G.needs_parts bench.now
-        (G.view worker.entry.promise.pass.value) back result
-        × (G.keeps_records ≡ true → (G.view pass.new).taken ≡ (G.view pass.old).taken ++ back.taken) }
 {
     let (other, outcome) = worker.join(rt);
     gate.merge(pass, other);

@@ -1,8 +1,7 @@
 -- What workers and feeders come to together.
 -- Private functions and proofs alone cite what stands here.
-use Rattle.std.specs.Prelude.{◌≡◌, ◌⊎◌, ℕ, ◌+◌, ◌<◌, ◌≤◌, Bool, true, List, ◌++◌}
-use Rattle.std.specs.Prelude.{Vec, Option, Result, IfOk, IfErr, IfNone}
-use Rattle.std.specs.Prelude.{All, Contains}
+use Rattle.std.specs.Prelude.{◌≡◌, ◌⊎◌, ℕ, ◌+◌, ◌≤◌, Bool, true, List, [], ◌++◌}
+use Rattle.std.specs.Prelude.{Vec, Option, None, Some, Result, Ok, Err, IfOk, IfErr, Contains}
 use Rattle.std.specs.declared.alloc.Global.{Global}
 use Rattle.mothra_codes.specs.declared.op.Op.{Op}
 use Rattle.mothra_exchange.specs.Sharing.{MergesWell}
@@ -10,14 +9,24 @@ use Rattle.mothra_exchange.specs.View.{united_view, whole_part}
 use Rattle.mothra_exchange.specs.declared.view.View.{View}
 use Rattle.mothra_ops.specs.Plan.{PlanFields}
 use Rattle.mothra_verdicts.specs.Bench.{BenchFields}
+use Rattle.mothra_bench.specs.Driving.{IsWhole, IsNoDrive}
 use Rattle.mothra_bench.specs.Feeding.{AreCounts, IsFed}
-use Rattle.mothra_bench.specs.Gathered.{AreVerdicts, row_list, tickets_in}
+use Rattle.mothra_bench.specs.Gathered.{AreVerdicts, tickets_in}
 use Rattle.mothra_bench.specs.Working.{AreOver}
 use Rattle.mothra_verdicts.specs.declared.fault.BenchFault.{BenchFault}
-use Rattle.mothra_verdicts.specs.declared.fault.BenchFault.TheVariants as fault
 use Rattle.mothra_verdicts.specs.declared.verdict.Row.{Row}
-use Rattle.mothra_bench.specs.Driving.{IsWhole, IsNoDrive, WorkerEnd, HasWorked}
-use Rattle.mothra_bench.specs.Driving.{taken_by, all_rows, Run, answer_to, IsThreadRun}
+
+-- a pass of an exchange with these counts that did nothing
+pub record IsNewPass (counts : List ℕ) (view : View) : Type 0 where
+  pub same : view.counts ≡ counts
+  pub offered : view.offered ≡ []
+  pub taken : view.taken ≡ []
+  pub closings : view.closings ≡ []
+
+-- a pass that one thread was given: one share of the caller's, in which nothing was done
+pub record IsShare (parts keeps : Bool) (counts : List ℕ) (view : View) : Type 0 where
+  pub part : parts ≡ true → view.part ≡ 1
+  pub fresh : keeps ≡ true → IsNewPass counts view
 
 -- the pass was split, once or more, and did nothing else
 pub record OnlySplit (old new : View) : Type 0 where
@@ -52,28 +61,15 @@ pub record IsDone (plan : PlanFields) (view : View) : Type 0 where
   pub fed : (op : Op) → IsFed view op
   pub over : AreOver view
 
--- How workers and two feeders come to an outcome. The pass into which all of theirs were merged has the tickets that
--- the workers took.
-pub record Runs (may keeps parts : Bool) (bench : BenchFields) (front back : List Op) (count : ℕ) (old new : View)
-    (outcome : Result (List Row) BenchFault) : Type 0 where
-  pub run : Run
-  pub is : IsThreadRun may keeps parts bench front back count old.counts run
-  pub answer : outcome ≡ answer_to run
-  pub taken : keeps ≡ true → new.taken ≡ old.taken ++ taken_by run.workers
-
--- why not all workers were started: want of memory before the first, or a thread that could not begin
-abbrev pub IsNoStart : ℕ → ℕ → BenchFault → Type 0
-IsNoStart count started fault.Memory = started ≡ 0
-IsNoStart count started fault.Thread = started < count
-IsNoStart count started _ = ⊥
-
--- The workers that were joined: each did what `work` promises, the pass has the tickets that they took, and their rows
--- are together, unless there is a fault of the drive's own.
-pub record AreJoined (may keeps parts : Bool) (bench : BenchFields) (counts : List ℕ) (old new : View)
-    (own : Option BenchFault) (outcome : Result (List Row) BenchFault) (workers : List WorkerEnd) : Type 0 where
-  pub worked : All (HasWorked may keeps parts bench counts) workers
-  pub taken : keeps ≡ true → new.taken ≡ old.taken ++ taken_by workers
-  pub rows : IfNone own (outcome ≡ all_rows workers)
+-- The answer of a drive: a fault of its own; else the first
+-- feeder's; else the second's; else what the workers come to.
+abbrev pub answer_of : {X : Type 0}
+    → Option BenchFault → Result (Unit {0}) BenchFault → Result (Unit {0}) BenchFault
+    → Result X BenchFault → Result X BenchFault
+answer_of (Some fault) first second outcome = Err fault
+answer_of None (Err fault) second outcome = Err fault
+answer_of None (Ok one) (Err fault) outcome = Err fault
+answer_of None (Ok one) (Ok other) outcome = outcome
 
 -- What workers and two feeders come to: the pass into which all
 -- of theirs were merged, and all rows, or why there are none.
@@ -86,4 +82,3 @@ pub record Drives (may keeps parts : Bool) (bench : BenchFields) (front back : L
   pub part : parts ≡ true → IfOk outcome (λ _. new.part ≡ old.part)
   pub done : parts ≡ true → keeps ≡ true
       → 1 ≤ workers → AreShared front back → IsWhole bench.plan old → IfOk outcome (λ _. IsDone bench.plan new)
-  pub runs : Runs may keeps parts bench front back workers old new (row_list outcome)

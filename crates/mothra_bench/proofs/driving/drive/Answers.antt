@@ -1,12 +1,10 @@
-use Rattle.std.proofs.Common.{◌≡◌, List, ◌++◌, take, refl, ap, sym, subst, IfOk, arith, ◌∙◌}
+use Rattle.std.proofs.Common.{◌≡◌, List, ◌++◌, take, ap, sym, subst, IfOk, arith, ◌∙◌}
 use Rattle.mothra_codes.specs.Op.{all_ops, index}
 use Rattle.mothra_codes.specs.declared.op.Op.{Op}
 use Rattle.mothra_codes.specs.Ticket.{ticket_times}
 use Rattle.mothra_exchange.proofs.Counting.{times-append}
 use Rattle.mothra_bench.specs.code.Driving.{AreShared, IsDone}
-use Rattle.mothra_bench.specs.Driving.{IsThreadRun, back_ops, taken_by}
-use Rattle.mothra_bench.specs.Gathered.{row_list, tickets_in}
-use Rattle.mothra_bench.proofs.DriveEnds.{handed_once}
+use Rattle.mothra_bench.specs.Gathered.{tickets_in}
 use Rattle.mothra_bench.proofs.JoinedPasses.{all_complete}
 use Rattle.mothra_bench.proofs.SharedOperators.{all_shared}
 use Rattle.mothra_bench.proofs.driving.drive.Goals as goal
@@ -34,42 +32,6 @@ returns-in-Ok-clause-complete g c parts keeps whole =
     (c.run_scope-pass.ensures.drives.done parts keeps c.requires.workers.0 shared whole) in
     all_complete g.G.Gate.bound c.args.bench.now.plan view _ (tickets_in c.in-Ok.rows.items) done (c.finish-tally.ensures.records keeps)
     (was ∙ ap (λ l. l ++ tickets_in c.in-Ok.rows.items) whole.taken)
-
-pub returns-in-Ok-clause-order : goal.returns-in-Ok-clause-order
-returns-in-Ok-clause-order g c =
-    let view = g.G.Gate.view c.run_scope-pass.result.0 in
-    let old = g.G.Gate.view c.args.pass in
-    let runs = c.run_scope-pass.ensures.drives.runs in
-    let is = subst (λ l. IsThreadRun g.G.Gate.may_give_up g.G.Gate.keeps_records g.G.Gate.needs_parts c.args.bench.now l back_ops c.args.workers old.counts runs.run)
-    c.split_at.ensures.front
-    (subst (λ l. IsThreadRun g.G.Gate.may_give_up g.G.Gate.keeps_records g.G.Gate.needs_parts c.args.bench.now c.split_at.result.0.now l c.args.workers old.counts runs.run)
-    c.split_at.ensures.back runs.is) in
-    record {
-      run = runs.run;
-      is = is;
-      answers = sym runs.answer ∙ ap row_list c.in-Ok.is;
-      words = c.finish-tally.result;
-      tally = refl;
-      handed = λ keeps. handed_once g.G.Gate.bound old view c.finish-tally.result (taken_by runs.run.workers) (c.finish-tally.ensures.records keeps) (runs.taken keeps);
-    }
-
-pub returns-in-Err-clause-order : goal.returns-in-Err-clause-order
-returns-in-Err-clause-order g c =
-    let view = g.G.Gate.view c.run_scope-pass.result.0 in
-    let old = g.G.Gate.view c.args.pass in
-    let runs = c.run_scope-pass.ensures.drives.runs in
-    let is = subst (λ l. IsThreadRun g.G.Gate.may_give_up g.G.Gate.keeps_records g.G.Gate.needs_parts c.args.bench.now l back_ops c.args.workers old.counts runs.run)
-    c.split_at.ensures.front
-    (subst (λ l. IsThreadRun g.G.Gate.may_give_up g.G.Gate.keeps_records g.G.Gate.needs_parts c.args.bench.now c.split_at.result.0.now l c.args.workers old.counts runs.run)
-    c.split_at.ensures.back runs.is) in
-    record {
-      run = runs.run;
-      is = is;
-      answers = sym runs.answer ∙ ap row_list c.in-Err.is;
-      words = c.finish-tally.result;
-      tally = tt;
-      handed = λ keeps. handed_once g.G.Gate.bound old view c.finish-tally.result (taken_by runs.run.workers) (c.finish-tally.ensures.records keeps) (runs.taken keeps);
-    }
 
 pub returns-in-Ok-clause-whole : goal.returns-in-Ok-clause-whole
 returns-in-Ok-clause-whole g c parts keeps whole =

@@ -1,11 +1,8 @@
-use Rattle.std.proofs.Common.{rules, ◌≡◌, ◌⊎◌, ◌+◌, ◌++◌, [], ◌∷◌, None, length, ap, sym, ◌∙◌, subst, ⊎_elim, arith, inl, inr}
-use Rattle.std.proofs.lemmas.List.{length-append}
+use Rattle.std.proofs.Common.{rules, ◌≡◌, ◌⊎◌, ◌+◌, ◌++◌, [], None, length, ap, sym, ◌∙◌, ⊎_elim, arith, inl, inr}
 use Rattle.std.specs.Vec.Iter.{into_iter_items}
-use Rattle.mothra_bench.specs.code.Driving.{AreJoined}
-use Rattle.mothra_bench.specs.Driving.{IsShare, WorkerEnd}
-use Rattle.mothra_bench.specs.code.Gathered.{gathered_rows}
+use Rattle.mothra_bench.specs.code.Driving.{IsShare}
 use Rattle.mothra_bench.specs.Working.{AreOver}
-use Rattle.mothra_bench.proofs.DriveEnds.{any_none, gathered_outcome, joined_none, joined_on, memory_on, none_on, rows_none}
+use Rattle.mothra_bench.proofs.DriveEnds.{any_none, memory_on, none_on, rows_none}
 use Rattle.mothra_bench.proofs.JoinedPasses.{keeps_on, keeps_self, new_same}
 use Rattle.mothra_bench.proofs.WorkerRows.{answered_with, first_of_all, gathers, none_left, over_gathered, still_some}
 use Rattle.mothra_bench.proofs.driving.join_workers.Goals as goal
@@ -41,12 +38,6 @@ loop-worker-init g c =
       λ keeps. any_none ((into_iter_items c.into_iter-worker-iterator.result ≡ c.args.workers.items) ⊎ AreOver old) c.new-gathered.result.fault
           (inl c.into_iter-worker-iterator.ensures.into_iter_gives.0),
       search rules,
-      (
-        [],
-        search rules,
-        joined_none g.G.Gate.may_give_up g.G.Gate.keeps_records g.G.Gate.needs_parts c.args.crew.now.bench.now old.counts old c.args.fault.now c.new-gathered.result
-            c.new-gathered.ensures.rows c.new-gathered.ensures.fault,
-      ),
       search rules,
       search rules,
     )
@@ -65,10 +56,7 @@ loop-worker-preserved g c =
     let more = gathers c.args.crew.now.bench.now g.G.Gate.may_give_up g.G.Gate.keeps_records (g.G.Gate.view c.in-Some.worker.promise.pass.value).counts old.counts old.taken
     between.taken new.taken c.loop-worker.gathered.fault c.loop-worker.gathered.rows.items c.join_worker-outcome.result c.add.new.self.fault c.add.new.self.rows.items
     (λ keeps. (here.0.2.fresh keeps).same) c.add.ensures.rows c.add.ensures.fault inv.4 inv.5 c.join_worker-outcome.ensures.verdicts c.join_worker-outcome.ensures.refused
-    c.join_worker-outcome.ensures.records in
-    let works = c.join_worker-outcome.ensures.works in
-    let joined = inv.10 in
-    let worker : WorkerEnd = record { given = g.G.Gate.view c.in-Some.worker.promise.pass.value; back = works.0; outcome = c.join_worker-outcome.result } in (
+    c.join_worker-outcome.ensures.records in (
       tt,
       tt,
       c.join_worker-outcome.ensures.own,
@@ -86,15 +74,8 @@ loop-worker-preserved g c =
           (λ rows. c.add.new.self.rows.items ≡ c.loop-worker.gathered.rows.items ++ rows.items) c.add.new.self.fault c.join_worker-outcome.result c.add.ensures.rows
           (c.join_worker-outcome.ensures.over keeps)),
       (let long = ap (λ l. length l) steps.0 in let len = steps.1 in let was = inv.9 in omega arith),
-      (
-        joined.0 ++ worker ∷ [],
-        (let long = ap (λ l. length l) steps.0 in let all' = joined.1 in let more' = length-append joined.0 (worker ∷ []) in omega arith),
-        joined_on g.G.Gate.may_give_up g.G.Gate.keeps_records g.G.Gate.needs_parts c.args.crew.now.bench.now old.counts old between new c.loop-worker.fault c.add.new.own
-            (gathered_rows c.loop-worker.gathered) (gathered_rows c.add.new.self) joined.0 worker joined.2 (record { share = here.0.2; works = works.1 }) works.2
-            c.add.ensures.own c.add.ensures.joined,
-      ),
-      none_on c.args.fault.now c.loop-worker.fault c.add.new.own inv.11 c.add.ensures.own,
-      memory_on c.args.fault.now c.loop-worker.fault c.add.new.own inv.11 inv.12 c.add.ensures.own c.add.ensures.memory,
+      none_on c.args.fault.now c.loop-worker.fault c.add.new.own inv.10 c.add.ensures.own,
+      memory_on c.args.fault.now c.loop-worker.fault c.add.new.own inv.10 inv.11 c.add.ensures.own c.add.ensures.memory,
     )
 
 pub returns-clause-part : goal.returns-clause-part
@@ -111,16 +92,3 @@ returns-clause-over g c keeps =
     (still_some ((into_iter_items c.loop-worker.worker-iterator ≡ c.args.workers.items) ⊎ AreOver (g.G.Gate.view c.loop-worker.pass))
     ((c.args.workers.items ≡ []) ⊎ AreOver (g.G.Gate.view c.loop-worker.pass)) c.loop-worker.gathered.fault
     (λ way. ⊎_elim (λ e. inl (sym e ∙ none)) (λ over. inr over) way) (c.loop-worker.invariant.8 keeps)) c.outcome.ensures
-
-pub returns-clause-joined : goal.returns-clause-joined
-returns-clause-joined g c =
-    let joined = c.loop-worker.invariant.10 in
-    let none = c.in-None.ensures.steps.0 in
-    let len = c.loop-worker.invariant.9 in
-    let old = g.G.Gate.view c.args.pass.now in (
-      joined.0,
-      (let all = joined.1 in omega arith),
-      subst (λ outcome. AreJoined g.G.Gate.may_give_up g.G.Gate.keeps_records g.G.Gate.needs_parts c.args.crew.now.bench.now old.counts old
-          (g.G.Gate.view c.loop-worker.pass) c.loop-worker.fault outcome joined.0)
-          (sym (gathered_outcome c.loop-worker.gathered.fault c.loop-worker.gathered.rows c.outcome.result c.outcome.ensures)) joined.2,
-    )

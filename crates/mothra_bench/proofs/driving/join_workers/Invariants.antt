@@ -1,10 +1,9 @@
-use Rattle.std.proofs.Common.{◌≡◌, ◌⊎◌, ◌+◌, ◌++◌, List, true, None, All, IfSome, MatchOption, length}
+use Rattle.std.proofs.Common.{◌≡◌, ◌⊎◌, ◌+◌, ◌++◌, true, None, All, IfSome, MatchOption, length}
 use Rattle.std.specs.Prelude.{IfNone}
 use Rattle.std.specs.Vec.Iter.{into_iter_items, into_iter_len}
-use Rattle.mothra_bench.specs.code.Driving.{AreJoined, KeepsFed}
-use Rattle.mothra_bench.specs.Driving.{IsNoDrive, IsShare, WorkerEnd}
+use Rattle.mothra_bench.specs.code.Driving.{IsShare, KeepsFed}
+use Rattle.mothra_bench.specs.Driving.{IsNoDrive}
 use Rattle.mothra_bench.specs.Gathered.{AreVerdicts, tickets_in}
-use Rattle.mothra_bench.specs.code.Gathered.{gathered_rows}
 use Rattle.mothra_bench.specs.Working.{AreOver}
 use Rattle.mothra_verdicts.specs.declared.fault.BenchFault.TheVariants as fault
 use Rattle.mothra_bench.proofs.driving.join_workers.Given as goal
@@ -25,8 +24,5 @@ invariant-loop-worker g l =
     × (g.G.Gate.keeps_records ≡ true
     → IfNone l.gathered.fault ((into_iter_items l.worker-iterator ≡ l.fn.workers.items) ⊎ AreOver (g.G.Gate.view l.pass)))
     × (into_iter_len l.worker-iterator ≡ length (into_iter_items l.worker-iterator))
-    × ((ends : List WorkerEnd) × (length ends + length (into_iter_items l.worker-iterator) ≡ length l.fn.workers.items)
-    × AreJoined g.G.Gate.may_give_up g.G.Gate.keeps_records g.G.Gate.needs_parts l.crew.bench.now (g.G.Gate.view l.fn.pass).counts
-    (g.G.Gate.view l.fn.pass) (g.G.Gate.view l.pass) l.fault (gathered_rows l.gathered) ends)
     × IfNone l.fault (l.fn.fault ≡ None)
     × IfSome l.fault (λ e. MatchOption l.fn.fault (e ≡ fault.Memory) (λ first. e ≡ first))

@@ -1,10 +1,10 @@
 use Rattle.std.proofs.Common.{◌≡◌, ◌⊎◌, ◌++◌, [], true, None, length, ap, sym, ◌∙◌, subst, ⊎_elim, arith}
 use Rattle.std.proofs.lemmas.Result.{IfErr-weaker, IfOk-weaker}
-use Rattle.mothra_bench.specs.Driving.{AreStarted, IsNoDrive, Run, all_rows, answer_of, feeder_outcome, taken_by}
+use Rattle.mothra_bench.specs.Driving.{IsNoDrive}
 use Rattle.mothra_bench.specs.code.Driving.{Drives, IsDone}
-use Rattle.mothra_bench.specs.Gathered.{AreVerdicts, row_list, tickets_in}
+use Rattle.mothra_bench.specs.Gathered.{AreVerdicts, tickets_in}
 use Rattle.mothra_bench.specs.Working.{AreOver}
-use Rattle.mothra_bench.proofs.DriveEnds.{all_first, answer_list, answer_same, err_answer, feeder_end, joins, ok_answer, own_told, same_worked, stalled_told, starts, where_none}
+use Rattle.mothra_bench.proofs.DriveEnds.{began, err_answer, feeder_told, ok_answer, rows_told, stalled_told, start_told, where_none}
 use Rattle.mothra_bench.proofs.JoinedPasses.{all_done, feeder_fed, split_on}
 use Rattle.mothra_bench.proofs.WorkerRows.{ok_more, same_no_drive, three_of}
 use Rattle.mothra_bench.proofs.WorkerSteps.{any_rows}
@@ -39,24 +39,20 @@ returns-clause-drives g c =
     let taken : keeps ≡ true → both.taken ≡ first.taken =
     λ k. (c.join_started-second.ensures.records k).1 ∙ ((c.join_started-first.ensures.records k).1
     ∙ ((c.start_or_close-other.ensures.records k).1 ∙ ((c.start_or_close-one.ensures.records k).1 ∙ (c.start_workers-workers.ensures.records k).taken))) in
-    let front_end = feeder_end c.start_or_close-one.result may keeps parts plan front_ops crewed.counts first.counts one
-    (λ feeder. feeder.promise.gate.now ≡ c.args.crew.now.gate.now) (λ feeder. feeder.promise.ops.now) (λ feeder. feeder.promise.plan.now)
-    (λ feeder. g.G.Gate.view feeder.promise.pass.value) crewed_counts c.start_or_close-one.ensures.feeder c.join_started-first.ensures.feeds in
-    let back_end = feeder_end c.start_or_close-other.result may keeps parts plan back_ops between.counts first.counts other
-    (λ feeder. feeder.promise.gate.now ≡ c.args.crew.now.gate.now) (λ feeder. feeder.promise.ops.now) (λ feeder. feeder.promise.plan.now)
-    (λ feeder. g.G.Gate.view feeder.promise.pass.value) between_counts c.start_or_close-other.ensures.feeder c.join_started-second.ensures.feeds in
-    let ends = c.join_workers-gathered.ensures.joined in
-    let run : Run = record { own = own; first = front_end.0; second = back_end.0; workers = ends.0 } in
-    let started : AreStarted count run own = joins count run c.start_or_close-other.new.fault own
-    (starts count (length c.start_workers-workers.result.0.items) run c.start_workers-workers.result.1 c.start_or_close-one.new.fault c.start_or_close-other.new.fault
-    c.start_or_close-one.result c.start_or_close-other.result
-    ends.1 (all_first _ _ c.start_workers-workers.result.1 c.start_workers-workers.ensures.all) c.start_workers-workers.ensures.which
-    c.start_or_close-one.ensures.kept
-    c.start_or_close-one.ensures.thread c.start_or_close-other.ensures.kept c.start_or_close-other.ensures.thread front_end.3 back_end.3)
-    c.join_workers-gathered.ensures.none c.join_workers-gathered.ensures.memory in
+    let told = rows_told may keeps plan first.counts c.start_or_close-other.new.fault own
+    (feeder_told may keeps plan first.counts c.start_or_close-one.new.fault c.start_or_close-other.new.fault c.start_or_close-other.result
+    (feeder_told may keeps plan first.counts c.start_workers-workers.result.1 c.start_or_close-one.new.fault c.start_or_close-one.result
+    (start_told may keeps plan first.counts (c.start_workers-workers.result.0.items ≡ []) c.start_workers-workers.result.1 c.start_workers-workers.ensures.refused)
+    c.start_or_close-one.ensures.kept c.start_or_close-one.ensures.thread)
+    c.start_or_close-other.ensures.kept c.start_or_close-other.ensures.thread)
+    c.join_workers-gathered.ensures.memory in
     let none_at_last = where_none (c.start_or_close-other.new.fault ≡ None) own c.join_workers-gathered.ensures.none in
-    let second_of = λ (none : own ≡ None). where_none _ c.start_or_close-other.new.fault c.start_or_close-other.ensures.started (none_at_last none) in
-    let one_of = λ (none : own ≡ None). where_none _ c.start_or_close-one.new.fault c.start_or_close-one.ensures.started (second_of none).0 in
+    let second_of = λ (none : own ≡ None). began c.start_or_close-one.new.fault c.start_or_close-other.new.fault c.start_or_close-other.result
+    c.start_or_close-other.ensures.kept c.start_or_close-other.ensures.thread (none_at_last none) in
+    let one_of = λ (none : own ≡ None). began c.start_workers-workers.result.1 c.start_or_close-one.new.fault c.start_or_close-one.result
+    c.start_or_close-one.ensures.kept c.start_or_close-one.ensures.thread (second_of none).0 in
+    let second_split = λ (none : own ≡ None). where_none _ c.start_or_close-other.new.fault c.start_or_close-other.ensures.started (none_at_last none) in
+    let one_split = λ (none : own ≡ None). where_none _ c.start_or_close-one.new.fault c.start_or_close-one.ensures.started (second_of none).0 in
     let crew_of = λ (none : own ≡ None). where_none _ c.start_workers-workers.result.1 c.start_workers-workers.ensures.all (one_of none).0 in
     let part_of : parts ≡ true → own ≡ None → last.part ≡ first.part =
     λ p none.
@@ -65,10 +61,10 @@ returns-clause-drives g c =
     let back = three_of _ _ _ c.start_or_close-other.result (second_of none).1 c.start_or_close-other.ensures.feeder (c.join_started-second.ensures.part p)
     (c.join_started-second.ensures.part p) in
     let a = c.join_workers-gathered.ensures.part p in let b = back.3 in let d = back.1.3.part p in let e = front.3 in
-    let f = front.1.3.part p in let h = (second_of none).2 p in let i = (one_of none).2 p in let j = (crew_of none).1 p in let k = (crew_of none).0 in omega arith in
+    let f = front.1.3.part p in let h = (second_split none).0 p in let i = (one_split none).0 p in let j = (crew_of none).1 p in let k = (crew_of none).0 in omega arith in
     subst (Drives may keeps parts bench front_ops back_ops count first last) (sym c.answer.ensures) (record {
       verdicts = ok_answer own one other outcome (λ rows. AreVerdicts bench rows.items) (λ a b d. c.join_workers-gathered.ensures.verdicts);
-      refused = err_answer own one other outcome (IsNoDrive may keeps plan first.counts) (own_told may keeps plan first.counts count run own started)
+      refused = err_answer own one other outcome (IsNoDrive may keeps plan first.counts) told
           (stalled_told may keeps plan first.counts one c.join_started-first.ensures.refused)
           (stalled_told may keeps plan first.counts other c.join_started-second.ensures.refused)
           (IfErr-weaker outcome (IsNoDrive may keeps plan both.counts) (IsNoDrive may keeps plan first.counts)
@@ -84,8 +80,8 @@ returns-clause-drives g c =
           let back = three_of _ _ _ c.start_or_close-other.result (second_of none).1 c.start_or_close-other.ensures.feeder (c.join_started-second.ensures.joined k)
           (c.join_started-second.ensures.part p) in
           let split = c.start_workers-workers.ensures.records k in
-          let again = (one_of none).3 k in
-          let all = split_on first crewed start split (split_on crewed between start again ((second_of none).3 k)) in
+          let again = (one_split none).1 k in
+          let all = split_on first crewed start split (split_on crewed between start again ((second_split none).1 k)) in
           let fed = feeder_fed plan front.0.promise.plan.now front_ops front.0.promise.ops.now first crewed.counts
           (g.G.Gate.view front.0.promise.pass.value) front.2.0 one whole split.counts front.1.2 front.1.1 (front.1.3.fresh k) front.2.2 front.2.3 one_ok in
           let fed' = feeder_fed plan back.0.promise.plan.now back_ops back.0.promise.ops.now first between.counts
@@ -94,17 +90,4 @@ returns-clause-drives g c =
           (c.join_workers-gathered.ensures.over k) (λ way. all_done plan first start front.2.0 joined back.2.0 both last front_ops
           back_ops whole all shared front.2.1 fed.0 fed.1 back.2.1 fed'.0 fed'.1 (c.join_workers-gathered.ensures.fed k) (part_of p none ∙ whole.part)
           (⊎_elim (λ nobody. let long = ap (λ l. length l) nobody in let all' = (crew_of none).0 in absurd (omega arith)) (λ over. over) way)));
-      runs = record {
-        run = run;
-        is = record {
-          started = started;
-          first = front_end.1;
-          second = back_end.1;
-          workers = same_worked may keeps parts bench both.counts first.counts ends.0 counts ends.2.worked;
-        };
-        answer = answer_list own one other outcome
-            ∙ (answer_same own one other (row_list outcome) (all_rows ends.0) ends.2.rows
-            ∙ (ap (λ o. answer_of own o other (all_rows ends.0)) front_end.2 ∙ ap (λ o. answer_of own (feeder_outcome front_end.0) o (all_rows ends.0)) back_end.2));
-        taken = λ k. ends.2.taken k ∙ ap (λ l. l ++ taken_by ends.0) (taken k);
-      };
     })
