@@ -1,12 +1,13 @@
 //! Workers over gates that hold the first of them, invent tickets, drop them, hand them out in another order, end
-//! early, refuse offers, or give up. The passes of two workers are split off first, then those of the feeders.
+//! early, refuse offers, or give up. The passes of two workers are split off first, then those of the feeders. A feeder
+//! over a gate with answers of its own.
 
 ghost use Rattle.std.specs.Prelude.{◌≡◌, ◌+◌, ◌≤◌, true};
 
 use crate::benches::{counts, report, sum_bench, sums};
 use crate::tricky::{Counted, Trick, Tricky};
-use mothra_bench::{Bench, BenchFault, collect, drive, render};
-use mothra_exchange::{Gate, LockedExchange, TableExchange, Ticket};
+use mothra_bench::{Bench, BenchFault, collect, drive, feed, render};
+use mothra_exchange::{Gate, LockedExchange, Offer, TableExchange, Ticket};
 use mothra_ops::Op;
 use std::process::Abort;
 use std::sync::Wait;
@@ -102,6 +103,7 @@ const LAST: Ticket = Ticket {
     op: Op::Uoi,
     number: 9,
 };
+
 /// Of no mutant.
 const NONE: Ticket = Ticket {
     op: Op::Abs,
@@ -179,5 +181,46 @@ fn miss_mutants_where_a_gate_ends_early(rt: HostRuntime) -> Result<(), Fail> {
     let bench = sum_bench(&rt)?;
     assert!(rt; is_short(tricked(&rt, &bench, Trick::Ends(16), 2)?));
     assert!(rt; is_short(tricked_locked(&rt, &bench, Trick::Ends(16), 2)?));
+    Ok(())
+}
+
+const FIRST_OF_UOI: Ticket = Ticket {
+    op: Op::Uoi,
+    number: 1,
+};
+
+/// What a feeder of two operators is answered.
+const ANSWERS: [Offer; 8] = [
+    Offer::Busy,
+    Offer::Busy,
+    Offer::Accepted,
+    Offer::Full,
+    Offer::Full,
+    Offer::Busy,
+    Offer::Full,
+    Offer::GaveUp,
+];
+
+/// What it offers: behind Busy the same ticket, behind Full one of the next operator.
+const OFFERED: [Ticket; 8] = [
+    FIRST,
+    FIRST,
+    FIRST,
+    FIRST_OF_UOI,
+    SECOND,
+    FIRST_OF_UOI,
+    FIRST_OF_UOI,
+    SECOND,
+];
+
+#[test]
+fn are_fed_again_behind_busy_and_in_turn_behind_full(rt: HostRuntime) -> Result<(), Fail> {
+    let bench = sum_bench(&rt)?;
+    let (inner, pass) = TableExchange::<64>::new(rt.alloc(), counts(bench.plan()))?;
+    let counted = Counted::new();
+    let (gate, pass) = Tricky::of(inner, pass, Trick::Answers(ANSWERS), &counted);
+    let (pass, end) = feed(&rt, &gate, pass, &[Op::Abs, Op::Uoi], bench.plan());
+    assert_eq!(rt; end, Err(BenchFault::Stalled));
+    assert_eq!(rt; pass.offered.as_slice(), OFFERED.as_slice());
     Ok(())
 }

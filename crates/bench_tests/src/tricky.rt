@@ -11,6 +11,9 @@ use std::sync::atomic::{AtomicBool, AtomicU64, Ordering};
 /// How often the gate looks for another take before it gives up.
 const MOST_TURNS: u32 = 50_000_000;
 
+/// How many offers a pass notes.
+const NOTED: usize = 8;
+
 /// Passes are numbered from 1 in the order in which they are split off.
 #[derive(Clone, Copy, Drop)]
 pub(crate) enum Trick {
@@ -32,6 +35,8 @@ pub(crate) enum Trick {
     Holds,
     /// The first take of one pass answers a ticket of its own, and each call of another gives up.
     Mishaps(u64, Ticket, u64),
+    /// Offers have these answers, one after another.
+    Answers([Offer; NOTED]),
 }
 
 /// What such a gate has counted.
@@ -88,7 +93,15 @@ pub(crate) struct TrickyPass<P> {
     number: u64,
     /// It took already.
     took: bool,
+    /// The tickets that it offered, where the trick has the answers.
+    pub(crate) offered: [Ticket; NOTED],
 }
+
+/// Nothing is noted so far.
+const NO_OFFERS: [Ticket; NOTED] = [Ticket {
+    op: Op::Aar,
+    number: 0,
+}; NOTED];
 
 impl<'a, G> Tricky<'a, G> {
     /// Round this gate, with its pass.
@@ -109,6 +122,7 @@ impl<'a, G> Tricky<'a, G> {
             inner: pass,
             number: 0,
             took: false,
+            offered: NO_OFFERS,
         };
         (gate, pass)
     }
@@ -147,6 +161,19 @@ impl<'a, G> Tricky<'a, G> {
             Trick::Mishaps(one, ticket, _) => (first && number == one).then_some(ticket),
             _ => None,
         }
+    }
+
+    /// The answer that the trick has for this offer, which it notes.
+    fn answered(&self, offered: &mut [Ticket; NOTED], ticket: Ticket) -> Option<Offer> {
+        let Trick::Answers(answers) = self.trick else {
+            return None;
+        };
+        let made = self.counted.made.fetch_add(1, Ordering::SeqCst) as usize;
+        if made >= NOTED {
+            return Some(Offer::GaveUp);
+        }
+        offered[made] = ticket;
+        Some(answers[made])
     }
 
     /// Whether so many tickets were handed out that no more are.
@@ -205,6 +232,7 @@ impl<G: Gate> Gate for Tricky<'_, G> {
             inner,
             number: splits.wrapping_add(1),
             took: false,
+            offered: NO_OFFERS,
         }
     }
 
@@ -219,6 +247,9 @@ impl<G: Gate> Gate for Tricky<'_, G> {
         }
         if matches!(self.trick, Trick::Refuses) {
             return Offer::Closed;
+        }
+        if let Some(answer) = self.answered(&mut pass.offered, ticket) {
+            return answer;
         }
         self.inner.offer(rt, &mut pass.inner, ticket)
     }

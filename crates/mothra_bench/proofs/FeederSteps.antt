@@ -2,7 +2,7 @@
 use Rattle.std.proofs.Common.{◌≡◌, ◌⊎◌, ◌≢◌, ℕ, ◌+◌, ◌<◌, ◌≤◌, List, [], ◌∷◌, ◌++◌, Bool, true, false, true≢false, cond, eqb}
 use Rattle.std.proofs.Common.{ltb, not, Option, None, Some, IfSome, refl, sym, ap, ◌∙◌, subst, ⊎_elim, arith, inl, inr, eq-eqb}
 use Rattle.std.specs.Prelude.{slice_index}
-use Rattle.std.proofs.lemmas.Bool.{ltb-true}
+use Rattle.std.proofs.lemmas.Bool.{eqb-true, ltb-true}
 use Rattle.std.proofs.lemmas.Bool.Decides.{nat_tests}
 use Rattle.mothra_codes.specs.declared.op.Op.{Op}
 use Rattle.mothra_codes.specs.Op.{index}
@@ -24,10 +24,10 @@ use Rattle.mothra_exchange.proofs.Others.{offer_only}
 use Rattle.mothra_bench.specs.code.Closing.{Closes, LooksOnly, Shuts}
 use Rattle.mothra_bench.specs.Closing.{count_of, seen_of}
 use Rattle.mothra_bench.specs.Feeding.{HasClosed, HasOffered, IsFed, NeverClosed, OnlyGave}
-use Rattle.mothra_bench.specs.code.Feeding.{ShowsStage}
+use Rattle.mothra_bench.specs.code.Feeding.{IsFull, ShowsStage}
 use Rattle.mothra_bench.specs.declared.feeding.Stage.{Stage}
 use Rattle.mothra_bench.specs.declared.feeding.Stage.TheVariants as stage
-use Rattle.mothra_bench.proofs.Looking.{found, load_long, looks_load, looks_lost, seen_after_load}
+use Rattle.mothra_bench.proofs.Looking.{found, load_long, looks_load, looks_lost, looks_on, only_trans, seen_after_load}
 
 gave_same : (old new next : View) → new ≡ next → next.counts ≡ old.counts → next.part ≡ old.part → next.taken ≡ old.taken → OnlyGave old new
 gave_same old new next e c p t = record { counts = ap (λ (v : View). v.counts) e ∙ c; part = ap (λ (v : View). v.part) e ∙ p; taken = ap (λ (v : View). v.taken) e ∙ t }
@@ -199,20 +199,37 @@ found_accepted false false true f n e = absurd (cc)
 found_accepted false false false true n e = absurd (cc)
 found_accepted false false false false n e = refl
 
+found_full : (c past turn full : Bool) (n : ℕ) → cond c offer.Closed (cond past offer.PastEnd (cond turn (offer.OutOfTurn n) (cond full offer.Full offer.Accepted))) ≡ offer.Full → full ≡ true
+found_full true p t f n e = absurd (cc)
+found_full false true t f n e = absurd (cc)
+found_full false false true f n e = absurd (cc)
+found_full false false false true n e = refl
+found_full false false false false n e = absurd (cc)
+
 in_turn : (k n : ℕ) → not (eqb k n) ≡ false → k ≡ n
 in_turn k n e = grind (arith, nat_tests)
 
 out_of_turn : (k n : ℕ) → not (eqb k n) ≡ true → k ≢ n
 out_of_turn k n e = grind (arith, nat_tests)
 
--- an offer that found no room, or lost
+-- an offer that found no room
 pub shows_full : (C : ℕ) (old new : View) (t : Ticket) (s : Stage) → ShowsStage old t.op s → OfferKept C old t offer.Full new → ShowsStage new t.op s
 shows_full C old new t s h kept =
     shows_looked t.op old new s (looks_load C old new t.op kept.0 kept.1 kept.2.1 (offer_only C old t offer.Full new kept)) h
 
-pub shows_busy : (C : ℕ) (old new : View) (t : Ticket) (s : Stage) → ShowsStage old t.op s → OfferKept C old t offer.Busy new → ShowsStage new t.op s
-shows_busy C old new t s h kept =
-    shows_looked t.op old new s (looks_lost C old new t.op kept.0 kept.1 kept.2.1 (offer_only C old t offer.Busy new kept)) h
+pub sees_full : (C : ℕ) (old new : View) (t : Ticket) → OfferKept C old t offer.Full new → IsFull C new t.op
+sees_full C old new t kept =
+    let w = kept.0 in
+    let full = found_full w.closed (ltb w.count t.number) (not (eqb t.number (w.offered + 1))) (eqb w.offered (w.handed + C)) (w.offered + 1) kept.2.0 in
+    subst (λ (x : Word). x.offered ≡ x.handed + C) (sym (seen_after_load C old new t.op w kept.1 kept.2.1)) (eqb-true w.offered (w.handed + C) full)
+
+-- one that lost, behind looks
+pub offer_looks : (C : ℕ) (t : Ticket) (old between new : View) (answer : Offer) → LooksOnly t.op old between → answer ≡ offer.Busy → OfferKept C between t answer new
+    → LooksOnly t.op old new
+offer_looks C t old between new answer looks e kept =
+    let lost = subst (λ a. OfferKept C between t a new) e kept in
+    let only = offer_only C between t offer.Busy new lost in
+    looks_on t.op old between new (only_trans t.op old between new looks.changes only) looks (looks_lost C between new t.op lost.0 lost.1 lost.2.1 only)
 
 -- one behind a close
 pub shows_closed : (C : ℕ) (old new : View) (t : Ticket) (last : ℕ) → ShowsStage old t.op (stage.Offered last) → OfferKept C old t offer.Closed new
@@ -290,11 +307,6 @@ shows_accepted C old new t last next below h kept =
       (omega arith),
       (omega arith),
     )
-
-pub shows_waited : (C : ℕ) (old new : View) (t : Ticket) (s : Stage) (answer : Offer) → (answer ≡ offer.Full) ⊎ (answer ≡ offer.Busy) → ShowsStage old t.op s
-    → OfferKept C old t answer new → ShowsStage new t.op s
-shows_waited C old new t s answer (inl e) h kept = shows_full C old new t s h (subst (λ a. OfferKept C old t a new) e kept)
-shows_waited C old new t s answer (inr e) h kept = shows_busy C old new t s h (subst (λ a. OfferKept C old t a new) e kept)
 
 pub shows_ended : (C : ℕ) (old new : View) (t : Ticket) (last : ℕ) (answer : Offer)
     → (answer ≡ offer.Closed) ⊎ ((answer ≡ offer.PastEnd) ⊎ ((k : ℕ) × (answer ≡ offer.OutOfTurn k))) → t.number ≡ last + 1 → last < count_of old t.op

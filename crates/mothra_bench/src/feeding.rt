@@ -1,13 +1,13 @@
 //! Feeders: they offer the tickets of operators in order.
 
 ghost use Rattle.std.specs.Prelude.{◌≡◌, ◌≢◌, ◌+◌, ◌<◌, ℕ, true, All, Contains};
-ghost use Rattle.std.specs.Prelude.{IfOk, IfErr, IfNone, IfSome, slice_index};
+ghost use Rattle.std.specs.Prelude.{Some, IfOk, IfErr, IfNone, IfSome, slice_index};
 ghost use Rattle.mothra_codes.specs.Op.{index};
 ghost use Rattle.mothra_codes.specs.declared.op.Op.{Op as OpModel};
 ghost use Rattle.mothra_exchange.specs.Law.{ChangesOnly};
 ghost use Rattle.mothra_bench.specs.code.Closing.{Closes};
 ghost use Rattle.mothra_bench.specs.Closing.{count_of};
-ghost use Rattle.mothra_bench.specs.code.Feeding.{AllShow, ShowsStage, stage_of};
+ghost use Rattle.mothra_bench.specs.code.Feeding.{AllShow, IsFull, ShowsStage, stage_of};
 ghost use Rattle.mothra_bench.specs.Feeding.{AreFed, IsReadyPass, IsStalled, OnlyGave};
 
 use crate::closing::close_one;
@@ -29,7 +29,7 @@ enum Stage {
     Closed,
 }
 
-/// Offers a ticket; none where the gate gave up.
+/// Offers a ticket, again at once where a race was lost; none where the gate gave up.
 fn offer<G: Gate, R: Wait>(
     rt: &R,
     gate: &G,
@@ -45,15 +45,21 @@ fn offer<G: Gate, R: Wait>(
     ensures shows { G.keeps_records ≡ true → (before : ℕ) → stage ≡ Stage.Offered before → ticket.number ≡ before + 1
         → before < count_of (G.view pass.old) ticket.op
         → ShowsStage (G.view pass.old) ticket.op stage → IfSome result (ShowsStage (G.view pass.new) ticket.op) }
+    ensures full { G.keeps_records ≡ true → (before : ℕ) → stage ≡ Stage.Offered before → ticket.number ≡ before + 1
+        → result ≡ Some stage → IsFull G.bound (G.view pass.new) ticket.op }
     ensures others { G.keeps_records ≡ true
         → IfSome result (λ _. ChangesOnly ticket.op (G.view pass.old) (G.view pass.new)) }
 {
-    match gate.offer(rt, pass, ticket) {
-        Offer::Accepted => Some(Stage::Offered(ticket.number)),
-        Offer::Full | Offer::Busy => Some(stage),
-        Offer::Closed | Offer::PastEnd | Offer::OutOfTurn(_) => Some(Stage::Ended),
-        Offer::GaveUp => None,
+    for _ in rt.forever() {
+        match gate.offer(rt, pass, ticket) {
+            Offer::Busy => {}
+            Offer::Full => return Some(stage),
+            Offer::Accepted => return Some(Stage::Offered(ticket.number)),
+            Offer::Closed | Offer::PastEnd | Offer::OutOfTurn(_) => return Some(Stage::Ended),
+            Offer::GaveUp => return None,
+        }
     }
+    unreachable!()
 }
 
 /// Closes an operator; none where the gate gave up.
@@ -164,8 +170,9 @@ fn feed_round<G: Gate, R: Wait>(
 }
 
 /// Goes round the operators, offers the next ticket of each, closes each behind its last,
-/// and ends when all are closed. A full operator is passed over until the next round. An
-/// operator of which a ticket is refused for good is closed. It takes no memory.
+/// and ends when all are closed. A full operator is passed over until the next round; an
+/// offer that lost a race is made again at once. An operator of which a ticket is refused
+/// for good is closed. It takes no memory.
 pub fn feed<G: Gate, R: Wait>(
     rt: &R,
     gate: &G,

@@ -1,6 +1,6 @@
 -- What a feeder does with its pass, and what it answers.
 -- Private functions and proofs alone cite what stands here.
-use Rattle.std.specs.Prelude.{◌≡◌, ◌⊎◌, ℕ, ◌<◌, ◌≤◌, true, List}
+use Rattle.std.specs.Prelude.{◌≡◌, ◌⊎◌, ℕ, ◌+◌, ◌<◌, ◌≤◌, true, List}
 use Rattle.std.specs.Prelude.{slice_index_or}
 use Rattle.mothra_codes.specs.declared.op.Op.{Op}
 use Rattle.mothra_codes.specs.Op.{index}
@@ -17,6 +17,10 @@ ShowsStage view op (stage.Offered last) =
 ShowsStage view op stage.Ended = (last : ℕ) × HasOffered view op last × NeverClosed view op
     × ((last < (seen_of view op).offered) ⊎ ((seen_of view op).closed ≡ true))
 ShowsStage view op stage.Closed = IsFed view op
+
+-- the pass has seen that as many tickets of the operator wait as may
+abbrev pub IsFull : ℕ → View → Op → Type 0
+IsFull bound view op = (seen_of view op).offered ≡ (seen_of view op).handed + bound
 
 abbrev pub stage_of : List Stage → Op → Stage
 stage_of stages op = slice_index_or stages (index op) (stage.Offered 0)

@@ -1,0 +1,13 @@
+use Rattle.std.proofs.Common.{◌≡◌, true}
+use Rattle.mothra_bench.specs.code.Closing.{LooksOnly}
+use Rattle.mothra_bench.specs.Feeding.{OnlyGave}
+use Rattle.mothra_bench.proofs.feeding.offer.Given as goal
+
+abbrev pub invariant-loop : goal.invariant-loop
+invariant-loop g l =
+    (goal.iterator-loop g).can_next l.iterator'
+    × (goal.iterator-loop g).is_finite l.iterator'
+    × g.G.Gate.is_pass l.gate l.pass
+    × (g.G.Gate.needs_parts ≡ true → (g.G.Gate.view l.pass).part ≡ (g.G.Gate.view l.fn.pass).part)
+    × (g.G.Gate.keeps_records ≡ true → OnlyGave (g.G.Gate.view l.fn.pass) (g.G.Gate.view l.pass))
+    × (g.G.Gate.keeps_records ≡ true → LooksOnly l.ticket.op (g.G.Gate.view l.fn.pass) (g.G.Gate.view l.pass))
