@@ -1,7 +1,7 @@
 //! What a worker, or all workers, have come to.
 
-ghost use Rattle.std.specs.Prelude.{◌≡◌, ◌∷◌, ◌++◌, [], None, Some, Ok, Err, IfOk, IfErr};
-ghost use Rattle.std.specs.Prelude.{IfSome, IfNone, IsOk, IsOkAnd, MatchOption, MatchResult};
+ghost use Rattle.std.specs.Prelude.{◌≡◌, ◌∷◌, ◌++◌, [], None, Some, Ok, Err, IfOk, IfErr, OnOk};
+ghost use Rattle.std.specs.Prelude.{IfSome, IfNone, IsOkAnd, MatchOption, MatchResult};
 ghost use Rattle.mothra_verdicts.specs.Bench.{BenchFields};
 ghost use Rattle.mothra_bench.specs.code.Gathered.{AddsRow};
 ghost use Rattle.mothra_verdicts.specs.Verdict.{IsNoVerdict, IsVerdict};
@@ -72,7 +72,7 @@ impl Gathered {
         ensures fault { IfSome self.new.fault
             (λ fault. MatchOption self.old.fault (MatchResult outcome (λ rows. fault ≡ Memory) (λ other. fault ≡ other))
             (λ first. fault ≡ first)) }
-        ensures room { IsOk outcome → IfNone own.new (self.new.fault ≡ self.old.fault) }
+        ensures room { OnOk outcome (IfNone own.new (self.new.fault ≡ self.old.fault)) }
         ensures own { IfNone own.new (own.old ≡ None) }
         ensures memory { IfSome own.new (λ fault. MatchOption own.old (fault ≡ Memory) (λ first. fault ≡ first)) }
     {
