@@ -38,6 +38,7 @@ class Statuses(unittest.TestCase):
             for status, given, job in (
                 (0, words, JOB),
                 (0, ("--help",), b""),
+                (0, ("--version",), b""),
                 (1, words, ILL),
                 (1, words, b"{"),
                 (2, (*words, "--every", "none"), JOB),

@@ -1,4 +1,4 @@
-//! Words that rows cannot have, with blanks within or none at all, and that nothing is read for words or for help.
+//! Words that rows cannot have, with blanks within or none at all; nothing is read for words, help and the version.
 
 use crate::streams::Stumbling;
 use equivalents_app::tell;
@@ -39,7 +39,7 @@ fn assert_unread(
 }
 
 #[test]
-fn nothing_is_read_for_words_and_help(rt: HostRuntime) -> Result<(), Fail> {
+fn nothing_is_read_for_words_help_and_version(rt: HostRuntime) -> Result<(), Fail> {
     assert_unread(
         &rt,
         &[],
@@ -48,8 +48,11 @@ fn nothing_is_read_for_words_and_help(rt: HostRuntime) -> Result<(), Fail> {
     )?;
     assert_unread(&rt, &["mothra", "list", "1"], Status::Words, "error: ")?;
     assert_unread(&rt, &["mothra", "run", "--help"], Status::Help, "Prints ")?;
+    assert_unread(&rt, &["mothra", "-V"], Status::Help, "mothra ")?;
     assert_unread(&rt, &["equivalents", "list"], Status::Words, "error: ")?;
-    assert_unread(&rt, &["equivalents", "--help"], Status::Help, "Names ")
+    assert_unread(&rt, &["equivalents", "--help"], Status::Help, "Names ")?;
+    let words = ["equivalents", "--version"];
+    assert_unread(&rt, &words, Status::Help, "equivalents ")
 }
 
 #[test]

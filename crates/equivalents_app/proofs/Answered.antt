@@ -1,16 +1,15 @@
 -- From what was read and answered to what is told.
-use Rattle.std.proofs.Common.{arith, ◌≡◌, ◌≢◌, ◌∙◌, ℕ, ◌<◌, ◌≤◌, ◌++◌, ◌⊎◌, Bool, true, false, sym, ap, refl, subst, inl, inr}
-use Rattle.std.proofs.Common.{List, [], Option, Some, None, Result, Ok, Err, IfOk, MatchResult, String, length, length-append, append-nil, nat_lt, string_bytes}
+use Rattle.std.proofs.Common.{arith, ◌≡◌, ◌≢◌, ℕ, ◌⊎◌, sym, refl, subst, inl, inr}
+use Rattle.std.proofs.Common.{List, Option, Some, None, Result, Ok, Err, MatchResult, String, string_bytes}
 use Rattle.std.specs.Prelude.{Contains}
 use Rattle.std.specs.declared.alloc.Global.{Global}
-use Rattle.std.proofs.lemmas.Bool.{ltb-true, ltb-false, lt-ltb}
 use Rattle.std.proofs.KnownBytes.{Keeps-refl}
 use Rattle.clap.specs.Words.{fault_of}
 use Rattle.clap.specs.Words as clap
-use Rattle.clap.specs.Kinds.{HasKind, IsAmong}
+use Rattle.clap.specs.Kinds.{HasKind}
 use Rattle.clap.specs.Values.{kind_of}
 use Rattle.clap.specs.declared.error.Error.{Error}
-use Rattle.clap.specs.declared.error.kind.ErrorKind.TheVariants as kind
+use Rattle.mothra_app.proofs.Answered.{any_bytes, job_same, never_memory, unread_for}
 use Rattle.mothra_app.specs.Answer.{IsRefusal}
 use Rattle.mothra_app.specs.Fault.{of_mutants}
 use Rattle.mothra_app.specs.Line.{fault_line}
@@ -19,8 +18,8 @@ use Rattle.mothra_app.specs.declared.fault.Fault.{Fault}
 use Rattle.mothra_app.specs.declared.fault.Fault.TheVariants.{Job}
 use Rattle.mothra_app.specs.declared.status.Status.{Status}
 use Rattle.mothra_app.specs.declared.status.Status.TheVariants as status
-use Rattle.mothra_cli.specs.Input.{limit, AreAll, IsRead, ReadsUpTo}
-use Rattle.mothra_job.specs.Job.{JobFields, JobRead, job_faults, job_of}
+use Rattle.mothra_cli.specs.Input.{limit, IsRead, ReadsUpTo}
+use Rattle.mothra_job.specs.Job.{JobFields, JobRead, job_of}
 use Rattle.mothra_job.specs.declared.job.JobFault.{JobFault}
 use Rattle.mothra_job.specs.declared.job.JobFault.TheVariants.{Memory}
 use Rattle.equivalents_app.specs.Finding.{IsFound}
@@ -31,17 +30,6 @@ use Rattle.equivalents_app.specs.declared.words.Inquiry.{Inquiry}
 use Rattle.equivalents_app.proofs.Findings.{later_in}
 
 -- ---- what was read stands for all the bytes
-
-job_at : (xs v : List ℕ) (b : Bool) → nat_lt 1048576 (length v) ≡ b → length v ≤ length xs
-    → (length v < 1048577 → xs ≡ v) → job_of xs ≡ job_of v
-unfolding job_of job_faults
-job_at xs v true is longer same = rw (is, lt-ltb 1048576 (length xs) (let more : 1048576 < length v = ltb-true _ _ is in omega arith)) refl
-job_at xs v false is longer same = ap job_of (same (let few : length v ≤ 1048576 = ltb-false _ _ is in omega arith))
-
-job_same : (xs v rest : List ℕ) → xs ≡ v ++ rest → (length v < 1048577 → rest ≡ []) → job_of xs ≡ job_of v
-job_same xs v rest split end = job_at xs v (nat_lt 1048576 (length v)) refl
-    (omega (arith, ap length split, length-append v rest))
-    (λ few. split ∙ ap (λ l. v ++ l) (end few) ∙ append-nil v)
 
 -- the answer for what was read is that for all the bytes
 pub answer_by : (old new : Option (List ℕ)) (v : List ℕ) (i : Inquiry) (s : Status) (t : List ℕ) → ReadsUpTo limit old new v
@@ -123,26 +111,12 @@ answer_never {A} i left s other t by e no_report no_fault = go s t by.is e
     go own text (IsInquiryAnswer.fault f is) same = absurd (no_fault (sym same))
     go own text (IsInquiryAnswer.broken_off f is) same = absurd (no_fault (sym same))
 
--- ---- words that are refused or ask for help
+-- ---- words that are refused, or ask for help or the version
 
 refused_so : (words : List clap.Text) (bytes : List ℕ) (e : Error) (s : Status) (t : List ℕ) → HasKind (fault_of equivalents words) e
     → IsRefusal (kind_of e) s → MayBeWrittenByInquiry words bytes s t
-refused_so words bytes e status.Report t kinds refusal = absurd refusal
-refused_so words bytes e status.Fault t kinds refusal = absurd refusal
-refused_so words bytes e status.Words t (inl full) refusal = absurd (refusal.1 full)
-refused_so words bytes e status.Words t (inr among) refusal = MayBeWrittenByInquiry.refusal (kind_of e, refusal.1, refusal.0, among)
-refused_so words bytes e status.Help t (inl full) refusal = let no : kind.OutOfMemory ≡ kind.DisplayHelp = sym full ∙ refusal in absurd (cc)
-refused_so words bytes e status.Help t (inr among) refusal = MayBeWrittenByInquiry.help (subst (λ k. IsAmong k (fault_of equivalents words)) refusal among)
-
-unread_for : (e : Error) (left : Option (List ℕ)) (s : Status) → IsRefusal (kind_of e) s → IsReadFor s left left
-unread_for e left status.Report refusal = absurd refusal
-unread_for e left status.Fault refusal = absurd refusal
-unread_for e left status.Words refusal = Keeps-refl left
-unread_for e left status.Help refusal = Keeps-refl left
-
-any_bytes : (left : Option (List ℕ)) → (bytes : List ℕ) × AreAll left bytes
-any_bytes None = ([], tt)
-any_bytes (Some xs) = (xs, refl)
+refused_so words bytes e s t (inl full) refusal = never_memory s (subst (λ k. IsRefusal k s) full refusal)
+refused_so words bytes e s t (inr among) refusal = MayBeWrittenByInquiry.refusal refusal among
 
 pub refused : (words : List clap.Text) (left : Option (List ℕ)) (e : Error) (s : Status) (t : List ℕ) → HasKind (fault_of equivalents words) e
     → IsRefusal (kind_of e) s → IsInquiryAnswered words left left s t
@@ -165,7 +139,3 @@ bad_list words left s t bad is text =
       may = subst (λ v. MayBeWrittenByInquiry words some.0 v t) (sym is) (subst (MayBeWrittenByInquiry words some.0 status.Words) (sym text) (MayBeWrittenByInquiry.bad_list bad));
       read = subst (λ v. IsReadFor v left left) (sym is) (Keeps-refl left);
     }
-
-pub IfOk-both : {X E : Type 0} (r : Result X E) (P Q R : X → Type 0) → ((x : X) → P x → Q x → R x) → IfOk r P → IfOk r Q → IfOk r R
-IfOk-both (Ok x) P Q R f p q = f x p q
-IfOk-both (Err e) P Q R f p q = tt

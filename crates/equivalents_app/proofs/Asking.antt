@@ -43,11 +43,11 @@ apart e = absurd (true≢false (sym e))
 -- `--every` and `--steps` have defaults, and their numbers are in their bounds
 serves_every : Each (Serves (codes "every") 1 1048575) (built equivalents).top.rules
 unfolding clap_on_literals equivalents
-serves_every = (apart, (λ f. record { action = refl; parser = refl; range = omega arith }, (apart, (apart, (apart, tt)))))
+serves_every = (apart, (λ f. record { action = refl; parser = refl; range = omega arith }, (apart, (apart, (apart, (apart, tt))))))
 
 serves_steps : Each (Serves (codes "steps") 1 1000000) (built equivalents).top.rules
 unfolding clap_on_literals equivalents
-serves_steps = (apart, (apart, (λ f. record { action = refl; parser = refl; range = omega arith }, (apart, (apart, tt)))))
+serves_steps = (apart, (apart, (λ f. record { action = refl; parser = refl; range = omega arith }, (apart, (apart, (apart, tt))))))
 
 given_every : list_any (has_default (codes "every")) (built equivalents).top.rules ≡ true
 unfolding clap_on_literals equivalents

@@ -1,11 +1,10 @@
 -- What is told: a status and a text, by the words and all the bytes of the reader.
-use Rattle.std.specs.Prelude.{◌≡◌, ◌≢◌, ℕ, List, ◌∷◌, Contains, Option, Some, Ok, Err}
+use Rattle.std.specs.Prelude.{◌≡◌, ℕ, List, ◌∷◌, Contains, Option, Some, Ok, Err}
 use Rattle.std.specs.Io.KnownBytes.{Appends}
 use Rattle.clap.specs.Words.{Text, fault_of}
 use Rattle.clap.specs.Kinds.{IsAmong}
 use Rattle.clap.specs.declared.error.kind.ErrorKind.{ErrorKind}
-use Rattle.clap.specs.declared.error.kind.ErrorKind.TheVariants as kind
-use Rattle.mothra_app.specs.Answer.{Outcome}
+use Rattle.mothra_app.specs.Answer.{IsRefusal, Outcome}
 use Rattle.mothra_app.specs.Fault.{of_mutants}
 use Rattle.mothra_app.specs.Line.{fault_line}
 use Rattle.mothra_app.specs.Serving.{IsReadFor, bad_operators}
@@ -49,15 +48,6 @@ pub record AsksForInquiry (words : List Text) (i : Inquiry) : Type 0 where
   pub is : inquiry_of words ≡ Some i
   pub bounded : IsInquiryBounded i
 
--- the command line refuses the words, for another cause than memory, and is not asked for help
-abbrev pub RefusesWords : List Text → Type 0
-RefusesWords words = (cause : ErrorKind) × (cause ≢ kind.OutOfMemory)
-    × (cause ≢ kind.DisplayHelp) × IsAmong cause (fault_of equivalents words)
-
--- the command line is asked for help
-abbrev pub AsksInquiryHelp : List Text → Type 0
-AsksInquiryHelp words = IsAmong kind.DisplayHelp (fault_of equivalents words)
-
 -- What may be written for the words and the bytes: the answer to what
 -- the words ask for, or what is told of words that ask for nothing.
 pub data MayBeWrittenByInquiry (words : List Text) (bytes : List ℕ) : Status → List ℕ → Type 0 where
@@ -66,10 +56,9 @@ pub data MayBeWrittenByInquiry (words : List Text) (bytes : List ℕ) : Status �
       → MayBeWrittenByInquiry words bytes status text
   bad_list : HasBadInquiryOperators words
       → MayBeWrittenByInquiry words bytes status.Words bad_operators
-  refusal : {text : List ℕ}
-      → RefusesWords words → MayBeWrittenByInquiry words bytes status.Words text
-  help : {text : List ℕ}
-      → AsksInquiryHelp words → MayBeWrittenByInquiry words bytes status.Help text
+  refusal : {cause : ErrorKind} {status : Status} {text : List ℕ}
+      → IsRefusal cause status → IsAmong cause (fault_of equivalents words)
+      → MayBeWrittenByInquiry words bytes status text
 
 -- the text with this status may be written for the words,
 -- where the reader had the bytes `left` and now has `now`

@@ -1,5 +1,5 @@
 -- The command line of the program, which has no subcommand, and what its words ask for.
-use Rattle.std.specs.Prelude.{◌≡◌, ◌≤◌, ℕ, Bool, false, [], ◌∷◌, List, Option, Some, None, codes, if◌then◌else◌}
+use Rattle.std.specs.Prelude.{◌≡◌, ◌≤◌, ℕ, Bool, true, false, [], ◌∷◌, List, Option, Some, None, codes, if◌then◌else◌}
 use Rattle.std.specs.Option.{option_map_or}
 use Rattle.std.specs.Str.{bytes_eq}
 use Rattle.clap.specs.Words.{App, HasKind, Row, Rule, Text, fault_of, matches_of, new_rule, one_of}
@@ -21,6 +21,7 @@ json_rule = record (new_rule (codes "json")) { long = Some (codes "json"); actio
 unfoldable pub equivalents : App
 equivalents = record {
   top = record (new_shape (codes "equivalents")) {
+    has_version = true;
     rules = ops_rule
         ∷ every_rule ∷ steps_rule ∷ json_rule ∷ [];
   };
@@ -29,7 +30,7 @@ equivalents = record {
 
 -- What a list of words is, one of three.
 pub data InquiryMeaning : Type 0 where
-  -- words that the command line refuses, or a call for its help
+  -- words that the command line refuses, or a call for its help or version
   refused : InquiryMeaning
   -- a value of `--ops` that is no list of operators' codes
   bad_operators : InquiryMeaning
@@ -77,8 +78,8 @@ HasBadInquiryOperators words = meaning_of_inquiry words ≡ bad_operators
 abbrev pub IsInquiryBounded : Inquiry → Type 0
 IsInquiryBounded i = (1 ≤ i.every) × (i.every ≤ 1048575) × (1 ≤ i.steps) × (i.steps ≤ 1000000)
 
--- memory ran out, or the command line refuses the words
--- by such an error, or answers a call for help by it
+-- memory ran out, or the command line refuses the words by
+-- such an error, or answers a call for help or version by it
 abbrev pub IsInquiryRefusal : List Text → Error → Type 0
 IsInquiryRefusal words error = HasKind (fault_of equivalents words) error
 

@@ -11,7 +11,9 @@ ghost use Rattle.equivalents_app.specs.Words as asked;
 
 use clap::builder::ValueParser;
 use clap::{Arg, ArgAction, ArgMatches, Command, Error};
-use mothra_cli::{Operators, WordsFault, every_option, number_at, operators_at, ops_option};
+use mothra_cli::{
+    Operators, VERSION, WordsFault, every_option, number_at, operators_at, ops_option,
+};
 use std::alloc::{AllocError, Global};
 use std::convert::AsStr;
 
@@ -66,6 +68,7 @@ fn command<'a>(alloc: Global) -> Result<Command<'a>, AllocError>
              steps, nothing is said: no suite may have them. A mutant that is not named may be equivalent too. The \
              job is read from standard input",
         )
+        .version(VERSION)
         .arg(ops_option(alloc))?
         .arg(every_option(alloc))?
         .arg(steps_option(alloc))?

@@ -32,7 +32,7 @@ unfolding job_of job_faults
 job_at xs v true is longer same = rw (is, lt-ltb 1048576 (length xs) (let more : 1048576 < length v = ltb-true _ _ is in omega arith)) refl
 job_at xs v false is longer same = ap job_of (same (let few : length v ≤ 1048576 = ltb-false _ _ is in omega arith))
 
-job_same : (xs v rest : List ℕ) → xs ≡ v ++ rest → (length v < 1048577 → rest ≡ []) → job_of xs ≡ job_of v
+pub job_same : (xs v rest : List ℕ) → xs ≡ v ++ rest → (length v < 1048577 → rest ≡ []) → job_of xs ≡ job_of v
 job_same xs v rest split end = job_at xs v (nat_lt 1048576 (length v)) refl
     (omega (arith, ap length split, length-append v rest))
     (λ few. split ∙ ap (λ l. v ++ l) (end few) ∙ append-nil v)
@@ -87,24 +87,28 @@ pub report_never : {A : Type 0} (bench : BenchFields) (s other : Status) (t : Li
 report_never bench s other t (IsReportAnswer.report is) e other_than unlike = absurd (other_than (sym e))
 report_never bench s other t (IsReportAnswer.broken_off f is) e other_than unlike = absurd (unlike (sym e))
 
--- ---- words that are refused or ask for help
+-- ---- words that are refused, or ask for help or the version
+
+-- want of memory is none of these
+pub never_memory : {A : Type 0} (s : Status) → IsRefusal kind.OutOfMemory s → A
+never_memory status.Report refusal = absurd refusal
+never_memory status.Fault refusal = absurd refusal
+never_memory status.Words refusal = absurd (refusal.2 refl)
+never_memory status.Help (inl is) = absurd (cc)
+never_memory status.Help (inr is) = absurd (cc)
 
 refused_so : (words : List Text) (bytes : List ℕ) (e : Error) (s : Status) (t : List ℕ) → HasKind (fault_of mothra words) e
     → IsRefusal (kind_of e) s → MayBeWritten words bytes s t
-refused_so words bytes e status.Report t kinds refusal = absurd refusal
-refused_so words bytes e status.Fault t kinds refusal = absurd refusal
-refused_so words bytes e status.Words t (inl full) refusal = absurd (refusal.1 full)
-refused_so words bytes e status.Words t (inr among) refusal = MayBeWritten.refusal (kind_of e, refusal.1, refusal.0, among)
-refused_so words bytes e status.Help t (inl full) refusal = let no : kind.OutOfMemory ≡ kind.DisplayHelp = sym full ∙ refusal in absurd (cc)
-refused_so words bytes e status.Help t (inr among) refusal = MayBeWritten.help (subst (λ k. IsAmong k (fault_of mothra words)) refusal among)
+refused_so words bytes e s t (inl full) refusal = never_memory s (subst (λ k. IsRefusal k s) full refusal)
+refused_so words bytes e s t (inr among) refusal = MayBeWritten.refusal refusal among
 
-unread_for : (e : Error) (left : Option (List ℕ)) (s : Status) → IsRefusal (kind_of e) s → IsReadFor s left left
+pub unread_for : (e : Error) (left : Option (List ℕ)) (s : Status) → IsRefusal (kind_of e) s → IsReadFor s left left
 unread_for e left status.Report refusal = absurd refusal
 unread_for e left status.Fault refusal = absurd refusal
 unread_for e left status.Words refusal = Keeps-refl left
 unread_for e left status.Help refusal = Keeps-refl left
 
-any_bytes : (left : Option (List ℕ)) → (bytes : List ℕ) × AreAll left bytes
+pub any_bytes : (left : Option (List ℕ)) → (bytes : List ℕ) × AreAll left bytes
 any_bytes None = ([], tt)
 any_bytes (Some xs) = (xs, refl)
 

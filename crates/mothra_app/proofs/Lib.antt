@@ -7,7 +7,7 @@ mod Chosen
 mod ListedLines
 mod Listings
 mod Reports
-mod Answered
+pub mod Answered
 mod OneProgram
 mod OneExecution
 mod OneListing

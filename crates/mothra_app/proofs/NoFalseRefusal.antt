@@ -4,7 +4,6 @@ use Rattle.std.specs.Prelude.{Contains}
 use Rattle.std.proofs.lemmas.List.Elements.{All-cons, All-contains, All-nil}
 use Rattle.clap.specs.Kinds.{IsAmong}
 use Rattle.clap.specs.Words.{Text}
-use Rattle.clap.specs.declared.error.kind.ErrorKind.TheVariants as kind
 use Rattle.f77_source.specs.declared.fault.FormFault.TheVariants as form
 use Rattle.f77_program.specs.declared.fault.SyntaxFault.TheVariants as syntax
 use Rattle.f77_legal.specs.declared.fault.CheckFault.TheVariants as check
@@ -49,8 +48,7 @@ module _ (words : List Text) (bytes report : List ℕ) (law : OneAnswer) (legal 
   pub fair : (s : Status) (text : List ℕ) → MayBeWritten words bytes s text → IsFairAnswer words report s text
   fair s text (MayBeWritten.answer {request = request} asks is) = of_request request s text asks is
   fair s text (MayBeWritten.bad_list bad) = asks_nothing words legal.served.0 legal.served.1.is bad
-  fair s text (MayBeWritten.refusal refused) = absurd (subst (IsAmong refused.0) legal.taken refused.3)
-  fair s text (MayBeWritten.help asks) = absurd (subst (IsAmong kind.DisplayHelp) legal.taken asks)
+  fair s text (MayBeWritten.refusal {cause = cause} is among) = absurd (subst (IsAmong cause) legal.taken among)
 
 -- ---- the faults for which it breaks off
 

@@ -1,5 +1,5 @@
 -- The answer to a request, and to words that are none.
-use Rattle.std.specs.Prelude.{◌≡◌, ◌≢◌, ℕ, List, Result, Ok, Err}
+use Rattle.std.specs.Prelude.{◌≡◌, ◌≢◌, ◌⊎◌, ℕ, List, Result, Ok, Err}
 use Rattle.clap.specs.declared.error.kind.ErrorKind.{ErrorKind}
 use Rattle.clap.specs.declared.error.kind.ErrorKind.TheVariants as kind
 use Rattle.mothra_app.specs.Executing.{IsExecuted}
@@ -45,9 +45,11 @@ pub data IsAnswer (request : Request) (read : JobRead) : Status → List ℕ →
   broken_off : (fault : Fault)
       → MayFailBy request fault → IsAnswer request read status.Fault (fault_line fault)
 
--- what is told of words that the command line refuses for a cause of this kind
+-- the status of what is told of words for which the command line has an
+-- error of this kind: why it refuses them, or its help or version
 abbrev pub IsRefusal : ErrorKind → Status → Type 0
 IsRefusal cause status.Report = ⊥
 IsRefusal cause status.Fault = ⊥
-IsRefusal cause status.Words = (cause ≢ kind.DisplayHelp) × (cause ≢ kind.OutOfMemory)
-IsRefusal cause status.Help = cause ≡ kind.DisplayHelp
+IsRefusal cause status.Words =
+    (cause ≢ kind.DisplayHelp) × (cause ≢ kind.DisplayVersion) × (cause ≢ kind.OutOfMemory)
+IsRefusal cause status.Help = (cause ≡ kind.DisplayHelp) ⊎ (cause ≡ kind.DisplayVersion)

@@ -1,11 +1,10 @@
 -- What is served: a status and a text, by the words and all the bytes of the reader.
-use Rattle.std.specs.Prelude.{◌≡◌, ◌≢◌, ℕ, List, Option, Some, codes}
+use Rattle.std.specs.Prelude.{◌≡◌, ℕ, List, Option, Some, codes}
 use Rattle.std.specs.Io.KnownBytes.{Appends, Keeps}
 use Rattle.clap.specs.Words.{Text, fault_of}
 use Rattle.clap.specs.Kinds.{IsAmong}
 use Rattle.clap.specs.declared.error.kind.ErrorKind.{ErrorKind}
-use Rattle.clap.specs.declared.error.kind.ErrorKind.TheVariants as kind
-use Rattle.mothra_app.specs.Answer.{IsToldAnswer, IsAnswer}
+use Rattle.mothra_app.specs.Answer.{IsToldAnswer, IsAnswer, IsRefusal}
 use Rattle.mothra_cli.specs.Command.{mothra}
 use Rattle.mothra_cli.specs.Input.{limit, AreAll, IsRead}
 use Rattle.mothra_job.specs.Job.{job_of}
@@ -26,15 +25,6 @@ abbrev pub IsServed : List Text → List ℕ → Status → List ℕ → Type 0
 IsServed words bytes status text =
     (request : Request) × AsksFor words request × IsToldAnswer request (job_of bytes) status text
 
--- the command line refuses the words, for another cause than memory, and is not asked for help
-abbrev pub IsRefused : List Text → Type 0
-IsRefused words = (cause : ErrorKind) × (cause ≢ kind.OutOfMemory)
-    × (cause ≢ kind.DisplayHelp) × IsAmong cause (fault_of mothra words)
-
--- the command line is asked for help
-abbrev pub AsksHelp : List Text → Type 0
-AsksHelp words = IsAmong kind.DisplayHelp (fault_of mothra words)
-
 -- what is told of a value of `--ops` that is no list of operators' codes
 abbrev pub bad_operators : List ℕ
 bad_operators = codes "BAD OPERATOR LIST\n"
@@ -46,10 +36,12 @@ pub data MayBeWritten (words : List Text) (bytes : List ℕ) : Status → List �
       → AsksFor words request → IsAnswer request (job_of bytes) status text
       → MayBeWritten words bytes status text
   bad_list : HasBadOperators words → MayBeWritten words bytes status.Words bad_operators
-  refusal : {text : List ℕ} → IsRefused words → MayBeWritten words bytes status.Words text
-  help : {text : List ℕ} → AsksHelp words → MayBeWritten words bytes status.Help text
+  refusal : {cause : ErrorKind} {status : Status} {text : List ℕ}
+      → IsRefusal cause status → IsAmong cause (fault_of mothra words)
+      → MayBeWritten words bytes status text
 
--- what was read for an answer with this status: nothing for words that are refused or ask for help
+-- what was read for an answer with this status: nothing for
+-- words that are refused, or ask for help or the version
 abbrev pub IsReadFor : Status → Option (List ℕ) → Option (List ℕ) → Type 0
 IsReadFor status.Report left now = IsRead limit left now
 IsReadFor status.Fault left now = IsRead limit left now

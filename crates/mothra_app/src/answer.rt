@@ -127,13 +127,13 @@ pub(crate) fn report_on<R: Threads + Wait + Sync>(
     }
 }
 
-/// The answer to words that the command line refuses, or that ask for help: its text.
+/// The answer to words that the command line refuses, or that ask for help or the version: its text.
 pub fn refusal(alloc: Global, error: &Error) -> Result<Answer, AllocError>
     ensures { IfOk result (λ a. IsRefusal (kind_of error.now) a.status) }
 {
     let status = match error.kind() {
         ErrorKind::OutOfMemory => return Err(AllocError),
-        ErrorKind::DisplayHelp => Status::Help,
+        ErrorKind::DisplayHelp | ErrorKind::DisplayVersion => Status::Help,
         _ => Status::Words,
     };
     Ok(Answer {

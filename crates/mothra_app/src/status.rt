@@ -17,7 +17,7 @@ pub enum Status {
     Fault,
     /// Why the command line refuses the words.
     Words,
-    /// The help that the words ask for.
+    /// The help that the words ask for, or the version.
     Help,
 }
 

@@ -59,11 +59,14 @@ run_shape = record (new_shape (codes "run")) {
       ∷ every_rule ∷ steps_rule ∷ workers_rule ∷ [];
 }
 
--- a subcommand is needed, and `help` is none
+-- there is `--version`, a subcommand is needed, and `help` is none
 abbrev pub bare : App
 bare = record {
-  top = record (new_shape
-      (codes "mothra")) { subcommand_required = true; disable_help_subcommand = true };
+  top = record (new_shape (codes "mothra")) {
+    has_version = true;
+    subcommand_required = true;
+    disable_help_subcommand = true;
+  };
   subs = [];
 }
 

@@ -20,7 +20,7 @@ use Rattle.mothra_cli.specs.declared.request.WordsFault.TheVariants as fault
 
 -- What a list of words is, one of three.
 pub data Meaning : Type 0 where
-  -- words that the command line refuses, or a call for its help
+  -- words that the command line refuses, or a call for its help or version
   refused : Meaning
   -- a command whose value of `--ops` is no list of operators' codes
   bad_operators : Meaning
@@ -108,8 +108,8 @@ IsBounded (command.Run operators every steps workers) =
     (1 ≤ every)
     × (every ≤ 1048575) × (1 ≤ steps) × (steps ≤ 1000000) × (1 ≤ workers) × (workers ≤ 32)
 
--- memory ran out, or the command line refuses the words
--- by such an error, or answers a call for help by it
+-- memory ran out, or the command line refuses the words by
+-- such an error, or answers a call for help or version by it
 abbrev pub IsRefusalOf : List Text → Error → Type 0
 IsRefusalOf words error = HasKind (fault_of mothra words) error
 

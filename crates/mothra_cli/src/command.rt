@@ -11,6 +11,9 @@ use clap::{Arg, ArgMatches, Command, Error};
 use std::alloc::{AllocError, Global};
 use std::convert::AsStr;
 
+/// The number of the version: that of the package `mutants`.
+pub const VERSION: &str = "0.1.0";
+
 fn print_command<'a>(alloc: Global) -> Command<'a>
     ensures shape { shape_of result ≡ print_shape }
     ensures globals { (out-Command result).has_globals ≡ false }
@@ -25,6 +28,7 @@ fn bare_command<'a>(alloc: Global) -> Command<'a>
 {
     Command::new(alloc, "mothra")
         .about("Mutation analysis of a FORTRAN 77 subroutine. The job is read from standard input")
+        .version(VERSION)
         .subcommand_required(true)
         .disable_help_subcommand(true)
 }

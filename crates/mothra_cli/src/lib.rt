@@ -9,7 +9,7 @@ mod output;
 mod request;
 mod watched;
 
-pub use command::{every_option, ops_option};
+pub use command::{VERSION, every_option, ops_option};
 pub use input::{InputFault, read_input};
 pub use operators::Operators;
 pub use output::{OutputFault, write_whole};

@@ -41,7 +41,7 @@ pub enum Request {
 /// Why words ask for nothing.
 #[derive(Debug, Drop)]
 pub enum WordsFault {
-    /// The command line refuses the words, or they ask for help, or memory ran out: `clap`'s error.
+    /// The command line refuses the words, or they ask for help or the version, or memory ran out: `clap`'s error.
     Refused(Error),
     /// The value of `--ops` is no list of operators' codes joined by commas.
     BadOperatorList,

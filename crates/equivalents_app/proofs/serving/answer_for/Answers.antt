@@ -1,7 +1,8 @@
 use Rattle.std.proofs.Common.{map, string_bytes, subst}
 use Rattle.mothra_app.specs.declared.status.Status.TheVariants as status
 use Rattle.equivalents_app.specs.Words.{HasBadInquiryOperators, IsInquiryFault, IsInquiryRefusal}
-use Rattle.equivalents_app.proofs.Answered.{IfOk-both, answer_never, answered, bad_list, refused}
+use Rattle.mothra_app.proofs.Answered.{IfOk-both}
+use Rattle.equivalents_app.proofs.Answered.{answer_never, answered, bad_list, refused}
 use Rattle.equivalents_app.proofs.serving.answer_for.Goals as goal
 
 pub returns-in-Ok-clause-answered : goal.returns-in-Ok-clause-answered

@@ -1,7 +1,8 @@
 use Rattle.std.proofs.Common.{string_bytes}
 use Rattle.mothra_job.specs.Job.{job_of}
 use Rattle.equivalents_app.specs.Serving.{IsInquiryAnswer}
-use Rattle.equivalents_app.proofs.Answered.{IfOk-both, fault_answered}
+use Rattle.mothra_app.proofs.Answered.{IfOk-both}
+use Rattle.equivalents_app.proofs.Answered.{fault_answered}
 use Rattle.equivalents_app.proofs.serving.answer_to.Goals as goal
 
 pub returns-in-Ok : goal.returns-in-Ok
