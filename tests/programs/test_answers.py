@@ -1,16 +1,28 @@
-"""The exit status of both programs, and the threads of an analysis: what no clause says of the programs themselves."""
+"""What no clause says of the programs: their exit status, the threads of an analysis, that memory alone refuses a plan."""
 
 import json
 import os
 import subprocess
 import time
 import unittest
+from collections.abc import Iterable
 from pathlib import Path
+from typing import TypeVar
 
-from proved import EQUIVALENTS, MOTHRA
+from proved import EQUIVALENTS, MOTHRA, OPS, said
+from mutants.texts.lines import Mutant
+from mutants.texts.lists import read_list
+from mutants.texts.reports import Row, read_report
 from running import LEAST, example
 
-JOB = json.dumps({"source": LEAST, "suite": [[1, 2, 0], [2, 1, 0]]}).encode()
+Each = TypeVar("Each", Mutant, Row)
+
+
+def job_of(suite: list[list[int]]) -> bytes:
+    return json.dumps({"source": LEAST, "suite": suite}).encode()
+
+
+JOB = job_of([[1, 2, 0], [2, 1, 0]])
 ILL = json.dumps({"source": "      END\n", "suite": []}).encode()
 
 
@@ -32,6 +44,17 @@ def most_threads(workers: int) -> int:
     return most
 
 
+def thinned(mutants: Iterable[Each], every: int) -> list[Each]:
+    """Of each operator the mutants 1, q + 1, 2 q + 1 and on of its whole list, numbered anew."""
+    kept = [each for each in mutants if (each.place - 1) % every == 0]
+    return [each._replace(number=(each.place - 1) // every + 1) for each in kept]
+
+
+def bits_of(suite: list[list[int]]) -> list[str]:
+    """Of each mutant a digit for each test: whether it kills."""
+    return [row.bits for row in read_report(said("run", job_of(suite), "--ops", OPS)).rows]
+
+
 class Statuses(unittest.TestCase):
     def test_a_report_a_fault_and_refused_words(self) -> None:
         for program, words in ((MOTHRA, ("run", "--ops", "ROR")), (EQUIVALENTS, ("--ops", "ROR"))):
@@ -46,6 +69,31 @@ class Statuses(unittest.TestCase):
             ):
                 with self.subTest(program=program, words=given, job=job):
                     self.assertEqual(status_of(program, given, job), status)
+
+
+class Limits(unittest.TestCase):
+    """Each step, each number of workers and of tests within the limits has its list and its report."""
+
+    def test_each_step_through_the_lists(self) -> None:
+        job = example("desk", ".json").read_bytes()
+        _, listed = read_list(said("list", job))
+        whole = read_report(example("desk", ".report").read_text(encoding="utf-8"))
+        for every in (2, 3, 1000, 2000, 1_048_574, 1_048_575):
+            with self.subTest(every=every):
+                words = ("--every", str(every))
+                self.assertEqual(read_list(said("list", job, *words))[1], thinned(listed, every))
+                self.assertEqual(read_report(said("run", job, *words)).rows, thinned(whole.rows, every))
+
+    def test_each_number_of_workers(self) -> None:
+        reports = {said("run", JOB, "--workers", str(workers)) for workers in range(1, 33)}
+        self.assertEqual([read_report(report).tests for report in reports], [2])
+
+    def test_each_number_of_tests(self) -> None:
+        suite = [[n % 16, n // 16, 0] for n in range(256)]
+        bits = [""] * 16
+        for count, test in enumerate(suite, 1):
+            bits = [front + last for front, last in zip(bits, bits_of([test]))]
+            self.assertEqual(bits_of(suite[:count]), bits)
 
 
 @unittest.skipUnless(Path("/proc/self/task").is_dir(), "the threads of a program are seen below /proc")
