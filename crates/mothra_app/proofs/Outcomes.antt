@@ -1,7 +1,7 @@
 -- From what the call of a command answers to what the command comes to, and to the answer.
 use Rattle.std.proofs.Common.{◌≡◌, ◌≤◌, ◌⊎◌, inl, inr, ℕ, List, sym, subst, Result, Ok, Err, MatchResult, String, Global, string_bytes}
 use Rattle.std.specs.Prelude.{Contains}
-use Rattle.mothra_app.specs.code.Answer.{IsMade, IsReportAnswer}
+use Rattle.mothra_app.specs.code.Answer.{IsReadyBench, IsReportAnswer}
 use Rattle.mothra_app.specs.Answer.{IsRequestOutcome, IsToldAnswer, IsAnswer}
 use Rattle.mothra_app.specs.Executing.{IsExecuted}
 use Rattle.mothra_app.specs.Fault.{MayFailBy, of_programs, of_runs, of_mutants}
@@ -10,8 +10,7 @@ use Rattle.mothra_app.specs.Line.{fault_line}
 use Rattle.mothra_app.specs.Listing.{IsListed}
 use Rattle.mothra_app.specs.Printing.{IsPrinted}
 use Rattle.mothra_app.specs.Reporting.{IsBenchOf, IsReported}
-use Rattle.mothra_app.specs.declared.answer.Product.{Product}
-use Rattle.mothra_app.specs.declared.answer.Product.TheVariants as product
+use Rattle.mothra_app.specs.declared.answer.Answer.{Answer}
 use Rattle.mothra_app.specs.declared.fault.Fault.{Fault}
 use Rattle.mothra_app.specs.declared.fault.Fault.TheVariants.{Bench}
 use Rattle.mothra_job.specs.declared.job.JobFault.TheVariants.{Memory}
@@ -85,29 +84,26 @@ pub listed : (request : Request) (job : JobFields) (read : JobRead) (source : Li
 listed request job read source named operators every text is of_job same own comes =
     moved request _ job read text is of_job (list_comes job source named operators every text same own comes)
 
--- ---- what it comes to without threads
+-- ---- what is ready without threads
 
--- the command is made into this, or comes to this fault, or another comes in its place
-abbrev pub Makes : Request → JobRead → Result Product Fault → Type 0
-Makes request read result =
-    MatchResult result (IsMade read request) (λ fault. IsRequestOutcome request read (Err fault) ⊎ MayFailBy request fault)
+-- what holds of a report and its text holds of the answer that has them
+pub as_report : (P : Status → List ℕ → Type 0) (a : Answer) (text : String Global) → a.status ≡ status.Report → a.text ≡ text
+    → P status.Report (string_bytes text) → P a.status (string_bytes a.text)
+as_report P a text is own holds = rw (is, own) holds
 
-pub text_made : (request : Request) (read : JobRead) (text : String Global) → Comes request read (Ok text) → Makes request read (Ok (product.Text text))
-text_made request read text is = IsMade.of_text is
+pub text_ready : (request : Request) (read : JobRead) (text : String Global) (a : Answer) → a.status ≡ status.Report → a.text ≡ text
+    → Comes request read (Ok text) → IsAnswer request read a.status (string_bytes a.text)
+text_ready request read text a is own comes = as_report (IsAnswer request read) a text is own (IsAnswer.told (IsToldAnswer.report comes))
 
-pub bench_made : (request : Request) (job : JobFields) (read : JobRead) (named operators : List Op) (every steps workers : ℕ) (bench : BenchFields)
+pub bench_ready : (request : Request) (job : JobFields) (read : JobRead) (named operators : List Op) (every steps workers : ℕ) (bench : BenchFields)
     → request ≡ command.Run operators every steps workers → (let ok : JobRead = Ok job in (ok ≡ read) ⊎ (ok ≡ Err Memory)) → named ≡ operators
-    → IsBounded request → IsBenchOf job named every steps bench → Makes request read (Ok (product.Bench bench workers))
-bench_made request job read named operators every steps workers bench is of_job own bounded made =
+    → IsBounded request → IsBenchOf job named every steps bench → IsReadyBench read request bench workers
+bench_ready request job read named operators every steps workers bench is of_job own bounded made =
     let bounds : IsBounded (command.Run operators every steps workers) = subst IsBounded is bounded in
-    subst (λ r. IsMade read r (product.Bench bench workers)) (sym is)
-    (IsMade.of_bench (sym (read_so job read of_job)) (subst (λ ops. IsBenchOf job ops every steps bench) own made) (bounds.4, bounds.5))
+    subst (λ r. IsReadyBench read r bench workers) (sym is)
+    (IsReadyBench.of_job (sym (read_so job read of_job)) (subst (λ ops. IsBenchOf job ops every steps bench) own made) (bounds.4, bounds.5))
 
 -- ---- the answer
-
-pub text_told : (request : Request) (read : JobRead) (text : String Global) → IsMade read request (product.Text text)
-    → IsAnswer request read status.Report (string_bytes text)
-text_told request read text (IsMade.of_text is) = IsAnswer.told (IsToldAnswer.report is)
 
 fault_answered : (request : Request) (read : JobRead) (fault : Fault) (text : List ℕ) → text ≡ fault_line fault
     → IsRequestOutcome request read (Err fault) ⊎ MayFailBy request fault → IsAnswer request read status.Fault text
@@ -120,16 +116,16 @@ fault_told request read fault s text is line told =
     subst (λ v. IsAnswer request read v text) (sym is) (fault_answered request read fault text line told)
 
 -- so many workers may report on the bench
-pub within : (request : Request) (read : JobRead) (bench : BenchFields) (workers : ℕ) → IsMade read request (product.Bench bench workers)
+pub within : (request : Request) (read : JobRead) (bench : BenchFields) (workers : ℕ) → IsReadyBench read request bench workers
     → (1 ≤ workers) × (workers ≤ 32)
-within request read bench workers (IsMade.of_bench is of few) = few
+within request read bench workers (IsReadyBench.of_job is of few) = few
 
 pub report_answered : (request : Request) (read : JobRead) (bench : BenchFields) (workers : ℕ) (s : Status) (text : List ℕ)
-    → IsMade read request (product.Bench bench workers) → IsReportAnswer bench s text → IsAnswer request read s text
-report_answered request read bench workers s text (IsMade.of_bench {operators = operators} {every = every} {steps = steps} is of few) (IsReportAnswer.report {text = report} reports) =
+    → IsReadyBench read request bench workers → IsReportAnswer bench s text → IsAnswer request read s text
+report_answered request read bench workers s text (IsReadyBench.of_job {operators = operators} {every = every} {steps = steps} is of few) (IsReportAnswer.report {text = report} reports) =
     IsAnswer.told
     (IsToldAnswer.report (subst (λ r. IsRequestOutcome (command.Run operators every steps workers) r (Ok report)) (sym is) (IsReported.report of reports)))
-report_answered request read bench workers s text (IsMade.of_bench is of few) (IsReportAnswer.broken_off fault none) =
+report_answered request read bench workers s text (IsReadyBench.of_job is of few) (IsReportAnswer.broken_off fault none) =
     IsAnswer.broken_off (Bench fault) none
 
 pub report_refused : (bench : BenchFields) (fault : BenchFault) (s : Status) (text : List ℕ) → IsNoReport fault → s ≡ status.Fault

@@ -2,7 +2,7 @@
 
 ghost use Rattle.std.specs.Prelude.{◌≡◌, ◌⊎◌, ◌≤◌, Err, IfOk, MatchResult, string_bytes};
 ghost use Rattle.clap.specs.Values.{kind_of};
-ghost use Rattle.mothra_app.specs.code.Answer.{IsMade, IsReadyAnswer, IsReportAnswer};
+ghost use Rattle.mothra_app.specs.code.Answer.{IsReadyAnswer, IsReportAnswer};
 ghost use Rattle.mothra_app.specs.Answer.{IsRequestOutcome, IsRefusal};
 ghost use Rattle.mothra_app.specs.Fault.{MayFailBy};
 ghost use Rattle.mothra_job.specs.Job.{job_of};
@@ -35,15 +35,6 @@ pub struct Answer {
     pub text: String,
 }
 
-/// What a command comes to without threads.
-#[derive(Drop)]
-pub(crate) enum Product {
-    /// The text of its report.
-    Text(String),
-    /// The bench that `run` reports on, and by how many workers.
-    Bench(Bench, u32),
-}
-
 /// An answer, or what it takes threads to answer.
 #[derive(Drop)]
 pub(crate) enum Ready {
@@ -53,23 +44,36 @@ pub(crate) enum Ready {
     Bench(Bench, u32),
 }
 
-/// What the command comes to, without threads, on the job that the bytes are.
-fn product_of(alloc: Global, request: &Request, bytes: &[u8]) -> Result<Product, Fault>
+/// The answer that is a report.
+fn reported(text: String) -> Answer
+    ensures status { result.status ≡ Status.Report }
+    ensures text { result.text ≡ text }
+{
+    Answer {
+        status: Status::Report,
+        text,
+    }
+}
+
+/// The answer to the request on the job that the bytes are, as far as it takes no threads, or the first fault.
+fn ready_or_fault(alloc: Global, request: &Request, bytes: &[u8]) -> Result<Ready, Fault>
     requires { IsBounded request.now }
     ensures { MatchResult result
-        (IsMade (job_of bytes.now) request.now)
+        (IsReadyAnswer request.now (job_of bytes.now))
         (λ fault. IsRequestOutcome request.now (job_of bytes.now) (Err fault) ⊎ MayFailBy request.now fault) }
 {
     let job = read_job(alloc, bytes)?;
     match request {
-        Request::Print => Ok(Product::Text(print_source(alloc, job.source())?)),
-        Request::Exec { test, steps } => { Ok(Product::Text(execute(alloc, &job, *test, *steps)?)) }
-        Request::List { operators, every } => Ok(Product::Text(list_mutants(
+        Request::Print => Ok(Ready::Answer(reported(print_source(alloc, job.source())?))),
+        Request::Exec { test, steps } => {
+            Ok(Ready::Answer(reported(execute(alloc, &job, *test, *steps)?)))
+        }
+        Request::List { operators, every } => Ok(Ready::Answer(reported(list_mutants(
             alloc,
             job.source(),
             operators.as_slice(),
             *every,
-        )?)),
+        )?))),
         Request::Run {
             operators,
             every,
@@ -77,7 +81,7 @@ fn product_of(alloc: Global, request: &Request, bytes: &[u8]) -> Result<Product,
             workers,
         } => {
             let bench = bench_of(alloc, job, operators.as_slice(), *every, *steps)?;
-            Ok(Product::Bench(bench, *workers))
+            Ok(Ready::Bench(bench, *workers))
         }
     }
 }
@@ -98,12 +102,8 @@ pub(crate) fn ready_for(alloc: Global, request: &Request, bytes: &[u8]) -> Resul
     requires { IsBounded request.now }
     ensures { IfOk result (IsReadyAnswer request.now (job_of bytes.now)) }
 {
-    match product_of(alloc, request, bytes) {
-        Ok(Product::Text(text)) => Ok(Ready::Answer(Answer {
-            status: Status::Report,
-            text,
-        })),
-        Ok(Product::Bench(bench, workers)) => Ok(Ready::Bench(bench, workers)),
+    match ready_or_fault(alloc, request, bytes) {
+        Ok(ready) => Ok(ready),
         Err(fault) => Ok(Ready::Answer(told(alloc, &fault)?)),
     }
 }
@@ -119,10 +119,7 @@ pub(crate) fn report_on<R: Threads + Wait + Sync>(
     ensures { IfOk result (λ a. IsReportAnswer bench.now a.status (string_bytes a.text)) }
 {
     match analyse(rt, alloc, bench, workers) {
-        Ok(text) => Ok(Answer {
-            status: Status::Report,
-            text,
-        }),
+        Ok(text) => Ok(reported(text)),
         Err(fault) => told(alloc, &Fault::Bench(fault)),
     }
 }

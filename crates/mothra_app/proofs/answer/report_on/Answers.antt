@@ -1,11 +1,13 @@
 use Rattle.std.proofs.Common.{string_bytes}
 use Rattle.mothra_app.specs.code.Answer.{IsReportAnswer}
 use Rattle.mothra_app.proofs.Answered.{IfOk-both}
-use Rattle.mothra_app.proofs.Outcomes.{report_refused}
+use Rattle.mothra_app.proofs.Outcomes.{as_report, report_refused}
 use Rattle.mothra_app.proofs.answer.report_on.Goals as goal
 
 pub returns-in-Ok : goal.returns-in-Ok
-returns-in-Ok g c = IsReportAnswer.report c.in-Ok.ensures.report
+returns-in-Ok g c =
+    as_report (IsReportAnswer c.args.bench.now) c.reported.result c.in-Ok.text c.reported.ensures.status c.reported.ensures.text
+    (IsReportAnswer.report c.in-Ok.ensures.report)
 
 pub returns-in-Err : goal.returns-in-Err
 returns-in-Err g c =

@@ -8,9 +8,9 @@ use Rattle.mothra_job.specs.declared.job.JobFault.TheVariants.{Memory}
 use Rattle.mothra_cli.specs.declared.request.Request.{Request}
 use Rattle.mothra_job.proofs.FewTests.{few_tests}
 use Rattle.mothra_app.proofs.Memory.{job_in}
-use Rattle.mothra_app.proofs.Outcomes.{bench_made, executed, listed, printed, read_so, text_made}
+use Rattle.mothra_app.proofs.Outcomes.{bench_ready, executed, listed, printed, read_so, text_ready}
 use Rattle.mothra_app.proofs.Sources.{told}
-use Rattle.mothra_app.proofs.answer.product_of.Goals as goal
+use Rattle.mothra_app.proofs.answer.ready_or_fault.Goals as goal
 
 job_refused : (request : Request) (read answer : JobRead) (fault : JobFault) → answer ≡ Err fault → (answer ≡ read) ⊎ (answer ≡ Err Memory)
     → IsRequestOutcome request read (Err (Job fault)) ⊎ MayFailBy request (Job fault)
@@ -45,7 +45,8 @@ pub returns-in_ok-print_source-in-Print : goal.returns-in_ok-print_source-in-Pri
 returns-in_ok-print_source-in-Print c =
     let text = c.in_ok-print_source-in-Print.field-0 in
     let read = job_of c.args.bytes.now in
-    text_made c.args.request.now read text
+    let a = c.reported.result in
+    text_ready c.args.request.now read text a c.reported.ensures.status c.reported.ensures.text
     (printed c.args.request.now c.in_ok-job.job read c.source.result.now (Ok text) c.in-Print.is c.in_ok-job.ensures.job c.source.ensures
     c.in_ok-print_source-in-Print.ensures)
 
@@ -53,7 +54,8 @@ pub returns-in_ok-execute-in-Exec : goal.returns-in_ok-execute-in-Exec
 returns-in_ok-execute-in-Exec c =
     let text = c.in_ok-execute-in-Exec.field-0 in
     let read = job_of c.args.bytes.now in
-    text_made c.args.request.now read text
+    let a = c.reported-in-Exec.result in
+    text_ready c.args.request.now read text a c.reported-in-Exec.ensures.status c.reported-in-Exec.ensures.text
     (executed c.args.request.now c.in_ok-job.job read c.in-Exec.test c.in-Exec.steps (Ok text) c.in-Exec.is c.in_ok-job.ensures.job
     c.in_ok-execute-in-Exec.ensures)
 
@@ -61,11 +63,12 @@ pub returns-in_ok-list_mutants-in-List : goal.returns-in_ok-list_mutants-in-List
 returns-in_ok-list_mutants-in-List c =
     let text = c.in_ok-list_mutants-in-List.field-0 in
     let read = job_of c.args.bytes.now in
-    text_made c.args.request.now read text
+    let a = c.reported-in-List.result in
+    text_ready c.args.request.now read text a c.reported-in-List.ensures.status c.reported-in-List.ensures.text
     (listed c.args.request.now c.in_ok-job.job read c.source-in-List.result.now c.as_slice.result.now c.in-List.operators c.in-List.every (Ok text)
     c.in-List.is c.in_ok-job.ensures.job c.source-in-List.ensures c.as_slice.ensures c.in_ok-list_mutants-in-List.ensures)
 
 pub returns-in_ok-bench-in-Run : goal.returns-in_ok-bench-in-Run
 returns-in_ok-bench-in-Run c =
-    bench_made c.args.request.now c.in_ok-job.job (job_of c.args.bytes.now) c.as_slice-in-Run.result.now c.in-Run.operators c.in-Run.every c.in-Run.steps
+    bench_ready c.args.request.now c.in_ok-job.job (job_of c.args.bytes.now) c.as_slice-in-Run.result.now c.in-Run.operators c.in-Run.every c.in-Run.steps
     c.in-Run.workers c.in_ok-bench-in-Run.bench c.in-Run.is c.in_ok-job.ensures.job c.as_slice-in-Run.ensures c.requires c.in_ok-bench-in-Run.ensures
