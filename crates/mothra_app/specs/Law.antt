@@ -38,8 +38,8 @@ pub record ReportsJob (read : JobRead) (ops : List Op) (every steps : ℕ)
 
 -- ---- no false refusal
 
--- a legal job: the command line refuses the words for want of memory
--- alone, and the words and the bytes are served with this report
+-- a legal job: the command line has no fault for the words,
+-- and the words and the bytes are served with this report
 pub record IsLegalJob (words : List Text) (bytes report : List ℕ) : Type 0 where
   pub taken : IsTaken words
   pub served : IsServed words bytes status.Report report

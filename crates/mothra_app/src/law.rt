@@ -75,8 +75,8 @@ pub fn headline()
     verdict_of_the_item();
 }
 
-/// What may be written for a legal job is its report, or the line of a fault for which the command breaks off, which is
-/// want of memory or of a thread and nothing else.
+/// What may be written for a legal job is its report, or the line of a fault by which the command may break off: one of
+/// the eight that tell want of memory or of a thread. That it was wanting then is not said.
 pub fn no_false_refusal()
     ensures answer { (words : List Text) (bytes report : List ℕ) (status : Status) (text : List ℕ)
         → IsLegalJob words bytes report → MayBeWritten words bytes status text → IsFairAnswer words report status text }
