@@ -1,10 +1,10 @@
-//! The two forms of the exchange answer alike, to calls and to split passes.
+//! The two forms of the exchange answer alike, to calls, of every operator and to split passes.
 ghost use Rattle.std.specs.Prelude.{◌≡◌, ◌<◌, true};
 
 use crate::tickets::{aar, assert_tally, counts, taken};
 use crate::turns::{TURNS, Turn, parts, shown, turn_of};
 use mothra_codes::Op;
-use mothra_exchange::{Gate, LockedExchange, Offer, TableExchange, Take};
+use mothra_exchange::{Close, Gate, LockedExchange, Offer, TableExchange, Take, Tally, Ticket};
 use std::process::Abort;
 use std::sync::Wait;
 use std::test::Fail;
@@ -73,6 +73,49 @@ fn the_locked_form_answers_the_turns(rt: HostRuntime) -> Result<(), Fail> {
 fn the_word_form_answers_the_turns(rt: HostRuntime) -> Result<(), Fail> {
     let (gate, pass) = TableExchange::<2>::new(rt.alloc(), counts(Op::Aar, 3))?;
     plays_the_turns(&rt, gate, pass)
+}
+
+/// A new operator that has two tickets is offered one, hands it out, and is closed.
+fn serves<G: Gate, R: Wait + Abort>(rt: &R, gate: &G, pass: &mut G::Pass, op: Op)
+    requires { G.is_pass gate.now pass.old }
+    ensures { G.is_pass gate.now pass.new }
+{
+    let ticket = Ticket { op, number: 1 };
+    assert!(rt; gate.offer(rt, pass, ticket) == Offer::Accepted);
+    assert!(rt; gate.take(rt, pass, op) == Take::Taken(ticket));
+    assert!(rt; gate.take(rt, pass, op) == Take::Empty);
+    assert!(rt; gate.close(rt, pass, op) == Close::Done);
+}
+
+/// Each operator was offered and handed out one of its two tickets, and closed.
+fn assert_served(rt: &impl Abort, tally: &Tally) {
+    for op in Op::ALL {
+        assert_tally(rt, tally, op, [2, 1, 1], true);
+    }
+}
+
+/// Each operator begins open with nothing offered, and is tallied as it was served.
+fn serves_every_operator<G: Gate, R: Wait + Abort>(rt: &R, gate: G, mut pass: G::Pass)
+    requires { G.is_pass gate pass }
+{
+    for op in Op::ALL {
+        serves(rt, &gate, &mut pass, op);
+    }
+    assert_served(rt, &gate.finish(pass));
+}
+
+#[test]
+fn the_locked_form_serves_every_operator(rt: HostRuntime) -> Result<(), Fail> {
+    let (gate, pass) = LockedExchange::<2>::new(rt.alloc(), [2; 22])?;
+    serves_every_operator(&rt, gate, pass);
+    Ok(())
+}
+
+#[test]
+fn the_word_form_serves_every_operator(rt: HostRuntime) -> Result<(), Fail> {
+    let (gate, pass) = TableExchange::<2>::new(rt.alloc(), [2; 22])?;
+    serves_every_operator(&rt, gate, pass);
+    Ok(())
 }
 
 /// A pass that is split off after the first offer takes the first ticket.

@@ -1,12 +1,10 @@
 -- What a clause says of the locked form.
-use Rattle.std.specs.Prelude.{◌≡◌, ℕ, List}
-use Rattle.mothra_codes.specs.declared.op.Op.{Op}
-use Rattle.mothra_codes.specs.Op.{index}
+use Rattle.std.specs.Prelude.{ℕ, List}
 use Rattle.mothra_exchange.specs.declared.word.Word.{Word}
 use Rattle.mothra_exchange.specs.declared.log.Event.{Event}
 use Rattle.mothra_exchange.specs.declared.locked.LockedExchange.{LockedExchange}
-use Rattle.mothra_exchange.specs.Log.{word_of, IsLegalLog}
-use Rattle.mothra_exchange.specs.Tally.{operator_word}
+use Rattle.mothra_exchange.specs.Log.{IsLegalLog}
+use Rattle.mothra_exchange.specs.State.{history, Tallies}
 
 -- the counts that the exchange was made with
 abbrev pub counts_given : {C : ℕ} → LockedExchange C → List ℕ
@@ -14,5 +12,5 @@ counts_given e = e.counts
 
 -- the numbers of a tally are those of some legal log for these counts
 abbrev pub TalliesLog : ℕ → List ℕ → List Word → Type 0
-TalliesLog C counts words = (log : List Event)
-    × IsLegalLog C counts log × ((op : Op) → operator_word words op ≡ word_of counts log (index op))
+TalliesLog C counts words =
+    (log : List Event) × IsLegalLog C counts log × Tallies (history counts log) words

@@ -21,6 +21,10 @@ history counts events = record { counts = counts; events = events }
 abbrev pub numbers_at : History → Op → Word
 numbers_at h op = word_of h.counts h.events (index op)
 
+-- the words are the numbers of the log
+abbrev pub Tallies : History → List Word → Type 0
+Tallies h words = (op : Op) → operator_word words op ≡ numbers_at h op
+
 -- how many events an operator has had
 abbrev pub used_by : Word → ℕ
 used_by w = w.offered + w.handed + bit w.closed

@@ -1,11 +1,11 @@
 //! The exchange under one lock.
 
-ghost use Rattle.std.specs.Prelude.{◌≡◌, IfOk, IfErr, OnOk, true, false};
+ghost use Rattle.std.specs.Prelude.{◌≡◌, ◌≢◌, [], IfOk, IfErr, OnOk, true, false};
 ghost use Rattle.mothra_exchange.specs.View.{spent_view};
 ghost use Rattle.mothra_exchange.specs.Answer.{offer_answer, take_answer, close_answer};
 ghost use Rattle.mothra_exchange.specs.Gate.{MayOffer, MayTake, MayClose, OfferKept, TakeKept, CloseKept};
 ghost use Rattle.mothra_exchange.specs.Log.{IsLegalLog};
-ghost use Rattle.mothra_exchange.specs.State.{History, numbers_at};
+ghost use Rattle.mothra_exchange.specs.State.{History, history, numbers_at, Tallies};
 ghost use Rattle.mothra_exchange.specs.Fault.{AllCountsFit, IsFaultOfCounts};
 ghost use Rattle.mothra_exchange.specs.Tally.{EndsAsViews};
 ghost use Rattle.mothra_exchange.specs.Locked.{counts_given, TalliesLog};
@@ -23,6 +23,7 @@ use std::sync::{Mutex, Wait};
 /// It keeps no records, and never answers Busy.
 #[derive(Drop)]
 pub struct LockedExchange<const C: u32> {
+    // For `finish` alone. No clause knows what lies in a lock, so the counts of the state are not known to be these.
     counts: [u32; 22],
     state: Mutex<State<C>>,
 }
@@ -47,6 +48,22 @@ impl<const C: u32> LockedExchange<C> {
             state: Mutex::new(state),
         };
         Ok((exchange, LockedPass))
+    }
+}
+
+// The numbers of the state's log. A state of other counts, which none puts into the lock, counts as one with an empty
+// log for those given.
+fn tally_of<const C: u32>(state: State<C>, counts: [u32; 22]) -> Tally
+    ensures own { state.entry.counts ≡ counts → Tallies state.entry result }
+    ensures other { state.entry.counts ≢ counts → Tallies (history counts []) result }
+    ensures log { TalliesLog C counts result }
+{
+    if state.has_counts(&counts) {
+        state.into_tally()
+    } else {
+        Tally {
+            words: opening_state(&counts),
+        }
     }
 }
 
@@ -108,15 +125,6 @@ impl<const C: u32> Gate for LockedExchange<C> {
         ensures log { TalliesLog C (counts_given self.entry) result }
     {
         let LockedExchange { counts, state } = self;
-        let tally = state.into_inner().into_tally();
-        // What lies in a lock is known by its type alone, and that knows no counts: so it is asked for
-        // them. A state of other counts, which none puts there, counts as one with an empty log.
-        if tally.has_counts(&counts) {
-            tally
-        } else {
-            Tally {
-                words: opening_state(&counts),
-            }
-        }
+        tally_of(state.into_inner(), counts)
     }
 }

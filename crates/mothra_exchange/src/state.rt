@@ -1,13 +1,11 @@
 //! The exchange that one caller at a time changes, with its log.
 
-ghost use Rattle.std.specs.Prelude.{◌≡◌, [], map, IfOk, IfErr, OnOk, vec_capacity};
-ghost use Rattle.mothra_codes.specs.declared.op.Op.{Op};
+ghost use Rattle.std.specs.Prelude.{◌≡◌, ◌↔◌, [], map, IfOk, IfErr, OnOk, IsTrue, vec_capacity};
 ghost use Rattle.mothra_exchange.specs.Word.{opening_word};
 ghost use Rattle.mothra_exchange.specs.Answer.{offer_answer, take_answer, close_answer};
 ghost use Rattle.mothra_exchange.specs.Log.{IsLegalLog, log_after_offer, log_after_take, log_after_close};
-ghost use Rattle.mothra_exchange.specs.State.{History, history, numbers_at, KeepsLog, counts_of, room};
+ghost use Rattle.mothra_exchange.specs.State.{History, history, numbers_at, KeepsLog, Tallies, counts_of, room};
 ghost use Rattle.mothra_exchange.specs.Fault.{AllCountsFit, IsFaultOfCounts};
-ghost use Rattle.mothra_exchange.specs.Tally.{operator_word};
 
 use crate::answer::{Close, Offer, Take};
 use crate::fault::{ExchangeFault, first_too_large};
@@ -46,6 +44,18 @@ pub(crate) fn opening_state(counts: &[u32; 22]) -> [Word; 22]
     words
 }
 
+// Whether these are the counts of the words.
+fn have_counts(words: &[Word; 22], counts: &[u32; 22]) -> bool
+    ensures { IsTrue result ↔ (counts_of words.now ≡ counts.now) }
+{
+    for i in 0..22 {
+        if words[i].count != counts[i] {
+            return false;
+        }
+    }
+    true
+}
+
 // How many events can come.
 fn room_of(counts: &[u32; 22]) -> usize
     requires { AllCountsFit counts.now }
@@ -78,9 +88,16 @@ impl<const C: u32> State<C> {
         }
     }
 
+    // Whether these are the counts.
+    pub(crate) fn has_counts(&self, counts: &[u32; 22]) -> bool
+        ensures { IsTrue result ↔ (self.now.counts ≡ counts.now) }
+    {
+        have_counts(&self.words, counts)
+    }
+
     // The numbers of the log.
     pub(crate) fn into_tally(self) -> Tally
-        ensures shows { (op : Op) → operator_word result op ≡ numbers_at self.entry op }
+        ensures shows { Tallies self.entry result }
         ensures legal { IsLegalLog C self.entry.counts self.entry.events }
     {
         let State { words, log: _ } = self;

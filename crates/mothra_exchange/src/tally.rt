@@ -1,8 +1,6 @@
 //! The numbers of a finished exchange.
 
-ghost use Rattle.std.specs.Prelude.{◌≡◌, true, List, slice_index};
-ghost use Rattle.mothra_codes.specs.declared.op.Op.{Op};
-ghost use Rattle.mothra_codes.specs.Op.{index};
+ghost use Rattle.std.specs.Prelude.{◌≡◌, List};
 ghost use Rattle.mothra_exchange.specs.declared.word.Word.{Word};
 ghost use Rattle.mothra_exchange.specs.Tally.{operator_word};
 
@@ -50,21 +48,4 @@ impl Tally {
     {
         self.words[op.index()].closed
     }
-    // Whether these are the counts.
-    pub(crate) fn has_counts(&self, counts: &[u32; 22]) -> bool
-        ensures { result ≡ true → (op : Op) → (operator_word self.now op).count ≡ slice_index counts.now (index op) }
-    {
-        have_counts(&self.words, counts)
-    }
-}
-
-fn have_counts(words: &[Word; 22], counts: &[u32; 22]) -> bool
-    ensures { result ≡ true → (op : Op) → (operator_word words.now op).count ≡ slice_index counts.now (index op) }
-{
-    for i in 0..22 {
-        if words[i].count != counts[i] {
-            return false;
-        }
-    }
-    true
 }
