@@ -16,11 +16,11 @@ use Rattle.mothra_exchange.specs.declared.view.View.{View}
 use Rattle.mothra_exchange.specs.declared.word.Word.{Word}
 use Rattle.mothra_exchange.proofs.Histories.{in_order, legal_for, none_after}
 use Rattle.mothra_exchange.proofs.Showing.{shows_one_log}
-use Rattle.mothra_exchange.proofs.Standings.{closing_stands, has_word, offered_stand, rule_at, taken_stand}
+use Rattle.mothra_exchange.proofs.Standings.{are_in_order, has_word, rule_at}
 use Rattle.mothra_ops.specs.Edits.{numbered}
 use Rattle.mothra_ops.specs.Plan.{PlanFields, edits_of}
 use Rattle.mothra_bench.specs.Feeding.{AreCounts}
-use Rattle.mothra_bench.specs.PlanExchange.{AreFirstItems, HandsOutFront, HasHistory, IsHandedOut, KeepsLists, plan_counts}
+use Rattle.mothra_bench.specs.PlanExchange.{AreFirstItems, HasHistory, KeepsLists, plan_counts}
 
 -- ---- the items of a list by number
 
@@ -36,13 +36,6 @@ module _ {X : Type 0} where
         ∙ (ap (λ (l : List (Option X)). l ++ slice_get xs n ∷ []) before
         ∙ (ap (λ (o : Option X). map Some (take n xs) ++ o ∷ []) (slice_get-get_or xs n x low)
         ∙ (sym (map_more Some xs n x low) ∙ ap (λ (m : ℕ). map Some (take m xs)) next)))
-    | inr (high, past) ↦ absurd (omega (arith, within, high))
-  ]
-
-  item_at : (xs : List X) (k : ℕ) → 0 < k → k ≤ length xs → (x : X) × (numbered xs k ≡ Some x)
-  item_at xs zero pos within = absurd (omega (arith, pos))
-  item_at xs (suc k) pos within = elim (slice_get_cases xs k).1 [
-    | inl (x, low, at, is) ↦ (x, at)
     | inr (high, past) ↦ absurd (omega (arith, within, high))
   ]
 
@@ -71,26 +64,6 @@ few C i n many w views rule same = omega (arith, rule.bounds.handed, rule.bounds
 module _ (C : ℕ) (plan : PlanFields) (counts words : List ℕ) (views : List View) (sound : IsSoundExchange C counts words views) (own : AreCounts plan counts) where
   within : (op : Op) (w : Word) → IsWordOf words op w → w.handed ≤ length (edits_of plan op)
   within op w is = few C (index op) (slice_index counts (index op)) (length (edits_of plan op)) w views (rule_at C counts words views sound op w is) (own op)
-
-  handed_out : (op : Op) (w : Word) → IsWordOf words op w → (k : ℕ) → 0 < k → k ≤ w.handed → IsHandedOut plan op views k
-  handed_out op w is k pos le =
-      let low = within op w is in
-      let item = item_at (edits_of plan op) k pos (omega (arith, le, low)) in
-      record { edit = item.0; item = item.1; taken = (taken_stand C counts words views sound op w is).each k pos le }
-
-  front : (op : Op) (w : Word) → IsWordOf words op w → HandsOutFront plan op w views
-  front op w is =
-      let taken = taken_stand C counts words views sound op w is in
-      record {
-        front = first_items plan op w.handed (within op w is);
-        each = handed_out op w is;
-        no_other = taken.no_other;
-        in_order = record {
-          taken = taken;
-          offered = offered_stand C counts words views sound op w is;
-          closed = closing_stands C counts words views sound op w is;
-        };
-      }
 
   same : (op : Op) → slice_index counts (index op) ≡ slice_index (plan_counts plan) (index op)
   same op = own op ∙ sym (count_at plan op)
@@ -125,6 +98,8 @@ module _ (C : ℕ) (plan : PlanFields) (counts words : List ℕ) (views : List V
 
   pub keeps_lists : KeepsLists C plan words views
   keeps_lists = record {
-    operators = λ op. let found = has_word C counts words views sound op in (found.0, found.1, front op found.0 found.1);
+    operators = λ op.
+        let found = are_in_order C counts words views sound op in
+        (found.0, found.1, record { front = first_items plan op found.0.handed (within op found.0 found.1); in_order = found.2 });
     history = history;
   }

@@ -1,19 +1,17 @@
 -- The exchange of a plan: which items of the plan's lists its tickets stand for.
-use Rattle.std.specs.Prelude.{◌≡◌, ◌⊎◌, ℕ, ◌<◌, ◌≤◌, List, Some, length, map, take}
+use Rattle.std.specs.Prelude.{◌≡◌, ℕ, ◌<◌, List, Some, length, map, take}
 use mathlib.Core.Option.{some}
 use lib.ListN.{get_elem?}
 use Rattle.mothra_codes.specs.Op.{all_ops, index}
-use Rattle.mothra_codes.specs.Ticket.{ticket_times}
 use Rattle.mothra_codes.specs.declared.op.Op.{Op}
 use Rattle.mothra_codes.specs.declared.ticket.Ticket.{Ticket}
-use Rattle.mothra_exchange.specs.Law.{IsInOrder, IsWordOf, IsShownInLog, StandsInNone, StandsInOne}
+use Rattle.mothra_exchange.specs.Law.{IsInOrder, IsWordOf, IsShownInLog}
 use Rattle.mothra_exchange.specs.Log.{IsLegalLog, one_to, taken_in}
 use Rattle.mothra_exchange.specs.declared.log.Event.{Event}
 use Rattle.mothra_exchange.specs.declared.log.Event.TheVariants.{Closed, Offered}
 use Rattle.mothra_exchange.specs.declared.view.View.{View}
 use Rattle.mothra_exchange.specs.declared.word.Word.{Word}
 use Rattle.mothra_ops.specs.Plan.{PlanFields, edits_of}
-use Rattle.mothra_ops.specs.declared.edit.Edit.{Edit}
 use Rattle.mothra_verdicts.specs.Verdict.{item_of}
 
 -- how many items the list of each operator has, in the order of the operators
@@ -25,20 +23,11 @@ abbrev pub AreFirstItems : PlanFields → Op → List ℕ → Type 0
 AreFirstItems plan op numbers =
     map (item_of plan op) numbers ≡ map Some (take (length numbers) (edits_of plan op))
 
--- ticket k of the operator stands for an item of its list, and was taken by exactly one pass, once
-pub record IsHandedOut (plan : PlanFields) (op : Op) (views : List View) (k : ℕ) : Type 0 where
-  pub edit : Edit
-  pub item : item_of plan op k ≡ Some edit
-  pub taken : StandsInOne (λ v. ticket_times (index op) k v.taken) views
-
--- Of an operator of the plan, whose word is w: the tickets taken are 1 to
--- w.handed and stand for the first items of its list, each ticket was taken
--- by exactly one pass, and none was accepted after the operator closed.
+-- Of an operator of the plan, whose word is w: the tickets taken are 1 to w.handed, each by
+-- exactly one pass, once, and stand for the first items of its list, ticket k for item k;
+-- and none was accepted after the operator closed.
 pub record HandsOutFront (plan : PlanFields) (op : Op) (w : Word) (views : List View) : Type 0 where
   pub front : AreFirstItems plan op (one_to w.handed)
-  pub each : (k : ℕ) → 0 < k → k ≤ w.handed → IsHandedOut plan op views k
-  pub no_other : (k : ℕ)
-      → (k ≡ 0) ⊎ (w.handed < k) → StandsInNone (λ v. ticket_times (index op) k v.taken) views
   pub in_order : IsInOrder op w views
 
 -- Some legal log for the lists of the plan has the numbers of the words. In it the tickets of each
