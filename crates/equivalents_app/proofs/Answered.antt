@@ -116,7 +116,7 @@ answer_never {A} i left s other t by e no_report no_fault = go s t by.is e
 refused_so : (words : List clap.Text) (bytes : List ℕ) (e : Error) (s : Status) (t : List ℕ) → HasKind (fault_of equivalents words) e
     → IsRefusal (kind_of e) s → MayBeWrittenByInquiry words bytes s t
 refused_so words bytes e s t (inl full) refusal = never_memory s (subst (λ k. IsRefusal k s) full refusal)
-refused_so words bytes e s t (inr among) refusal = MayBeWrittenByInquiry.refusal refusal among
+refused_so words bytes e s t (inr among) refusal = MayBeWrittenByInquiry.refusal (kind_of e) refusal among
 
 pub refused : (words : List clap.Text) (left : Option (List ℕ)) (e : Error) (s : Status) (t : List ℕ) → HasKind (fault_of equivalents words) e
     → IsRefusal (kind_of e) s → IsInquiryAnswered words left left s t

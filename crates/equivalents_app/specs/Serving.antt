@@ -56,7 +56,7 @@ pub data MayBeWrittenByInquiry (words : List Text) (bytes : List ℕ) : Status �
       → MayBeWrittenByInquiry words bytes status text
   bad_list : HasBadInquiryOperators words
       → MayBeWrittenByInquiry words bytes status.Words bad_operators
-  refusal : {cause : ErrorKind} {status : Status} {text : List ℕ}
+  refusal : {status : Status} {text : List ℕ} (cause : ErrorKind)
       → IsRefusal cause status → IsAmong cause (fault_of equivalents words)
       → MayBeWrittenByInquiry words bytes status text
 

@@ -100,7 +100,7 @@ never_memory status.Help (inr is) = absurd (cc)
 refused_so : (words : List Text) (bytes : List ℕ) (e : Error) (s : Status) (t : List ℕ) → HasKind (fault_of mothra words) e
     → IsRefusal (kind_of e) s → MayBeWritten words bytes s t
 refused_so words bytes e s t (inl full) refusal = never_memory s (subst (λ k. IsRefusal k s) full refusal)
-refused_so words bytes e s t (inr among) refusal = MayBeWritten.refusal refusal among
+refused_so words bytes e s t (inr among) refusal = MayBeWritten.refusal (kind_of e) refusal among
 
 pub unread_for : (e : Error) (left : Option (List ℕ)) (s : Status) → IsRefusal (kind_of e) s → IsReadFor s left left
 unread_for e left status.Report refusal = absurd refusal

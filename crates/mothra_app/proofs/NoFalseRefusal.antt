@@ -48,7 +48,7 @@ module _ (words : List Text) (bytes report : List ℕ) (law : OneAnswer) (legal 
   pub fair : (s : Status) (text : List ℕ) → MayBeWritten words bytes s text → IsFairAnswer words report s text
   fair s text (MayBeWritten.answer {request = request} asks is) = of_request request s text asks is
   fair s text (MayBeWritten.bad_list bad) = asks_nothing words legal.served.0 legal.served.1.is bad
-  fair s text (MayBeWritten.refusal {cause = cause} is among) = absurd (subst (IsAmong cause) legal.taken among)
+  fair s text (MayBeWritten.refusal cause is among) = absurd (subst (IsAmong cause) legal.taken among)
 
 -- ---- the faults for which it breaks off
 

@@ -36,7 +36,7 @@ pub data MayBeWritten (words : List Text) (bytes : List ℕ) : Status → List �
       → AsksFor words request → IsAnswer request (job_of bytes) status text
       → MayBeWritten words bytes status text
   bad_list : HasBadOperators words → MayBeWritten words bytes status.Words bad_operators
-  refusal : {cause : ErrorKind} {status : Status} {text : List ℕ}
+  refusal : {status : Status} {text : List ℕ} (cause : ErrorKind)
       → IsRefusal cause status → IsAmong cause (fault_of mothra words)
       → MayBeWritten words bytes status text
 
