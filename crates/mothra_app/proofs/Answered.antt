@@ -4,7 +4,7 @@ use Rattle.std.proofs.Common.{List, [], Option, Some, None, Result, Ok, Err, IfO
 use Rattle.std.proofs.lemmas.Bool.{ltb-true, ltb-false, lt-ltb}
 use Rattle.std.proofs.KnownBytes.{Keeps-refl}
 use Rattle.clap.specs.Words.{Text, fault_of}
-use Rattle.clap.specs.Kinds.{HasKind, IsAmong}
+use Rattle.clap.specs.Kinds.{HasKind}
 use Rattle.clap.specs.Values.{kind_of}
 use Rattle.clap.specs.declared.error.Error.{Error}
 use Rattle.clap.specs.declared.error.kind.ErrorKind.TheVariants as kind

@@ -1,6 +1,5 @@
 -- What a feeder does with its pass, and what it answers.
-use Rattle.std.specs.Prelude.{◌≡◌, ℕ, ◌<◌, Bool, true, List, [], length, All, Contains}
-use Rattle.std.specs.Prelude.{Result, IfOk, IfErr, slice_index}
+use Rattle.std.specs.Prelude.{◌≡◌, ℕ, ◌<◌, Bool, true, List, [], length, All, Contains, slice_index}
 use Rattle.mothra_codes.specs.declared.op.Op.{Op}
 use Rattle.mothra_codes.specs.Op.{index}
 use Rattle.mothra_exchange.specs.declared.view.View.{View}
@@ -62,11 +61,3 @@ pub record IsUntouched (view : View) (op : Op) : Type 0 where
 pub record AreFed (ops : List Op) (view : View) : Type 0 where
   pub own : All (IsFed view) ops
   pub others : (op : Op) → ¬ (Contains ops op) → IsUntouched view op
-
--- The contract of `feed`: what a feeder of these operators makes of its pass, and what it answers.
-pub record Feeds (may keeps parts : Bool) (plan : PlanFields) (ops : List Op) (old new : View)
-    (outcome : Result (Unit {0}) BenchFault) : Type 0 where
-  pub refused : IfErr outcome (IsStalled may)
-  pub part : parts ≡ true → new.part ≡ old.part
-  pub records : keeps ≡ true → OnlyGave old new
-  pub fed : keeps ≡ true → IsReadyPass plan old → IfOk outcome (λ _. AreFed ops new)

@@ -1,7 +1,5 @@
 -- What a worker does with its pass, and what it answers.
-use Rattle.std.specs.Prelude.{◌≡◌, ℕ, ◌-◌, ◌≤◌, ⊤, Bool, true, false, List, ◌∷◌, ◌++◌, All}
-use Rattle.std.specs.Prelude.{Vec, Result, IfOk, IfErr}
-use Rattle.std.specs.declared.alloc.Global.{Global}
+use Rattle.std.specs.Prelude.{◌≡◌, ℕ, ◌-◌, ◌≤◌, ⊤, Bool, true, List, ◌∷◌, ◌++◌, All}
 use Rattle.mothra_codes.specs.declared.op.Op.{Op}
 use Rattle.mothra_codes.specs.Op.{index}
 use Rattle.mothra_codes.specs.declared.ticket.Ticket.{Ticket}
@@ -9,9 +7,8 @@ use Rattle.mothra_exchange.specs.declared.view.View.{View}
 use Rattle.mothra_exchange.specs.Sharing.{IsOver}
 use Rattle.mothra_codes.specs.Ticket.{ticket_times}
 use Rattle.mothra_ops.specs.Plan.{PlanFields}
-use Rattle.mothra_verdicts.specs.Bench.{BenchFields}
 use Rattle.mothra_bench.specs.Feeding.{AreCounts}
-use Rattle.mothra_bench.specs.Gathered.{AreVerdicts, tickets_in}
+use Rattle.mothra_bench.specs.Gathered.{tickets_in}
 use Rattle.mothra_verdicts.specs.Verdict.{HasMutant}
 use Rattle.mothra_verdicts.specs.declared.fault.BenchFault.{BenchFault}
 use Rattle.mothra_verdicts.specs.declared.fault.BenchFault.TheVariants as fault
@@ -70,15 +67,3 @@ pub record NamesTaken (plan : PlanFields) (old new : View) (fault : BenchFault) 
   pub tickets : List Ticket
   pub taken : new.taken ≡ old.taken ++ tickets
   pub first : NamesFirst plan tickets fault
-
--- The contract of `work`: what a worker makes of its pass, and what it answers.
-pub record Works (may keeps parts : Bool) (bench : BenchFields) (old new : View)
-    (outcome : Result (Vec Row Global) BenchFault) : Type 0 where
-  pub verdicts : IfOk outcome (λ rows. AreVerdicts bench rows.items)
-  pub refused : IfErr outcome (IsNoWork may keeps bench.plan old.counts)
-  pub part : parts ≡ true → new.part ≡ old.part
-  pub pass : keeps ≡ true → OnlyTook old new
-  pub records : keeps ≡ true → IfOk outcome (λ rows. TookRows old new rows.items)
-  pub stranger : keeps ≡ true → IfErr outcome (NamesTaken bench.plan old new)
-  pub over : keeps ≡ true → IfOk outcome (λ _. AreOver new)
-  pub stays : keeps ≡ true → may ≡ false → AreOver new

@@ -3,9 +3,11 @@
 ghost use Rattle.std.specs.Prelude.{◌≡◌, ◌+◌, ◌++◌, true, IfOk, IfErr};
 ghost use Rattle.mothra_exchange.specs.declared.view.View.{View};
 ghost use Rattle.mothra_bench.specs.code.Driving.{IsNewPass, JoinsPass, KeepsFed};
-ghost use Rattle.mothra_bench.specs.Feeding.{AreFed, Feeds, IsReadyPass, IsStalled};
+ghost use Rattle.mothra_bench.specs.Feeding.{AreFed, IsReadyPass, IsStalled};
+ghost use Rattle.mothra_bench.specs.code.Feeding.{Feeds};
 ghost use Rattle.mothra_bench.specs.Gathered.{AreVerdicts, tickets_in};
-ghost use Rattle.mothra_bench.specs.Working.{AreOver, IsNoWork, Works};
+ghost use Rattle.mothra_bench.specs.Working.{AreOver, IsNoWork};
+ghost use Rattle.mothra_bench.specs.code.Working.{Works};
 
 use crate::feeding::feed;
 use crate::working::work;

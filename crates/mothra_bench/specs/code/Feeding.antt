@@ -1,14 +1,16 @@
 -- What a feeder does with its pass, and what it answers.
 -- Private functions and proofs alone cite what stands here.
-use Rattle.std.specs.Prelude.{◌≡◌, ◌⊎◌, ℕ, ◌+◌, ◌<◌, ◌≤◌, true, List}
-use Rattle.std.specs.Prelude.{slice_index_or}
+use Rattle.std.specs.Prelude.{◌≡◌, ◌⊎◌, ℕ, ◌+◌, ◌<◌, ◌≤◌, Bool, true, List}
+use Rattle.std.specs.Prelude.{Result, IfOk, IfErr, slice_index_or}
 use Rattle.mothra_codes.specs.declared.op.Op.{Op}
 use Rattle.mothra_codes.specs.Op.{index}
 use Rattle.mothra_exchange.specs.declared.view.View.{View}
+use Rattle.mothra_ops.specs.Plan.{PlanFields}
+use Rattle.mothra_verdicts.specs.declared.fault.BenchFault.{BenchFault}
 use Rattle.mothra_bench.specs.Closing.{count_of, seen_of}
 use Rattle.mothra_bench.specs.declared.feeding.Stage.{Stage}
 use Rattle.mothra_bench.specs.declared.feeding.Stage.TheVariants as stage
-use Rattle.mothra_bench.specs.Feeding.{HasOffered, NeverClosed, IsFed}
+use Rattle.mothra_bench.specs.Feeding.{AreFed, HasOffered, IsFed, IsReadyPass, IsStalled, NeverClosed, OnlyGave}
 
 -- what a feeder's stage says of its pass
 abbrev pub ShowsStage : View → Op → Stage → Type 0
@@ -27,3 +29,11 @@ stage_of stages op = slice_index_or stages (index op) (stage.Offered 0)
 
 abbrev pub AllShow : View → List Stage → Type 0
 AllShow view stages = (op : Op) → ShowsStage view op (stage_of stages op)
+
+-- The contract of `feed`: what a feeder of these operators makes of its pass, and what it answers.
+pub record Feeds (may keeps parts : Bool) (plan : PlanFields) (ops : List Op) (old new : View)
+    (outcome : Result (Unit {0}) BenchFault) : Type 0 where
+  pub refused : IfErr outcome (IsStalled may)
+  pub part : parts ≡ true → new.part ≡ old.part
+  pub records : keeps ≡ true → OnlyGave old new
+  pub fed : keeps ≡ true → IsReadyPass plan old → IfOk outcome (λ _. AreFed ops new)

@@ -1,7 +1,8 @@
 -- What a worker does with its pass, and what it answers.
 -- Private functions and proofs alone cite what stands here.
-use Rattle.std.specs.Prelude.{◌≡◌, Bool, true, List, ◌++◌, All}
-use Rattle.std.specs.Prelude.{Option, None, IfSome, IfNone, MatchOption}
+use Rattle.std.specs.Prelude.{◌≡◌, Bool, true, false, List, ◌++◌, All}
+use Rattle.std.specs.Prelude.{Option, None, IfSome, IfNone, MatchOption, Vec, Result, IfOk, IfErr}
+use Rattle.std.specs.declared.alloc.Global.{Global}
 use Rattle.mothra_codes.specs.declared.ticket.Ticket.{Ticket}
 use Rattle.mothra_exchange.specs.declared.view.View.{View}
 use Rattle.mothra_ops.specs.Plan.{PlanFields}
@@ -11,7 +12,7 @@ use Rattle.mothra_verdicts.specs.Verdict.{HasMutant}
 use Rattle.mothra_verdicts.specs.declared.fault.BenchFault.{BenchFault}
 use Rattle.mothra_bench.specs.declared.gathered.Gathered.{Gathered}
 use Rattle.mothra_verdicts.specs.declared.verdict.Row.{Row}
-use Rattle.mothra_bench.specs.Working.{OnlyTook, TookRows, IsNoWork, NamesFirst}
+use Rattle.mothra_bench.specs.Working.{AreOver, IsNoWork, NamesFirst, NamesTaken, OnlyTook, TookRows}
 
 -- the tickets that the pass took: without a fault the plan has them all, and the first fault names the first that it
 -- does not have
@@ -36,3 +37,15 @@ pub record Went (bench : BenchFields) (may keeps : Bool) (old new : View) (befor
       ((before.fault ≡ None) × AddsRows bench keeps old new before.rows.items after.rows.items)
   pub pass : keeps ≡ true → OnlyTook old new
   pub takes : keeps ≡ true → Takes bench.plan old new before.fault after.fault
+
+-- The contract of `work`: what a worker makes of its pass, and what it answers.
+pub record Works (may keeps parts : Bool) (bench : BenchFields) (old new : View)
+    (outcome : Result (Vec Row Global) BenchFault) : Type 0 where
+  pub verdicts : IfOk outcome (λ rows. AreVerdicts bench rows.items)
+  pub refused : IfErr outcome (IsNoWork may keeps bench.plan old.counts)
+  pub part : parts ≡ true → new.part ≡ old.part
+  pub pass : keeps ≡ true → OnlyTook old new
+  pub records : keeps ≡ true → IfOk outcome (λ rows. TookRows old new rows.items)
+  pub stranger : keeps ≡ true → IfErr outcome (NamesTaken bench.plan old new)
+  pub over : keeps ≡ true → IfOk outcome (λ _. AreOver new)
+  pub stays : keeps ≡ true → may ≡ false → AreOver new
