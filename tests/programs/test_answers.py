@@ -1,4 +1,4 @@
-"""What no clause says of the programs: their exit status, the threads of an analysis, that memory alone refuses a plan."""
+"""What no clause says of the programs: their exit status, the threads of an analysis, that no limit refuses a plan."""
 
 import json
 import os

@@ -15,7 +15,8 @@ from mutants import statuses
 
 class Signals(Room):
     def test_what_was_begun_ends_too_and_no_file_is_left(self) -> None:
-        slow = self.wrapped("slow", '[ "$1" = run ] && { [ -e begun ] || { echo $$ > pid; touch begun; }; exec sleep 60; }')
+        begin = "[ -e begun ] || { echo $$ > pid; touch begun; }"
+        slow = self.wrapped("slow", f'[ "$1" = run ] && {{ {begin}; exec sleep 60; }}')
         words = running.words_of("check", ["--mothra", slow, "--no-proofs", self.program, self.tests])
         for number in (signal.SIGTERM, signal.SIGHUP):
             with self.subTest(number.name):
