@@ -104,6 +104,7 @@ class Marks(unittest.TestCase):
             ("S3 2", ["      K = ABC DEFG + 1"], ["ABC DEFG"]), ("S3 2", ["      INTEGER ABCDEFG"], ["ABCDEFG"]),
             ("S3 2", ["      IF (K.EQ.1) ABCDEFG=1"], ["ABCDEFG"]), ("S4 2", ["      K=M(2147483648)"], ["2147483648"]),
             ("S4 2", ["      GO TO 0"], ["0"]), ("S5 2", ["      K=" + "(" * 41 + "I"], ["("]),
+            ("S5 2", ["      K=)" + "(" * 41], ["("]),
             ("C2 X", ["      IF (I.GT.X) X=1"], ["X"]), ("C2 E", ["      IF (I.EQ.1) E=1"], ["E"]),
             ("C3 L", ["      INTEGER L", "      DIMENSION L(2)", SUM], ["L", "L"]),
             ("C6 10", ["   10 K=I", "   10 K=J"], ["   10", "   10"]),

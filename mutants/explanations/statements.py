@@ -44,8 +44,11 @@ def large_number(card: Card) -> Marked:
 
 
 def deep_parenthesis(card: Card) -> Marked:
+    lowest = 0
     for at, depth in enumerate(depths(card.text)):
-        if depth > 40:
+        # A parenthesis that closes where none is open counts for nothing.
+        lowest = min(lowest, depth)
+        if depth - lowest > 40:
             return span(card, at, at + 1), ["Here the 41st parenthesis is opened."]
     return whole(card), []
 

@@ -37,5 +37,5 @@ pub mod Total
 pub mod InOrder
 pub mod NodeCounts
 pub mod CharacterCounts
-pub mod Counts
+pub mod Depths
 pub mod ReadAgain

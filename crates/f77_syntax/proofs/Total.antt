@@ -10,33 +10,33 @@ use Rattle.f77_program.specs.declared.group.Group.{Group}
 use Rattle.f77_program.specs.declared.group.Group.TheVariants.{Subroutine, Declaration, Data, Executable, End}
 use Rattle.f77_tree.specs.Statement.{Statement}
 use Rattle.f77_program.specs.Group.{group_of, may_stand}
-use Rattle.f77_syntax.specs.TextLimits.{occurrences, most_open, character_count, most_characters, IsTooDeep}
+use Rattle.f77_syntax.specs.TextLimits.{open_behind, most_open, character_count, most_characters, IsTooDeep}
 use Rattle.f77_tree.specs.Limits.{most_nodes, statement_constants, statement_nodes}
 use Rattle.f77_syntax.specs.Parsing.{IsAdmitted, IsCardRefused, line_with, AreLines, IsFirstSyntaxFault, HasLinesOrFault, misplaced_statement, unfinished}
 use Rattle.f77_syntax.specs.code.Statement.{statement_at}
 use Rattle.f77_tree.specs.StatementGrammar.{SpellsStatement}
 use Rattle.f77_tree.specs.Names.{statement_names}
-use Rattle.f77_syntax.proofs.Counts.{flat_none, flat_step}
+use Rattle.f77_syntax.proofs.Depths.{flat_none, flat_step}
 use Rattle.f77_syntax.proofs.StatementComplete.{statement_read}
 use Rattle.f77_syntax.proofs.StatementSound.{statement_is}
 
--- this beginning opens no more than 40 parentheses more than it closes
+-- no more than 40 parentheses are open behind this beginning
 abbrev IsFlatAt : List ℕ → ℕ → Type 0
-IsFlatAt text n = occurrences 40 (take n text) ≤ occurrences 41 (take n text) + most_open
+IsFlatAt text n = open_behind (take n text) ≤ most_open
 
 -- some beginning of at most this length is too deep, or none is
 deep_within : (text : List ℕ) (k : ℕ) → IsTooDeep text ⊎ ((n : ℕ) → n ≤ k → IsFlatAt text n)
 deep_within text zero = inr (flat_none text)
 deep_within text (suc k) = go_on (deep_within text k)
   where
-    by_test : (b : Bool) → nat_lt (occurrences 41 (take (k + 1) text) + most_open) (occurrences 40 (take (k + 1) text)) ≡ b
+    by_test : (b : Bool) → nat_lt most_open (open_behind (take (k + 1) text)) ≡ b
         → ((n : ℕ) → n ≤ k → IsFlatAt text n) → IsTooDeep text ⊎ ((n : ℕ) → n ≤ suc k → IsFlatAt text n)
     by_test true e before = inl (k + 1, grind (arith, nat_tests))
     by_test false e before = inr (λ n h. flat_step text k before (grind (arith, nat_tests)) n (omega arith))
 
     go_on : IsTooDeep text ⊎ ((n : ℕ) → n ≤ k → IsFlatAt text n) → IsTooDeep text ⊎ ((n : ℕ) → n ≤ suc k → IsFlatAt text n)
     go_on (inl deep) = inl deep
-    go_on (inr before) = by_test (nat_lt (occurrences 41 (take (k + 1) text) + most_open) (occurrences 40 (take (k + 1) text))) refl before
+    go_on (inr before) = by_test (nat_lt most_open (open_behind (take (k + 1) text))) refl before
 
 -- all beginnings are, where those up to the whole text are
 flat_everywhere : (text : List ℕ) → ((n : ℕ) → n ≤ length text → IsFlatAt text n) → (n : ℕ) → IsFlatAt text n
@@ -47,7 +47,7 @@ flat_everywhere text flat n = by_test (nat_le n (length text)) refl
     by_test false e =
         let long : length text ≤ n = grind (arith, nat_tests) in
         let same : take (length text) text ≡ take n text = take_all (length text) text (omega arith) ∙ sym (take_all n text long) in
-        subst (λ z. occurrences 40 z ≤ occurrences 41 z + most_open) same (flat (length text) (omega arith))
+        subst (λ z. open_behind z ≤ most_open) same (flat (length text) (omega arith))
 
 deep_or_flat : (text : List ℕ) → IsTooDeep text ⊎ (¬ (IsTooDeep text))
 deep_or_flat text = by (deep_within text (length text))

@@ -7,7 +7,8 @@ use Rattle.f77_tree.specs.Statement.{Statement}
 use Rattle.f77_syntax.specs.declared.classification.Class.{Class}
 use Rattle.f77_syntax.specs.declared.classification.Class.TheVariants.{If, Loop, Assignment, Keyword}
 
--- how many parentheses are open behind this character
+-- how many parentheses are open behind this character:
+-- a closing one where none is open changes nothing
 abbrev pub deeper : ℕ → ℕ → ℕ
 deeper depth c = if c == 40 then suc depth else (if c == 41 then depth - 1 else depth)
 

@@ -1,6 +1,7 @@
 -- The limits of a statement's text.
-use Rattle.std.specs.Prelude.{ℕ, ◌+◌, ◌<◌, ◌==◌, List, take, filter, length}
+use Rattle.std.specs.Prelude.{ℕ, ◌<◌, List, take, fold, length}
 use Rattle.std.specs.Str.{chars}
+use Rattle.f77_syntax.specs.Classification.{deeper}
 
 -- how many characters the text has: one of several bytes counts once
 abbrev pub character_count : List ℕ → ℕ
@@ -13,9 +14,10 @@ most_characters = 1320
 abbrev pub most_open : ℕ
 most_open = 40
 
-unfoldable pub occurrences : ℕ → List ℕ → ℕ
-occurrences c text = length (filter (λ d. d == c) text)
+-- how many parentheses are open behind the text
+abbrev pub open_behind : List ℕ → ℕ
+open_behind text = fold deeper 0 text
 
--- some beginning of the text opens over 40 parentheses more than it closes
+-- over 40 parentheses are open behind some beginning of the text
 abbrev pub IsTooDeep : List ℕ → Type 0
-IsTooDeep text = (n : ℕ) × (occurrences 41 (take n text) + most_open < occurrences 40 (take n text))
+IsTooDeep text = (n : ℕ) × (most_open < open_behind (take n text))

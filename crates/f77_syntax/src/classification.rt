@@ -17,8 +17,8 @@ pub(crate) enum Class {
     Keyword,
 }
 
-/// How many parentheses are open behind this character.
-fn deeper(depth: usize, c: u8) -> usize
+/// How many parentheses are open behind this character: a closing one where none is open changes nothing.
+pub(crate) fn deeper(depth: usize, c: u8) -> usize
     requires { depth < 9223372036854775808 }
     ensures { result ≡ classification.deeper depth c }
 {
