@@ -9,7 +9,7 @@ use Rattle.f77_actions.specs.declared.expression.Number.{Number}
 use Rattle.f77_actions.specs.declared.expression.Number as number
 use Rattle.f77_code.specs.declared.constants.Constants.{Constants}
 use Rattle.f77_code.specs.declared.term.Pair.{Pair}
-use Rattle.f77_code.specs.declared.term.Term.{Term, Element}
+use Rattle.f77_code.specs.declared.term.Term.{Term}
 use Rattle.f77_code.specs.declared.term.Term as term
 use Rattle.f77_code.specs.declared.term.Term.TheViews as terms
 use Rattle.f77_code.specs.code.Compile.{IsNumberTerm, ArePair}

@@ -3,7 +3,7 @@ use Rattle.std.proofs.Common.{arith, ◌≡◌, ◌≤◌, ◌+◌, ◌||◌, �
 use Rattle.std.proofs.Math.Bool.{or-true}
 use Rattle.std.specs.List.{All, sum, sum_by}
 use Rattle.std.specs.Str.{bytes_eq}
-use Rattle.std.proofs.lemmas.List.Elements.{All-nil, All-cons, All-head, All-tail, All-filter}
+use Rattle.std.proofs.lemmas.List.Elements.{All-nil, All-cons, All-head, All-tail}
 use Rattle.std.proofs.lemmas.List.Sums.{sum_by-cons, sum-map}
 use Rattle.std.proofs.lemmas.Map.Views.{any-filter_same}
 use Rattle.f77_legal.specs.Names.{Symbol, names_once}
@@ -36,14 +36,7 @@ module _ (P : Symbol → Type 0) where
 pub among_itself : (names : List Symbol) → All (λ name. is_name_among names name ≡ true) names
 among_itself names = all_by_among (λ name. is_name_among names name ≡ true) names (λ name h. h)
 
-pub among_once : (names : List Symbol) (name : Symbol) → is_name_among (names_once names) name ≡ is_name_among names name
-among_once names name = any_once name names
-
 -- among a filter of a list
-pub among_filter : (test : Symbol → Bool) (names : List Symbol) (name : Symbol) → is_name_among (filter test names) name ≡ true → is_name_among names name ≡ true
-among_filter test names name =
-    among_holds (λ name. is_name_among names name ≡ true) (filter test names) (All-filter test (λ name. is_name_among names name ≡ true) names (among_itself names)) name
-
 pub among_passing : (test : Symbol → Bool) (names : List Symbol) (name : Symbol) → test name ≡ true → is_name_among (filter test names) name ≡ is_name_among names name
 among_passing test names name pass = any-filter_same (bytes_eq name) test true (λ other same. ap test (sym (same_symbol name other same)) ∙ pass) names
 

@@ -138,15 +138,6 @@ dummies-frame (line ∷ lines) = dummies_of-framed line.stmt
 
 -- programs of one frame say the same of each name
 module _ (p q : List LineFields) (same : HaveOneFrame p q) where
-  pub dummies_given_same : (name : Symbol) → dummies_given (mentions p) name ≡ dummies_given (mentions q) name
-  dummies_given_same name = by_frame (λ r. dummies_given (mentions r) name) (λ r. dummies_given-frame r name) p q same
-
-  pub kinds_given_same : (name : Symbol) → kinds_given (mentions p) name ≡ kinds_given (mentions q) name
-  kinds_given_same name = by_frame (λ r. kinds_given (mentions r) name) (λ r. kinds_given-frame r name) p q same
-
-  pub bounds_given_same : (name : Symbol) → bounds_given (mentions p) name ≡ bounds_given (mentions q) name
-  bounds_given_same name = by_frame (λ r. bounds_given (mentions r) name) (λ r. bounds_given-frame r name) p q same
-
   pub kind_of_same : (name : Symbol) → kind_of p name ≡ kind_of q name
   kind_of_same name = by_frame (λ r. kind_of r name) (λ r. kind_of-frame r name) p q same
 
@@ -155,9 +146,6 @@ module _ (p q : List LineFields) (same : HaveOneFrame p q) where
 
   pub is_real_same : (name : Symbol) → is_real p name ≡ is_real q name
   is_real_same name = by_frame (λ r. is_real r name) (λ r. is_real-frame r name) p q same
-
-  pub unit_name_same : unit_name p ≡ unit_name q
-  unit_name_same = by_frame unit_name unit_name-frame p q same
 
   pub is_twice_same : (name : Symbol) → is_twice p name ≡ is_twice q name
   is_twice_same name = by_frame (λ r. is_twice r name) (λ r. is_twice-frame r name) p q same
@@ -170,9 +158,6 @@ module _ (p q : List LineFields) (same : HaveOneFrame p q) where
 
   pub elements_same : (name : Symbol) → element_count p name ≡ element_count q name
   elements_same name = by_frame (λ r. element_count r name) (λ r. elements-frame r name) p q same
-
-  pub names_preset_same : names_preset p ≡ names_preset q
-  names_preset_same = by_frame names_preset names_preset-frame p q same
 
   pub is_preset_twice_same : (i : ℕ) (name : Symbol) → is_preset_twice p i name ≡ is_preset_twice q i name
   is_preset_twice_same i name = by_frame (λ r. is_preset_twice r i name) (λ r. is_preset_twice-frame r i name) p q same

@@ -2,7 +2,6 @@
 use Rattle.std.proofs.Common.{◌≡◌, List, [], ◌∷◌, Bool, true, false, refl, sym, map, filter}
 use Rattle.std.proofs.Common.{true≢false}
 use Rattle.f77_tree.specs.Statement.{form_of, Statement}
-use Rattle.f77_program.specs.Group.{group_of}
 use Rattle.f77_tree.specs.Node.{names_of}
 use Rattle.f77_legal.specs.Blocks.{is_block_if, is_end_if, is_else, is_alternative}
 use Rattle.f77_legal.specs.Frames.{framed}
@@ -12,10 +11,6 @@ use Rattle.f77_legal.specs.Labels.{terminal_label, is_target}
 use Rattle.f77_legal.specs.Loops.{do_variable_of}
 use Rattle.f77_legal.specs.Names.{Symbol, Mention, Dummy, Typed, Dimensioned, Plain, mentions_of, unit_name_of}
 use Rattle.f77_legal.specs.Presets.{groups_of}
-
-pub group_of-framed : (s : Statement) → group_of (framed s) ≡ group_of s
-group_of-framed (Statement.BlockIf tree) = refl
-group_of-framed _ = refl
 
 pub framed_out : (s : Statement) → is_framed_out (form_of s) ≡ true → framed s ≡ Statement.Continue
 framed_out (Statement.Assign name items tree) out = refl

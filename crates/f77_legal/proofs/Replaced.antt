@@ -1,5 +1,5 @@
 -- A program with one statement changed: what stays, and when its frame does.
-use Rattle.std.proofs.Common.{◌≡◌, ◌≢◌, ℕ, zero, suc, List, [], ◌∷◌, length, Option, Some, refl, sym, ap, ◌∙◌, map}
+use Rattle.std.proofs.Common.{◌≡◌, ◌≢◌, ℕ, zero, suc, List, [], ◌∷◌, length, Option, Some, refl, sym, ap, ◌∙◌}
 use Rattle.std.specs.List.{slice_get}
 use Rattle.std.proofs.lemmas.Option.{same_Some}
 use Rattle.f77_program.specs.Program.{LineFields}
@@ -11,17 +11,6 @@ pub length-replaced : (p : List LineFields) (i : ℕ) (s : Statement) → length
 length-replaced [] i s = refl
 length-replaced (line ∷ lines) zero s = refl
 length-replaced (line ∷ lines) (suc i) s = ap suc (length-replaced lines i s)
-
--- the labels of all lines, and their line numbers, stay
-pub labels-replaced : (p : List LineFields) (i : ℕ) (s : Statement) → map (λ line. line.label) (replaced p i s) ≡ map (λ line. line.label) p
-labels-replaced [] i s = refl
-labels-replaced (line ∷ lines) zero s = refl
-labels-replaced (line ∷ lines) (suc i) s = ap (λ rest. line.label ∷ rest) (labels-replaced lines i s)
-
-pub lines-replaced : (p : List LineFields) (i : ℕ) (s : Statement) → map (λ line. line.line) (replaced p i s) ≡ map (λ line. line.line) p
-lines-replaced [] i s = refl
-lines-replaced (line ∷ lines) zero s = refl
-lines-replaced (line ∷ lines) (suc i) s = ap (λ rest. line.line ∷ rest) (lines-replaced lines i s)
 
 pub other_line : (p : List LineFields) (i j : ℕ) (s : Statement) → i ≢ j → slice_get (replaced p i s) j ≡ slice_get p j
 other_line [] i j s apart = refl

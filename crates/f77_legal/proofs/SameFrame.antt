@@ -18,7 +18,7 @@ use Rattle.f77_legal.specs.Frames.{framed, framed_line, frame, HaveOneFrame}
 use Rattle.f77_legal.specs.Kinds.{kinds_agree}
 use Rattle.f77_legal.specs.Labels.{labels, bears, is_double, label_place, nth_statement, statement_with, terminal_label, is_target}
 use Rattle.f77_legal.specs.Loops.{terminal, range_holds, left_by, loops_ending, branches, enclosing, same_numbers, ends_outside, breaks_range}
-use Rattle.f77_legal.specs.Loops.{AreNested, breaks_nesting, goes_in, set_by, do_variable_of, holds_with}
+use Rattle.f77_legal.specs.Loops.{breaks_nesting, goes_in, set_by, do_variable_of, holds_with}
 use Rattle.f77_legal.specs.Names.{Symbol}
 use Rattle.f77_legal.proofs.FrameNames.{by_frame, kind_of_same, bounds_of_same}
 use Rattle.f77_legal.proofs.Frames.{is_block_if-framed, is_end_if-framed, is_else-framed, is_alternative-framed, is_target-framed, terminal_label-framed, variable_of-framed}
@@ -179,9 +179,6 @@ module _ (p q : List LineFields) (same : HaveOneFrame p q) where
 
   pub breaks_range_same : (d : ℕ) → breaks_range p d ≡ breaks_range q d
   breaks_range_same d = λ k. option_map_or (λ t. ends_outside_same d t k) (terminal_same d k) false
-
-  pub are_nested_same : AreNested p → AreNested q
-  are_nested_same nested d = sym (breaks_range_same d) ∙ nested d
 
   pub breaks_nesting_same : (i : ℕ) → breaks_nesting p i ≡ breaks_nesting q i
   breaks_nesting_same i = λ k. breaks_block_same i k || breaks_range_same i k

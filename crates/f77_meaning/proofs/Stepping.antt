@@ -20,7 +20,7 @@ use Rattle.f77_actions.specs.Number.{in_range, trip_count}
 use Rattle.f77_meaning.specs.Value.{Store, store_with, number, truth, value, place}
 use Rattle.f77_code.specs.Choice.{by_sign, item_chosen}
 use Rattle.f77_meaning.specs.Step.{Place, Execute, Increment, Turn, Turns, Config, config, Next, Goes, Ends, with_turn, left_behind}
-use Rattle.f77_meaning.specs.Step.{GoesOn, Jumps, Passes, Begins, With, Either, Skips, step_number, Executes, Increments, StepAt, Step}
+use Rattle.f77_meaning.specs.Step.{GoesOn, Jumps, Passes, Begins, With, Either, Skips, step_number, Executes, Increments, StepAt}
 use Rattle.f77_actions.specs.declared.value.Value.TheVariants as held
 
 -- the innermost active DO that ends at t, of those before n

@@ -12,7 +12,6 @@ use Rattle.std.proofs.lemmas.List.{get_or-drop}
 use lib.Utf8.{encode}
 use Rattle.std.proofs.lemmas.Int.Digits.{digits_value_push}
 use Rattle.std.proofs.lemmas.Bool.Decides.{nat_tests}
-use Rattle.std.proofs.Math.Nat.{pow-le-pow_right}
 use Rattle.f77_source.specs.Line.{is_blank, is_label_character, is_foreign}
 
 abbrev pub dense : List ℕ → List ℕ
@@ -35,9 +34,6 @@ label_digit xs i all h e = by_test (is_label_character (get_or xs i 0)) refl
 
 pub number_more : (ds : List ℕ) (c : ℕ) → 48 ≤ c → c ≤ 57 → digits_value 10 (ds ++ c ∷ []) ≡ 10 * digits_value 10 ds + (c - 48)
 number_more ds c low high = let e = digits_value_push 10 ds c in let d : digit_value c ≡ c - 48 = grind (arith, nat_tests) in omega (arith, e, d)
-
-pub below_power : (i n : ℕ) → i ≤ 5 → n < 10 ^ i → n < 100000
-below_power i n h l = let p : 10 ^ i ≤ 10 ^ 5 = pow-le-pow_right (lit< tt) h in omega (arith, p)
 
 -- a column that is not foreign is ASCII
 pub ascii_at : (columns : List ℕ) (n i : ℕ) → list_any is_foreign columns ≡ false → i < length (drop n columns) → get_or (drop n columns) i 0 < 128

@@ -262,9 +262,6 @@ Passing {X = X} of before rest whole start k a b =
     (told : Bool) (j : ℕ) (c : NodeOf) (final : List X) → Sought (list_sites of) told k j b c rest final → Sought (list_sites of) told start j a c whole (before ++ final)
 
 module _ {X : Type 0} (of : X → List (Site X)) where
-  pub passing_starts : (whole : List X) (k : ℕ) (a : NodeOf) → Passing of [] whole whole k k a a
-  passing_starts whole k a told j c final s = s
-
   passing_on : (before rest whole grown left : List X) (x x' : X) (done : Bool) (start k i : ℕ) (a b c : NodeOf) → Passing of before rest whole start k a b
       → rest ≡ x ∷ left → grown ≡ before ++ x' ∷ [] → done ≡ false → Sought of done k i b c x x' → Passing of grown left whole start i a c
   passing_on before rest whole grown left x x' done start k i a b c p split pushed past s told j d final t =

@@ -86,12 +86,6 @@ keeps_on v between n p q = record { counts = q.counts ∙ p.counts; fed = λ op 
 pub keeps_self : (v : View) → KeepsFed v v
 keeps_self v = record { counts = refl; fed = λ op fed. fed }
 
-pub over_left : (v w n : View) → JoinsPass v w n → AreOver v → AreOver n
-over_left v w n j over op = subst (λ (u : View). IsOver u op) (sym j.united) ((j.well op).left_over (over op))
-
-pub over_right : (v w n : View) → JoinsPass v w n → AreOver w → AreOver n
-over_right v w n j over op = subst (λ (u : View). IsOver u op) (sym j.united) ((j.well op).right_over (over op))
-
 once_here : (n : ℕ) → once_up_to (suc n) (suc n) ≡ 1
 once_here n = grind (arith, nat_tests)
 
@@ -156,9 +150,6 @@ split_on old between new p q = record {
   taken = q.taken ∙ p.taken;
   closings = q.closings ∙ p.closings;
 }
-
-pub split_self : (view : View) → OnlySplit view view
-split_self view = record { counts = refl; offered = refl; taken = refl; closings = refl }
 
 -- a split takes a share and gives a new pass
 pub split_once : (old new : View) → new ≡ view_after_split old → OnlySplit old new

@@ -36,26 +36,6 @@ front_grows plan op number list new is equivalent front = record {
       (subst (λ t. Before t (ticket op (number + 1))) (sym is) (inr (refl, omega arith)));
 }
 
--- the mutants of the operators before one are before its first
-pub front_of : (plan : PlanFields) (op : Op) (list : List Equivalent) → AreOf plan (index op) list → IsFront plan op 1 list
-front_of plan op list are = record {
-  are = are.are;
-  before = All-weaker (λ (e : Equivalent). index e.ticket.op < index op) (λ (e : Equivalent). Before e.ticket (ticket op 1))
-      (λ e lower. inl lower) list are.before;
-}
-
-below_next : (op : Op) (number : ℕ) (t : Ticket) → Before t (ticket op number) → index t.op < index op + 1
-below_next op number t (inl lower) = omega (arith, lower)
-below_next op number t (inr (same, less)) = omega (arith, same)
-
-pub of_front : (plan : PlanFields) (op : Op) (number : ℕ) (list : List Equivalent) → IsFront plan op number list
-    → AreOf plan (index op + 1) list
-of_front plan op number list front = record {
-  are = front.are;
-  before = All-weaker (λ (e : Equivalent). Before e.ticket (ticket op number)) (λ (e : Equivalent). index e.ticket.op < index op + 1)
-      (λ e. below_next op number e.ticket) list front.before;
-}
-
 pub none_yet : (plan : PlanFields) → AreOf plan 0 []
 none_yet plan = record {
   are = record { ordered = λ i j d p q. absurd (omega (arith, q)); each = λ k d within. absurd (omega (arith, within)) };

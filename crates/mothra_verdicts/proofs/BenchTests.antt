@@ -46,10 +46,7 @@ one_more P xs i x within is hold holds = All-more P xs i x within hold (subst P 
 pub none_left : {X : Type 0} (P : X → Type 0) (xs : List X) (i : ℕ) → length xs ≤ i → All P (take i xs) → All P xs
 none_left P xs i end hold = subst (All P) (take_all i xs end) hold
 
--- the courses of a program on no tests, and on one test more
-pub no_courses : (checked : CheckedFields) (steps : ℕ) → AreCourses checked steps [] [] []
-no_courses checked steps = record { outcomes = tt; end = All-nil IsProgramEnd; visits = tt }
-
+-- the courses of a program on one test more
 pub course_more : (checked : CheckedFields) (steps : ℕ) (tests : List (List Arg)) (outcomes : List Outcome) (visits : List Visits) (i : ℕ) (test : List Arg)
     (outcome : Outcome) (noted : Visits) → i < length tests → test ≡ get_or tests i test → AreCourses checked steps (take i tests) outcomes visits
     → IsOutcomeOf (map line_of checked.program) test steps outcome → IsProgramEnd outcome → IsFollowed checked test steps noted
