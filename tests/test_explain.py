@@ -17,6 +17,7 @@ from mutants.program.calling import Fault
 
 FRONT, SUM, LAST = "      SUBROUTINE ADD(I,J,K)", "      K=I+J", "      END"
 CODE = r"[A-Z]\d+"
+LANGUAGE = "docs/LANGUAGE.md"
 JOB = {"source": f"{FRONT}\n      K=.TRUE.\n{LAST}\n", "suite": [[1, 2, 3]]}
 DETAILS = ["", "line", "label", "name", "key", "test", "value", "entry", "operator", "mutant"]
 
@@ -26,18 +27,17 @@ def page(name: str) -> str:
 
 
 def codes_of_pages() -> set[str]:
-    """All codes that the pages and the sources have."""
-    found = set(re.findall(rf"^\| ({CODE})\b", page("docs/PROFILE.md"), re.M))
-    for cell in re.findall(rf"^\| ({CODE}(?:, {CODE})*) \|", page("docs/REFERENCE.md"), re.M):
-        found |= set(cell.split(", "))
-    found |= set(re.findall(rf"\b({CODE})(?: is|,) (?:want of|told|memory|a read|a write)", page("docs/PROFILE.md")))
+    """All codes that the tables of faults and the sources have."""
+    found = set[str]()
+    for cell in re.findall(rf"^\| ({CODE}\b[^|]*) \|", page(LANGUAGE), re.M):
+        found |= set(re.findall(rf"\b{CODE}\b", cell))
     found |= set(re.findall(rf'"({CODE})"', page("crates/mothra_app/src/line.rt")))
     found |= set(re.findall(rf'error\("({CODE}): ', page("crates/mothra_exchange/src/fault.rt")))
     return found
 
 
 def example_of(cell: str) -> str:
-    """The program of an example of the reference: what stands as the second line of ADD, or as several lines there."""
+    """The program of an example of the page: what stands as the second line of ADD, or as several lines there."""
     lines = re.findall(r"`([^`]*)`", cell)
     return "\n".join([FRONT, *(line if line[:1] in " \t" else statement(line) for line in lines), LAST]) + "\n"
 
@@ -48,10 +48,8 @@ def statement(text: str) -> str:
 
 
 def examples() -> Iterator[tuple[str, str, str]]:
-    """The rows of the table of faults in the reference whose examples are lines of a program."""
-    for row in re.findall(
-        r"^\| ([FSC]\d+) \| [^|]+ \| ([^|]+) \| `(FAULT [^`]*)` \|$", page("docs/REFERENCE.md"), re.M
-    ):
+    """The rows of the tables of faults whose examples are lines of a program."""
+    for row in re.findall(r"^\| ([FSC]\d+) \w+ \| [^|]+ \| ([^|]+) \| `(FAULT [^`]*)` \|$", page(LANGUAGE), re.M):
         if re.fullmatch(r"(`[^`]*`(, )?)+", row[1].strip()):
             yield row
 
@@ -73,13 +71,13 @@ class Codes(unittest.TestCase):
                     self.assertTrue(meaning.sections or "limit of this program" in meaning.rule)
 
     def test_the_details_are_those_of_the_lines(self) -> None:
-        for code, detail in re.findall(rf"`FAULT ({CODE})((?: \S+)*)`", page("docs/REFERENCE.md")):
+        for code, detail in re.findall(rf"`FAULT ({CODE})((?: \S+)*)`", page(LANGUAGE)):
             with self.subTest(code):
                 self.assertEqual(bool(detail), bool(MEANINGS[code].detail))
 
 
 class Marks(unittest.TestCase):
-    def test_the_examples_of_the_reference_have_marks(self) -> None:
+    def test_the_examples_of_the_page_have_marks(self) -> None:
         rows = list(examples())
         self.assertGreater(len(rows), 15)
         for code, cell, line in rows:

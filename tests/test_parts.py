@@ -13,6 +13,8 @@ from mutants.texts.cards import cards_of, last_lines
 from mutants.texts.differences import pieces
 from mutants.texts.reports import read_report
 
+LANGUAGE = (running.ROOT / "docs" / "LANGUAGE.md").read_text()
+
 
 class Differences(unittest.TestCase):
     def test_marks_the_changed_words(self) -> None:
@@ -87,11 +89,18 @@ class Cards(unittest.TestCase):
 
 
 class Names(unittest.TestCase):
-    def test_the_operators_are_those_of_the_profile(self) -> None:
-        table = (running.ROOT / "docs" / "PROFILE.md").read_text()
-        rows = re.findall(r"^\| ([A-Z]{3}) \| ([^|]+) \| ([^|]+) \| ([^|]+) \| ([^|]+) \|$", table, re.M)
+    def test_the_operators_are_those_of_the_page(self) -> None:
+        rows = re.findall(r"^\| ([A-Z]{3}) \| ([^|]+) \| ([^|]+) \| ([^|]+) \| ([^|]+) \|$", LANGUAGE, re.M)
         self.assertEqual(NAMES, {row[0]: row[1] for row in rows})
         self.assertEqual(len(NAMES), 22)
+
+    def test_the_definitions_of_the_page_are_there(self) -> None:
+        rows = re.findall(r"^\|[^|]+\|[^|]+\| `(\w+)` \| ([^|]+) \|$", LANGUAGE, re.M)
+        self.assertGreater(len(rows), 30)
+        for crate, cell in rows:
+            specs = "".join(path.read_text() for path in (running.ROOT / "crates" / crate / "specs").rglob("*.antt"))
+            for name in re.findall(r"`(\w+)`", cell):
+                self.assertRegex(specs, rf"\bpub (?:data |record )?{name} ", f"{crate}: {name}")
 
 
 if __name__ == "__main__":

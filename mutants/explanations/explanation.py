@@ -57,5 +57,5 @@ def explained(line: str, text: bytes, program: str | None, words: list[str], sho
 def explained_words(line: str, words: list[str]) -> str:
     text = words_say(words) if words else None
     text = text or f"The value of --ops is no list of operators' codes, joined by commas: {', '.join(NAMES)}."
-    rule = "A rule of the words, which are read before the job: docs/PROFILE.md has them."
+    rule = "A rule of the words, which are read before the job: docs/LANGUAGE.md has them."
     return f"{line}\n{wrapped(text)}\n\n{wrapped(rule)}\n"

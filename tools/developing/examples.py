@@ -37,7 +37,7 @@ from mutants.statuses import FAULT, SUCCESS
 from mutants.words import whole_path
 
 ROWS = [ROOT / "crates" / "rows" / name for name in ("stdin", "stdout")]
-PAGES = ["README.md", "docs/GUIDE.md", "docs/HANDOUT.md", "docs/REFERENCE.md", "docs/RESULTS.md"]
+PAGES = ["README.md", "docs/GUIDE.md", "docs/HANDOUT.md", "docs/LANGUAGE.md", "docs/RESULTS.md"]
 IN_ROWS = "triangle.f triangle.suite.json triangle-more.suite.json euclid.f euclid.suite.json euclid.report".split()
 # The desk calculator takes minutes of a processor, and others may use it too.
 SECONDS = 1800
