@@ -5,7 +5,7 @@ from unittest import mock
 
 import running
 from developing import tables
-from developing.tables import cases_of, crates_of, first_sentence, tools_of, with_table, wrong_bodies_of
+from developing.tables import cases_of, crates_of, first_sentence, packages_of, tools_of, with_table, wrong_bodies_of
 from running import Folder, refuses
 
 PAGE = "# A\n\n<!-- made by tools/tables: crates -->\n{}<!-- end of crates -->\n\nB\n"
@@ -53,14 +53,22 @@ class Made(Folder):
         self.put("tools/developing/the_other.py", '"""Undo it\nagain."""\n')
         rows = [("`tools/one`", "Do it", "yes"), ("`tools/the-other`", "Undo it again", "")]
         self.assertEqual(list(tools_of(self.folder))[1:], rows)
-        self.put("crates/low/must-fail/one_told_as_two.edit", "")
-        self.assertEqual(list(wrong_bodies_of(self.folder))[1:], [("`low`", "one told as two")])
+        for name in ("one_for_two", "a_sum_left_out"):
+            self.put(f"crates/low/must-fail/{name}.edit", "")
+        self.assertEqual(list(wrong_bodies_of(self.folder))[1:], [("`low`", "a sum left out; one for two")])
 
     def test_a_function_with_a_case_for_each_expression(self) -> None:
         self.put("crates/low/src/tree.rt", "pub enum Expr {\n    Not(u8),\n    /// Two.\n    Both { x: u8 },\n}\n")
         one = "impl A {\n    pub fn one(&self) {\n        Expr::Not | Expr::Both\n    }\n\n"
         self.put("crates/mid/src/a.rt", one + "    fn other() {\n        Expr::Not | Expr::Bother\n    }\n}\n")
-        self.assertEqual(list(cases_of(self.folder))[1:], [("`Expr`", "`one`", "`mid/src/a.rt`")])
+        self.put("crates/top/src/b.rt", "fn two() {\n    Expr::Not | Expr::Both\n}\n")
+        self.assertEqual(list(cases_of(self.folder))[1:], [("`Expr`", "`mid` `a::one`; `top` `b::two`")])
+
+    def test_packages_by_their_docstrings(self) -> None:
+        self.put("mutants/__init__.py", '"""All."""\n')
+        self.put("mutants/some/__init__.py", '"""Some of it. And more."""\n')
+        self.put("mutants/some/part.py", '"""A part."""\n')
+        self.assertEqual(list(packages_of(self.folder))[1:], [("`some/`", "Some of it")])
 
     def test_a_first_sentence_ends_at_its_full_stop(self) -> None:
         for text, said in (("A `b.c` is. Not d.", "A `b.c` is"), ("A\n b\n\nc.", "A b"), ("A (1.5). B", "A (1.5)")):

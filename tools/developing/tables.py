@@ -3,16 +3,16 @@
     tools/tables [--check]
 
 A table stands on its page between two comments, `made by tools/tables: NAME` and `end of NAME`, and is written anew
-there: the crates with what each stands on, the tools, the modules of the package, the wrong bodies that the gate tries,
-the functions that have a case for each expression or each statement.
-What a row says is the first sentence of the file that it is of. With --check nothing is written: each table that is
+there: the crates with what each stands on, the tools, the packages in `mutants/`, the wrong bodies that the gate tries,
+and the functions that have a case for each expression, each statement, and so on.
+A row says the first sentence of its file. With --check nothing is written: each table that is
 another one is told, and the exit status is then 1.
 """
 
 import argparse
 import ast
 import re
-from collections.abc import Callable, Iterator, Sequence
+from collections.abc import Callable, Iterator, Mapping, Sequence
 from pathlib import Path
 
 from developing.antt.crates import Crates, read_crates, with_those_below
@@ -22,6 +22,8 @@ from mutants.statuses import FAULT, SUCCESS
 
 # A library of the kit that says the texts of faults: nothing rests on it.
 OF_TEXTS = "thiserror"
+# The types of which the table says which functions have a case for each of their variants.
+TYPES = ("Expr", "Stmt", "Action", "CheckFault", "Why")
 Rows = Iterator[Sequence[str]]
 
 
@@ -65,18 +67,18 @@ def tools_of(root: Path) -> Rows:
         yield f"`tools/{path.name}`", docstring(module), "yes" if is_called else ""
 
 
-def modules_of(root: Path) -> Rows:
+def packages_of(root: Path) -> Rows:
     yield "Of `mutants/`", "What it is"
-    for path in sorted((root / "mutants").rglob("*.py"), key=lambda path: (path.parent, path.stem != "__init__", path)):
-        name = path.relative_to(root / "mutants").with_suffix("").as_posix().replace("__init__", "")
-        if name:
-            yield f"`{name}`", docstring(path)
+    for path in sorted((root / "mutants").glob("*/__init__.py")):
+        yield f"`{path.parent.name}/`", docstring(path)
 
 
 def wrong_bodies_of(root: Path) -> Rows:
-    yield "Crate", "Wrong body"
-    for path in sorted(root.glob("crates/*/must-fail/*.edit")):
-        yield f"`{path.parent.parent.name}`", path.stem.replace("_", " ")
+    yield "Crate", "Wrong bodies"
+    for folder in sorted(root.glob("crates/*/must-fail")):
+        names = sorted(path.stem.replace("_", " ") for path in folder.glob("*.edit"))
+        if names:
+            yield f"`{folder.parent.name}`", "; ".join(names)
 
 
 def variants_of(text: str, name: str) -> list[str]:
@@ -91,25 +93,34 @@ def functions_of(text: str) -> Iterator[tuple[str, str]]:
         yield re.findall(r"fn (\w+)", part)[0], part
 
 
+def functions_with(modules: Mapping[str, str], name: str, variants: Sequence[str]) -> Iterator[str]:
+    """The functions of a crate that name each of these variants of a type, each behind its module."""
+    for module, text in modules.items():
+        for function, body in functions_of(text):
+            if all(re.search(rf"\b{name}::{variant}\b", body) for variant in variants):
+                yield f"`{module}::{function}`"
+
+
 def cases_of(root: Path) -> Rows:
-    """The functions of the product that name each variant of `Expr` or of `Stmt`."""
-    product = [crate for crate in read_crates(root) if not crate.endswith("_tests")]
-    files = [path for crate in product for path in sorted((root / "crates" / crate / "src").glob("**/*.rt"))]
-    texts = {path: path.read_text(encoding="utf-8") for path in files}
-    yield "A case for each", "Function", "File"
-    for name in ("Expr", "Stmt"):
-        variants = [each for text in texts.values() for each in variants_of(text, name)]
-        for path, text in texts.items():
-            for function, body in functions_of(text):
-                if variants and all(re.search(rf"\b{name}::{variant}\b", body) for variant in variants):
-                    yield f"`{name}`", f"`{function}`", f"`{path.relative_to(root / 'crates')}`"
+    """The functions of the product that have a case for each variant of a type, by crate."""
+    crates: dict[str, dict[str, str]] = {}
+    for crate in read_crates(root):
+        paths = sorted((root / "crates" / crate / "src").glob("*.rt"))
+        crates[crate] = {path.stem: path.read_text(encoding="utf-8") for path in paths if not crate.endswith("_tests")}
+    texts = [text for modules in crates.values() for text in modules.values()]
+    yield "A case for each", "Functions, by crate and module"
+    for name in TYPES:
+        variants = [variant for text in texts for variant in variants_of(text, name)]
+        found = {crate: list(functions_with(modules, name, variants)) for crate, modules in crates.items()}
+        if variants:
+            yield f"`{name}`", "; ".join(f"`{crate}` {', '.join(names)}" for crate, names in found.items() if names)
 
 
 # Each table: its page, and what makes its rows, with the head in front.
 TABLES: dict[str, tuple[str, Callable[[Path], Rows]]] = {
     "crates": ("docs/ARCHITECTURE.md", crates_of),
     "tools": ("docs/ARCHITECTURE.md", tools_of),
-    "modules": ("docs/ARCHITECTURE.md", modules_of),
+    "packages": ("docs/ARCHITECTURE.md", packages_of),
     "wrong bodies": ("CONTRIBUTING.md", wrong_bodies_of),
     "cases": ("CONTRIBUTING.md", cases_of),
 }
