@@ -1,4 +1,4 @@
-"""The handout has the lesson of the guide, with its questions and without its answers."""
+"""The handout has the tasks of the lesson, without the answers, which the guide has."""
 
 import re
 import unittest
@@ -7,7 +7,9 @@ import running
 
 HANDOUT = (running.ROOT / "docs" / "HANDOUT.md").read_text()
 GUIDE = (running.ROOT / "docs" / "GUIDE.md").read_text()
-LESSON = GUIDE.partition("\n## The daily check")[0]
+LESSON = GUIDE.partition("\n## The lesson\n")[2].partition("\n## ")[0]
+TASK = r"^##+ (Task \d: .*)$"
+ROW = r"\d\.\d+"
 
 
 def rows(page: str) -> list[list[str]]:
@@ -16,38 +18,37 @@ def rows(page: str) -> list[list[str]]:
 
 
 class Handout(unittest.TestCase):
-    def test_it_has_the_parts_of_the_lesson_with_their_minutes(self) -> None:
-        parts = re.findall(r"^## .*\(\d+ to \d+\)$", LESSON, re.M)
-        self.assertEqual(len(parts), 5)
-        self.assertEqual(re.findall(r"^## .*\(\d+ to \d+\)$", HANDOUT, re.M), parts)
+    def test_it_has_the_tasks_of_the_lesson_with_their_minutes(self) -> None:
+        tasks = re.findall(TASK, LESSON, re.M)
+        self.assertEqual(len(tasks), 6)
+        self.assertEqual(re.findall(TASK, HANDOUT, re.M), tasks)
 
-    def test_the_program_the_suite_and_the_words_are_those_of_the_lesson(self) -> None:
-        program = re.findall(r"^```\n14 .*?^```$", LESSON, re.M | re.S)
-        self.assertEqual(re.findall(r"^```\n14 .*?^```$", HANDOUT, re.M | re.S), program)
-        self.assertEqual(len(program), 1)
-        for row in rows(LESSON):
-            if row[0] in ("test", "mutant", "kill", "survivor", "equivalent mutant", "mutation score", *"12345"):
-                self.assertIn(row, rows(HANDOUT))
+    def test_each_row_of_a_task_has_an_answer_in_the_lesson_alone(self) -> None:
+        asked = {cells[0]: cells for cells in rows(HANDOUT) if re.fullmatch(ROW, cells[0])}
+        self.assertEqual(len(asked), 17)
+        answers = {cells[0]: cells[2:] for cells in rows(LESSON) if re.fullmatch(ROW, cells[0])}
+        answers |= {number: [text] for number, text in re.findall(rf"^- \*\*({ROW}): ?(.*)$", LESSON, re.M)}
+        self.assertEqual(answers.keys(), asked.keys())
+        for number, cells in asked.items():
+            self.assertEqual(cells[-2:], ["", ""], number)
+            for answer in answers[number]:
+                self.assertTrue(answer and answer not in HANDOUT, answer)
 
-    def test_the_survivors_are_asked_for_and_no_answer_is_given(self) -> None:
-        answers = [row for row in rows(LESSON) if row[0].isdecimal() and len(row) == 4]
-        self.assertEqual(len(answers), 12)
-        for line, survivors, says, test in answers:
-            self.assertIn([line, survivors, "", ""], rows(HANDOUT))
-            self.assertFalse(says in HANDOUT, says)
-            self.assertFalse(re.match(r"`\d,", test) and test in HANDOUT, test)
-        for answer in ("OVERFLOW", "2147483647", "coupling", "18 of the 21", "mutant survives", "declare mine.f ROR 1"):
+    def test_an_answer_names_the_mutants_of_its_row(self) -> None:
+        answers = {cells[0]: cells[1] for cells in rows(LESSON) if re.fullmatch(ROW, cells[0])}
+        answers |= {f"4.{number}": text for number, text in re.findall(r"4\.(\d): ROR (\d+) is", LESSON)}
+        for number, mutants in answers.items():
+            asked = next(" ".join(cells) for cells in rows(HANDOUT) if cells[0] == number)
+            self.assertEqual(", ".join(re.findall(r"ROR (\d+)", asked)), mutants)
+        self.assertEqual(len(answers), 14)
+
+    def test_no_answer_is_given(self) -> None:
+        for answer in ("OVERFLOW", "2147483647", "coupling", "18 of the 21", "mutant survives", "are equivalent. `"):
             self.assertTrue(answer in LESSON and answer not in HANDOUT, answer)
 
-    def test_the_commands_are_those_of_the_lesson(self) -> None:
-        commands = [line for line in HANDOUT.split("\n") if re.match(r"(\$ )?bin/mutants (check|declare)", line)]
-        self.assertGreater(len(commands), 3)
-        for command in commands:
-            self.assertTrue(command.partition(" N --no-proofs")[0] in LESSON, command)
-
-    def test_what_no_build_needs_is_told(self) -> None:
-        for told in ("Python 3.10", "crates/mothra/out/mothra", "export MOTHRA", "bin/mutants unproved"):
-            self.assertTrue(told in HANDOUT, told)
+    def test_what_no_build_needs_is_said(self) -> None:
+        for said in ("Python 3.10", "crates/mothra/out/mothra", "export MOTHRA", "bin/mutants unproved"):
+            self.assertTrue(said in HANDOUT, said)
 
 
 if __name__ == "__main__":
