@@ -1,6 +1,6 @@
 //! Runs of a program with one statement changed, one change after another.
 
-ghost use Rattle.std.specs.Prelude.{◌≡◌, ◌<◌, ◌-◌, length, map, slice_set, None, IfOk, IfErr, OnOk};
+ghost use Rattle.std.specs.Prelude.{◌≡◌, ◌<◌, ◌-◌, length, map, slice_set, None, IfOk, IfErr, OnErr, OnOk};
 ghost use Rattle.std.specs.Bool.{Decides};
 ghost use Rattle.f77_program.specs.Patching.{Fits, patched};
 ghost use Rattle.f77_program.specs.Program.{line_of};
@@ -155,6 +155,7 @@ impl<'a> ChangedRunner<'a> {
         ensures program { self.new.checked ≡ self.old.checked }
         ensures changed { OnOk result (changed_program self.new
             ≡ patched (map line_of self.old.checked.program) number (statement_of stmt.now)) }
+        ensures unchanged { OnErr result (self.new.stmt ≡ None) }
         ensures memory { IfErr result (λ e. e ≡ fault.Memory) }
     {
         restore(self.checked, &mut self.code, &mut self.space.image);
