@@ -3,6 +3,7 @@
 ghost use Rattle.std.specs.Prelude.{◌≡◌, ◌++◌, IfErr, IfOk, OnOk, [], flat_map, string_bytes};
 ghost use Rattle.f77_tree.specs.Joined.{separated};
 ghost use Rattle.mothra_app.specs.Listing.{asked_total};
+ghost use Rattle.mothra_ops.specs.Made.{IsMadeMutant};
 ghost use Rattle.mothra_ops.specs.Mutants.{mutant_fields, original_number};
 ghost use Rattle.mothra_replacements.specs.declared.fault.OpsFault.TheVariants.{Memory};
 ghost use Rattle.equivalents_app.specs.Telling.{declarable, entry_text, equivalent_line};
@@ -30,7 +31,7 @@ fn push_why(text: &mut String, why: Why) -> Result<(), AllocError>
     }
 }
 
-/// Adds what stands before the place of a mutant: its name and the rule of its proof.
+/// Adds the front of a mutant's line: its name and the rule of its proof.
 fn push_reason(text: &mut String, every: u32, equivalent: Equivalent) -> Result<(), AllocError>
     ensures { OnOk result (string_bytes text.new ≡ string_bytes text.old ++ definition.reason_text every equivalent) }
 {
@@ -41,13 +42,14 @@ fn push_reason(text: &mut String, every: u32, equivalent: Equivalent) -> Result<
     text.push_str(" ")
 }
 
-/// Adds the line of a mutant, which is this one.
+/// Adds the line of a mutant that is proved equivalent; `mutant` is that mutant.
 fn push_mutant(
     text: &mut String,
     plan: &Plan,
     equivalent: Equivalent,
     mutant: &Mutant,
 ) -> Result<(), OpsFault>
+    requires { IsMadeMutant plan.now.checked mutant.now }
     ensures line { OnOk result
         (string_bytes text.new ≡ string_bytes text.old ++ rule_line plan.now equivalent (mutant_fields mutant.now)) }
     ensures memory { IfErr result (λ fault. fault ≡ Memory) }
@@ -58,7 +60,7 @@ fn push_mutant(
     Ok(())
 }
 
-/// Adds the line of a mutant that is proved equivalent.
+/// Finds a mutant that is proved equivalent, and adds its line.
 fn push_equivalent(text: &mut String, plan: &Plan, equivalent: Equivalent) -> Result<(), OpsFault>
     ensures line { OnOk result (string_bytes text.new ≡ string_bytes text.old ++ equivalent_line plan.now equivalent) }
     ensures memory { IfErr result (λ fault. fault ≡ Memory) }
@@ -108,14 +110,14 @@ fn lines_of(alloc: Global, plan: &Plan, list: &[Equivalent]) -> Result<String, O
     Ok(text)
 }
 
-/// The number in the whole list of the item of this number, where each such item is kept.
+/// The number in the whole list of the item of this number in the thinned one.
 fn original_of(every: u32, number: u32) -> u64
     ensures { result ≡ original_number every number }
 {
     u64::from(number.saturating_sub(1)) * u64::from(every) + 1
 }
 
-/// The mutant by its number in the whole list, where a job may declare this number.
+/// The name of a mutant by its number in the whole list, if a job may declare this number.
 fn declared(every: u32, equivalent: Equivalent) -> Option<Ticket>
     ensures { result ≡ definition.if_declarable (definition.in_whole_list every equivalent) }
 {
@@ -129,7 +131,7 @@ fn declared(every: u32, equivalent: Equivalent) -> Option<Ticket>
     })
 }
 
-/// Adds an entry of the JSON list behind this text.
+/// Adds an entry of the JSON list, behind `before`.
 fn push_entry(text: &mut String, before: &str, ticket: Ticket) -> Result<(), AllocError>
     ensures { OnOk result (string_bytes text.new ≡ string_bytes text.old ++ (before.now ++ entry_text ticket)) }
 {

@@ -15,7 +15,7 @@ use Rattle.mothra_equivalents.specs.declared.why.Why.{Why}
 use Rattle.mothra_equivalents.specs.declared.why.Why.TheVariants as why
 
 abbrev IsOf : PlanFields → Mutant → Why → Type 0
-IsOf plan m rule = IsEquivalentBy rule (program_of plan) (patched (program_of plan) m.edit.statement (statement_of m.stmt))
+IsOf plan m rule = IsEquivalentBy rule (program_of plan) (patched (program_of plan) m.edit.statement (statement_of m.stmt.value))
 
 -- the mutant that was found is the ticket's, and it was judged
 pub ruled : (plan : PlanFields) (ticket : Ticket) (m : Mutant) (r : Result (Option Why) OpsFault)

@@ -20,7 +20,7 @@ use mothra_ops::{Mutant, OpsFault, Plan};
 use std::alloc::Global;
 use std::marker::Model;
 
-/// The mutants of a plan, with what is known throughout the runs of its program.
+/// The mutants of a plan, with the invariants of its program.
 #[derive(Drop)]
 pub(crate) struct Prover<'a> {
     plan: &'a Plan,
@@ -59,7 +59,7 @@ impl<'a> Model for Prover<'a> {
 }
 
 impl<'a> Prover<'a> {
-    /// The mutants of the plan; none where nothing was found that holds throughout the runs of its program.
+    /// The mutants of the plan; None if no invariant of the program was found.
     pub(crate) fn of(alloc: Global, plan: &'a Plan) -> Result<Option<Prover<'a>>, OpsFault>
         ensures plan { IfOk result (λ found. IfSome found (λ prover. prover ≡ plan.now)) }
         ensures memory { IfErr result (λ fault. fault ≡ Memory) }
@@ -81,19 +81,19 @@ impl<'a> Prover<'a> {
         }
     }
 
-    /// The rule by which the mutant is equivalent, if one says so.
+    /// The rule by which the mutant is equivalent, if there is one.
     fn judge(&mut self, alloc: Global, mutant: &Mutant) -> Result<Option<Why>, OpsFault>
         requires { IsMadeMutant self.old.checked mutant.now }
         ensures plan { self.new ≡ self.old }
         ensures equivalent { IfOk result (λ found. IfSome found (λ why. IsEquivalentBy why (program_of self.old)
-            (patched (program_of self.old) mutant.now.edit.statement (statement_of mutant.now.stmt)))) }
+            (patched (program_of self.old) mutant.now.edit.statement (statement_of mutant.now.stmt.value)))) }
         ensures memory { IfErr result (λ fault. fault ≡ Memory) }
     {
         self.work.spend(mutant.number());
         rule_of(alloc, &self.invariant, &self.conditions, mutant)
     }
 
-    /// The rule by which the ticket's mutant is equivalent, if one says so. There is none once all work is done.
+    /// The rule by which the ticket's mutant is equivalent, if there is one. Once all work is done, no rule is tried.
     pub(crate) fn why(&mut self, alloc: Global, ticket: Ticket) -> Result<Option<Why>, OpsFault>
         ensures plan { self.new ≡ self.old }
         ensures equivalent { IfOk result (λ found. IfSome found (λ why. IsMutantBy why self.old ticket)) }

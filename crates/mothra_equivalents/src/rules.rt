@@ -20,68 +20,54 @@ use f77_continuations::spare::steps_to_spare;
 use f77_differences::unread::is_unread;
 use f77_equivalence::equivalent::is_equivalent;
 use f77_equivalence::invariant::{Invariant, is_unreached};
-use f77_tree::Shared;
+use f77_tree::{Shared, Stmt};
 use mothra_ops::{Mutant, OpsFault};
 use std::alloc::{AllocError, Global};
 
-/// What the mutant, whose statement is resolved so, leaves otherwise in slots is not read before they are set.
+/// Whether nothing reads what the changed statement leaves otherwise in slots. `resolved` is the statement's resolved
+/// form.
 fn is_unread_throughout(
     alloc: Global,
     invariant: &Invariant<'_>,
-    mutant: &Mutant,
+    number: usize,
+    stmt: &Stmt,
     resolved: &Shared<Resolved>,
 ) -> Result<bool, AllocError>
-    requires mutant { IsMutant (map line_of invariant.now.checked.program) mutant.now.edit.statement
-        (statement_of mutant.now.stmt) }
-    requires in_place { IsInPlace invariant.now.checked mutant.now.edit.statement (statement_of mutant.now.stmt)
-        resolved.now }
+    requires mutant { IsMutant (map line_of invariant.now.checked.program) number (statement_of stmt.now) }
+    requires in_place { IsInPlace invariant.now.checked number (statement_of stmt.now) resolved.now }
     ensures { IfOk result (λ yes. yes ≡ true → IsEquivalent (map line_of invariant.now.checked.program)
-        (patched (map line_of invariant.now.checked.program) mutant.now.edit.statement
-        (statement_of mutant.now.stmt))) }
+        (patched (map line_of invariant.now.checked.program) number (statement_of stmt.now))) }
 {
     let checked = invariant.checked();
     let entries = invariant.entries();
-    is_unread(
-        alloc,
-        checked,
-        entries,
-        mutant.number(),
-        &mutant.stmt,
-        resolved,
-    )
+    is_unread(alloc, checked, entries, number, stmt, resolved)
 }
 
-/// The mutant, whose statement is resolved so, decides alike where conditions are told that hold there or do not.
+/// Whether the changed statement, whose resolved form is `resolved`, decides as the program's does, by conditions that
+/// are known there.
 fn is_told_throughout(
     alloc: Global,
     invariant: &Invariant<'_>,
     conditions: &Option<Conditions<'_>>,
-    mutant: &Mutant,
+    number: usize,
+    stmt: &Stmt,
     resolved: &Shared<Resolved>,
 ) -> Result<bool, AllocError>
     requires one { IfSome conditions.now (λ told. told.checked ≡ invariant.now.checked) }
-    requires mutant { IsMutant (map line_of invariant.now.checked.program) mutant.now.edit.statement
-        (statement_of mutant.now.stmt) }
-    requires in_place { IsInPlace invariant.now.checked mutant.now.edit.statement (statement_of mutant.now.stmt)
-        resolved.now }
+    requires mutant { IsMutant (map line_of invariant.now.checked.program) number (statement_of stmt.now) }
+    requires in_place { IsInPlace invariant.now.checked number (statement_of stmt.now) resolved.now }
     ensures { IfOk result (λ yes. yes ≡ true → IsEquivalent (map line_of invariant.now.checked.program)
-        (patched (map line_of invariant.now.checked.program) mutant.now.edit.statement
-        (statement_of mutant.now.stmt))) }
+        (patched (map line_of invariant.now.checked.program) number (statement_of stmt.now))) }
 {
     match conditions {
         Some(conditions) => is_equivalent_where_told(
-            alloc,
-            invariant,
-            conditions,
-            mutant.number(),
-            &mutant.stmt,
-            resolved,
+            alloc, invariant, conditions, number, stmt, resolved,
         ),
         None => Ok(false),
     }
 }
 
-/// The rule of a mutant for which so many steps are to be spared, where 32 bits hold their number.
+/// The rule of a mutant that needs so many more steps, if 32 bits hold their number.
 fn rule_with_spare(spare: Option<usize>) -> Option<Why>
     ensures { IfSome result (λ why. (steps : ℕ) × (spare ≡ Some steps) × (why ≡ Spare steps)) }
 {
@@ -91,46 +77,43 @@ fn rule_with_spare(spare: Option<usize>) -> Option<Why>
     }
 }
 
-/// The first rule by which the mutant is equivalent, whose statement
-/// is resolved so. SPARE, which says less than the others, comes last.
+/// The first rule by which the mutant is equivalent. `resolved` is the resolved form of its statement. SPARE, which
+/// promises less than the others, comes last.
 fn rule_in_place(
     alloc: Global,
     invariant: &Invariant<'_>,
     conditions: &Option<Conditions<'_>>,
-    mutant: &Mutant,
+    number: usize,
+    stmt: &Stmt,
     resolved: &Shared<Resolved>,
 ) -> Result<Option<Why>, AllocError>
     requires one { IfSome conditions.now (λ told. told.checked ≡ invariant.now.checked) }
-    requires mutant { IsMutant (map line_of invariant.now.checked.program) mutant.now.edit.statement
-        (statement_of mutant.now.stmt) }
-    requires in_place { IsInPlace invariant.now.checked mutant.now.edit.statement (statement_of mutant.now.stmt)
-        resolved.now }
+    requires mutant { IsMutant (map line_of invariant.now.checked.program) number (statement_of stmt.now) }
+    requires in_place { IsInPlace invariant.now.checked number (statement_of stmt.now) resolved.now }
     ensures { IfOk result (λ found. IfSome found (λ why. IsEquivalentBy why (map line_of invariant.now.checked.program)
-        (patched (map line_of invariant.now.checked.program) mutant.now.edit.statement
-        (statement_of mutant.now.stmt)))) }
+        (patched (map line_of invariant.now.checked.program) number (statement_of stmt.now)))) }
 {
-    let number = mutant.number();
-    if is_equivalent(alloc, invariant, number, &mutant.stmt, resolved)? {
+    if is_equivalent(alloc, invariant, number, stmt, resolved)? {
         if is_unreached(invariant.entries(), number - 1) {
             return Ok(Some(Why::Unreached));
         }
         return Ok(Some(Why::Same));
     }
-    if is_told_throughout(alloc, invariant, conditions, mutant, resolved)? {
+    if is_told_throughout(alloc, invariant, conditions, number, stmt, resolved)? {
         return Ok(Some(Why::Same));
     }
-    let spare = steps_to_spare(alloc, invariant, number, &mutant.stmt, resolved)?;
+    let spare = steps_to_spare(alloc, invariant, number, stmt, resolved)?;
     if spare == Some(0) {
         return Ok(Some(Why::Continues));
     }
-    if is_unread_throughout(alloc, invariant, mutant, resolved)? {
+    if is_unread_throughout(alloc, invariant, number, stmt, resolved)? {
         return Ok(Some(Why::Unread));
     }
     Ok(rule_with_spare(spare))
 }
 
-/// The first rule by which the mutant is equivalent. None is tried where the changed
-/// statement does not stand alone: in a declaration, in DATA, at the label of a DO.
+/// The first rule by which the mutant is equivalent. None is tried if the change is in a declaration, in DATA or in the
+/// label of a DO.
 pub(crate) fn rule_of(
     alloc: Global,
     invariant: &Invariant<'_>,
@@ -142,14 +125,16 @@ pub(crate) fn rule_of(
     ensures equivalent { IfOk result
         (λ found. IfSome found (λ why. IsEquivalentBy why (map line_of invariant.now.checked.program)
         (patched (map line_of invariant.now.checked.program) mutant.now.edit.statement
-        (statement_of mutant.now.stmt)))) }
+        (statement_of mutant.now.stmt.value)))) }
     ensures memory { IfErr result (λ fault. fault ≡ Memory) }
 {
     if !mutant.is_alone {
         return Ok(None);
     }
-    match invariant.checked().resolved(mutant.number(), &mutant.stmt) {
-        Ok(resolved) => Ok(rule_in_place(alloc, invariant, conditions, mutant, &resolved)?),
+    let number = mutant.number();
+    let stmt = mutant.statement(invariant.checked())?;
+    match invariant.checked().resolved(number, &stmt) {
+        Ok(resolved) => Ok(rule_in_place(alloc, invariant, conditions, number, &stmt, &resolved)?),
         // A legal program is refused for want of memory alone.
         Err(_) => Err(OpsFault::Memory),
     }

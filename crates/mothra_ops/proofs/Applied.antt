@@ -22,10 +22,10 @@ none_made program edit none = λ m. none-some m.statement (sym none ∙ m.makes)
 
 -- the statement of a mutant that was made by the edit
 pub is_made_by : (checked : CheckedFields) (edit : Edit) (mutant : Mutant) → mutant.edit ≡ edit → IsMadeMutant checked mutant
-    → (member : IsMember edit.op (map line_of checked.program) edit) × (member.statement ≡ statement_of mutant.stmt)
+    → (member : IsMember edit.op (map line_of checked.program) edit) × (member.statement ≡ statement_of mutant.stmt.value)
 is_made_by checked edit mutant same is =
     let program = map line_of checked.program in
-    let s = statement_of mutant.stmt in (
+    let s = statement_of mutant.stmt.value in (
       record {
         own = refl;
         statement = s;
@@ -47,7 +47,7 @@ module _ (checked : CheckedFields) (edit : Edit) (node : NodeOf)
       → ¬ (IsMutant (map line_of checked.program) edit.statement (changed s edit.position node)))
 
   abbrev IsFound : Option Mutant → Type 0
-  IsFound found = IsMadeBy (map line_of checked.program) edit (option_map (λ (mutant : Mutant). statement_of mutant.stmt) found)
+  IsFound found = IsMadeBy (map line_of checked.program) edit (option_map (λ (mutant : Mutant). statement_of mutant.stmt.value) found)
 
   found_by : (found : Option Mutant) → IsOwn found → IsNone found → IsFound found
   found_by (Some mutant) own none = is_made_by checked edit mutant own.0 own.1

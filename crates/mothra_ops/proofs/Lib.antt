@@ -16,3 +16,4 @@ mod GivenMakes
 mod Shapes
 mod MadeFits
 mod MadeBy
+pub mod Copied

@@ -1,14 +1,17 @@
 -- What is found of a statement that an edit makes by a node.
-use Rattle.std.proofs.Common.{◌≡◌, ◌-◌, true, Bool, map, Some, ap, sym, ◌∙◌, subst}
+use Rattle.std.proofs.Common.{◌≡◌, ◌<◌, ◌-◌, ◌+◌, ◌^◌, true, Bool, map, Some, ap, sym, ◌∙◌, subst}
 use Rattle.f77_check.specs.Checked.{CheckedFields, IsChecked}
 use Rattle.f77_legal.specs.Alone.{StandsAlone}
 use Rattle.f77_program.specs.Patching.{Fits}
 use Rattle.f77_program.specs.Program.{line_of, line_at}
 use Rattle.f77_program.specs.declared.program.Line.{Line}
 use Rattle.f77_tree.specs.Node.{NodeOf}
+use Rattle.f77_tree.specs.Replacement.{replacement_of}
 use Rattle.f77_tree.specs.Sites.{changed}
 use Rattle.f77_tree.specs.Statement.{statement_of, Statement}
+use Rattle.f77_tree.specs.declared.replacement.Replacement.{Replacement}
 use Rattle.f77_tree.specs.declared.statement.Stmt.{Stmt}
+use Rattle.std.specs.declared.snapshot.Snapshot.{Snapshot}
 use Rattle.std.proofs.lemmas.Option.{same_Some}
 use Rattle.mothra_ops.specs.code.Original.{HasStatement}
 use Rattle.mothra_ops.specs.Edits.{IsMutant, made}
@@ -36,7 +39,20 @@ module _ (checked : CheckedFields) (edit : Edit) (node : NodeOf) (line : Line) (
       let same : changed s edit.position node ≡ statement_of stmt = same_Some _ _ (sym (makes s has) ∙ makes_there) in
       isnt (subst (IsMutant (map line_of checked.program) edit.statement) same m)
 
-  pub mutant_there : IsMutant (map line_of checked.program) edit.statement (statement_of stmt)
+  -- it keeps another node, which makes the same of the statement there
+  pub mutant_there : (kept : Replacement) (held : Snapshot Stmt) → held.value ≡ stmt
+      → changed (statement_of line.stmt) edit.position (replacement_of kept) ≡ statement_of stmt → edit.position + 1 < 2 ^ 64
+      → IsMutant (map line_of checked.program) edit.statement (statement_of stmt)
       → (is_alone : Bool) → (is_alone ≡ true → StandsAlone checked.names (map line_of checked.program) (edit.statement - 1) (statement_of stmt))
-      → IsMadeMutant checked (record { edit = edit; stmt = stmt; is_alone = is_alone })
-  mutant_there mutant is_alone alone = record { makes = makes_there; mutant = mutant; alone = alone }
+      → IsMadeMutant checked (record { edit = edit; node = kept; stmt = held; is_alone = is_alone })
+  mutant_there kept held same by counted mutant is_alone alone =
+      let has = line_stands checked.program edit.statement line at in
+      record {
+        makes = makes_there ∙ ap (λ (x : Stmt). Some (statement_of x)) (sym same);
+        by_node = λ s there.
+            ap (λ (t : Statement). changed t edit.position (replacement_of kept)) (same_Some _ _ (sym there ∙ has)) ∙ by ∙ ap statement_of (sym same);
+        counted = counted;
+        mutant = subst (λ (x : Stmt). IsMutant (map line_of checked.program) edit.statement (statement_of x)) (sym same) mutant;
+        alone = λ told.
+            subst (λ (x : Stmt). StandsAlone checked.names (map line_of checked.program) (edit.statement - 1) (statement_of x)) (sym same) (alone told);
+      }

@@ -20,8 +20,8 @@ line_numbered lines (suc k) = slice_get-map line_of lines k
 pub line_stands : (lines : List Line) (number : ℕ) (line : Line) → line_at lines number ≡ Some line → HasStatement (map line_of lines) number (statement_of line.stmt)
 line_stands lines number line at = ap (option_map (λ (l : LineFields). l.stmt)) (line_numbered lines number ∙ ap (option_map line_of) at)
 
--- a number of a line is from 1
-pub counted_at : (p : List LineFields) (number : ℕ) → 1 ≤ number → slice_get p (number - 1) ≡ numbered p number
+-- the item of a number, by its place
+pub counted_at : {X : Type 0} (p : List X) (number : ℕ) → 1 ≤ number → slice_get p (number - 1) ≡ numbered p number
 counted_at p zero some = absurd (omega (arith, some))
 counted_at p (suc k) some = let e : suc k - 1 ≡ k = omega arith in ap (slice_get p) e
 

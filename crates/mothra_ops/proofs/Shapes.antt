@@ -165,6 +165,6 @@ module _ (program : List LineFields) (edit : Edit) (statement : Statement) (make
 
 -- so does each mutant that is found
 pub shapes_found : (checked : CheckedFields) (found : Option (Bor Mutant)) → IfSome found (λ (mutant : Bor Mutant). IsMadeMutant checked mutant.now)
-    → IfSome found (λ (mutant : Bor Mutant). shapes (patched (map line_of checked.program) mutant.now.edit.statement (statement_of mutant.now.stmt)) ≡ shapes (map line_of checked.program))
-shapes_found checked (Some mutant) own = made_shapes (map line_of checked.program) mutant.now.edit (statement_of mutant.now.stmt) own.makes own.mutant.fits
+    → IfSome found (λ (mutant : Bor Mutant). shapes (patched (map line_of checked.program) mutant.now.edit.statement (statement_of mutant.now.stmt.value)) ≡ shapes (map line_of checked.program))
+shapes_found checked (Some mutant) own = made_shapes (map line_of checked.program) mutant.now.edit (statement_of mutant.now.stmt.value) own.makes own.mutant.fits
 shapes_found checked None own = tt

@@ -1,4 +1,5 @@
 pub mod Edits
+pub mod Copies
 pub mod Listing
 pub mod Plan
 pub mod Mutants

@@ -1,4 +1,4 @@
--- The mutants of a plan: the statement of each, and how it is told.
+-- The mutants of a plan: the changed statement of each, and its line.
 use Rattle.std.specs.Prelude.{ℕ, ◌+◌, ◌*◌, ◌-◌, List, [], ◌++◌, Option, map, codes}
 use Rattle.std.specs.Fmt.{decimal}
 use Rattle.std.specs.Option.{option_and_then, option_map, option_map_or}
@@ -20,7 +20,7 @@ pub record MutantFields : Type 0 where
 
 abbrev pub mutant_fields : Mutant → MutantFields
 mutant_fields mutant =
-    record { number = mutant.edit.statement; statement = statement_of mutant.stmt }
+    record { number = mutant.edit.statement; statement = statement_of mutant.stmt.value }
 
 abbrev pub program_of : PlanFields → List LineFields
 program_of plan = map line_of plan.checked.program
@@ -55,13 +55,13 @@ abbrev pub change_text : List LineFields → MutantFields → List ℕ
 change_text program mutant = codes "LINE " ++ (decimal (line_number_at program mutant.number)
     ++ (codes " " ++ statement_text mutant.statement))
 
--- how the mutant of this number is told that an edit makes, as ABS 2 3 LINE 4 K=IABS(I)
+-- the line of the mutant of this number, which an edit makes, as ABS 2 3 LINE 4 K=IABS(I)
 abbrev pub edit_text : List LineFields → ℕ → Op → ℕ → Edit → List ℕ
 edit_text program q op number edit =
     option_map_or (λ mutant. mutant_name q op number ++ (codes " " ++ change_text program mutant))
     (mutant_made program edit) []
 
--- how the plan's mutant of this number is told, nothing where the operator has no such mutant
+-- the line of the plan's mutant of this number, no text where the operator has no such mutant
 abbrev pub mutant_text : PlanFields → Op → ℕ → List ℕ
 mutant_text plan op number = option_map_or (edit_text (program_of plan) plan.every op number)
     (numbered (edits_of plan op) number) []

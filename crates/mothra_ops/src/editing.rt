@@ -1,4 +1,7 @@
 //! The list of an operator's edits, and the program that an edit makes.
+//!
+//! Three loops, over statements, nodes and replacements, have one invariant: the members before this place, in order,
+//! are what was found so far (`HasCome`).
 
 ghost use Rattle.std.specs.Prelude.{◌≡◌, ◌<◌, ◌≤◌, ◌+◌, ◌^◌, ◌⊎◌, map, All, OnOk, IfOk, IfErr};
 ghost use Rattle.f77_program.specs.Program.{line_of};
@@ -6,12 +9,14 @@ ghost use Rattle.f77_program.specs.Patching.{patched};
 ghost use Rattle.f77_tree.specs.Statement.{statement_of};
 ghost use Rattle.mothra_ops.specs.Edits.{IsCountedList, IsList, IsMember, IsNoList};
 ghost use Rattle.mothra_ops.specs.Listing.{edits_in};
+ghost use Rattle.mothra_ops.specs.Copies.{copied, statements_in};
 ghost use Rattle.mothra_ops.specs.Made.{IsMadeMutant};
 ghost use Rattle.mothra_ops.specs.code.Listing.{HasCome};
 ghost use Rattle.mothra_ops.specs.code.Original.{HasStatement, IsSiteOf};
 ghost use Rattle.mothra_ops.specs.code.Drawn.{IsOriginal, lines_of};
 ghost use Rattle.mothra_replacements.specs.declared.fault.OpsFault.TheVariants.{Memory, NotASite};
 
+use crate::copies::Copies;
 use crate::edit::Edit;
 use crate::listing::{Limits, Listing};
 use crate::original::Original;
@@ -23,17 +28,20 @@ use mothra_replacements::{OpsFault, gives, memory_fault};
 use std::alloc::Global;
 
 impl Original<'_> {
-    /// Puts the mutants of a site into the list.
+    /// Adds the mutants of one node to the list.
     fn list_site(
         &self,
         alloc: Global,
         site: Site<'_>,
         listing: &mut Listing,
+        copies: &mut Copies,
     ) -> Result<(), OpsFault>
         requires original { IsOriginal self.now }
+        requires copies { copied copies.old ≡ statements_in (lines_of self.now) }
         requires every { 1 ≤ listing.now.every }
         requires position { site.position + 1 < 2 ^ 64 }
         requires site { IsSiteOf (lines_of self.now) site }
+        ensures copies { copied copies.new ≡ copied copies.old }
         ensures same_op { listing.new.op ≡ listing.old.op }
         ensures same_every { listing.new.every ≡ listing.old.every }
         ensures made { OnOk result (All (IsMadeMutant self.now.checked.now) listing.old.mutants.items
@@ -52,24 +60,27 @@ impl Original<'_> {
                 position: site.position,
                 rank: k + 1,
             };
-            if let Some(mutant) = self.mutant_by(edit, &mut replacements[k])? {
+            if let Some(mutant) = self.mutant_by(edit, &mut replacements[k], copies)? {
                 listing.add(mutant)?;
             }
         }
         Ok(())
     }
 
-    /// Puts the mutants of a statement into the list.
+    /// Adds the mutants of one statement to the list.
     fn list_statement(
         &self,
         alloc: Global,
         number: usize,
         stmt: &Stmt,
         listing: &mut Listing,
+        copies: &mut Copies,
     ) -> Result<(), OpsFault>
         requires original { IsOriginal self.now }
+        requires copies { copied copies.old ≡ statements_in (lines_of self.now) }
         requires every { 1 ≤ listing.now.every }
         requires statement { HasStatement (lines_of self.now) number (statement_of stmt.now) }
+        ensures copies { copied copies.new ≡ copied copies.old }
         ensures same_op { listing.new.op ≡ listing.old.op }
         ensures same_every { listing.new.every ≡ listing.old.every }
         ensures made { OnOk result (All (IsMadeMutant self.now.checked.now) listing.old.mutants.items
@@ -89,15 +100,23 @@ impl Original<'_> {
                 position,
                 node: nodes[position],
             };
-            self.list_site(alloc, site, listing)?;
+            self.list_site(alloc, site, listing, copies)?;
         }
         Ok(())
     }
 
     /// The operator's whole list, thinned.
-    pub(crate) fn listing(&self, alloc: Global, op: Op, every: u32) -> Result<Listing, OpsFault>
+    pub(crate) fn listing(
+        &self,
+        alloc: Global,
+        op: Op,
+        every: u32,
+        copies: &mut Copies,
+    ) -> Result<Listing, OpsFault>
         requires original { IsOriginal self.now }
+        requires copies { copied copies.old ≡ statements_in (lines_of self.now) }
         requires every { 1 ≤ every }
+        ensures copies { copied copies.new ≡ copied copies.old }
         ensures op { IfOk result (λ listing. listing.op ≡ op) }
         ensures made { IfOk result (λ listing. All (IsMadeMutant self.now.checked.now) listing.mutants.items) }
         ensures list { IfOk result
@@ -107,7 +126,7 @@ impl Original<'_> {
         let mut listing = Listing::new(alloc, op, every, Limits::of_lists());
         let lines = self.checked.program().lines();
         for i in 0..lines.len() {
-            self.list_statement(alloc, i + 1, &lines[i].stmt, &mut listing)?;
+            self.list_statement(alloc, i + 1, &lines[i].stmt, &mut listing, copies)?;
         }
         Ok(listing)
     }
@@ -123,7 +142,8 @@ pub fn edits(alloc: Global, checked: &Checked, op: Op, every: u32) -> Result<Vec
     ensures refused { IfErr result (λ fault. IsNoList op (map line_of checked.now.program) every fault) }
 {
     let original = Original::of(alloc, checked)?;
-    let listing = original.listing(alloc, op, every)?;
+    let mut copies = original.copies(alloc)?;
+    let listing = original.listing(alloc, op, every, &mut copies)?;
     let mut edits = Vec::with_capacity(alloc, listing.mutants.len())?;
     for mutant in &listing.mutants {
         edits.push(mutant.edit)?;
@@ -141,11 +161,13 @@ pub fn apply(alloc: Global, checked: &Checked, edit: &Edit) -> Result<Checked, O
         ⊎ ((fault ≡ NotASite) × ¬ (IsMember edit.now.op (map line_of checked.now.program) edit.now))) }
 {
     let original = Original::of(alloc, checked)?;
-    let Some(made) = original.mutant(alloc, edit)? else {
+    let mut copies = original.copies(alloc)?;
+    let Some(mutant) = original.mutant(alloc, edit, &mut copies)? else {
         return Err(OpsFault::NotASite);
     };
-    match checked.patched(edit.statement, &made.stmt) {
-        Ok(mutant) => Ok(mutant),
+    let stmt = mutant.statement(checked)?;
+    match checked.patched(edit.statement, &stmt) {
+        Ok(changed) => Ok(changed),
         // The changed program is legal.
         Err(fault) => Err(memory_fault(fault)),
     }

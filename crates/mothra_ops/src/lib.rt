@@ -1,6 +1,7 @@
 //! The operators of the mutation analyser.
 #![tactic(auto)]
 
+mod copies;
 mod edit;
 mod editing;
 pub mod law;
@@ -11,6 +12,7 @@ mod original;
 mod plan;
 mod site;
 
+pub use copies::Copies;
 pub use edit::Edit;
 pub use editing::{apply, edits};
 pub use mothra_codes::Op;

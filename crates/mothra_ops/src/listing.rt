@@ -1,4 +1,4 @@
-//! The list of an operator's mutants as far as it has come.
+//! The list of an operator's mutants while it is made. It is thinned at once, so its memory grows with what is kept.
 
 ghost use Rattle.std.specs.Prelude.{◌≡◌, ◌⊎◌, ◌++◌, ◌∷◌, [], ◌<◌, ◌≤◌, List, OnOk, IfErr, length};
 ghost use Rattle.mothra_ops.specs.Edits.{thinned};
@@ -11,17 +11,17 @@ use mothra_codes::Op;
 use mothra_replacements::OpsFault;
 use std::alloc::Global;
 
-/// How many edits a list may have.
+/// How many edits a list may have: part of the list, so that tests can try three and not a million.
 #[derive(Clone, Copy, Debug, Drop)]
 pub struct Limits {
-    /// The most that are kept.
+    /// The most edits that are kept.
     pub kept: usize,
-    /// The most of the whole list.
+    /// The most edits of the whole list.
     pub whole: u32,
 }
 
 impl Limits {
-    /// Those of the lists of operators.
+    /// The limits of an operator's list.
     pub fn of_lists() -> Limits
         ensures { result ≡ longest }
     {
@@ -33,10 +33,10 @@ impl Limits {
 }
 
 /// The mutants of an operator's list, thinned, with the number of edits of the whole one.
-#[derive(Debug, Drop)]
+#[derive(Drop)]
 pub struct Listing {
     pub(crate) op: Op,
-    /// Of the whole list each such, from the first, is kept.
+    /// Of the whole list the items 1, `every` + 1, 2 * `every` + 1 and on are kept.
     pub(crate) every: u32,
     pub(crate) limits: Limits,
     pub(crate) mutants: Vec<Mutant>,
@@ -45,7 +45,7 @@ pub struct Listing {
 }
 
 impl Listing {
-    /// A list of no mutant.
+    /// A list without mutants.
     pub fn new(alloc: Global, op: Op, every: u32, limits: Limits) -> Listing
         ensures op { result.op ≡ op }
         ensures every { result.every ≡ every }
@@ -76,7 +76,7 @@ impl Listing {
         self.whole
     }
 
-    /// Puts the mutant of the next edit of the whole list into it.
+    /// Adds the mutant of the next edit of the whole list, if it is one that is kept.
     pub fn add(&mut self, mutant: Mutant) -> Result<(), OpsFault>
         requires { 1 ≤ self.now.every }
         ensures same_op { self.new.op ≡ self.old.op }

@@ -1,34 +1,40 @@
-//! Mutants, and how they are written.
+//! Mutants, and the texts that lists and reports have of them.
 
 ghost use Rattle.std.specs.Prelude.{◌≡◌, ◌++◌, string_bytes, IfOk, IfErr, OnOk, OnErr};
 ghost use Rattle.f77_program.specs.Canonical.{statement_text};
 ghost use Rattle.f77_tree.specs.Statement.{statement_of};
+ghost use Rattle.f77_tree.specs.Replacement.{replacement_of};
+ghost use Rattle.mothra_ops.specs.Made.{IsMadeMutant};
 ghost use Rattle.mothra_ops.specs.Mutants.{change_text, line_number_at, mutant_fields};
 ghost use Rattle.mothra_ops.specs.Mutants.{mutant_name, mutant_text, program_of};
 ghost use Rattle.mothra_replacements.specs.declared.fault.OpsFault.TheVariants.{Memory};
 
 use crate::edit::Edit;
 use crate::plan::Plan;
+use f77_check::Checked;
 use f77_program::{SyntaxFault, print_stmt};
-use f77_tree::Stmt;
+use f77_tree::{Replacement, Stmt, exchange};
 use mothra_codes::Op;
 use mothra_replacements::OpsFault;
 use std::alloc::{AllocError, Global};
+use std::snapshot::Snapshot;
 
-/// Room for as many characters as most lines about a mutant have.
+/// Room for the characters of most lines about a mutant.
 const LINE: usize = 96;
 
-/// Room for as many characters as most names of mutants have.
+/// Room for the characters of most names of mutants.
 const NAME: usize = 24;
 
-/// A legal program that is another one by one statement.
-#[derive(Debug, Drop)]
+/// A legal program that differs from the original in one node of one statement.
+#[derive(Drop)]
 pub struct Mutant {
-    /// What makes it.
+    /// The edit that makes it.
     pub edit: Edit,
-    /// What stands in the place of the statement of the edit.
-    pub stmt: Stmt,
-    /// Whether it is legal by that statement alone.
+    /// The node that stands in the place of the edit's.
+    pub(crate) node: Replacement,
+    /// The changed statement. It is a snapshot: clauses alone read it, and it takes no memory.
+    pub stmt: Snapshot<Stmt>,
+    /// Whether the changed statement alone shows that the mutant is legal.
     pub is_alone: bool,
 }
 
@@ -38,6 +44,35 @@ impl Mutant {
         ensures { result ≡ self.now.edit.statement }
     {
         self.edit.statement
+    }
+
+    /// A copy of the node that stands in the place of the edit's.
+    pub fn node(&self) -> Result<Replacement, AllocError>
+        ensures { IfOk result (λ node. replacement_of node ≡ replacement_of self.now.node) }
+    {
+        match &self.node {
+            Replacement::Statement(stmt) => Ok(Replacement::Statement(stmt.clone()?)),
+            Replacement::Target(place) => Ok(Replacement::Target(place.clone()?)),
+            Replacement::Expression(expr) => Ok(Replacement::Expression(expr.clone()?)),
+            Replacement::Name(name) => Ok(Replacement::Name(*name)),
+            Replacement::Label(label) => Ok(Replacement::Label(*label)),
+            Replacement::Value(value) => Ok(Replacement::Value(*value)),
+        }
+    }
+
+    /// The changed statement, made of the program's own.
+    pub fn statement(&self, checked: &Checked) -> Result<Stmt, OpsFault>
+        requires { IsMadeMutant checked.now self.now }
+        ensures statement { IfOk result (λ stmt. statement_of stmt ≡ statement_of self.now.stmt.value) }
+        ensures memory { IfErr result (λ fault. fault ≡ Memory) }
+    {
+        let Some(line) = checked.program().line(self.edit.statement) else {
+            unreachable!()
+        };
+        let mut stmt = line.stmt.clone()?;
+        let mut node = self.node()?;
+        exchange(&mut stmt, self.edit.position, &mut node);
+        Ok(stmt)
     }
 }
 
@@ -52,9 +87,9 @@ impl Plan {
         }
     }
 
-    /// Where this mutant of the plan is changed: the line number of the statement, and the canonical text of what
-    /// stands in its place.
+    /// The change of a mutant of the plan: the line number of the statement, and the canonical text of the changed one.
     fn change(&self, alloc: Global, mutant: &Mutant) -> Result<String, OpsFault>
+        requires { IsMadeMutant self.now.checked mutant.now }
         ensures text { IfOk result (λ text. string_bytes text
             ≡ change_text (program_of self.now) (mutant_fields mutant.now)) }
         ensures memory { IfErr result (λ fault. fault ≡ Memory) }
@@ -62,14 +97,15 @@ impl Plan {
         let line = self.line_number(mutant.number());
         let mut text = String::with_capacity(alloc, LINE)?;
         write!(text, "LINE {line} ")?;
-        let statement = printed(alloc, &mutant.stmt)?;
+        let statement = printed(alloc, &mutant.statement(self.program())?)?;
         text.push_str(&statement)?;
         Ok(text)
     }
 
-    /// Appends where this mutant of the plan is changed: the line number of the statement, and the canonical text of
-    /// what stands in its place.
+    /// Appends the change of a mutant of the plan: the line number of the statement, and the canonical text of the
+    /// changed one.
     pub fn push_change(&self, text: &mut String, mutant: &Mutant) -> Result<(), OpsFault>
+        requires { IsMadeMutant self.now.checked mutant.now }
         ensures text { OnOk result (string_bytes text.new ≡ string_bytes text.old
             ++ change_text (program_of self.now) (mutant_fields mutant.now)) }
         ensures unchanged { OnErr result (string_bytes text.new ≡ string_bytes text.old) }
@@ -79,7 +115,7 @@ impl Plan {
         Ok(text.push_str(&change)?)
     }
 
-    /// How the operator's mutant of this number is written; no text where the plan has no such mutant.
+    /// The line of the operator's mutant of this number; an empty text where the plan has no such mutant.
     fn text_of(&self, alloc: Global, op: Op, number: u32) -> Result<String, OpsFault>
         ensures text { IfOk result (λ text. string_bytes text ≡ mutant_text self.now op number) }
         ensures memory { IfErr result (λ fault. fault ≡ Memory) }
@@ -93,8 +129,8 @@ impl Plan {
         Ok(text)
     }
 
-    /// Appends how the operator's mutant of this number is written: its name, the line number of the statement that it
-    /// changes, and the canonical text of what stands there. Nothing where the plan has no such mutant.
+    /// Appends the line of the operator's mutant of this number: its name, the line number of the statement that it
+    /// changes, and the canonical text of the changed statement. Nothing where the plan has no such mutant.
     pub fn push_text(&self, text: &mut String, op: Op, number: u32) -> Result<(), OpsFault>
         ensures text { OnOk result (string_bytes text.new ≡ string_bytes text.old ++ mutant_text self.now op number) }
         ensures unchanged { OnErr result (string_bytes text.new ≡ string_bytes text.old) }
@@ -117,8 +153,8 @@ fn printed(alloc: Global, stmt: &Stmt) -> Result<String, OpsFault>
     }
 }
 
-/// Writes how a mutant is named in the place of what `name` has: the operator's code, its number,
-/// and its number in the whole list, of which each such item is kept.
+/// Writes the name of a mutant over what `name` has: the operator's code, its number in the thinned list, and its
+/// number in the whole list.
 pub fn write_name(name: &mut String, every: u32, op: Op, number: u32) -> Result<(), AllocError>
     ensures { OnOk result (string_bytes name.new ≡ mutant_name every op number) }
 {
@@ -129,7 +165,7 @@ pub fn write_name(name: &mut String, every: u32, op: Op, number: u32) -> Result<
     Ok(())
 }
 
-/// How a mutant is named, in a text that has room for so many characters.
+/// The name of a mutant, in a text with room for so many characters.
 fn name(alloc: Global, room: usize, every: u32, op: Op, number: u32) -> Result<String, AllocError>
     ensures { IfOk result (λ name. string_bytes name ≡ mutant_name every op number) }
 {
@@ -138,7 +174,7 @@ fn name(alloc: Global, room: usize, every: u32, op: Op, number: u32) -> Result<S
     Ok(name)
 }
 
-/// Appends how a mutant is named.
+/// Appends the name of a mutant.
 pub fn push_name(text: &mut String, every: u32, op: Op, number: u32) -> Result<(), AllocError>
     ensures text { OnOk result (string_bytes text.new ≡ string_bytes text.old ++ mutant_name every op number) }
     ensures unchanged { OnErr result (string_bytes text.new ≡ string_bytes text.old) }

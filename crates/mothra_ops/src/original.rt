@@ -3,13 +3,16 @@
 ghost use Rattle.std.specs.Prelude.{◌≡◌};
 ghost use Rattle.std.specs.Coded.{Coded-set};
 
+use crate::copies::Copies;
 use crate::edit::Edit;
 use crate::mutant::Mutant;
 use crate::node_lists::NodeLists;
 use f77_check::{CheckFault, Checked};
-use f77_tree::{Replacement, Stmt, exchange};
+use f77_tree::{Replacement, Stmt};
 use mothra_replacements::{OpsFault, Pools, gives, memory_fault};
 use std::alloc::Global;
+use std::mem;
+use std::snapshot::Snapshot;
 
 /// A checked program, with what the operators draw from it.
 #[derive(Drop)]
@@ -31,6 +34,7 @@ impl<'a> Original<'a> {
     ghost use Rattle.mothra_replacements.specs.declared.fault.OpsFault.TheVariants.{Memory};
     ghost use Rattle.mothra_ops.specs.code.Edits.{IsMadeBy};
     ghost use Rattle.mothra_ops.specs.Edits.{IsMutant, made};
+    ghost use Rattle.mothra_ops.specs.Copies.{copied, statements_in};
     ghost use Rattle.mothra_ops.specs.Made.{IsMadeMutant};
     ghost use Rattle.mothra_ops.specs.code.Original.{HasStatement, given_at};
     ghost use Rattle.mothra_ops.specs.code.Drawn.{IsOriginal, lines_of};
@@ -56,8 +60,16 @@ impl<'a> Original<'a> {
         })
     }
 
-    /// What is told of this statement in the place of the one of this number, which is `old`: whether the mutant is
-    /// legal by the statement alone; nothing where it makes none.
+    /// Copies of the statements of the program.
+    pub(crate) fn copies(&self, alloc: Global) -> Result<Copies, OpsFault>
+        ensures copies { IfOk result (λ copies. copied copies ≡ statements_in (lines_of self.now)) }
+        ensures memory { IfErr result (λ fault. fault ≡ Memory) }
+    {
+        Copies::of(alloc, self.checked.program().lines())
+    }
+
+    /// Judges a statement in the place of the one of this number, which is `old`. Where it makes a mutant, the answer
+    /// says whether the statement alone shows that the mutant is legal; None where it makes none.
     fn judged(&self, number: usize, old: &Stmt, made: &Stmt) -> Result<Option<bool>, OpsFault>
         requires old { HasStatement (lines_of self.now) number (statement_of old.now) }
         requires fits { Fits (lines_of self.now) number (statement_of made.now) }
@@ -79,13 +91,15 @@ impl<'a> Original<'a> {
         }
     }
 
-    /// The mutant that the edit makes by this node, if it makes one.
+    /// The mutant that the edit makes with this node, if it makes one. The mutant keeps the node.
     pub(crate) fn mutant_by(
         &self,
         edit: Edit,
         node: &mut Replacement,
+        copies: &mut Copies,
     ) -> Result<Option<Mutant>, OpsFault>
         requires original { IsOriginal self.now }
+        requires copies { copied copies.old ≡ statements_in (lines_of self.now) }
         requires position { edit.position + 1 < 2 ^ 64 }
         requires made { (s : Statement) → HasStatement (lines_of self.now) edit.statement s
             → made (pools_of (lines_of self.now)) (lines_of self.now) edit
@@ -95,26 +109,33 @@ impl<'a> Original<'a> {
         ensures none { IfOk result (λ found. IfNone found
             ((s : Statement) → HasStatement (lines_of self.now) edit.statement s
             → ¬ (IsMutant (lines_of self.now) edit.statement (changed s edit.position (replacement_of node.old))))) }
+        ensures same { copied copies.new ≡ copied copies.old }
         ensures memory { IfErr result (λ fault. fault ≡ Memory) }
     {
         let Some(line) = self.checked.program().line(edit.statement) else {
             return Ok(None);
         };
-        let mut made = line.stmt.clone()?;
-        exchange(&mut made, edit.position, node);
+        copies.exchange(edit.statement, edit.position, node);
+        let Some(made) = copies.get(edit.statement) else {
+            unreachable!()
+        };
+        let stmt = Snapshot::of(made);
         // That what an operator makes may stand there is `law::legal_members`.
-        match self.judged(edit.statement, &line.stmt, &made)? {
+        let judged = self.judged(edit.statement, &line.stmt, made);
+        copies.exchange(edit.statement, edit.position, node);
+        match judged? {
             Some(is_alone) => Ok(Some(Mutant {
                 edit,
-                stmt: made,
+                node: mem::replace(node, Replacement::Label(0)),
+                stmt,
                 is_alone,
             })),
             None => Ok(None),
         }
     }
 
-    /// What the operator of the edit puts in the place of the node of the
-    /// edit, in the order of the ranks; nothing where there is no such node.
+    /// What the edit's operator puts in the place of the edit's node, in the order of the ranks. The list is empty if
+    /// there is no such node.
     pub(crate) fn given(&self, alloc: Global, edit: &Edit) -> Result<Vec<Replacement>, OpsFault>
         ensures list { IfOk result (λ list. map replacement_of list.items
             ≡ given_at (pool_fields self.now.pools) (lines_of self.now) edit.now.op edit.now.statement
@@ -132,16 +153,23 @@ impl<'a> Original<'a> {
     }
 
     /// The mutant that the edit makes, if it makes one.
-    pub(crate) fn mutant(&self, alloc: Global, edit: &Edit) -> Result<Option<Mutant>, OpsFault>
-        requires { IsOriginal self.now }
-        ensures made { IfOk result
-            (λ found. IsMadeBy (lines_of self.now) edit.now (option_map (λ mutant. statement_of mutant.stmt) found)) }
+    pub(crate) fn mutant(
+        &self,
+        alloc: Global,
+        edit: &Edit,
+        copies: &mut Copies,
+    ) -> Result<Option<Mutant>, OpsFault>
+        requires original { IsOriginal self.now }
+        requires copies { copied copies.old ≡ statements_in (lines_of self.now) }
+        ensures made { IfOk result (λ found. IsMadeBy (lines_of self.now) edit.now
+            (option_map (λ mutant. statement_of mutant.stmt.value) found)) }
+        ensures own { IfOk result (λ found. IfSome found (IsMadeMutant self.now.checked.now)) }
         ensures memory { IfErr result (λ fault. fault ≡ Memory) }
     {
         let mut given = self.given(alloc, edit)?;
         if edit.rank == 0 || edit.rank > given.len() {
             return Ok(None);
         }
-        self.mutant_by(*edit, &mut given[edit.rank - 1])
+        self.mutant_by(*edit, &mut given[edit.rank - 1], copies)
     }
 }

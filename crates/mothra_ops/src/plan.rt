@@ -1,4 +1,6 @@
-//! Plans: which mutants there are of a program, for the operators that are asked for.
+//! Plans: the mutants of a program, for the operators that are asked for.
+//!
+//! Each mutant is made and judged once. A plan keeps its node, and not the changed statement.
 
 ghost use Rattle.std.specs.Prelude.{◌≡◌, ◌↔◌, ◌≤◌, map, length, option_map, All, Contains, IfOk, IfErr, IfSome, IsTrue};
 ghost use Rattle.std.specs.Coded.{codes};
@@ -29,7 +31,7 @@ use mothra_replacements::OpsFault;
 use std::alloc::Global;
 use std::marker::Model;
 
-/// The lists of the operators that are asked for, of one program, each thinned alike.
+/// The lists of the operators that are asked for, of one program, all thinned by the same number.
 #[derive(Drop)]
 pub struct Plan {
     checked: Checked,
@@ -57,7 +59,7 @@ impl Model for Plan {
         × AreMade plan.checked plan.lists.items };
 }
 
-/// The lists of these operators in their order, each thinned. What they draw from is found once.
+/// The thinned lists of these operators, in the order of the operators. What they draw from is found once.
 fn lists(alloc: Global, checked: &Checked, ops: &[Op], every: u32) -> Result<Vec<Listing>, OpsFault>
     requires { 1 ≤ every }
     ensures asked { IfOk result
@@ -67,10 +69,11 @@ fn lists(alloc: Global, checked: &Checked, ops: &[Op], every: u32) -> Result<Vec
     ensures refused { IfErr result (λ fault. IsNoPlan ops.now (map line_of checked.now.program) every fault) }
 {
     let original = Original::of(alloc, checked)?;
+    let mut copies = original.copies(alloc)?;
     let mut lists = Vec::new(alloc);
     for op in Op::ALL {
         if ops.contains(&op) {
-            lists.push(original.listing(alloc, op, every)?)?;
+            lists.push(original.listing(alloc, op, every, &mut copies)?)?;
         }
     }
     Ok(lists)
@@ -113,7 +116,7 @@ impl Plan {
         &self.checked
     }
 
-    /// Of each whole list each such edit is kept, from the first. It takes no memory.
+    /// Of each whole list the items 1, `every` + 1, 2 * `every` + 1 and on are kept. It takes no memory.
     pub fn every(&self) -> u32
         ensures { result ≡ self.now.every }
     {
@@ -166,8 +169,8 @@ impl Plan {
         ensures edit { option_map (λ mutant. mutant.now.edit) result ≡ numbered (edits_of self.now op) number }
         ensures made { IfSome result (λ mutant. IsMadeMutant self.now.checked mutant.now) }
         // It takes the arguments that the program takes.
-        ensures shapes { IfSome result
-            (λ mutant. shapes (patched (program_of self.now) mutant.now.edit.statement (statement_of mutant.now.stmt))
+        ensures shapes { IfSome result (λ mutant. shapes
+            (patched (program_of self.now) mutant.now.edit.statement (statement_of mutant.now.stmt.value))
             ≡ shapes (program_of self.now)) }
         ensures plan { IsPlan self.now }
     {

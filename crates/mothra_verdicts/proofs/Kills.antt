@@ -1,18 +1,15 @@
 -- Which tests kill a mutant, and that it is told in one way.
-use Rattle.std.proofs.Common.{inl, inr, None, ◌≡◌, arith, ◌∙◌, ℕ, zero, suc, List, [], ◌∷◌, Bool, true, false, true≢false, not, length, refl, sym, subst}
-use Rattle.std.specs.Prelude.{◌≤◌}
+use Rattle.std.proofs.Common.{◌≡◌, ◌∙◌, ℕ, List, [], ◌∷◌, Bool, true, false, true≢false, not, refl, sym, subst}
 use Rattle.std.specs.Bool.{Decides}
-use Rattle.std.proofs.lemmas.Option.{none-some, same_Some, slice_get_cases}
+use Rattle.std.proofs.lemmas.Option.{same_Some}
 use Rattle.f77_program.specs.Program.{LineFields}
 use Rattle.f77_meaning.specs.Interpreter.{IsOutcomeOf, OneAnswer}
 use Rattle.f77_meaning.specs.declared.argument.Arg.{Arg}
 use Rattle.f77_meaning.specs.declared.outcome.Outcome.{Outcome}
-use Rattle.mothra_ops.specs.Edits.{numbered}
 use Rattle.mothra_ops.specs.Mutants.{MutantFields, program_of}
-use Rattle.mothra_ops.specs.Plan.{PlanFields, edits_of}
 use Rattle.mothra_codes.specs.declared.ticket.Ticket.{Ticket}
 use Rattle.mothra_verdicts.specs.Bench.{BenchFields}
-use Rattle.mothra_verdicts.specs.Verdict.{HasMutant, IsAlone, IsKill, IsVerdict, killed, mutated, survived}
+use Rattle.mothra_verdicts.specs.Verdict.{IsAlone, IsKill, IsVerdict, killed, mutated, survived}
 
 -- the outcome is another one, or it is the same
 pub is_kill : (program mutant : List LineFields) (arguments : List Arg) (steps : ℕ) (outcome other : Outcome) (same : Bool) → Decides same (outcome ≡ other)

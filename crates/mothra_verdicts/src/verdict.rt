@@ -1,6 +1,12 @@
 //! The verdict of running a mutant alone.
+//!
+//! Nothing of tests or outcomes is copied for a mutant: its outcome is compared in place with the program's, and one
+//! `ChangedRunner` has one statement exchanged after another.
 
-ghost use Rattle.std.specs.Prelude.{◌≡◌, IfOk, IfErr};
+ghost use Rattle.std.specs.Prelude.{◌≡◌, true, map, IfOk, IfErr, OnOk};
+ghost use Rattle.f77_program.specs.Program.{line_of};
+ghost use Rattle.f77_run.specs.Changed.{changed_program};
+ghost use Rattle.mothra_ops.specs.Copies.{copied, statements_in};
 ghost use Rattle.f77_check.specs.Checked.{shapes};
 ghost use Rattle.mothra_ops.specs.Made.{IsMadeMutant};
 ghost use Rattle.mothra_ops.specs.Mutants.{mutant_fields, program_of};
@@ -15,7 +21,7 @@ use crate::want;
 use f77_meaning::Values;
 use f77_run::ChangedRunner;
 use mothra_codes::Ticket;
-use mothra_ops::Mutant;
+use mothra_ops::{Copies, Mutant};
 use std::alloc::Global;
 use std::marker::Model;
 
@@ -24,15 +30,16 @@ use std::marker::Model;
 pub struct Row {
     /// The mutant.
     pub ticket: Ticket,
-    /// One for each test, in order: whether it kills the mutant.
+    /// For each test, in order, whether it kills the mutant.
     pub kills: Values<bool>,
 }
 
-/// The verdicts on the mutants of a bench. What runs need is taken once, and not for each mutant.
+/// Gives the verdicts on the mutants of a bench. What runs need is made once, and not for each mutant.
 #[derive(Drop)]
 pub struct Verdicts<'a> {
     bench: &'a Bench,
     runner: ChangedRunner<'a>,
+    copies: Copies,
 }
 
 impl<'a> Model for Verdicts<'a> {
@@ -44,6 +51,8 @@ impl<'a> Model for Verdicts<'a> {
     ghost use Rattle.f77_actions.specs.contracts.expression.Condition as condition;
     ghost use Rattle.f77_actions.specs.contracts.expression.Element as element;
     ghost use Rattle.f77_actions.specs.contracts.expression.Number as number;
+    ghost use Rattle.mothra_ops.specs.Copies.{copied, statements_in};
+    ghost use Rattle.mothra_ops.specs.Mutants.{program_of};
     ghost use Rattle.mothra_verdicts.specs.Bench.{BenchFields, IsBench};
 
     ghost Value = { BenchFields };
@@ -61,10 +70,11 @@ impl<'a> Model for Verdicts<'a> {
     ghost view = { λ verdicts. verdicts.bench.now };
 
     ghost invariant = { λ verdicts. IsBench verdicts.bench.now
-        × (verdicts.runner.checked ≡ verdicts.bench.now.plan.checked) };
+        × (verdicts.runner.checked ≡ verdicts.bench.now.plan.checked)
+        × (copied verdicts.copies ≡ statements_in (program_of verdicts.bench.now.plan)) };
 }
 
-/// Which tests kill the mutant, whose runs all begin at the start.
+/// Which tests kill the mutant. Its runs begin at the start.
 fn kills_of_whole_runs(
     alloc: Global,
     bench: &Bench,
@@ -77,28 +87,61 @@ fn kills_of_whole_runs(
         (mutated (program_of bench.now.plan) (mutant_fields mutant.now)) bench.now.steps bench.now.tests kills) }
     ensures memory { IfErr result (λ fault. fault ≡ Memory) }
 {
-    match bench
-        .plan()
-        .program()
-        .patched(mutant.number(), &mutant.stmt)
-    {
+    let checked = bench.plan().program();
+    let Ok(stmt) = mutant.statement(checked) else {
+        return Err(BenchFault::Memory);
+    };
+    match checked.patched(mutant.number(), &stmt) {
         Ok(changed) => kills_from_start(alloc, bench, &changed),
         Err(fault) => Err(want::of_check(&fault)),
     }
 }
 
-/// Which tests kill the mutant. It is run from where it parts from the program, where it is legal by its changed
-/// statement alone; else from the start.
+/// Makes the runs from now on those of the mutant. Its node stands in the copy of its statement while that is resolved.
+fn change(
+    runner: &mut ChangedRunner<'_>,
+    copies: &mut Copies,
+    mutant: &Mutant,
+) -> Result<(), BenchFault>
+    requires made { IsMadeMutant runner.old.checked mutant.now }
+    requires alone { mutant.now.is_alone ≡ true }
+    requires copies { copied copies.old ≡ statements_in (map line_of runner.old.checked.program) }
+    ensures copies { copied copies.new ≡ copied copies.old }
+    ensures program { runner.new.checked ≡ runner.old.checked }
+    ensures changed { OnOk result (changed_program runner.new
+        ≡ mutated (map line_of runner.old.checked.program) (mutant_fields mutant.now)) }
+    ensures memory { IfErr result (λ fault. fault ≡ Memory) }
+{
+    let number = mutant.number();
+    let mut node = mutant.node()?;
+    copies.exchange(number, mutant.edit.position, &mut node);
+    let Some(stmt) = copies.get(number) else {
+        unreachable!()
+    };
+    let changed = runner.change(number, stmt);
+    copies.exchange(number, mutant.edit.position, &mut node);
+    drop(node);
+    match changed {
+        Ok(()) => Ok(()),
+        Err(fault) => Err(want::of_run(fault)),
+    }
+}
+
+/// Which tests kill the mutant. If its changed statement alone shows that it is legal, it runs from where it may part
+/// from the program, else from the start.
 fn kills(
     alloc: Global,
     bench: &Bench,
     runner: &mut ChangedRunner<'_>,
+    copies: &mut Copies,
     mutant: &Mutant,
 ) -> Result<Values<bool>, BenchFault>
+    requires copies { copied copies.old ≡ statements_in (program_of bench.now.plan) }
     requires program { runner.old.checked ≡ bench.now.plan.checked }
     requires made { IsMadeMutant bench.now.plan.checked mutant.now }
     requires shapes { shapes (mutated (program_of bench.now.plan) (mutant_fields mutant.now))
         ≡ shapes (program_of bench.now.plan) }
+    ensures copies { copied copies.new ≡ copied copies.old }
     ensures program { runner.new.checked ≡ runner.old.checked }
     ensures kills { IfOk result (λ kills. IsAlone (program_of bench.now.plan)
         (mutated (program_of bench.now.plan) (mutant_fields mutant.now)) bench.now.steps bench.now.tests kills) }
@@ -107,10 +150,8 @@ fn kills(
     if !mutant.is_alone {
         return kills_of_whole_runs(alloc, bench, mutant);
     }
-    match runner.change(mutant.number(), &mutant.stmt) {
-        Ok(()) => kills_of(alloc, bench, runner),
-        Err(fault) => Err(want::of_run(fault)),
-    }
+    change(runner, copies, mutant)?;
+    kills_of(alloc, bench, runner)
 }
 
 impl<'a> Verdicts<'a> {
@@ -119,13 +160,21 @@ impl<'a> Verdicts<'a> {
         ensures verdicts { IfOk result (λ verdicts. verdicts ≡ bench.now) }
         ensures memory { IfErr result (λ fault. fault ≡ Memory) }
     {
-        match ChangedRunner::of(alloc, bench.plan().program()) {
-            Ok(runner) => Ok(Verdicts { bench, runner }),
+        let checked = bench.plan().program();
+        let Ok(copies) = Copies::of(alloc, checked.program().lines()) else {
+            return Err(BenchFault::Memory);
+        };
+        match ChangedRunner::of(alloc, checked) {
+            Ok(runner) => Ok(Verdicts {
+                bench,
+                runner,
+                copies,
+            }),
             Err(fault) => Err(want::of_run(fault)),
         }
     }
 
-    /// The mutant is run on every test.
+    /// Runs a mutant on every test.
     pub fn row(&mut self, alloc: Global, ticket: Ticket) -> Result<Row, BenchFault>
         ensures bench { self.new ≡ self.old }
         ensures ticket { IfOk result (λ row. row.ticket ≡ ticket) }
@@ -135,12 +184,18 @@ impl<'a> Verdicts<'a> {
         let Some(mutant) = self.bench.plan().mutant(ticket.op, ticket.number) else {
             return Err(BenchFault::Stranger(ticket));
         };
-        let kills = kills(alloc, self.bench, &mut self.runner, mutant)?;
+        let kills = kills(
+            alloc,
+            self.bench,
+            &mut self.runner,
+            &mut self.copies,
+            mutant,
+        )?;
         Ok(Row { ticket, kills })
     }
 }
 
-/// The mutant is run on every test: which of them kill it.
+/// Runs a mutant on every test: which of them kill it.
 pub fn verdict_of(alloc: Global, bench: &Bench, ticket: Ticket) -> Result<Row, BenchFault>
     ensures ticket { IfOk result (λ row. row.ticket ≡ ticket) }
     ensures kills { IfOk result (λ row. IsVerdict bench.now ticket row.kills) }

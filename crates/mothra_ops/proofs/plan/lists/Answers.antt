@@ -1,10 +1,11 @@
-use Rattle.std.proofs.Common.{rules, ◌≡◌, map, arith, subst, sym, ℕ, ◌+◌, ◌++◌, ◌∷◌, List, [], nat_eq}
+use Rattle.std.proofs.Common.{rules, ◌≡◌, ◌∙◌, ap, map, arith, subst, sym, ℕ, ◌+◌, ◌++◌, ◌∷◌, List, [], nat_eq}
 use Rattle.mothra_codes.specs.contracts.op.OpPartialEq.TheImpl.{ghosts}
 use Rattle.std.proofs.lemmas.Bool.Decides.{not_from_Decides}
 use Rattle.std.specs.List.{All}
 use Rattle.std.proofs.lemmas.List.Elements.{All-append, All-cons, All-nil, Decides-contains, contains_decides}
 use Rattle.f77_program.specs.Program.{line_of}
 use Rattle.f77_check.specs.Checked.{CheckedFields}
+use Rattle.mothra_ops.specs.Copies.{copied}
 use Rattle.mothra_ops.specs.Edits.{IsCountedList, IsNoList}
 use Rattle.mothra_ops.specs.Listing.{edits_in}
 use Rattle.mothra_ops.specs.Made.{AreMade, IsMadeMutant, IsMadeList}
@@ -37,6 +38,7 @@ no_list original checked op every fault same none =
 
 pub loop-op-init : goal.loop-op-init
 loop-op-init c = record {
+  copies = c.in_ok-copies.ensures.copies;
   made = subst (AreMade c.args.checked.now) (sym c.new-lists.ensures.items) (All-nil (IsMadeList c.args.checked.now));
   lists = subst (HasLists c.args.ops.now (map line_of c.args.checked.now.program) c.args.every 0) (sym c.new-lists.ensures.items)
       (no_lists c.args.ops.now (map line_of c.args.checked.now.program) c.args.every);
@@ -64,6 +66,7 @@ loop-op-preserved c = elim c.if-contains.branch [
       c.in_ok-original.ensures.program w.in_ok-listing.ensures.list in
       let items : c.if-contains.lists.items ≡ c.loop-op.lists.items ++ w.in_ok-listing.field-0 ∷ [] = search rules in
       record {
+        copies = ap copied w.copies-is ∙ w.in_ok-listing.ensures.copies ∙ c.loop-op.invariant.copies;
         made = subst (AreMade c.args.checked.now) (sym items)
             (All-append (IsMadeList c.args.checked.now) c.loop-op.lists.items (w.in_ok-listing.field-0 ∷ []) c.loop-op.invariant.made
             (All-cons (IsMadeList c.args.checked.now) w.in_ok-listing.field-0 []
@@ -78,6 +81,7 @@ loop-op-preserved c = elim c.if-contains.branch [
       (contains_decides ghosts.eq (λ a b. one_op a b (ghosts.eq a b) (same_answer a b)) c.args.ops.now (op_at c.loop-op.op-index) c.contains.result c.contains.ensures.cases) in
       let items : c.if-contains.lists.items ≡ c.loop-op.lists.items = search rules in
       record {
+        copies = ap copied w.copies-is ∙ c.loop-op.invariant.copies;
         made = subst (AreMade c.args.checked.now) (sym items) c.loop-op.invariant.made;
         lists = subst (HasLists c.args.ops.now (map line_of c.args.checked.now.program) c.args.every (c.loop-op.op-index + 1)) (sym items)
             (none_more c.args.ops.now (map line_of c.args.checked.now.program) c.args.every c.loop-op.op-index c.loop-op.lists.items (op_at c.loop-op.op-index)

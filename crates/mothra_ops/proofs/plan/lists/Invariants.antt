@@ -1,11 +1,14 @@
-use Rattle.std.specs.Prelude.{map}
+use Rattle.std.specs.Prelude.{◌≡◌, map}
 use Rattle.f77_program.specs.Program.{line_of}
+use Rattle.mothra_ops.specs.Copies.{copied, statements_in}
 use Rattle.mothra_ops.specs.Made.{AreMade}
+use Rattle.mothra_ops.specs.code.Drawn.{lines_of}
 use Rattle.mothra_ops.proofs.Plans.{HasLists}
 use Rattle.mothra_ops.proofs.plan.lists.Given as goal
 
 abbrev pub invariant-loop-op : goal.invariant-loop-op
 invariant-loop-op l = record {
+  copies : copied l.copies ≡ statements_in (lines_of l.original);
   made : AreMade l.fn.checked l.lists.items;
   lists : HasLists l.fn.ops (map line_of l.fn.checked.program) l.fn.every l.op-index l.lists.items;
 }

@@ -53,9 +53,9 @@ mutant_there : (checked : CheckedFields) (op : Op) (s p r : ℕ) (stmt : Stateme
     → mutant.edit ≡ edit_at op s p r → IsMadeMutant checked mutant → IsMutant (map line_of checked.program) s (changed stmt p new)
 mutant_there checked op s p r stmt node new mutant here at same is =
     let program = map line_of checked.program in
-    let own = subst (λ (e : Edit). made (pools_of program) program e ≡ Some (statement_of mutant.stmt)) same is.makes in
+    let own = subst (λ (e : Edit). made (pools_of program) program e ≡ Some (statement_of mutant.stmt.value)) same is.makes in
     subst (IsMutant program s) (same_Some _ _ (sym own ∙ made_there (pools_of program) program op s p r stmt node new here at))
-    (subst (λ (e : Edit). IsMutant program e.statement (statement_of mutant.stmt)) same is.mutant)
+    (subst (λ (e : Edit). IsMutant program e.statement (statement_of mutant.stmt.value)) same is.mutant)
 
 -- with a mutant more, or as they were
 all_with : (P : Mutant → Type 0) (mutant : Mutant) (old new : List Mutant) → (new ≡ old) ⊎ (new ≡ old ++ mutant ∷ []) → P mutant → All P old → All P new
@@ -73,6 +73,7 @@ given_next c =
 
 pub loop-k-init : goal.loop-k-init
 loop-k-init c = record {
+  copies = refl;
   same_op = refl;
   same_every = refl;
   count = omega (arith, c.len-k-end.ensures, c.in_ok-replacements.replacements.ok.0);
@@ -128,6 +129,7 @@ loop-k-preserved c =
       | in-Some+in_ok-add w ↦
           let own = own_mutant checked (edit_at old.op site.number site.position (c.loop-k.k + 1)) c.in_ok-mutant.field-0 w.in-Some.mutant w.in-Some.is c.in_ok-mutant.ensures.mutant in
           rw w.listing-is (record {
+            copies = c.mutant_by.ensures.same ∙ c.loop-k.invariant.copies;
             same_op = w.in_ok-add.ensures.same_op ∙ c.loop-k.invariant.same_op;
             same_every = w.in_ok-add.ensures.same_every ∙ c.loop-k.invariant.same_every;
             count = count;
@@ -142,6 +144,7 @@ loop-k-preserved c =
       | in_default w ↦
           let none = no_mutant program (edit_at old.op site.number site.position (c.loop-k.k + 1)) new c.in_ok-mutant.field-0 w.in_default.is c.in_ok-mutant.ensures.none in
           rw w.listing-is (record {
+            copies = c.mutant_by.ensures.same ∙ c.loop-k.invariant.copies;
             same_op = c.loop-k.invariant.same_op;
             same_every = c.loop-k.invariant.same_every;
             count = count;

@@ -3,6 +3,7 @@ use Rattle.std.specs.List.{All}
 use Rattle.f77_tree.specs.Node.{node_of}
 use Rattle.f77_tree.specs.Replacement.{replacement_of}
 use Rattle.f77_tree.specs.Statement.{statement_of}
+use Rattle.mothra_ops.specs.Copies.{copied}
 use Rattle.mothra_ops.specs.Made.{IsMadeMutant}
 use Rattle.mothra_ops.specs.code.Listing.{HasCome}
 use Rattle.mothra_ops.specs.code.Drawn.{lines_of}
@@ -12,6 +13,7 @@ use Rattle.mothra_ops.proofs.original.Original.list_site.Given as goal
 
 abbrev pub invariant-loop-k : goal.invariant-loop-k
 invariant-loop-k l = record {
+  copies : copied l.copies ≡ copied l.fn.copies;
   same_op : l.listing.op ≡ l.fn.listing.op;
   same_every : l.listing.every ≡ l.fn.listing.every;
   count : length l.replacements.items ≡ l.k-end;

@@ -29,6 +29,7 @@ returns-in_err-list_site-clause-refused c = let p = err_from_is_err_and c.from_r
 
 pub loop-position-preserved : goal.loop-position-preserved
 loop-position-preserved c = record {
+  copies = c.in_ok-list_site.ensures.copies ∙ c.loop-position.invariant.copies;
   same_op = c.in_ok-list_site.ensures.same_op ∙ c.loop-position.invariant.same_op;
   same_every = c.in_ok-list_site.ensures.same_every ∙ c.loop-position.invariant.same_every;
   made = λ all. c.in_ok-list_site.ensures.made (c.loop-position.invariant.made all);

@@ -1,5 +1,6 @@
 use Rattle.std.proofs.Common.{◌≡◌}
 use Rattle.std.specs.List.{All}
+use Rattle.mothra_ops.specs.Copies.{copied}
 use Rattle.mothra_ops.specs.Made.{IsMadeMutant}
 use Rattle.mothra_ops.specs.code.Listing.{HasCome}
 use Rattle.mothra_ops.specs.code.Drawn.{lines_of}
@@ -7,6 +8,7 @@ use Rattle.mothra_ops.proofs.original.Original.list_statement.Given as goal
 
 abbrev pub invariant-loop-position : goal.invariant-loop-position
 invariant-loop-position l = record {
+  copies : copied l.copies ≡ copied l.fn.copies;
   same_op : l.listing.op ≡ l.fn.listing.op;
   same_every : l.listing.every ≡ l.fn.listing.every;
   made : All (IsMadeMutant l.self.checked.now) l.fn.listing.mutants.items → All (IsMadeMutant l.self.checked.now) l.listing.mutants.items;

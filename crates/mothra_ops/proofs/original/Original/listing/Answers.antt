@@ -1,4 +1,4 @@
-use Rattle.std.proofs.Common.{arith, ◌≡◌, ◌+◌, ◌<◌, List, map, length, subst, ap, sym, ◌∙◌}
+use Rattle.std.proofs.Common.{arith, ◌≡◌, ◌+◌, ◌<◌, List, map, length, subst, ap, refl, sym, ◌∙◌}
 use Rattle.std.proofs.lemmas.List.{length-map}
 use Rattle.std.proofs.lemmas.List.Elements.{All-nil}
 use Rattle.std.proofs.lemmas.Result.{err_from_is_err_and}
@@ -15,6 +15,7 @@ use Rattle.mothra_ops.proofs.original.Original.listing.Goals as goal
 
 pub loop-i-init : goal.loop-i-init
 loop-i-init c = record {
+  copies = refl;
   op = c.new-listing.ensures.op;
   every = c.new-listing.ensures.every;
   made = rw (c.new-listing.ensures.none) (All-nil (IsMadeMutant c.args.self.now.checked.now));
@@ -34,6 +35,7 @@ list_statement-requires-clause-statement c =
 
 pub loop-i-preserved : goal.loop-i-preserved
 loop-i-preserved c = record {
+  copies = c.in_ok-list_statement.ensures.copies ∙ c.loop-i.invariant.copies;
   op = c.in_ok-list_statement.ensures.same_op ∙ c.loop-i.invariant.op;
   every = c.in_ok-list_statement.ensures.same_every ∙ c.loop-i.invariant.every;
   made = c.in_ok-list_statement.ensures.made c.loop-i.invariant.made;

@@ -1,5 +1,6 @@
 use Rattle.std.proofs.Common.{◌≡◌, ◌+◌}
 use Rattle.std.specs.List.{All}
+use Rattle.mothra_ops.specs.Copies.{copied}
 use Rattle.mothra_ops.specs.Made.{IsMadeMutant}
 use Rattle.mothra_ops.specs.code.Listing.{HasCome}
 use Rattle.mothra_ops.specs.code.Drawn.{lines_of}
@@ -7,6 +8,7 @@ use Rattle.mothra_ops.proofs.original.Original.listing.Given as goal
 
 abbrev pub invariant-loop-i : goal.invariant-loop-i
 invariant-loop-i l = record {
+  copies : copied l.copies ≡ copied l.fn.copies;
   op : l.listing.op ≡ l.fn.op;
   every : l.listing.every ≡ l.fn.every;
   made : All (IsMadeMutant l.self.checked.now) l.listing.mutants.items;

@@ -19,7 +19,7 @@ returns-then-edit-eq0-clause-made c =
       | then-edit-eq0-via-else-edit-eq0+then-edit-len w ↦ inr (omega (arith, w.len.ensures, w.if-edit-len.true))
     ] in
     none_made (lines_of original) edit
-    (no_replacement (pool_fields original.pools) (pools_of (lines_of original)) original.checked.now.program edit items c.requires c.in_ok-given.ensures.list none)
+    (no_replacement (pool_fields original.pools) (pools_of (lines_of original)) original.checked.now.program edit items c.requires.original c.in_ok-given.ensures.list none)
 
 pub mutant_by-requires-clause-made : goal.mutant_by-requires-clause-made
 mutant_by-requires-clause-made c =
@@ -27,7 +27,7 @@ mutant_by-requires-clause-made c =
     let edit = c.args.edit.now in
     let low : 1 ≤ edit.rank = omega (arith, c.if-edit-eq0.false) in
     let high : edit.rank ≤ length c.in_ok-given.given.items = omega (arith, c.len.ensures, c.if-edit-len.false) in
-    replacement_puts (pool_fields original.pools) (pools_of (lines_of original)) original.checked.now.program edit c.in_ok-given.given.items c.requires
+    replacement_puts (pool_fields original.pools) (pools_of (lines_of original)) original.checked.now.program edit c.in_ok-given.given.items c.requires.original
     c.in_ok-given.ensures.list c.index_mut.result.now low high c.index_mut.ensures.value
 
 pub returns-clause-made : goal.returns-clause-made
@@ -37,6 +37,6 @@ returns-clause-made c =
     let low : 1 ≤ edit.rank = omega (arith, c.if-edit-eq0.false) in
     let high : edit.rank ≤ length c.in_ok-given.given.items = omega (arith, c.len.ensures, c.if-edit-len.false) in
     mutant_found original.checked.now edit (replacement_of c.index_mut.result.now)
-    (replacement_puts (pool_fields original.pools) (pools_of (lines_of original)) original.checked.now.program edit c.in_ok-given.given.items c.requires
+    (replacement_puts (pool_fields original.pools) (pools_of (lines_of original)) original.checked.now.program edit c.in_ok-given.given.items c.requires.original
     c.in_ok-given.ensures.list c.index_mut.result.now low high c.index_mut.ensures.value)
     c.mutant_by.result c.mutant_by.ensures.mutant c.mutant_by.ensures.none
