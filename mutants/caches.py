@@ -1,7 +1,7 @@
-"""The user's folder for caches: what can be made anew, and is kept so that it need not be.
+"""The user's folder for caches: what is kept there can be made again.
 
-An answer of a program is kept by the digest of the program, of its words and of the job. It stands behind its own
-digest, so one that is damaged is as if there were none.
+An answer of a program is kept under the digest of the program, of its words and of the job. Its own digest stands in
+front of it, so an answer that is damaged counts as none.
 """
 
 import hashlib
@@ -18,7 +18,7 @@ PACKAGE = Path(__file__).resolve().parent
 
 @cache
 def tool_digest() -> str:
-    """The digest of this package: what an earlier one has made is made anew."""
+    """The digest of this package: what another version of it has kept is made again."""
     digest = hashlib.sha256()
     for path in sorted(each for each in PACKAGE.rglob("*.*") if each.suffix in (".py", ".txt", ".css", ".js")):
         digest.update(path.read_bytes() + b"\0")
@@ -26,7 +26,7 @@ def tool_digest() -> str:
 
 
 def caches_folder(kind: str) -> Path | None:
-    """Where things of a kind are kept; None where this user has no folder."""
+    """The folder for things of a kind; None where this user has no folder for caches."""
     try:
         caches = os.environ.get("XDG_CACHE_HOME") or Path.home() / ".cache"
     except RuntimeError:
@@ -35,8 +35,8 @@ def caches_folder(kind: str) -> Path | None:
 
 
 def keep(path: Path, data: bytes, most: int, most_bytes: int = 1 << 30) -> None:
-    """Keeps a file, and of its folder so many files and bytes as are newest. What cannot be kept is made anew another
-    time."""
+    """Keeps a file, and in its folder only the newest files: at most `most`, of `most_bytes` bytes in all. What can not
+    be kept is made again another time."""
     try:
         path.parent.mkdir(parents=True, exist_ok=True)
         written(path, data)
@@ -62,7 +62,7 @@ def digest_of_program(program: str) -> str:
 
 
 def path_of_answer(kind: str, program: str, words: Sequence[str], job: bytes) -> Path | None:
-    """Where an answer is kept; None where nothing can be."""
+    """The path under which an answer is kept; None where nothing can be kept."""
     folder = caches_folder(kind)
     try:
         made_of = digest_of_program(program).encode(), " ".join(words).encode(), job
@@ -72,7 +72,7 @@ def path_of_answer(kind: str, program: str, words: Sequence[str], job: bytes) ->
 
 
 def kept_answer(path: Path | None) -> str | None:
-    """The answer that is kept; None where there is none that is whole."""
+    """The answer that is kept; None where there is none, or it is damaged."""
     try:
         digest, _, text = path.read_bytes().partition(b"\n") if path else (b"", b"", b"")
     except OSError:

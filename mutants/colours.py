@@ -1,4 +1,4 @@
-"""Colours on a terminal: nowhere else, and not where NO_COLOR is set. What has a colour says the same without it."""
+"""Colours on a terminal, and nowhere else, nor where NO_COLOR is set. A text says the same without its colours."""
 
 import os
 import re
@@ -25,5 +25,5 @@ def coloured(text: str) -> str:
 
 
 def painted(text: str) -> str:
-    """A text as standard output takes it: what else a terminal would obey is gone."""
+    """A text for standard output, without whatever else a terminal would obey."""
     return coloured(visible(text)) if has_colours() else visible(text)

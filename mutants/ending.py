@@ -32,7 +32,7 @@ def takes_any_text() -> None:
 
 
 def status_of(main: Callable[[], int]) -> int:
-    """The status of what is done, with all of its output written.
+    """The exit status of `main`, after all of its output is written.
     Help and refused words end by an exit of their own."""
     try:
         status = main()
@@ -43,8 +43,8 @@ def status_of(main: Callable[[], int]) -> int:
 
 
 def leave_closed_pipes() -> None:
-    """Lets what is kept back for a pipe that nobody reads go nowhere:
-    else Python would write it, and tell that this failed."""
+    """Throws away what is still to be written to a pipe that nobody reads:
+    else Python would write it at its end, and report that this failed."""
     for stream in (sys.stdout, sys.stderr):
         try:
             stream.flush()
@@ -58,10 +58,10 @@ def end_by_signal(number: int, _: object) -> NoReturn:
 
 @contextmanager
 def ended_by_signals() -> Iterator[None]:
-    """While it holds, what would end this process at once ends it with all that it has begun."""
+    """Inside this context, a signal that would end this process at once ends it with all that it has begun."""
     kept: dict[int, object] = {}
     if threading.current_thread() is threading.main_thread():
-        # What is ignored, as by nohup, stays so.
+        # A signal that is ignored, as under nohup, stays ignored.
         kept = {each: signal.getsignal(each) for each in SIGNALS if signal.getsignal(each) == signal.SIG_DFL}
     for each in kept:
         signal.signal(each, end_by_signal)
@@ -73,7 +73,7 @@ def ended_by_signals() -> Iterator[None]:
 
 
 def run_tool(name: str, main: Callable[[], int]) -> int:
-    """Does it, and gives its exit status. A fault is a line on standard error;
+    """Runs `main`, and gives its exit status. A fault is a line on standard error;
     Ctrl-C, SIGTERM, SIGHUP and a closed pipe end it without more."""
     takes_any_text()
     try:
@@ -85,7 +85,7 @@ def run_tool(name: str, main: Callable[[], int]) -> int:
 
 
 def reported_status(name: str, main: Callable[[], int]) -> int:
-    """The status of what is done, with a line on standard error for what ends it before."""
+    """The exit status of `main`, with a line on standard error for what ends it early."""
     try:
         return status_of(main)
     except KeyboardInterrupt:

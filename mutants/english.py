@@ -14,7 +14,7 @@ def joined_words(words: Iterable[object]) -> str:
 
 
 def first_words(words: Sequence[object], most: int) -> str:
-    """The same of so many words at most: of more the first, and how many others there are."""
+    """At most `most` words joined; of more words the first ones, and how many others there are."""
     rest = [f"{len(words) - most} more"] if len(words) > most else []
     return joined_words([*words[:most], *rest])
 

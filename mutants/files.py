@@ -1,4 +1,4 @@
-"""Files that are written as a whole or not at all."""
+"""Files that are written whole or not at all."""
 
 import fcntl
 import os
@@ -9,12 +9,12 @@ from collections.abc import Callable, Iterator
 from contextlib import contextmanager
 from pathlib import Path
 
-# No file that is read as a whole has more bytes.
+# A file that is read as a whole has at most this many bytes.
 LARGEST = 1 << 26
 
 
 def is_open_as(path: Path, handle: Callable[[], int]) -> bool:
-    """Whether a path names what is open as a handle, whatever that is."""
+    """Whether a path names what this handle has open."""
     try:
         return os.path.samestat(path.stat(), os.fstat(handle()))
     except (OSError, ValueError):
@@ -31,15 +31,16 @@ def bytes_of(path: Path) -> bytes:
 
 
 def takes_bytes(path: Path) -> bool:
-    """Whether a path is a pipe or a device, which takes bytes as they are. Links to such stand in /dev alone."""
+    """Whether a path is a pipe or a device, which takes bytes as they come. Links to these count only in /dev."""
     is_other = path.exists() and not path.is_file() and not path.is_symlink()
     return is_other or path.absolute().is_relative_to("/dev")
 
 
 def written(path: Path, data: bytes) -> None:
-    """Writes a file under a name of its own and then renames it, so that it is there as a whole or not at all.
+    """Writes a file under a name of its own and then renames it, so that it is there whole or not at all.
 
-    A file whose place it takes leaves it its mode. The place of a link is taken: nobody can have another file written.
+    It takes the mode of a file that was there before. A link is replaced and not followed, so nobody can have another
+    file written.
     """
     if is_open_as(path, sys.stdout.fileno):
         sys.stdout.flush()
@@ -52,12 +53,12 @@ def written(path: Path, data: bytes) -> None:
 
 @contextmanager
 def locked(path: Path) -> Iterator[None]:
-    """Holds a lock beside a file that is read and then written: another call waits for it."""
+    """Holds a lock beside a file that is read and then written, so that another call waits."""
     lock = path.with_name(f".{path.name}.lock")
     while True:
         handle = os.open(lock, os.O_CREAT | os.O_RDWR | os.O_NOFOLLOW, 0o666)
         fcntl.flock(handle, fcntl.LOCK_EX)
-        # Who held it before has taken the file away.
+        # The call that held the lock before has removed its file.
         if is_open_as(lock, lambda: handle):
             break
         os.close(handle)

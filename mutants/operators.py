@@ -30,12 +30,12 @@ NAMES = {
 }
 
 
-# Sets of operators by name. These five make nearly all that is needed (Offutt, Lee, Rothermel, Untch and Zapf 1996).
+# Sets of operators by name. These five are nearly enough (Offutt, Lee, Rothermel, Untch and Zapf 1996).
 SETS = {"SUFFICIENT": ("ABS", "AOR", "LCR", "ROR", "UOI")}
 
 
 def code_of(word: str) -> str:
-    """The code of an operator that a word writes in any case; ValueError tells the nearest one."""
+    """The code of an operator, which a word writes in upper or lower case; ValueError names the nearest code."""
     if word.upper() in NAMES:
         return word.upper()
     near = difflib.get_close_matches(word.upper(), NAMES, 1, 0.3)
@@ -44,7 +44,7 @@ def code_of(word: str) -> str:
 
 
 def chosen_codes(ops: Collection[str] | None, without: Collection[str] | None) -> list[str]:
-    """The codes that are asked for: of all, or of these, all but those."""
+    """The codes that are asked for: all, or those in `ops`, without those in `without`."""
     chosen = [code for code in NAMES if (not ops or code in ops) and code not in (without or ())]
     if not chosen:
         raise ValueError("no operator is left: --except has all that are asked for")

@@ -1,4 +1,4 @@
-"""How far a command is, on standard error."""
+"""The progress of a command, on standard error."""
 
 import math
 import sys
@@ -9,7 +9,7 @@ from contextlib import contextmanager
 
 
 class Progress:
-    """One line that is written anew on a terminal, else a line each time."""
+    """One line that is written again and again on a terminal; elsewhere a line each time."""
 
     def __init__(self, name: str) -> None:
         self.name, self.is_terminal, self.width = name, sys.stderr.isatty(), 0
@@ -29,13 +29,13 @@ class Progress:
             self.width = 0
 
 
-# What takes no longer than so many seconds is not shown on the way, but on a terminal; and then so often.
+# How many seconds pass before progress is shown, except on a terminal; and how often it is shown then.
 QUIET, OFTEN = 1.0, 2.0
 
 
 @contextmanager
 def telling(progress: Progress, text: str) -> Iterator[None]:
-    """While it holds, what is done is shown: on a terminal at once, else where it takes long."""
+    """Inside this context the text is shown: on a terminal at once, elsewhere if it takes long."""
     timer = threading.Timer(0 if progress.is_terminal else QUIET, progress.tell, [text])
     timer.daemon = True
     try:
@@ -48,7 +48,7 @@ def telling(progress: Progress, text: str) -> Iterator[None]:
 
 
 def seconds_text(seconds: float) -> str:
-    """A time that is guessed, as one says it."""
+    """A guessed time, in words."""
     whole = round(seconds)
     if whole < 100:
         return f"{max(whole, 1)} s"
@@ -57,7 +57,7 @@ def seconds_text(seconds: float) -> str:
 
 
 class Paced:
-    """Shows how far work is: on a terminal at once, else now and then where it takes long."""
+    """Shows progress: on a terminal at once, elsewhere now and then if it takes long."""
 
     def __init__(self, name: str) -> None:
         self.progress, self.begun = Progress(name), time.monotonic()
@@ -71,7 +71,7 @@ class Paced:
 
 
 class Estimate(Paced):
-    """Shows how much of some work is done, and how long the rest may take."""
+    """Shows how much of the work is done, and how long the rest may take."""
 
     def __init__(self, name: str, what: str, whole: int) -> None:
         super().__init__(name)
@@ -88,9 +88,9 @@ class Estimate(Paced):
         return line
 
     def tick(self) -> None:
-        """Tells it, where it is time to."""
+        """Shows it, if it is time to."""
         now = time.monotonic()
-        # Lines that stay, as in the log of a build, are written where something was done since.
+        # Lines that stay, as in the log of a build, are written only if something was done since the last one.
         if now >= self.next and (self.progress.is_terminal or self.done != self.shown):
             self.shown = self.done
             self.tell(self.text(now))

@@ -4,10 +4,10 @@ SUCCESS = 0
 FAULT = 1
 WORDS = 2
 BELOW = 3
-# A comparison has the same where a mutant that was killed survives: in both cases the tests say too little.
+# A comparison has the same status where a mutant that was killed survives: in both cases the tests say too little.
 NEWLY_SURVIVING = BELOW
 UNEXPECTED = 4
-# A command that a signal ends has in a shell this and the number of the signal; Ctrl-C is signal 2.
+# For a shell, a command that a signal ended has this status plus the number of the signal; Ctrl-C is signal 2.
 BY_SIGNAL = 128
 INTERRUPTED = BY_SIGNAL + 2
 

@@ -12,7 +12,7 @@ from mutants import __version__
 from mutants.operators import codes_in
 
 Read = TypeVar("Read")
-# Options whose value is a list with commas, and what may stand in one behind a comma: codes, lines, or sizes.
+# Options whose value is a list with commas, and what may follow a comma in it: codes, lines, or sizes.
 LISTS = ("--ops", "--except", "--lines", "--size")
 ITEM = r"(?:[A-Za-z]{3}|\d+(?:-\d+)?|[A-Za-z]\w*=\d+)"
 FURTHER = re.compile(rf",?{ITEM}(?:,{ITEM})*,?|,")
@@ -34,13 +34,13 @@ def add_version(parser: argparse.ArgumentParser) -> None:
 
 
 def is_list_open(words: Sequence[str]) -> bool:
-    """Whether the last of some words is of a list."""
+    """Whether the last of these words is a list that goes on."""
     option, sign, _ = words[-1].partition("=")
     return bool(sign) and option in LISTS or words[-2:-1] in [[option] for option in LISTS]
 
 
 def with_whole_lists(words: Iterable[str]) -> list[str]:
-    """The words, with those together that are one list with blanks beside its commas: --ops ABS, UOI."""
+    """The words, where those that are one list with blanks beside its commas are joined: --ops ABS, UOI."""
     joined: list[str] = []
     for word in words:
         is_further = joined and (joined[-1].endswith(",") or word.startswith(",")) and FURTHER.fullmatch(word)
@@ -52,7 +52,7 @@ def with_whole_lists(words: Iterable[str]) -> list[str]:
 
 
 def read_by(read: Callable[[str], Read]) -> Callable[[str], Read]:
-    """What reads a word, for an option: what it says against the word is shown as it is."""
+    """What reads the word of an option. Its error is shown as it is."""
 
     def typed(word: str) -> Read:
         try:
@@ -86,12 +86,12 @@ def number_from_1(word: str) -> int:
 
 
 def whole_path(word: str) -> str:
-    """The path of a program that a word names, from the root: it may be called in another folder."""
+    """The full path of a program that a word names, since the program may be called in another folder."""
     return str(Path(word).resolve())
 
 
 def add_operators(parser: argparse.ArgumentParser) -> None:
-    """The options that say of which operators the mutants are."""
+    """Adds the options that choose the operators of mutants."""
     ops = read_by(codes_in)
     text = "these operators alone, in any case; sufficient is a set of five"
     parser.add_argument("--ops", metavar="A,B", type=ops, help=text)
@@ -99,7 +99,7 @@ def add_operators(parser: argparse.ArgumentParser) -> None:
 
 
 def add_mothra_options(parser: argparse.ArgumentParser, *names: str) -> None:
-    """Those options of mothra that are handed over, the operators by their codes."""
+    """Adds the options that are passed on to mothra, the operators by their codes."""
     for option, value, text in (
         ("ops", "A,B", "these operators alone, in any case; sufficient is a set of five"),
         ("every", "Q", "of each list the mutants 1, Q+1, 2Q+1 and on"),
@@ -114,12 +114,12 @@ def add_mothra_options(parser: argparse.ArgumentParser, *names: str) -> None:
 
 
 def asked_words(given: argparse.Namespace, *names: str) -> list[str]:
-    """The words for mothra of those options that were given."""
+    """The words for mothra, from the options that were given."""
     pairs = [(name, getattr(given, name)) for name in names]
     return [word for name, value in pairs if value is not None for word in (f"--{name}", str(value))]
 
 
 def tell_remarks(name: str, remarks: Iterable[str]) -> None:
-    """Warnings, a line each on standard error: what is done is done all the same."""
+    """Warnings, a line each on standard error. The command goes on."""
     for remark in remarks:
         sys.stderr.write(f"{name}: warning: {visible(remark)}\n")

@@ -1,4 +1,4 @@
-"""A check: the program and its tests asked for all that is said of them."""
+"""A check: what is said of a program and its tests is asked of the programs mothra and equivalents."""
 
 import time
 from collections.abc import Sequence
@@ -47,10 +47,10 @@ class Asked(NamedTuple):
 
 
 class Checked(NamedTuple):
-    """What came of a check. The list and the report have the mutants that were asked about; `whole` has all that ran.
+    """The result of a check. The list and the report have the mutants that were asked about; `whole` has all that ran.
 
-    Of so many tests as `expected` says it was said what the program has to do. `file` is the text of the file that the
-    source is from, with its tabs and its other units. The run of the mutants took so many `seconds`.
+    `expected` is the number of tests that say what the program has to do. `file` is the text of the file that the
+    source is from, with its tabs and its other units. `seconds` is how long the run of the mutants took.
     """
 
     job: Job
@@ -96,7 +96,7 @@ def words_of_ops(asked: Asked) -> list[str]:
 
 
 def changed_of(program: str, asked: Asked, job: Job, printed: Sequence[str]) -> tuple[set[int], str]:
-    """The lines that the older version has not, and why the others are left out."""
+    """The lines that the older version does not have, and why the others are left out."""
     path = asked.old or asked.program
     if asked.since is not None:
         source = source_of(bytes_at(path, asked.since), asked.wish)
@@ -124,7 +124,7 @@ def listed_of(program: str, asked: Asked, job: Job, shown: str) -> tuple[dict[st
 
 
 def ops_left_out(asked: Asked) -> list[str]:
-    """Which operators are left out, in as few names as tell it."""
+    """Which operators are left out, named in as few words as possible."""
     kept = chosen_codes(asked.ops, asked.without)
     rest = [op for op in NAMES if op not in kept]
     if not rest:
@@ -134,7 +134,7 @@ def ops_left_out(asked: Asked) -> list[str]:
 
 
 def ran(job: Job, printed: Sequence[str], totals: dict[str, int], means: Means, name: str) -> Report:
-    """The report on these operators; there may be none."""
+    """The report on these operators, of which there may be none."""
     if totals:
         return asked_in_parts(job, totals, means, name)
     unit = printed[0].removeprefix("SUBROUTINE ").partition("(")[0]
@@ -144,8 +144,8 @@ def ran(job: Job, printed: Sequence[str], totals: dict[str, int], means: Means, 
 def with_proofs(
     words: Sequence[str], job: Job, said: Said, listed: Sequence[Mutant], prover: Prover, name: str
 ) -> tuple[Job, Said]:
-    """The job with the mutants declared that are proved equivalent, asked for by these words; and what is said of
-    it."""
+    """The job, with the mutants declared that are proved equivalent, and what is said of it. `words` are the words for
+    the program equivalents."""
     progress = Progress(name)
     with telling(progress, f"asking which of {len(listed)} mutants are proved equivalent" if prover.program else ""):
         proofs = prover.proofs(words, job, listed)
@@ -162,8 +162,7 @@ class Given(NamedTuple):
 
 
 def check(asked: Asked, given: Given, means: Means, name: str, prover: Prover = NO_PROVER) -> Checked:
-    """Asks the program for all of it. What keeps the program or a test from being run is reported before mutants are
-    run."""
+    """Makes the check. Where the program or a test can not be run, this is reported before mutants are run."""
     job, said, expected = given
     program, shown = means.program, said.shown_for(job)
     printed = printed_of(program, asked.program, job, shown)

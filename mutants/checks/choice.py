@@ -1,5 +1,5 @@
-"""Which mutants are asked about: those of some operators, of some lines,
-of statements that differ from another version."""
+"""Which mutants are asked about: those of some operators, of some lines, or
+of the statements that differ from another version."""
 
 import re
 from collections.abc import Collection, Iterable, Mapping, Sequence
@@ -52,7 +52,7 @@ def statement_keys(source: str, printed: Sequence[str]) -> list[tuple[str, str]]
 
 
 def lines_changed(source: str, printed: Sequence[str], old_source: str, old_printed: Sequence[str]) -> set[int]:
-    """The initial lines of the statements that the old program has not, or not in this order."""
+    """The initial lines of the statements that the old program does not have, or not in this order."""
     olds, news = statement_keys(old_source, old_printed), statement_keys(source, printed)
     same = SequenceMatcher(None, olds, news, autojunk=False).get_matching_blocks()
     kept = {place for block in same for place in range(block.b, block.b + block.size)}
@@ -73,7 +73,7 @@ def totals_of(totals: Mapping[str, int], listed: Iterable[Mutant]) -> dict[str, 
 
 
 def restricted(report: Report, listed: Sequence[Mutant]) -> Report:
-    """What a report says of some of its mutants."""
+    """The report, with only these mutants of it."""
     kept = {mutant[:3] for mutant in listed}
     rows = [row for row in report.rows if row[:3] in kept]
     alive = [mutant for mutant in report.survivors if mutant[:3] in kept]

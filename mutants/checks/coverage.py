@@ -1,8 +1,8 @@
 """Which tests come to which statement, asked of the program.
 
-A trap in the place of a statement (operator SAN) is sprung by the tests that come to it. A block IF, ELSE IF or DO has
-no such mutant. So 1-0 is put into each of them in a way that changes nothing, and the mutant that has 1/0 there
-(operator AOR) is killed by the tests that come to it.
+A trap in the place of a statement (operator SAN) is killed by the tests that come to the statement. A block IF, ELSE IF
+or DO has no such mutant. So 1-0 is put into each of these in a way that changes nothing, and the mutant that has 1/0
+there (operator AOR) is killed by the tests that come to it.
 """
 
 import re
@@ -24,7 +24,7 @@ TRAP, SAN, AOR = "TRAP", "SAN", "AOR"
 
 
 class Watched(NamedTuple):
-    """A statement with 1-0 in it, and how its mutant begins that has 1/0 there."""
+    """A statement with 1-0 in it, and how the mutant begins that has 1/0 there."""
 
     statement: str
     front: str
@@ -85,7 +85,7 @@ def watched_source(checked: Checked) -> tuple[str, dict[int, tuple[int, str]]]:
 
 
 def asked_watches(checked: Checked, means: Means, name: str) -> dict[int, str]:
-    """The tests that come to each block IF, ELSE IF and DO; none where these are too long for a further operation."""
+    """The tests that come to each block IF, ELSE IF and DO; no tests where such a statement is too long for 1-0."""
     source, watches = watched_source(checked)
     job = Job(source, checked.job.suite)
     try:
@@ -98,7 +98,8 @@ def asked_watches(checked: Checked, means: Means, name: str) -> dict[int, str]:
 
 
 def known_bits(checked: Checked, lines: Collection[int], means: Means, name: str) -> dict[int, str]:
-    """For each of the lines a digit for each test, 1 where it comes there; and for others that come with them."""
+    """For each of the lines a digit for each test, 1 where the test comes there. Other lines may be in the result,
+    too."""
     known = {line: "1" * len(checked.job.suite) for line in lines if checked.statements[line].startswith("DATA ")}
     known |= asked_traps(checked, means, name) if set(lines) - set(known) else {}
     known |= asked_watches(checked, means, name) if set(lines) - set(known) else {}

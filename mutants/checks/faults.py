@@ -1,4 +1,4 @@
-"""What keeps a check from being made, in one line for its user."""
+"""Why a check can not be made, in one line for its user."""
 
 from collections.abc import Iterator, Sequence
 from contextlib import contextmanager
@@ -21,10 +21,10 @@ def said_of(line: str) -> str:
 
 
 def program_fault(path: Path, source: str, shown: str, fault: Fault) -> ValueError:
-    """What keeps a program from being read, with its line where the fault has one; other faults stay as they are.
+    """Why a program can not be read, with its line where the fault has one; other faults stay as they are.
 
-    A habit of other Fortran is named in the place of what the fault means: of the source of the job, where bounds have
-    their values. The line stands as it is shown.
+    Where the fault shows a habit of other Fortran, the habit is named. It is looked for in the source of the job, where
+    bounds have their values; the line is given as it is shown.
     """
     code, _, detail = fault.line.removeprefix("FAULT ").partition(" ")
     meaning = MEANINGS.get(code) if fault.line.startswith("FAULT ") else None
@@ -40,7 +40,7 @@ def program_fault(path: Path, source: str, shown: str, fault: Fault) -> ValueErr
 
 @contextmanager
 def naming_line(path: Path, source: str, shown: str) -> Iterator[None]:
-    """While it holds, a fault of a program has its line."""
+    """Inside this context a fault of a program gets its line."""
     try:
         yield
     except Fault as fault:
@@ -48,7 +48,7 @@ def naming_line(path: Path, source: str, shown: str) -> Iterator[None]:
 
 
 def run_fault(declared: Sequence[object], fault: Fault) -> ValueError:
-    """What keeps the mutants from being run; a declared mutant is named. What is no fault stays as it is."""
+    """Why the mutants can not be run, where a declared mutant is named. What is no such fault stays as it is."""
     code, _, detail = fault.line.removeprefix("FAULT ").partition(" ")
     if not fault.line.startswith("FAULT "):
         return fault

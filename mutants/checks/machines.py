@@ -1,4 +1,4 @@
-"""The parts of a job run by GNU parallel on several machines. The first part that has no report ends all of them."""
+"""GNU parallel runs the parts of a job on several machines. The first part that has no report ends all of them."""
 
 from collections.abc import Callable, Iterable, Sequence
 

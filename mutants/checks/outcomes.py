@@ -15,7 +15,7 @@ from mutants.progress import Estimate
 from mutants.texts.batches import batch_text
 from mutants.texts.jobs import Job
 
-# So many sources have outcomes that are kept, each of so many tests, in so many bytes.
+# At most: the sources whose outcomes are kept, the tests of each, and the bytes of all.
 KIND, MOST, MOST_TESTS, MOST_BYTES = "outcomes", 500, 10_000, 1 << 25
 # The outcomes on which a test can be run at all: others are faults of the program itself.
 ENDS = ("RETURNED", "STOPPED")
@@ -31,15 +31,15 @@ class Difference(NamedTuple):
 
 
 def test_fault(number: int, fault: Fault) -> ValueError:
-    """What keeps a test from being run, in one line; what is no fault of the test stays as it is."""
+    """Why a test can not be run, in one line; what is no fault of the test stays as it is."""
     if not fault.line.startswith(("FAULT N", "FAULT J4", "FAULT J7")):
         return fault
     return ValueError(f"test {number}: {said_of(fault.line)}")
 
 
 def ask_outcomes(job: Job, places: Sequence[int], means: Means, name: str | None) -> list[str]:
-    """The line of the outcome of the program itself on each of the tests at these places; the first of them that
-    cannot be run is refused. With the name of a command, it is shown how far it is."""
+    """The line of the outcome of the program itself on each of the tests at these places. The first test that can not
+    be run is a fault. With the name of a command, its progress is shown."""
     words, plain = ["exec", "--test", "1", *means.step_words], Job(job.source, job.suite)
     calls: list[Call] = [(words, batch_text(plain, at, at + 1)) for at in places]
     outcomes = [""] * len(calls)
@@ -113,7 +113,8 @@ def is_word_met(word: str, outcome: str, names: Sequence[str]) -> bool:
 def is_met(expected: str, outcome: str, names: Sequence[str]) -> bool:
     """Whether an outcome is what is expected: NAME=VALUE for some arguments, or all values in order, * for any.
 
-    In front may stand RETURNED or STOPPED; without it the program has to return. An empty text expects nothing.
+    RETURNED or STOPPED may stand in front; without one of them the program has to return. An empty text expects
+    nothing.
     """
     words = words_in(expected)
     if not words:

@@ -1,4 +1,4 @@
-"""The parts of a job: batches of its tests by groups of its operators, and the report that their reports make."""
+"""The parts of a job, each a batch of its tests with a group of its operators; and their reports as one."""
 
 from collections.abc import Mapping, Sequence
 from itertools import product
@@ -7,14 +7,14 @@ from typing import NamedTuple
 from mutants.texts.joining import joined_batches, joined_operators
 from mutants.texts.reports import Report
 
-# A group has so many mutants at least, so that a part is worth a call.
+# A group has at least this many mutants, so that a part is worth a call.
 LEAST = 40
-# So many parts there are for each processor, where the job is long: so none of them waits long for the last one.
+# The parts for each processor, where a job is long: with several, no processor waits long for the last part.
 SHARE = 8
 
 
 class Part(NamedTuple):
-    """A batch and a group, by their places, and how many runs of mutants they ask for."""
+    """A batch and a group, by their places, and the number of runs of mutants in them."""
 
     batch: int
     group: int
@@ -35,7 +35,7 @@ def parts_of(totals: Mapping[str, int], groups: Sequence[Sequence[str]], sizes: 
 
 
 def whole_report(reports: Mapping[tuple[int, int], Report]) -> Report:
-    """The one report of those of all parts, by batch and group."""
+    """The report of the whole job, from the reports of its parts, by batch and group."""
     groups = sorted({group for _, group in reports})
     count = len({batch for batch, _ in reports})
     return joined_operators([joined_batches([reports[batch, group] for batch in range(count)]) for group in groups])

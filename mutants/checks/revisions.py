@@ -7,7 +7,7 @@ from mutants.statuses import SUCCESS
 
 
 def bytes_at(program: Path, revision: str) -> bytes:
-    """The bytes of a file at a revision. Nothing is fetched, and no filter of the repository is run."""
+    """The bytes of a file at a revision. Nothing is fetched, and no filters of the repository are run."""
     words = ["git", "-c", "protocol.allow=never", "-C", str(program.resolve().parent), "cat-file", "blob"]
     if revision.startswith("-") or ":" in revision:
         raise ValueError(f"--since {revision}: it is no revision")

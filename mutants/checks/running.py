@@ -15,8 +15,8 @@ from mutants.texts.reports import Report, read_report
 
 
 class Means(NamedTuple):
-    """What the runs are made with: the program, the options of the user, how many calls at once, and machines with
-    the name that the program has on all of them; and whether outcomes that are kept are asked for anew."""
+    """What the runs use: the program, the options of the user, how many calls are made at once, and machines with the
+    name that the program has on all of them; and whether outcomes that are kept are asked for again."""
 
     program: str
     steps: str | None = None
@@ -33,7 +33,7 @@ class Means(NamedTuple):
 
 
 def calls_at_once(means: Means) -> int:
-    """How many calls are made at once here: so that their threads are as many as the processors."""
+    """How many calls are made at once here, so that there are as many threads as processors."""
     if means.jobs:
         return means.jobs
     threads = int(means.workers) if means.workers and means.workers.isdecimal() else 1
@@ -46,7 +46,7 @@ def words_of(means: Means, ops: Sequence[str], threads: int) -> list[str]:
 
 
 def part_calls(job: Job, means: Means, groups: Sequence[Sequence[str]], parts: Sequence[Part]) -> list[Call]:
-    """The calls of the parts. A call has several threads where its part is more than the share of a processor."""
+    """The calls of the parts. A call has several threads where its part is more than the share of one processor."""
     texts = [batch_text(job, *ends) for ends in batches(job)]
     whole = sum(part.runs for part in parts)
     calls: list[Call] = []
@@ -58,7 +58,7 @@ def part_calls(job: Job, means: Means, groups: Sequence[Sequence[str]], parts: S
 
 
 def asked_in_parts(job: Job, totals: Mapping[str, int], means: Means, name: str) -> Report:
-    """The report on the operators of these totals, as one call would give it if it took suites of any length."""
+    """The report on these operators, the same as one call would give if it took suites of any length."""
     sizes, at_once = [last - first for first, last in batches(job)], calls_at_once(means)
     groups = groups_of(totals, group_size(totals, len(sizes), at_once))
     parts = parts_of(totals, groups, sizes)

@@ -36,7 +36,7 @@ class Sections(NamedTuple):
     programs: list[Program]
 
     def of(self, path: Path) -> Program | None:
-        """What is said of a program, by its source or by what a check wrote of it."""
+        """The program of the file with this path: that of its source, or of what a check wrote of it."""
         return next((each for each in self.programs if path.resolve() in each.files), None)
 
 
@@ -50,7 +50,7 @@ def read_ini(path: Path) -> dict[str, Values]:
 
 
 def toml_text(value: object) -> str:
-    """A value of toml as the command line would have it."""
+    """A value of toml, written as on the command line."""
     if isinstance(value, bool):
         return "yes" if value else "no"
     if isinstance(value, dict):
@@ -79,7 +79,7 @@ def program_of(name: str, section: Mapping[str, str], folder: Path) -> Program:
 
 
 def read_sections(path: Path) -> Sections:
-    """The sections of a file; ValueError says why it does not serve."""
+    """The sections of a file; ValueError says why the file can not be used."""
     read = read_toml if path.suffix == ".toml" else read_ini
     sections = {
         name: {key.strip().replace("_", "-"): value for key, value in section.items()}
@@ -88,7 +88,7 @@ def read_sections(path: Path) -> Sections:
     common = sections.pop(SECTION, None)
     named = {name: section for name, section in sections.items() if {SOURCE, TESTS} & set(section)}
     if common is None and not named:
-        # To pass it over would leave out options that a build relies on, without a word.
+        # To pass over the file would silently leave out options that a build relies on.
         raise ValueError(f"it has neither a section [{SECTION}] nor one with a {SOURCE}")
     return Sections(path, common or {}, [program_of(*each, path.parent) for each in named.items()])
 

@@ -2,8 +2,8 @@
 the one of the program.
 
 An option has the name that it has on the command line, without the hyphens in front. What the command line says comes
-first. Names of files in it are from its own folder, and files that are written lie in it. The file may come with a
-program from anywhere: so it names neither a machine nor a program that is called.
+first. Names of files are relative to the folder of the file, and files that are written lie in that folder. The file
+may come with a program from anywhere, so it may name neither a machine nor a program that is called.
 """
 
 import argparse
@@ -17,13 +17,13 @@ from mutants.program.calling import naming
 from mutants.program.programs import PROGRAMS
 
 AddOptions = Callable[[argparse.ArgumentParser], None]
-# What a file may set, and which of that are files that are written.
+# What a file may set, and which of these are files that are written.
 OUTPUTS = ("page", "report", "json", "csv", "junit", "markdown", "sarif")
 KEYS = frozenset(
     "ops except lines changed unit size expand-tabs equivalent undeclared steps workers jobs no-proofs anew"
     " fail-under expect show-proved no-page top all baseline".split()
 ).union(OUTPUTS)
-# What other subcommands than those that check take of it: how a program is read, and what is declared and proved.
+# What the subcommands that do not check take from it: how a program is read, and what is declared and proved.
 READING = ("tests", "unit", "size", "expand_tabs", "equivalent", "undeclared", "no_proofs", "steps", "workers")
 # The options that name programs, which no check's own options are.
 CALLED = [program.option for program in PROGRAMS.values()]
@@ -49,7 +49,7 @@ def parser_of(add_options: AddOptions) -> Parser:
 
 
 def assert_allowed(key: str, value: str, folder: Path, known: Iterable[str]) -> None:
-    """A file may set this key; what it has written lies in its folder, where links lead too."""
+    """Refuses a key that a file may not set, and a file to be written outside its folder, also by a link."""
     if key in OUTPUTS and not (folder / value).resolve().is_relative_to(folder.resolve()):
         raise ValueError(f"{key} is {value}, and a file is written in the folder of the options alone")
     if key in KEYS:
@@ -97,9 +97,9 @@ def is_open(value: object) -> bool:
 def with_settings(
     given: argparse.Namespace, program: Path, add_options: AddOptions, names: Collection[str] | None = None
 ) -> Path | None:
-    """Fills in what the command line left open, from the file beside a program; its path, where there is one.
-    Options that the command has not, or that are none of these names, are passed over. The names of those that it gave
-    are kept as `from_file`."""
+    """Fills in what the command line left open, from the file beside a program. The result is the path of the file, if
+    any. Options that the command does not have, or that are none of these names, are passed over. The names of the
+    options that the file gave are kept as `from_file`."""
     path, given.from_file = file_in(program.parent), set()
     if path:
         kept = vars(read_settings(path, program, add_options))
@@ -113,6 +113,6 @@ def with_settings(
 
 
 def assert_tests(given: argparse.Namespace) -> None:
-    """There is a table of tests: by the command line, or by the file."""
+    """Refuses a call without a table of tests, on the command line or in the file."""
     if given.tests is None:
         raise ValueError(f"{given.program}: there is no table of its tests: give TESTS, or name it in {INI}")

@@ -44,7 +44,7 @@ def expected_of(given: argparse.Namespace, made: Made) -> Expected:
 
 
 def declared_of(given: argparse.Namespace, made: Made, means: Means) -> Meant:
-    """What is declared; where the source has a fault, the check reports that."""
+    """What is declared. Where the source has a fault, nothing: the check reports the fault."""
     try:
         return meant_for(
             made, given.program, given.equivalent, lambda: means.program, looks_beside=not given.undeclared
@@ -61,7 +61,7 @@ def means_of(given: argparse.Namespace) -> Means:
 
 
 def start_of(given: argparse.Namespace, name: str) -> Start:
-    """All that the words name, as it is; warnings have the name of the command in front."""
+    """Reads all that the words name. Warnings have the name of the command in front."""
     wish = wish_of(given)
     made = made_of(given.program, given.tests, wish)
     expected, means, prover = expected_of(given, made), means_of(given), prover_of(given)

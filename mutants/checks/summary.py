@@ -1,5 +1,5 @@
-"""What a check tells on the terminal: the score and the lines with most survivors, or all of it: the program on the
-tests, the survivors by line with what each changes, tests that add nothing."""
+"""What a check shows on the terminal: the score and the lines with most survivors. Or all: what the program does on the
+tests, the survivors by line with what each changes, and the tests that add nothing."""
 
 from collections.abc import Iterable, Iterator, Sequence
 from itertools import groupby
@@ -30,7 +30,8 @@ LONG, WIDTH = 60, 118
 
 
 class Telling(NamedTuple):
-    """How much is shown: the survivors of so many lines of the program, or all there is; and each proved mutant."""
+    """How much is shown: the survivors of at most `top` lines of the program, or everything; and whether each proved
+    mutant is named."""
 
     top: int = TOP
     is_all: bool = False
@@ -62,7 +63,7 @@ def difference_lines(checked: Checked) -> Iterator[str]:
 
 
 def proved_count(checked: Checked) -> int:
-    """How many mutants do not count by a proof alone."""
+    """How many mutants do not count since they are proved equivalent, and for no other reason."""
     return count_of_proved(checked.report.rows, checked.said.proofs)
 
 
@@ -82,14 +83,14 @@ def proof_lines(checked: Checked) -> Iterator[str]:
 
 
 def subsuming_lines(checked: Checked) -> Iterator[str]:
-    """The score over the mutants that subsume all others, where it tells something else."""
+    """The score over the mutants that subsume all others, where it differs from the score."""
     least = subsuming(checked.listed, checked.report.rows)
     if least.counted.total < sum(row.status != "E" for row in checked.report.rows):
         yield least.text()
 
 
 def twin_lines(checked: Checked) -> Iterator[str]:
-    """The same of programs, where some mutants are one; the score counts mutants, as the report does."""
+    """The counts of programs, where several mutants are one program. The score counts mutants, as the report does."""
     count = count_of_programs(checked.listed, checked.report.rows)
     if count.total < len(checked.listed):
         programs = plural(count.wanted, "different program")
@@ -188,14 +189,14 @@ def survivor_lines(checked: Checked, telling: Telling) -> Iterator[str]:
 
 
 def box_lines(checked: Checked) -> Iterator[str]:
-    """How many of the survivors no row of a box kills that was searched."""
+    """How many of the survivors are killed by no row of a box that was searched."""
     boxed = checked.said.killed_by_no_row(checked.report.survivors)
     if boxed:
         yield f"{boxed_text(boxed)} The page names the box."
 
 
 def half_declared_lines(checked: Checked) -> Iterator[str]:
-    """The survivors whose program is declared equivalent under another name alone."""
+    """The survivors whose program is declared equivalent, but only under the name of another mutant."""
     declared = {name_of(row) for row in checked.report.rows if row.status == "E"}
     alive = {name_of(row) for row in checked.report.rows if row.status == "S"}
     for group in twins_in(checked.listed):
@@ -207,8 +208,8 @@ def half_declared_lines(checked: Checked) -> Iterator[str]:
 
 
 def unreached_lines(checked: Checked) -> Iterator[str]:
-    """The statements that no test comes to, as far as the report tells it: a trap in their place survives. Where the
-    trap is proved equivalent, no test can."""
+    """The statements that no test comes to, as far as the report shows it: a trap in their place survives. Where the
+    trap is proved equivalent, no test can come there."""
     traps = [mutant for mutant in checked.listed if mutant.op == "SAN" and mutant.text == "TRAP"]
     alive, proved = set(checked.report.survivors), checked.said.proofs.whys
     for verb, lines in (
@@ -237,7 +238,7 @@ def suite_lines(checked: Checked) -> Iterator[str]:
 
 
 def score_lines(checked: Checked) -> Iterator[str]:
-    """The score, first what is wrong with it and then what it leaves out."""
+    """The score, with what is wrong with it in front and what it leaves out behind."""
     yield from wrong_lines(checked)
     yield score_line(checked)
     yield from proof_lines(checked)

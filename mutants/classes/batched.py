@@ -1,4 +1,4 @@
-"""Suites of any length in a class: a job takes so many tests, so a long suite is run in batches."""
+"""Suites of any length in a class: a job has at most 256 tests, so a long suite is run in batches."""
 
 import re
 from collections.abc import Callable, Sequence
@@ -15,7 +15,8 @@ OF_TEST = re.compile(r"FAULT (B3|B4|J4) (\d+)\n?")
 
 
 def whole_text(texts: Sequence[str], firsts: Sequence[int]) -> str:
-    """The report of a suite of those of its batches, or their first fault; the first test of each has this place."""
+    """The report of a suite, from the reports of its batches; or the first fault of these. `firsts` has the place of
+    the first test of each batch."""
     failed = next((place for place, text in enumerate(texts) if not text.startswith("REPORT ")), None)
     if len(texts) == 1 or failed is not None:
         text = texts[failed or 0]
@@ -38,7 +39,7 @@ class Batched:
         return job if len(ends) == 1 else batch_text(read_job(job), *ends[batch])
 
     def take(self, part: int, text: str) -> None:
-        """Takes what came of a batch."""
+        """Takes the text of a batch."""
         place, batch = self.parts[part]
         come, ends = self.come[place], self.ends[place]
         come[batch] = text
@@ -46,5 +47,5 @@ class Batched:
             self.keep(place, whole_text([come[each] for each in range(len(ends))], [first for first, _ in ends]))
 
     def take_answer(self, part: int, text: str, status: int) -> None:
-        """Takes what came of a batch with its status, as another machine tells them."""
+        """Takes the text of a batch and its status, as another machine gives them."""
         self.take(part, text_of_answer(text, status))

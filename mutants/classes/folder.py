@@ -72,7 +72,7 @@ class Task(NamedTuple):
 
 
 TABLES, SUITES = (".json", ".csv"), "suites"
-# What came for a reason that is not the job's own, and may be another one the next time.
+# Answers for a reason that is not the job's own, which may be others the next time.
 PASSING = "J1 F1 S1 C1 N1 O1 B1 B2".split()
 
 
@@ -96,7 +96,7 @@ def programs_in(folder: Path) -> list[Path]:
 
 
 def tables_in(folder: Path) -> dict[str, Path]:
-    """The tables of tests, by name. Where one name is that of two, both have their endings."""
+    """The tables of tests, by name. Where two tables would have the same name, both names have their endings."""
     paths = [path for path in sorted(folder.iterdir()) if path.suffix.lower() in TABLES and not is_declaring(path)]
     names = {path: name_of(path) for path in paths if path.is_file() or path.is_symlink()}
     while twice := [path for path in names if Counter(names.values())[names[path]] > 1 and names[path] != path.name]:
@@ -105,7 +105,7 @@ def tables_in(folder: Path) -> dict[str, Path]:
 
 
 def unread_remarks(folder: Path) -> list[str]:
-    """Remarks on files that would declare something or set options where everybody may write."""
+    """Remarks on files with declarations or options, which are not read since anybody may have put them there."""
     paths = [path for path in sorted(suites_folder(folder).iterdir()) if is_declaring(path) or path.name in (INI, TOML)]
     return [f"{path} is not read, since suites are handed in there: {advice_on(path, folder)}" for path in paths]
 
@@ -137,7 +137,7 @@ Prove = Callable[[str, Collection[str]], Proofs]
 
 
 class Programs:
-    """The programs of a folder: what is made, declared and proved of each is asked once."""
+    """The programs of a folder. What is made, declared and proved of each is asked for once."""
 
     def __init__(self, paths: Sequence[Path], mothra: str, read: Read, prove: Prove) -> None:
         self.paths, self.mothra, self.prove = paths, mothra, prove
@@ -146,7 +146,7 @@ class Programs:
         self.known: dict[Path, tuple[Meant, Proofs]] = {}
 
     def wish_of(self, program: Path) -> Wish:
-        """How a program is read: sizes are those of several."""
+        """How a program is read. The sizes may be meant for several programs."""
         wish = self.readings[program].wish
         return wish._replace(shares_sizes=wish.shares_sizes or len(self.paths) > 1)
 
@@ -174,7 +174,7 @@ class Programs:
 
 
 def task_of(name: str, program: Path | None, table: Path, programs: Programs) -> Task:
-    """The job of a table. What the program has to tell is left to it."""
+    """The job of a table. What has to be asked of the program is left for later."""
     try:
         if program is None:
             raise ValueError(f"{table}: there is no program of this name")
@@ -263,12 +263,12 @@ class Results:
         written(self.path(task.name, ".outcomes"), "".join(f"{line}\n" for line in lines).encode())
 
     def outcomes(self, task: Task) -> list[str] | None:
-        """What the program itself does on each test, where it is kept: it is of the job of now, as the report is."""
+        """What the program itself does on each test, if that is kept. It is of the present job, as the report is."""
         path = self.path(task.name, ".outcomes")
         return path.read_text().splitlines() if path.exists() else None
 
     def is_missing(self, task: Task) -> bool:
-        """Whether a job has still to be run: there is no result, or what came may not come again."""
+        """Whether a job has still to be run: it has no result, or one that may be another the next time."""
         if task.text is None:
             return False
         text = self.text(task)

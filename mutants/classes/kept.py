@@ -1,4 +1,4 @@
-"""What a call made of a class, kept: where nothing has changed the next call has nothing to make."""
+"""What a call made of a class is kept: where nothing has changed, the next call makes nothing."""
 
 import hashlib
 import json
@@ -22,7 +22,7 @@ class Summary(NamedTuple):
 
 
 def digest_of_class(tasks: Sequence[Task], results: Results, remark: str) -> str:
-    """The digest of all that the files of a class are made of, beside the answers that are kept."""
+    """The digest of all of which the files of a class are made, beside the answers that are kept."""
     digest = hashlib.sha256(f"{tool_digest()}{remark}".encode())
     for task in tasks:
         proofs = sorted(task.proofs.whys.items()), task.proofs.not_asked_text(), task.proofs.remark

@@ -115,7 +115,7 @@ def listing_part(whole: Class, results: Sequence[Reported], known: View | None) 
 
 
 def rows_of_all(whole: Class) -> list[Row]:
-    """The row of each mutant as if all tests of the class were one suite."""
+    """The row of each mutant, where all tests of the class count as one suite."""
     return [
         row._replace(status="K" if mask else "E" if row.status in "EW" else "S")
         for row, mask in zip(whole.rows, whole.killers)

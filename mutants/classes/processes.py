@@ -1,4 +1,4 @@
-"""The jobs of a class run on this machine: a process of the program for each, so many at once."""
+"""The jobs of a class are run on this machine, each by a process of the program, several at once."""
 
 from collections.abc import Callable, Sequence
 
@@ -9,7 +9,7 @@ from mutants.statuses import SUCCESS
 
 
 def text_of_call(calls: Calls, words: Sequence[str], job: bytes) -> str:
-    """What is kept of a job: the report, or the line that says why there is none, which ends no other job."""
+    """What is kept of a job: the report, or the line that says why there is none. Other jobs go on."""
     try:
         return text_of_answer(calls.answer(words, job), SUCCESS)
     except Fault as fault:

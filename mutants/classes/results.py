@@ -1,4 +1,4 @@
-"""What the results of the jobs of one program say together: the class."""
+"""The class: what the results of all jobs of one program say together."""
 
 import json
 from collections.abc import Iterable, Mapping, Sequence
@@ -25,8 +25,8 @@ class Reported(NamedTuple):
 
 
 class Result(NamedTuple):
-    """What came of a job: a report, or in words why there is none, with the code of its fault; and on how many tests
-    the program does not do what its table expects."""
+    """The result of a job: a report, or in words why there is none, with the code of its fault; and the number of tests
+    on which the program does not do what its table expects."""
 
     name: str
     program: str
@@ -83,7 +83,7 @@ def test_places(results: Sequence[Reported]) -> tuple[dict[str, int], list[list[
 
 
 def killed_by(row: Row, masks: Iterable[int]) -> int:
-    """The tests that kill a mutant as bits, where each test of its suite has its own."""
+    """The tests that kill a mutant, as bits; `masks` has the bit of each test of its suite."""
     tests = 0
     for mask, bit in zip(masks, row.bits):
         tests |= mask if bit == "1" else 0
@@ -144,7 +144,7 @@ FORMULA = ("=", "+", "-", "@", "\t", "\r")
 
 
 def plain_cell(word: str) -> str:
-    """A text that no spreadsheet computes, and that is UTF-8."""
+    """The text, changed so that no spreadsheet takes it for a formula, and in UTF-8."""
     shown = word.encode("utf-8", "replace").decode()
     return f"'{shown}" if shown.startswith(FORMULA) and shown != NO_CODE else shown
 

@@ -1,4 +1,4 @@
-"""What came of each suite of a class, in words, and its page, which is written where something in it has changed."""
+"""The result of each suite of a class, in words, and its page, which is written where something in it has changed."""
 
 import json
 from collections.abc import Mapping, Sequence
@@ -64,7 +64,7 @@ def folder_of(task: Task) -> str:
 
 
 class Asked:
-    """What the programs themselves do on tests: each test of the class is asked once, whoever has it."""
+    """What the programs themselves do on tests. Each test of the class is run once, even if several suites have it."""
 
     def __init__(self, means: Means) -> None:
         self.means, self.known = means, dict[tuple[str, str], str]()
@@ -84,7 +84,7 @@ class Asked:
 
 
 def suite_of(task: Task, known: Known | None, asked: Asked, results: Results) -> Suite:
-    """What came of a job."""
+    """The result of a job."""
     text = None if task.text is None else results.text(task)
     if text is None or not text.startswith("REPORT ") or not known:
         return Suite(task, text or "", refused(task, text))
@@ -100,7 +100,7 @@ def suite_of(task: Task, known: Known | None, asked: Asked, results: Results) ->
 
 
 def digest_of_all(*made_of: object) -> str:
-    """The digest of what a page is made of."""
+    """The digest of all of which a page is made."""
     return digest_of(*(repr(each).encode("utf-8", "replace") for each in made_of))
 
 
@@ -124,7 +124,7 @@ def page_of(suite: Suite, known: Known, report: Report, remark: str) -> str:
 
 
 def write_pages(suites: Sequence[Suite], known: Mapping[str, Known], remark: str, results: Results) -> None:
-    """The page of each suite that has a report, where it is not there as it has to be."""
+    """Writes the page of each suite that has a report, where that page is not there yet or is another one."""
     shared: dict[str, str] = {}
     for suite in suites:
         report, its = suite.result.report, known.get(suite.task.program_name)

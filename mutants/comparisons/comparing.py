@@ -1,4 +1,4 @@
-"""A comparison of two states: what became of the mutants and of the tests that both have, and what one has alone."""
+"""A comparison of two states: what became of the mutants and the tests that both have, and what only one has."""
 
 from collections.abc import Sequence
 from typing import NamedTuple
@@ -9,7 +9,7 @@ from mutants.texts.lines import Mutant
 
 
 class Change(NamedTuple):
-    """A mutant of both states as it is now, and the tests that tell: those that kill it now, or did before."""
+    """A mutant of both states as it is now, and the tests that matter: those that kill it now, or did before."""
 
     mutant: Mutant
     tests: tuple[int, ...]
@@ -31,7 +31,7 @@ class Comparison(NamedTuple):
     matched: Matched
     newly_killed: list[Change]
     newly_surviving: list[Change]
-    # Survivors that are declared equivalent since then, and those that are it no more; and the same by proofs alone.
+    # Survivors that are declared equivalent since then, and those that are no longer declared; and the same by proofs.
     declared: list[Mutant]
     undeclared: list[Mutant]
     proved: list[Mutant]
@@ -52,7 +52,7 @@ def with_ops(state: State, ops: Sequence[str]) -> State:
 
 
 def remarks_on(old: State, new: State, ops: Sequence[str]) -> list[str]:
-    """What has to be known beside the two lists, in sentences."""
+    """What one has to know beside the two lists, in sentences."""
     lines = []
     rest = [op for state in (old, new) for op in state.ops if op not in ops]
     if rest:
@@ -75,8 +75,8 @@ def newly_killed(pairs: Sequence[Pair]) -> list[Pair]:
 
 
 def newly_surviving(pairs: Sequence[Pair]) -> list[Pair]:
-    """What was killed and survives. What is proved now no test can kill: the program has changed, or its tests leave
-    steps to spare."""
+    """The mutants that were killed and survive. One that is proved equivalent now can be killed by no test: the program
+    has changed, or its tests leave room for more steps."""
     return [(before, now) for before, now in pairs if before.is_killed and not now.is_killed and not now.is_proved]
 
 

@@ -1,8 +1,8 @@
 """Which mutants and which tests of two states are the same.
 
-Where the statements are known, a mutant is found by the text of its statement and by what it makes of it. Statements
-are matched in their order, and those that were moved by their texts; so the numbers and lines of mutants do not matter.
-Else both states have to have the same mutants, and these are matched by number.
+Where the statements are known, a mutant is found by the text of its statement and by what it makes of that. Statements
+are matched in their order, and statements that were moved by their texts, so the numbers and lines of mutants do not
+matter. Else both states need the same mutants, which are matched by number.
 """
 
 from collections import defaultdict
@@ -80,7 +80,7 @@ def by_text(old: State, new: State) -> Matched:
 
 
 def assert_same_lists(old: State, new: State) -> None:
-    """The states have the same mutants, as far as their reports tell it."""
+    """Refuses two states that do not have the same mutants, as far as their reports show it."""
     refusal = "the reports are not of the same mutants"
     advice = "; reports have no texts of killed mutants. Give the jobs (--jobs OLD.json NEW.json), or files of --json"
     if (old.unit, old.every) != (new.unit, new.every):
@@ -97,7 +97,7 @@ def assert_same_lists(old: State, new: State) -> None:
 
 
 def by_number(old: State, new: State) -> Matched:
-    """The mutants matched by number, where the lists are the same; what either state tells of a text is taken."""
+    """The mutants matched by number, where the lists are the same. A text that either state has is taken."""
     assert_same_lists(old, new)
     pairs = []
     for one, other in zip(old.verdicts, new.verdicts):

@@ -1,4 +1,4 @@
-"""States of files: of reports of `mothra run`, and of what `mutants check --json` writes."""
+"""States read from files: reports of `mothra run`, and what `mutants check --json` writes."""
 
 import json
 from collections.abc import Collection, Mapping
@@ -49,7 +49,7 @@ def state_of_mutation_report(text: str) -> State:
         config, (file,) = report["config"], report["files"].values()
         statements = {int(line): statement for line, statement in config["statements"].items()}
         numbers = numbers_of([entry["id"] for entry in file["mutants"]])
-        # Files of earlier versions tell of no proof.
+        # Files of earlier versions say nothing of proofs.
         proved = set(config.get("proved", []))
         verdicts = [verdict_of(entry, numbers, statements, proved) for entry in file["mutants"]]
         tests = [json.dumps(test) for test in config["suite"]]

@@ -1,7 +1,7 @@
 """What changed since an earlier state of the same program and its tests, in a line or two; and the state of the last
 check, which is kept in the user's folder for caches.
 
-What is kept is this tool's own, so a file that is damaged, or of another version, is as if there were none.
+What is kept is this tool's own, so a file that is damaged, or of another version, counts as none.
 """
 
 import gzip
@@ -37,7 +37,7 @@ def state_of(checked: Checked) -> State:
 
 
 class Since(NamedTuple):
-    """Two states, the mutants that both have, and what the older one is called."""
+    """Two states, the mutants that both have, and the name of the older one."""
 
     what: str
     old: State

@@ -33,7 +33,7 @@ def groups_of(mutants: Iterable[Mutant]) -> list[list[Mutant]]:
 
 
 def change_text(mutant: Mutant, statements: Mapping[int, str]) -> str:
-    """What a mutant changes; where its statement is unknown, what stands there then."""
+    """What a mutant changes; where its statement is unknown, the changed statement."""
     if not mutant.text:
         return UNKNOWN
     return changed_text(statements[mutant.line], mutant.text) if mutant.line in statements else mutant.text
@@ -45,7 +45,7 @@ def mutants_text(mutants: Sequence[Mutant]) -> str:
 
 
 def items_of_changes(changes: Sequence[Change], state: State) -> list[Item]:
-    """Mutants that changed, each with the tests that tell."""
+    """Mutants that changed, each with the tests that matter."""
     by_mutant = {change.mutant: change for change in changes}
     items = []
     for group in groups_of(by_mutant):
@@ -61,7 +61,7 @@ def items_of(mutants: Iterable[Mutant], state: State) -> list[Item]:
 
 
 def score_text(state: State) -> str:
-    """The score with its sign, and `no score` where there is none."""
+    """The score with a percent sign, or `no score` where there is none."""
     score = score_of(count_of(state.verdicts))
     return "no score" if score == "NONE" else f"{score} %"
 

@@ -1,7 +1,7 @@
-"""What searches of whole boxes of rows found of the mutants of a program, kept in the user's folder for caches.
+"""What searches of whole boxes of rows found out about the mutants of a program, kept in the user's folder for caches.
 
-It holds of a source under a limit on steps, whatever the tests are: so pages say it until the program changes. A later
-search adds to it.
+It holds for a source under a limit on steps, whatever the tests are, so pages show it until the program changes. A
+later search adds to it.
 """
 
 import json
@@ -16,7 +16,7 @@ NO_PROOF = "That is more than a hint at equivalence and less than a proof: a row
 
 
 def boxed_text(count: int) -> str:
-    """That no row of a box kills so many of the survivors."""
+    """A sentence: no row of a box kills `count` of the survivors."""
     return f"Of the survivors {count} {'is' if count == 1 else 'are'} killed by no row of a box that was searched."
 
 
@@ -44,7 +44,8 @@ def kept_boxes(program: str, source: str, steps: int) -> dict[str, Searched]:
 
 
 def keep_boxes(program: str, source: str, steps: int, results: Mapping[str, Searched]) -> bool:
-    """Keeps what a search found, of each mutant a row that kills it, else the largest box. Whether there is a place."""
+    """Keeps what a search found: for each mutant a row that kills it, else the largest box. False where there is no
+    folder to keep it in."""
     path, known = path_for(program, source, steps), kept_boxes(program, source, steps)
     for name, result in results.items():
         known[name] = max(result, known.get(name, result), key=lambda each: (bool(each.row), each.rows))

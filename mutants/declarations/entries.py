@@ -37,7 +37,7 @@ class Entry(NamedTuple):
 
     @property
     def texts(self) -> tuple[str, str, str]:
-        """What an entry says of its mutant but for the number."""
+        """What an entry says of its mutant, without the number."""
         return self.op, self.before, self.after
 
 
@@ -80,13 +80,13 @@ def read_entries(text: str) -> list[Entry]:
 
 
 def entries_text(entries: Iterable[Entry], has_head: bool = True) -> str:
-    """The file of entries, or the rows to be put behind one."""
+    """The text of a file with these entries, or without its head the rows to be added to a file."""
     rows = [[entry.name, entry.before, entry.after, entry.reason, entry.where] for entry in entries]
     return "".join(map(row_text, [COLUMNS, *rows] if has_head else rows))
 
 
 def appended(text: str, entries: Sequence[Entry]) -> str:
-    """The text of a file with more entries behind those that it has. Its own rows keep their bytes."""
+    """The text of a file with more entries at its end. Its own rows stay as they are, byte for byte."""
     if not text.strip():
         return entries_text(entries)
     has_columns = columns_of(next(rows_in(text))[1]) == COLUMNS

@@ -1,7 +1,7 @@
 """Where declarations are kept, and what they say: entries with texts, or a bare list of names.
 
 Beside PROGRAM.f lies PROGRAM.equivalent.csv; for a unit that was picked by its name, PROGRAM.UNIT.equivalent.csv.
-A bare list in JSON is read too. Its numbers are not tied to the program, and so a remark comes with it.
+A bare list in JSON is read too. Its numbers are not tied to the texts of the program, so a remark comes with it.
 """
 
 import json
@@ -32,9 +32,9 @@ class Declarations(NamedTuple):
 
 
 class Meant(NamedTuple):
-    """What declarations mean in the program of now: the names for a job, their reasons, and remarks on them.
+    """What declarations mean in the present program: the names for a job, their reasons, and remarks on them.
 
-    Without a file of declarations a job has no key for them at all.
+    Without a file of declarations a job does not have the key for them.
     """
 
     names: list[str]
@@ -67,7 +67,7 @@ def read_names(text: str) -> list[str]:
 
 
 def read_declarations(path: Path) -> Declarations:
-    """The declarations of a file; ValueError names the file, and why it cannot be read."""
+    """The declarations of a file; ValueError names the file, and says why it can not be read."""
     with naming(path):
         text = decoded(path.read_bytes())
         if path.suffix.lower() == ".csv":

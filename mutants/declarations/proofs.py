@@ -1,4 +1,5 @@
-"""Mutants that are proved equivalent: they are declared by themselves, and kept apart from what a person declares."""
+"""Mutants that are proved equivalent. They are declared automatically, and kept apart from those that a person
+declares."""
 
 from collections.abc import Collection, Iterable, Mapping
 from types import MappingProxyType
@@ -17,9 +18,9 @@ NO_NAMES: Collection[str] = frozenset()
 
 
 class Proofs(NamedTuple):
-    """What is proved of the mutants of a program: what each proof rests on, by the name of the mutant; or why nothing
-    was asked. `declared` are the names that a person declares, whether they are proved or not. Proofs with steps to
-    spare are of so many `tests`, the first of a suite."""
+    """What is proved of the mutants of a program: the rule of each proof, by the name of the mutant; or why nothing was
+    asked. `declared` are the names that a person declares, whether they are proved or not. SPARE-n proofs are of the
+    first `tests` tests of a suite."""
 
     whys: Mapping[str, str] = MappingProxyType({})
     declared: Collection[str] = NO_NAMES
@@ -37,20 +38,20 @@ class Proofs(NamedTuple):
         return name in self.whys and name not in self.declared
 
     def has_spare(self, name: str) -> bool:
-        """Whether a mutant is proved with steps to spare: for the tests as they are."""
+        """Whether the proof of a mutant is SPARE-n, and so holds only for the tests as they are."""
         return has_spare(self.whys.get(name, ""))
 
     def for_all_tests(self) -> "Proofs":
-        """The proofs that hold for each test that anybody will ever write: those without steps to spare."""
+        """The proofs that hold for every test that anybody will ever write: all but SPARE-n."""
         return self._replace(whys={name: why for name, why in self.whys.items() if not has_spare(why)})
 
     def reason(self, name: str) -> str:
-        """Why a mutant is equivalent that is proved so; no text for another one."""
+        """The reason why a mutant is equivalent, if it is proved; else no text."""
         why = self.whys.get(name)
         return f"{PROVED} ({why}): {meaning_of(why)}" if why else ""
 
     def not_asked_text(self) -> str:
-        """One sentence where nothing was asked. Else no text."""
+        """One sentence where no proofs were asked for; else no text."""
         return f"Which mutants can be proved equivalent was not asked: {self.not_asked}." if self.not_asked else ""
 
 
@@ -66,7 +67,8 @@ def proofs_of(
 
 
 def assert_listed(proved: Iterable[Proof], listed: Iterable[Mutant]) -> None:
-    """Each mutant that is proved is one of the list of mothra: else the programs are of different sources."""
+    """Refuses proofs of mutants that are not on the list of mothra: then the two programs are built of different
+    sources."""
     known = set(listed)
     for proof in proved:
         if proof.mutant not in known:
@@ -82,23 +84,23 @@ def count_of_proved(rows: Iterable[Row], proofs: Proofs) -> int:
 
 
 def score_without(count: Count, proved: int) -> str:
-    """The score as it is where so many mutants are not declared by a proof: in percent, and of how many mutants."""
+    """The score as it would be if the `proved` mutants were not declared: in percent, and over how many mutants."""
     other = count._replace(equivalent=count.equivalent - proved)
     return f"{score_of(other)} %: {other.killed} of {plural(other.wanted, 'mutant')} killed"
 
 
 def is_killed_later(row: Row, proofs: Proofs) -> bool:
-    """Whether a mutant with steps to spare is killed by tests alone that came behind those of its proof."""
+    """Whether a mutant with a SPARE-n proof is killed only by tests that came after those of its proof."""
     return proofs.has_spare(name_of(row)) and row.status in "WK" and "1" not in row.bits[: proofs.tests]
 
 
 def killed_later(rows: Iterable[Row], proofs: Proofs) -> list[str]:
-    """The mutants with steps to spare whose proofs the tests that came later do not serve."""
+    """The mutants with SPARE-n proofs that are killed by tests which came later."""
     return [name_of(row) for row in rows if is_killed_later(row, proofs)]
 
 
 def wrongly_proved(rows: Iterable[Row], proofs: Proofs) -> list[str]:
-    """The mutants that are proved equivalent and that a test kills, which never is where both programs are proved."""
+    """The mutants that are proved equivalent and that a test kills. There are none where both programs are proved."""
     killed = [row for row in rows if row.status in "WK" and name_of(row) in proofs.whys]
     return [name_of(row) for row in killed if not is_killed_later(row, proofs)]
 
@@ -109,7 +111,7 @@ def wrongly_declared(rows: Iterable[Row], proofs: Proofs) -> list[str]:
 
 
 def left_out_text(count: Count, proved: int) -> str:
-    """What a score does not count, in words; no text where it counts all."""
+    """In words, which mutants a score does not count; no text where it counts all."""
     declared = count.equivalent - proved
     parts = [f"{declared} declared"] if declared else []
     parts += [f"{proved} {PROVED}"] if proved else []

@@ -27,34 +27,36 @@ def add_proofs_switch(parser: argparse.ArgumentParser) -> None:
 
 
 def add_proof_options(parser: argparse.ArgumentParser) -> None:
-    """The options that say whether proofs are asked for, and of which program."""
+    """Adds the options that say whether proofs are asked for, and of which program."""
     add_equivalents_option(parser)
     add_proofs_switch(parser)
 
 
 def with_ops(words: Sequence[str], ops: Iterable[str]) -> list[str]:
-    """The words with these operators in the place of those that they have."""
+    """The words with these operators, instead of those that they have."""
     at = words.index("--ops") if "--ops" in words else len(words)
     return [*words[:at], *words[at + 2 :], "--ops", ",".join(ops)]
 
 
 class Prover(NamedTuple):
-    """The program equivalents, or why it is not asked. Without either there are no proofs, and no reason is given."""
+    """The program equivalents, or the reason why it is not asked. Without either there are no proofs, and no reason is
+    given."""
 
     program: str = ""
     not_asked: str = ""
     anew: bool = False
 
     def asked(self, words: Sequence[str], job: bytes) -> list[Proof]:
-        """What the program says of a job; the words are its options."""
+        """The answer of the program to a job; the words are its options."""
         text = answered(self.program, words, job, lambda: plain_answer(NAME, self.program, words, job), self.anew)
         return read_as(NAME, read_proofs, text)[0]
 
     def proved(self, words: Sequence[str], job: Job) -> list[Proof]:
         """What the program says of a source and its tests, of any number.
 
-        Proofs with steps to spare alone look at the tests: so the source is asked about, and then for the tests the
-        operators that have such proofs. Where the tests are more than a job takes, each batch has to leave the room.
+        Only SPARE-n proofs depend on the tests. So the program is asked about the source, and then, with the tests,
+        about the operators that have such proofs. Where there are more tests than a job takes, each batch has to leave
+        n steps.
         """
         every = self.asked(words, batch_text(Job(job.source, [])))
         ops = list(dict.fromkeys(proof.mutant.op for proof in every if proof.has_spare))
@@ -66,8 +68,8 @@ class Prover(NamedTuple):
         return [proof for proof in every if proof.mutant.op not in ops or proof in kept]
 
     def proofs(self, words: Sequence[str], job: Job, listed: Iterable[Mutant]) -> Proofs:
-        """What is proved of the mutants of a job, which are those that mothra lists for the same words, but for the
-        limit on steps. A job that is refused has no proofs."""
+        """What is proved of the mutants of a job: those that mothra lists for the same words, without the limit on
+        steps. A job that is refused has no proofs."""
         declared = frozenset(name for name in job.equivalent if isinstance(name, str))
         if not self.program:
             return Proofs(declared=declared, not_asked=self.not_asked)

@@ -1,4 +1,5 @@
-"""What is known of a job beside its texts, and its declared mutants in groups: of a person, and of proofs."""
+"""What is known of a job beside its texts; and its declared mutants in groups, those of a person and those of
+proofs."""
 
 from collections.abc import Callable, Iterable, Mapping, Sequence
 from types import MappingProxyType
@@ -32,11 +33,11 @@ class Said(NamedTuple):
 
     @property
     def all_reasons(self) -> dict[str, str]:
-        """The reasons of a person, and of what nobody declares that of its proof."""
+        """The reasons that a person gives, and for mutants that nobody declares the reason of the proof."""
         return {**{name: self.proofs.reason(name) for name in self.proofs.names}, **self.reasons}
 
     def killed_by_no_row(self, mutants: Iterable[Mutant]) -> int:
-        """How many of these mutants no row of a box kills all of whose rows were tried."""
+        """How many of these mutants are killed by no row of a box, where all rows of the box were tried."""
         return sum(name in self.boxes and not self.boxes[name].row for name in map(name_of, mutants))
 
 
@@ -44,7 +45,7 @@ NOTHING = Said()
 
 
 class Group(NamedTuple):
-    """Declared mutants that are one program and have one reason: all of them, and the row of the first."""
+    """Declared mutants that are one program and have the same reason: all of them, and the row of the first."""
 
     mutants: list[Mutant]
     row: Row
@@ -54,8 +55,8 @@ class Group(NamedTuple):
 def declared_groups(
     listed: Iterable[Mutant], rows: Iterable[Row], reasons: Mapping[str, str], is_meant: Callable[[str], bool]
 ) -> list[Group]:
-    """The declared mutants that are meant, in their order, but those first that a test kills; twins of one reason
-    together."""
+    """The declared mutants that are meant, in their order, but first those that a test kills. Twins with the same
+    reason are one group."""
     declared = {name_of(row): row for row in rows if row.status in "WE" and is_meant(name_of(row))}
     groups: list[Group] = []
     for twins in twins_in(mutant for mutant in listed if name_of(mutant) in declared):
@@ -77,7 +78,7 @@ def groups_of_proofs(listed: Iterable[Mutant], rows: Iterable[Row], said: Said) 
 
 
 def proved_text(groups: Iterable[Group], proofs: Proofs) -> str:
-    """How many mutants are proved equivalent, and how many of them with steps to spare."""
+    """How many mutants are proved equivalent, and how many of them by SPARE-n."""
     names = [name_of(mutant) for group in groups for mutant in group.mutants]
     spare = sum(map(proofs.has_spare, names))
     some = "" if spare == len(names) else f"{spare} of them "

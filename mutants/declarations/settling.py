@@ -1,9 +1,9 @@
-"""Which mutants of the program of now are meant by declarations that were made of an earlier one, and which by none.
+"""Which mutants of the present program are meant by declarations that were made for an earlier one.
 
-An entry is settled where its two texts are those of a mutant of its operator on one line and on no other: it means that
-mutant, whatever its number has become. Where they stand nowhere the entry is refused. Where they stand on several lines
-the statements around tell which is meant: on just one of the lines those up to it are what they were, or those from it
-on; and the texts stand on as many lines as before. Else the entry is refused.
+An entry is settled where its two texts are those of a mutant of its operator on exactly one line: it means that mutant,
+whatever its number has become. Where the texts stand on no line, the entry is refused. Where they stand on several
+lines, the statements around them decide: the texts have to stand on as many lines as before, and on just one of these
+the statements up to it, or those from it on, have to be what they were. Else the entry is refused.
 """
 
 import hashlib
@@ -15,12 +15,12 @@ from mutants.declarations.entries import Entry
 from mutants.english import joined_words, plural
 from mutants.texts.lines import Mutant
 
-# So many moved entries are named, and so many digits stand for the statements on a side.
+# How many moved entries are named, and how many digits of a digest stand for the statements on a side.
 NAMED, DIGITS = 3, 12
 
 
 class Present(NamedTuple):
-    """The program of now: its statements by line, and all mutants of some operators."""
+    """The present program: its statements by line, and all mutants of some operators."""
 
     statements: Mapping[int, str]
     listed: Sequence[Mutant]
@@ -39,7 +39,7 @@ class Present(NamedTuple):
         return front[:DIGITS], rest[:DIGITS]
 
     def where(self, line: int, count: int) -> str:
-        """What an entry says of a line where its texts stand on so many lines."""
+        """What the column `where` says of a line, where the texts stand on `count` lines."""
         return ":".join([str(count), *self.sides(line)])
 
 
@@ -76,7 +76,7 @@ class Settled(NamedTuple):
         return {each.name: each.reason for each in self.declared}
 
     def remarks(self) -> list[str]:
-        """Remarks on entries that are not taken as they stand, in sentences."""
+        """Remarks in sentences on entries that have a new number or are refused."""
         return moved_remarks(self.moved) + [f"{entry.name} is not declared: {why}" for entry, why in self.refused]
 
 
@@ -108,7 +108,7 @@ def why_unclear(entry: Entry, lines: Sequence[int]) -> str:
 
 
 class Settling:
-    """Entries are settled one after the other; a mutant is taken once."""
+    """Settles entries one after the other. No mutant is taken twice."""
 
     def __init__(self, present: Present) -> None:
         self.present = present
@@ -129,7 +129,7 @@ class Settling:
             if len(lines_meant) != 1:
                 return why_unclear(entry, lines)
             alike = [mutant for mutant in alike if mutant.line in lines_meant]
-        # On one line these are one program, whichever of them is taken.
+        # On one line these mutants are one program, so it does not matter which is taken.
         free = [mutant for mutant in at_number if mutant in alike] + alike
         return next(
             (mutant for mutant in free if mutant not in self.taken), "an earlier entry declares the same mutant"
@@ -145,7 +145,8 @@ class Settling:
         return [line for line in lines if now[line][0] == front or now[line][1] == rest]
 
     def settle(self, entries: Sequence[Entry]) -> dict[int, Mutant | str]:
-        """Of each entry by its place the mutant, or why there is none; those come first whose numbers still hold."""
+        """For each entry, by its place, the mutant, or why there is none. Entries whose numbers still hold are settled
+        first."""
         by_name = {(mutant.op, mutant.place): mutant for mutant in self.present.listed}
         answers: dict[int, Mutant | str] = {}
 
@@ -161,7 +162,7 @@ class Settling:
 
 
 def settled(entries: Sequence[Entry], present: Present) -> Settled:
-    """What the entries mean in the program of now."""
+    """What the entries mean in the present program."""
     answers = Settling(present).settle(entries)
     result = Settled([], [], [])
     for place, entry in enumerate(entries):
@@ -176,7 +177,7 @@ def settled(entries: Sequence[Entry], present: Present) -> Settled:
 
 
 def entry_for(mutant: Mutant, reason: str, present: Present) -> Entry:
-    """The entry that declares a mutant of the program of now."""
+    """The entry that declares a mutant of the present program."""
     alike = {each.line for each in present.listed if present.texts_of(each) == present.texts_of(mutant)}
     where = present.where(mutant.line, len(alike)) if len(alike) > 1 else ""
     return Entry(mutant.op, mutant.place, present.statements[mutant.line], mutant.text, reason, where)

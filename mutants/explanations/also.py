@@ -1,4 +1,4 @@
-"""What else keeps a unit from being read, beside its first fault: a list with the line of each."""
+"""The faults of a unit beside its first one, as a list with the line of each."""
 
 import json
 import re
@@ -15,13 +15,13 @@ from mutants.statuses import SUCCESS
 from mutants.texts.cards import source_lines
 
 WIDTH, LONGEST = 100, 60
-# So many faults behind the first one are explained; of others the lines.
+# How many faults after the first are explained; of the others only the lines are named.
 IN_WORDS = 10
 
 
 def asked_fault(program: str, source: str) -> tuple[str, str] | None:
     """What the program says against a source: the code and the detail of its fault; None where it has none."""
-    # One short list is enough: for it the program reads and checks the unit.
+    # One short list is enough: the program has to read and check the unit for it.
     text, status = call(program, ["list", "--ops", "SDL"], json.dumps({"source": source}).encode())
     if status == SUCCESS:
         return None
@@ -30,7 +30,7 @@ def asked_fault(program: str, source: str) -> tuple[str, str] | None:
 
 
 def places_if_any(fault: SourceFault, source: str) -> Marked:
-    """Marks and notes of a fault; none where its statement begins in the copy alone, as on a line that was no line."""
+    """Marks and notes of a fault; none where its statement is only in the copy, as on a line that was no line."""
     try:
         return places(fault.code, MEANINGS[fault.code].detail, fault.detail, source)
     except ValueError:
@@ -49,7 +49,7 @@ def head_of(fault: SourceFault, source: str) -> str:
     """The line, the code and the text of a fault."""
     line, lines = line_of(fault, source), source_lines(source)
     whole = lines[line - 1][:72] if 0 < line <= len(lines) else ""
-    # A line that is none is shown from its first column on, a statement without its label.
+    # A line that is no line of a program is shown from its first column on, a statement without its label.
     is_statement = fault.code[0] != "F" and not re.search(r"[^ 0-9]", whole[:5])
     shown = whole[6 * is_statement :].strip()[:LONGEST]
     shown = "".join(character if character.isprintable() else "?" for character in shown)
@@ -59,13 +59,13 @@ def head_of(fault: SourceFault, source: str) -> str:
 
 
 def said_of(fault: SourceFault, source: str) -> str:
-    """What is said of a fault: of a habit what it is and what to write instead, else what is wrong."""
+    """What is said of a fault: what is wrong; where it shows a habit, what that is and what to write instead."""
     _, notes = places_if_any(fault, source)
     return " ".join([*(f"{seen.says} {seen.advice}" for seen in fault.seen), *notes]) or MEANINGS[fault.code].says
 
 
 def fault_lines(faults: Sequence[SourceFault], source: str, first: SourceFault) -> list[str]:
-    """What is said of each fault, by line; what was said before is said once."""
+    """What is said of each fault, by line. Nothing is said twice."""
     known = {said_of(first, source): line_of(first, source)}
     lines: list[str] = []
     for each in faults:

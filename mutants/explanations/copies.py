@@ -1,8 +1,8 @@
-"""A copy of a source, out of which what keeps it from being read is taken, such that the rest stays what it is.
+"""A copy of a source, from which faults are taken out so that all else stays what it is.
 
-A statement that the program refuses is left out, or where others hang on it another one is put there: a CONTINUE with
-its label, a block IF with another condition, numbers for bounds that are none. A name that is REAL is declared INTEGER
-behind the SUBROUTINE statement. Lines keep their numbers, but for those behind such declarations.
+A statement that the program refuses is left out. Where others depend on it, another one takes its place: a CONTINUE
+with its label, a block IF with another condition, numbers for bounds that are none. A name that is REAL is declared
+INTEGER after the SUBROUTINE statement. Lines keep their numbers, but for those after such declarations.
 """
 
 import re
@@ -17,7 +17,7 @@ from mutants.jobs.sizes import lay, lines_of_card
 from mutants.texts.cards import Card, cards_of
 from mutants.texts.tabs import without_tabs
 
-# Of these nothing can be taken out.
+# Faults that can not be taken out.
 LAST = ("F1", "F2", "S1", "C1", "C14")
 DECLARES = re.compile(r"(INTEGER|LOGICAL|REAL|DOUBLEPRECISION|COMPLEX|CHARACTER|DIMENSION|COMMON).*\(")
 
@@ -25,11 +25,12 @@ DECLARES = re.compile(r"(INTEGER|LOGICAL|REAL|DOUBLEPRECISION|COMPLEX|CHARACTER|
 class Copy:
     def __init__(self, source: str) -> None:
         self.source, self.lines = source, source.split("\n")
-        # Behind this line, from 1, are declarations that the source has not.
+        # After this line, from 1, come declarations that the source does not have.
         self.head, self.added = 0, 0
-        # The lines of statements that were softened already.
+        # The lines of statements that were made statements of the subset already.
         self.softened: set[int] = set()
-        # Whether a declaration is gone, so that names may be told for want of it; and whether a part of a block is.
+        # Whether a declaration is gone, so that faults of names may come of that; and whether a part of a block is
+        # gone.
         self.has_gap = self.has_open_block = False
 
     def text(self) -> str:
@@ -43,7 +44,8 @@ class Copy:
         return line - self.added if self.added and line > self.head else line
 
     def put(self, card: Card, text: str) -> None:
-        """Puts another statement in the place of one, on as many of its lines as it needs; no text leaves it out."""
+        """Puts another statement in the place of one, on as many of its lines as it needs. An empty text leaves it
+        out."""
         if not card.label.isdecimal():
             self.lines[card.line - 1] = " " * 6
         lay(self.lines, card.line, text)
@@ -91,7 +93,8 @@ class Copy:
             self.lines[line - 1] = ""
 
     def declare(self, name: str, cards: Sequence[Card]) -> None:
-        """Declares a name INTEGER. Of what calls it the first statement is left out, so that it is told once."""
+        """Declares a name INTEGER. Where it is called, the first such statement is left out, so that it is reported
+        once."""
         arrays = declared_arrays(card.text for card in cards)
         for card in [card for card in cards if name in dict(called_names(card.text, arrays))][:1]:
             self.take_out(card, "C2")
@@ -100,7 +103,7 @@ class Copy:
         self.added += 1
 
     def begin(self, head: Card) -> bool:
-        """Makes a subroutine of another unit; whether that is possible."""
+        """Makes another unit a subroutine. The result says whether that is possible."""
         text = as_head(head.text)
         if text:
             self.put(head, text)
@@ -108,14 +111,14 @@ class Copy:
         return text is not None and text != head.text
 
     def declare_once(self, name: str, cards: Sequence[Card]) -> bool:
-        """Takes a name out of the last declaration that has it; whether it is declared twice."""
+        """Takes a name out of the last declaration that has it. The result says whether it was declared twice."""
         place = declared_twice(name, [card.text for card in cards])
         if place is not None:
             self.put(cards[place], without_item(cards[place].text, name))
         return place is not None
 
     def label_once(self, label: str, cards: Sequence[Card]) -> bool:
-        """Takes a label from all but its first statement; whether it stands on several."""
+        """Takes a label from all statements but the first. The result says whether it stood on several."""
         alike = [card for card in cards if card.label.lstrip("0") == label]
         for other in alike[1:]:
             self.lines[other.line - 1] = " " * 5 + self.lines[other.line - 1][5:]
@@ -154,5 +157,6 @@ class Copy:
         return code[0] == "F" or code == "S9" or card is not None
 
     def is_of_open_block(self, line: int) -> bool:
-        """Whether what is told of a block may come of another part that is gone. The end of a logical IF is of none."""
+        """Whether a fault of a block may come of another part that is gone. The END IF of a logical IF is of no
+        block."""
         return self.has_open_block and not habits_seen("C11", str(self.own_line(line)), self.source)

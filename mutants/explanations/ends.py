@@ -1,7 +1,7 @@
-"""How a run of the program ends that neither returns nor stops: its outcome, and which step ended it.
+"""How a run ends that neither returns nor stops: its outcome, and the step that ended it.
 
-The step is found by halving: the program is asked under limits on steps, and the least one under which the run has its
-outcome is the number of the step that ended it.
+The step is found by halving: the program is run under different limits on steps, and the least limit under which the
+run has its outcome is the number of the step that ended it.
 """
 
 import json
@@ -22,7 +22,7 @@ OUTCOMES = {
     "ZEROSTEP": "the step of a DO was 0",
     "UNDEFINED": "a variable or an array element was read before it had a value",
 }
-# What comes of the run under a limit on steps.
+# The outcome of the run under a limit on steps.
 Run = Callable[[int], str]
 
 
@@ -35,7 +35,7 @@ def last_step(run: Run, below: int, enough: int) -> int:
 
 
 def limited_notes(run: Run, limit: int) -> list[str]:
-    """What comes of a run that has not ended at its limit, under limits that are twice as large each time."""
+    """Notes on a run that has not ended at its limit: its outcomes under limits that are twice as large each time."""
     notes = [f"The run has not come to its end at step {limit}, the limit on steps: its outcome is {LIMITED}."]
     while limit < LARGEST:
         limit = min(2 * limit, LARGEST)
@@ -46,7 +46,7 @@ def limited_notes(run: Run, limit: int) -> list[str]:
 
 
 def end_notes(program: str, source: str, test: object, limit: int) -> list[str]:
-    """What the program says of its run on a test, under a limit on steps; nothing where it has a fault."""
+    """Notes on the run of the program on a test, under a limit on steps; none where the program has a fault."""
     job = json.dumps({"source": source, "suite": [test]}).encode()
 
     def run(steps: int) -> str:

@@ -1,4 +1,4 @@
-"""Statements whose words are those of the subset, but whose form is another one, and lines that are none."""
+"""Statements with words of the subset in another form, and lines that are no lines of a program."""
 
 import re
 from collections.abc import Iterator, Sequence
@@ -12,7 +12,7 @@ FIRST = re.compile(r"(SUBROUTINE|INTEGER|LOGICAL|DIMENSION)(?=[A-Z])")
 
 
 def condition_of(text: str) -> tuple[str, str] | None:
-    """What stands in the parentheses of an IF, and what behind them; None of another statement."""
+    """The text in the parentheses of an IF, and the text after them; None for another statement."""
     front = re.match(r"(?:ELSE)?IF\(", text)
     if not front:
         return None
@@ -45,13 +45,13 @@ def data_habits(text: str) -> Iterator[Seen]:
 
 
 def label_habits(card: Card) -> Iterator[Seen]:
-    """A label that stands behind column 6."""
+    """A label that stands after column 6."""
     if re.match(r"\d+[A-Z]", card.text) and not card.label:
         yield Seen("label in column 7")
 
 
 def late_habits(card: Card, cards: Sequence[Card]) -> Iterator[Seen]:
-    """A declaration that stands behind what is executed, or behind DATA; a second SUBROUTINE."""
+    """A declaration after executable statements or after DATA; a second SUBROUTINE."""
     declared = DECLARATION.match(card.text)
     if re.match("SUBROUTINE[A-Z]", card.text) and card.line > cards[0].line:
         yield Seen("second unit")
@@ -70,7 +70,7 @@ def parenthesis_habits(text: str) -> Iterator[Seen]:
 
 
 def column_habits(card: Card, lines: Sequence[str]) -> Iterator[Seen]:
-    """A continuation line that may be meant to be none: it has a letter or a ! in column 6."""
+    """A continuation line that may not be meant as one: it has a letter or a ! in column 6."""
     for line in dict.fromkeys(line for line, _ in card.places):
         sign = lines[line - 1][5:6].upper()
         if line != card.line and sign == "!":
@@ -80,13 +80,13 @@ def column_habits(card: Card, lines: Sequence[str]) -> Iterator[Seen]:
 
 
 def action_of(text: str) -> tuple[str, str]:
-    """What stands before the statement in a logical IF, and that statement; of another one nothing, and itself."""
+    """The text before the statement in a logical IF, and that statement; for another statement no text, and itself."""
     at = action_at(text)
     return text[:at], text[at:]
 
 
 def line_habits(line: str) -> list[Seen]:
-    """What a line is that holds no label in columns 1 to 5."""
+    """What a line is that has no label, but something else, in columns 1 to 5."""
     if line.lstrip(" ").startswith("!"):
         return [Seen("comment behind !")]
     if line.startswith("#"):

@@ -1,6 +1,6 @@
-"""What is said of habits that lie outside the subset: what each is, and what to write instead, as habits.txt has them.
+"""The texts on habits outside the subset: what each is, and what to write instead. They stand in habits.txt.
 
-The tests see to it that each is seen in its examples, and tools/examples that mothra tells those faults of them.
+Tests make sure that each habit is recognised in its examples, and tools/examples that mothra reports those faults.
 """
 
 import re
@@ -13,7 +13,7 @@ from mutants.texts.cards import is_continuation
 
 
 class Example(NamedTuple):
-    """The code of a fault, the name that it tells ("" where it tells a line), and the lines of a program."""
+    """The code of a fault, the name that it reports ("" where it reports a line), and the lines of a program."""
 
     code: str
     name: str
@@ -26,7 +26,7 @@ class Example(NamedTuple):
 
     @property
     def fault(self) -> str:
-        """What mothra tells: the name, or the line where the last statement before END begins."""
+        """The fault that mothra reports: at the name, or at the line where the last statement before END begins."""
         behind = [line for line in map(in_columns, self.lines) if not is_continuation(line)]
         return f"FAULT {self.code} {self.name or len(FRONT) + len(behind)}"
 
@@ -38,7 +38,7 @@ class Habit(NamedTuple):
 
 
 class Seen(NamedTuple):
-    """A habit that is seen in a statement, and the words that are filled in."""
+    """A habit that is recognised in a statement, and the words that are filled into its text."""
 
     habit: str
     words: Mapping[str, object] = MappingProxyType({})
@@ -59,7 +59,7 @@ PARAGRAPH = re.compile(r"(?P<habit>.+)\n(?P<examples>(?:For: .+\n)+)(?P<says>.+)
 
 
 def in_columns(line: str) -> str:
-    """A line of an example in its columns: behind > it has them already, and a number in front is its label."""
+    """A line of an example in its columns. After > it has them already; else a number in front is its label."""
     label = re.match(r"(\d+) ", line)
     return line[1:] if line.startswith(">") else f"{label[1]:>5} {line[label.end():]}" if label else f"      {line}"
 

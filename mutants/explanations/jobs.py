@@ -1,4 +1,4 @@
-"""What a fault says of the job itself: of its JSON, its suite, its declared mutants, or of a run of its program."""
+"""Notes on the faults of the job itself: of its JSON, its suite, its declared mutants, or a run of its program."""
 
 import json
 import re
@@ -23,7 +23,7 @@ def short(value: object) -> str:
 
 
 def object_of(text: bytes) -> dict[str, Any]:
-    """The object that a job is; here its members may be anything."""
+    """The JSON object of a job. Here its members may be anything."""
     try:
         job = json.loads(text)
     except ValueError:
@@ -57,7 +57,7 @@ def test_of(job: Mapping[str, Any], number: int) -> list[Any]:
 
 
 def json_notes(text: bytes) -> list[str]:
-    """Where a text is no JSON."""
+    """The place where a text stops being JSON."""
     try:
         job = json.loads(text.decode("utf-8"))
     except UnicodeDecodeError as fault:
@@ -82,7 +82,7 @@ def key_notes(job: Mapping[str, Any], key: str) -> list[str]:
 
 
 def value_notes(test: object, number: int) -> list[str]:
-    """The first value of a test that is none."""
+    """The first value of a test that is no value of a dummy argument."""
     if not isinstance(test, list):
         return [f"Test {number} is {short(test)}."]
     wrong = [(place, value) for place, value in enumerate(test, 1) if not is_value(value)]
@@ -124,7 +124,8 @@ def shape_notes(job: Mapping[str, Any], test: list[Any], number: int | None = No
 
 
 def outcome_notes(program: str | None, job: Mapping[str, Any], number: int, words: Sequence[str]) -> list[str]:
-    """The values of a test on which the program neither returns nor stops, and what comes of it where that is asked."""
+    """The values of a test on which the program neither returns nor stops, and how its run ends, where that is
+    asked."""
     test, source = item_of(job, "suite", number), str(job.get("source"))
     names = [name for name, _ in dummies_of(source)]
     values = test if isinstance(test, list) and len(test) == len(names) else []
@@ -154,7 +155,7 @@ def entry_notes(program: str | None, text: bytes, job: Mapping[str, Any], number
 
 
 def notes_on(code: str, kind: str, detail: str, text: bytes, program: str | None, words: list[str]) -> list[str]:
-    """What is said of the job for this fault. `text` is the bytes of the job; the program may be None."""
+    """The notes on the job for this fault. `text` is the bytes of the job; the program may be None."""
     if code == "J2":
         return json_notes(text)
     if code == "J7":

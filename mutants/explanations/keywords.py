@@ -1,4 +1,4 @@
-"""Statements that are none of the subset, seen by their first words: of FORTRAN 77, of later Fortran, of compilers."""
+"""Statements outside the subset, recognised by their first words: of FORTRAN 77, of later Fortran, of compilers."""
 
 import re
 from collections.abc import Iterable, Iterator
@@ -7,7 +7,7 @@ from mutants.explanations.habits import Seen
 from mutants.explanations.names import TYPES
 
 NAME = "[A-Z][A-Z0-9]*"
-# Statements by how they begin without blanks, the longer ones first; the first group that is there is the word.
+# Statements by their beginnings without blanks, longer ones first. The first group that matched is the word.
 BEGINNINGS = (
     (r"CALL[A-Z]", "CALL"),
     (r"READ[(*A-Z0-9]", "READ"),
@@ -60,7 +60,7 @@ ADDED = (
 )
 # Words that are shown with their blanks.
 BLANKS = {"BLOCKDATA": "BLOCK DATA", "DOCONCURRENT": "DO CONCURRENT"}
-# An assignment to a name that begins like a keyword is none of these.
+# An assignment to a name that begins like a keyword is no such statement.
 ASSIGNMENT = re.compile(rf"{NAME}(?:\([^=]*\))?=(?!=)")
 LOOP = re.compile(rf"DO,?{NAME}=[^,]+,")
 
@@ -75,7 +75,8 @@ def seen_by(forms: Iterable[tuple[str, str]], text: str) -> Iterator[Seen]:
 
 
 def keyword_habits(text: str) -> list[Seen]:
-    """What a statement, without blanks, is by its first words; of a type statement all that it has besides."""
+    """The habits of a statement, without blanks, by its first words; for a type statement also by all else that it
+    has."""
     if ASSIGNMENT.match(text) and not LOOP.match(text):
         return []
     return list(seen_by(BEGINNINGS, text))[:1] or list(seen_by(ADDED, text))

@@ -1,4 +1,4 @@
-"""Where in a source a fault lies: the marks under its lines, and what else is worth saying of them."""
+"""Where in a source a fault lies: marks under its lines, and notes."""
 
 from collections.abc import Callable, Iterable, Sequence
 
@@ -42,7 +42,7 @@ def name_marks(code: str, name: str, cards: Sequence[Card]) -> list[Mark]:
 
 
 def behind_72(lines: Sequence[str], marks: Iterable[Mark]) -> list[str]:
-    """A note where a marked line goes on behind column 72."""
+    """A note where a marked line goes on after column 72."""
     cut = sorted({mark.line for mark in marks if lines[mark.line - 1][72:].strip(" ")})
     return [f"Of line {line} all behind column 72 is not read: {lines[line - 1][72:].strip()[:40]}" for line in cut]
 

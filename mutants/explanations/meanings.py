@@ -1,6 +1,6 @@
-"""What each fault means: its sentence, the rule that is broken, and what to do, as faults.txt has them by code.
+"""What each fault means: its sentence, the rule that is broken, and what to do. They stand by code in faults.txt.
 
-The tests see to it that there is a paragraph for every code that the program has.
+Tests make sure that there is a paragraph for every code that the program has.
 """
 
 import re
@@ -10,7 +10,7 @@ from mutants.explanations.paragraphs import paragraphs_of
 
 
 class Meaning(NamedTuple):
-    """`detail` is what stands behind the code in the line of a fault, `sections` those of ANSI X3.9-1978."""
+    """`detail` says what stands after the code in the line of a fault; `sections` are those of ANSI X3.9-1978."""
 
     detail: str
     says: str

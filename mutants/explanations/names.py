@@ -4,7 +4,7 @@ import re
 from collections.abc import Collection, Iterable
 
 TYPES = r"(?:INTEGER|LOGICAL|REAL|DOUBLEPRECISION|COMPLEX|CHARACTER)(?:\*\d+)?"
-# Types that are no types of the subset, before a name. Attributes that give bounds stay.
+# Types outside the subset, before a name. Attributes that give bounds stay.
 OTHER_TYPE = re.compile(
     r"(?:REAL|DOUBLEPRECISION|COMPLEX|CHARACTER|INTEGER|(LOGICAL))(?:\*(?:\d+|\(\*\))|\([A-Z0-9=*]+\))?"
     r"(?:(?:,(?!DIMENSION)[A-Z]+(?:\([A-Z]+\))?)*::)?(?=[A-Z])(?!FUNCTION)"
@@ -33,8 +33,8 @@ def logical_names(texts: Iterable[str]) -> set[str]:
 
 
 def called_names(text: str, arrays: Collection[str]) -> list[tuple[str, int]]:
-    """The names in a statement with a parenthesis behind them that are neither arrays nor functions,
-    and where they stand."""
+    """The names in a statement that are followed by a parenthesis and are neither arrays nor functions,
+    and their places."""
     front = re.match(r"(?:ELSE)?IF(?=\()|GOTO(?=\()|DO\d+,?(?=[A-Z]+\d*=)", text)
     calls: list[tuple[str, int]] = []
     if ARRAYS.match(text):

@@ -1,4 +1,4 @@
-"""The texts of explanations: a file of paragraphs, of which the first says what the others are."""
+"""The texts of explanations: a file of paragraphs, the first of which says what the others are."""
 
 import re
 from pathlib import Path
@@ -12,6 +12,7 @@ def matched(text: str, pattern: "re.Pattern[str]") -> "re.Match[str]":
 
 
 def paragraphs_of(name: str, pattern: "re.Pattern[str]") -> "list[re.Match[str]]":
-    """The paragraphs of a file beside this one, each of which is one of a pattern. A line may go on behind blanks."""
+    """The paragraphs of a file beside this one, each of which has to match the pattern. A line that begins with blanks
+    continues the one before."""
     text = Path(__file__).with_name(name).read_text(encoding="utf-8").replace("\n  ", " ").rstrip("\n")
     return [matched(each, pattern) for each in text.split("\n\n")[1:]]

@@ -1,4 +1,4 @@
-"""What a statement may hold that no statement of the subset has: signs, texts, numbers, bounds that are no numbers."""
+"""What a statement may have that no statement of the subset has: signs, texts, numbers, bounds that are no numbers."""
 
 import re
 from collections.abc import Iterator
@@ -12,7 +12,7 @@ QUOTED = re.compile(r"'[^']*'?|\"[^\"]*\"?")
 HOLLERITH = re.compile(r"(?<![A-Z0-9])\d+H(?=[A-Z])")
 # A number with a point that begins no operator, or with an exponent.
 NUMBER = re.compile(r"(?<![A-Z0-9])(?:(?:\d+\.\d*|\.\d+)(?![A-Z]{2,5}\.)(?:[ED][+-]?\d+)?|\d+[ED][+-]?\d+(?![A-Z0-9]))")
-# Pieces, the name of the habit that each is of, and the word that the found text is in what is said.
+# Pieces, with the name of the habit of each, and the word of its text for which the piece that is found is filled in.
 PIECES = (
     (r"==|/=|<|>", "relation by signs", ""),
     (r"&", "ampersand", ""),
@@ -26,7 +26,7 @@ PIECES = (
 
 
 def without_remark(text: str) -> tuple[str, bool]:
-    """A text up to a ! that stands in no quotes, and whether there is one."""
+    """A text up to a ! outside quotes, and whether there is one."""
     for piece in re.finditer(r"'[^']*'|\"[^\"]*\"|!", text):
         if piece[0] == "!":
             return text[: piece.start()], True
@@ -51,7 +51,7 @@ def piece_habits(text: str) -> Iterator[Seen]:
 
 
 def bound_habit(bound: Bound) -> Seen:
-    """What a bound is that is no number."""
+    """The habit of a bound that is no number."""
     words = {"bound": bound.text, "name": bound.array}
     if bound.upper == "*":
         return Seen("bound of any size", words)

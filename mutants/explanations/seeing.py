@@ -1,4 +1,4 @@
-"""Which habits of FORTRAN 77 and of later Fortran a fault shows, by its code and by what stands there."""
+"""Which habits of FORTRAN 77 and of later Fortran a fault shows, by its code and by the text at its place."""
 
 from collections.abc import Callable, Sequence
 
@@ -14,22 +14,22 @@ from mutants.texts.cards import Card, cards_of, source_lines
 
 
 def statement_habits(text: str) -> list[Seen]:
-    """What a statement, without a comment behind it, has that no statement of the subset has."""
+    """The habits in a statement, which has no comment at its end."""
     front, action = action_of(text)
     keywords = keyword_habits(action)
     seen = [*if_habits(text), *data_habits(text), *keywords]
     if not keywords or keywords[0].habit in ADDED_HABITS:
         bounds = bound_habits(with_plain_type(text))
         return [*seen, *bounds, *([] if keywords or bounds else piece_habits(text))]
-    # What a statement that is to be left out has besides is passed over.
+    # Other habits of a statement that is to be left out are passed over.
     return [*seen, *piece_habits(front)]
 
 
 def unknown_habits(card: Card, cards: Sequence[Card], lines: Sequence[str]) -> list[Seen]:
-    """What a statement is that is none of the subset, or that may not stand there."""
+    """The habits of a statement that is none of the subset, or may not stand there."""
     text, has_remark = without_remark(card.text)
     seen = [*([Seen("comment behind !")] if has_remark else []), *label_habits(card), *statement_habits(text)]
-    # Only where nothing else is seen it is asked what may be meant otherwise.
+    # Only where nothing else is recognised, what may be meant otherwise is looked at.
     for more in (late_habits(card, cards), parenthesis_habits(text), column_habits(card, lines)):
         seen = seen or list(more)
     return seen
@@ -47,7 +47,7 @@ BY_LINE: dict[str, Look] = {
 
 
 def habits_seen(code: str, detail: str, source: str) -> list[Seen]:
-    """The habits that a fault shows, by the detail behind its code; none where nothing is recognised."""
+    """The habits that a fault shows, by the detail after its code; none where nothing is recognised."""
     cards, lines = cards_of(source), source_lines(source)
     if code in ("C2", "C3"):
         return real_habits(detail, cards) if code == "C2" else twice_habits(detail)
@@ -59,10 +59,10 @@ def habits_seen(code: str, detail: str, source: str) -> list[Seen]:
 
 
 def said_of_all(seen: Sequence[Seen]) -> list[str]:
-    """What habits are, a sentence or two each."""
+    """What the habits are, in a sentence or two each."""
     return [each.says for each in seen]
 
 
 def advice_of_all(seen: Sequence[Seen], other: str) -> str:
-    """What to write instead; where no habit is seen, the other advice."""
+    """What to write instead; where no habit is recognised, the other advice."""
     return " ".join(dict.fromkeys(each.advice for each in seen)) or other

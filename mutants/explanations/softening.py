@@ -1,5 +1,5 @@
-"""Statements made ones of the subset, so that what hangs on them stays in a copy of the source: declarations, ends,
-names that are too long."""
+"""Statements are changed into statements of the subset, so that what depends on them can stay in a copy of the source:
+declarations, ends, names that are too long."""
 
 import re
 
@@ -16,8 +16,8 @@ NAME = re.compile(r"[A-Z][A-Z0-9]{0,5}")
 
 
 def softened(text: str) -> str:
-    """A declaration with a type of the subset and with bounds that are numbers; an END without its words; any statement
-    without the comment behind it. Others stay what they are."""
+    """The statement, changed: a declaration has a type of the subset and bounds that are numbers, an END has no words
+    after it, and no statement has a comment at its end."""
     text = without_remark(text)[0]
     text = with_plain_type(text)
     text = VALUE.sub("", text) if re.match(r"(INTEGER|LOGICAL)(?=[A-Z])", text) else text
@@ -27,14 +27,14 @@ def softened(text: str) -> str:
 
 
 def shortened(text: str) -> str:
-    """A statement whose names are cut where they are too long: others of the same front become the same name."""
+    """A statement whose names are cut where they are too long. Names with the same beginning become the same name."""
     while place := long_name_in(text):
         text = text[: place[0] + 6] + text[place[1] :]
     return text
 
 
 def as_head(text: str) -> str | None:
-    """The statement of a subroutine in the place of one that begins another unit, or that is of no subset."""
+    """A SUBROUTINE statement in the place of one that begins another unit, or that is outside the subset."""
     head = HEAD.fullmatch(text)
     if not head:
         return None

@@ -1,4 +1,4 @@
-"""Marks under the lines of a source: those of characters of a statement, of a name, of a label."""
+"""Marks under the lines of a source: under characters of a statement, a name, a label."""
 
 import re
 from collections.abc import Iterable
@@ -34,7 +34,7 @@ def whole(card: Card) -> list[Mark]:
 
 
 def without_operators(text: str) -> str:
-    """The text with blanks in the places of .EQ. and its kin, so that these are no names."""
+    """The text with blanks in the places of .EQ. and the like, so that these do not look like names."""
     return re.sub(r"\.[A-Z]+\.", lambda operator: " " * len(operator[0]), text)
 
 
@@ -50,7 +50,7 @@ def find_name(text: str, name: str) -> int | None:
 
 
 def value_of(digits: str) -> int:
-    """The number that digits write; of many digits one that is large."""
+    """The number that digits write; for many digits some large number."""
     return int(digits.lstrip("0")[:12] or "0")
 
 

@@ -1,4 +1,4 @@
-"""Where in a statement a fault lies: the label, the name, the number or the parenthesis that is meant."""
+"""Where in a statement a fault lies: at which label, name, number or parenthesis."""
 
 import re
 from collections.abc import Callable, Sequence
@@ -46,7 +46,7 @@ def large_number(card: Card) -> Marked:
 def deep_parenthesis(card: Card) -> Marked:
     lowest = 0
     for at, depth in enumerate(depths(card.text)):
-        # A parenthesis that closes where none is open counts for nothing.
+        # A closing parenthesis does not count where none is open.
         lowest = min(lowest, depth)
         if depth - lowest > 40:
             return span(card, at, at + 1), ["Here the 41st parenthesis is opened."]
@@ -54,7 +54,7 @@ def deep_parenthesis(card: Card) -> Marked:
 
 
 def number_fault(card: Card, cards: Sequence[Card]) -> Marked:
-    """Marks of what stands in parentheses behind names, where bounds, subscripts or arguments do not agree."""
+    """Marks of the parentheses after names, where bounds, subscripts or arguments do not agree."""
     names = called_names(card.text, declared_arrays(other.text for other in cards))
     marks = [mark for name, at in names for mark in span(card, at, at + len(name))]
     return marks or whole(card), []

@@ -1,4 +1,4 @@
-"""Habits that are seen by how a statement uses names: functions of other Fortran, arrays, truth values, ends of IFs."""
+"""Habits that show in how a statement uses names: functions of other Fortran, arrays, truth values, ends of IFs."""
 
 import re
 from collections.abc import Collection, Iterator, Sequence
@@ -11,7 +11,7 @@ from mutants.explanations.statements import long_name_in
 from mutants.jobs.sizes import bounds_of
 from mutants.texts.cards import Card, action_at
 
-# Functions of FORTRAN 77 and of later Fortran, by the name of the habit that tells what to write in their place.
+# Functions of FORTRAN 77 and of later Fortran, by the name of the habit that says what to write instead.
 OTHERS = {
     "ABS": "ABS DABS CABS IIABS JIABS",
     "MAX": "MAX MAX1 AMAX0 AMAX1 DMAX1",
@@ -36,19 +36,20 @@ def texts_of(cards: Sequence[Card]) -> list[str]:
 
 
 def is_executed(text: str) -> bool:
-    """Whether a statement is none of those that come before all that is executed."""
+    """Whether a statement is an executable one: none of those that come before all executable ones."""
     return not re.match(r"(SUBROUTINE|INTEGER|LOGICAL|DIMENSION|DATA)(?=[A-Z(*])", text)
 
 
 def assigned_habit(name: str, card: Card, cards: Sequence[Card]) -> Seen:
-    """What is assigned to by a name with parentheses that is no array: a statement function, or an array."""
+    """The habit of an assignment to a name with parentheses that is no array: a statement function, or an undeclared
+    array."""
     is_first = not any(is_executed(other.text) for other in cards if other.line < card.line)
     of_names = re.match(r"[A-Z][A-Z0-9]*\([A-Z][A-Z0-9]*(,[A-Z][A-Z0-9]*)*\)=", card.text)
     return Seen("statement function" if is_first and of_names else "undeclared array", {"name": name})
 
 
 def called_habit(name: str, at: int, card: Card, cards: Sequence[Card]) -> Seen:
-    """What a name is that stands before a parenthesis, and is neither an array nor a function of the subset."""
+    """The habit of a name before a parenthesis that is neither an array nor a function of the subset."""
     target = re.compile(rf"{name}\([^=]*\)=(?!=)")
     if at in (0, action_at(card.text)) and target.match(card.text, at):
         return assigned_habit(name, card, cards)
@@ -69,7 +70,7 @@ def bounds_habits(card: Card) -> Iterator[Seen]:
 
 
 def whole_habits(card: Card, arrays: Collection[str]) -> Iterator[Seen]:
-    """Arrays that stand in what is executed without subscripts."""
+    """Arrays without subscripts in executable statements."""
     text = without_operators(card.text)
     for name in sorted(arrays) if is_executed(card.text) else []:
         if re.search(rf"(?<![A-Z0-9]){name}(?![A-Z0-9(])", text):
@@ -83,7 +84,7 @@ def number_habits(card: Card, cards: Sequence[Card]) -> list[Seen]:
 
 
 def real_habits(name: str, cards: Sequence[Card]) -> list[Seen]:
-    """What a name is that is REAL, by the first statement that shows it."""
+    """The habits of a name that is REAL, by the first statement that shows it."""
     for card in cards:
         if name in ("TRUE", "FALSE"):
             return [Seen("truth value without points", {"name": name})]
@@ -91,7 +92,7 @@ def real_habits(name: str, cards: Sequence[Card]) -> list[Seen]:
             return [Seen("IF with THEN and more")]
         habits = called_habits(card, cards)
         if name in [seen.words["name"] for seen in habits]:
-            # Of this name first, and of what else is called there.
+            # First of this name, then of what else is called there.
             return sorted(habits, key=lambda seen: seen.words["name"] != name)
     return []
 
@@ -101,7 +102,7 @@ def twice_habits(name: str) -> list[Seen]:
 
 
 def long_habits(card: Card) -> list[Seen]:
-    """What a name of more than six characters is."""
+    """The habits of a name with more than six characters."""
     place = long_name_in(card.text)
     value = re.match(r"(?:INTEGER|LOGICAL)[A-Z][A-Z0-9]*=", card.text)
     if value or not place:
@@ -129,7 +130,7 @@ def kind_habits(card: Card, cards: Sequence[Card]) -> Iterator[Seen]:
 
 
 def end_habits(card: Card, cards: Sequence[Card]) -> list[Seen]:
-    """An ELSE or END IF behind an IF that has its statement behind the condition, with no block between them."""
+    """An ELSE or END IF after an IF that has its statement right after the condition, with no block between them."""
     if not re.match(r"ELSE|ENDIF$", card.text):
         return []
     for other in reversed([other for other in cards if other.line < card.line]):

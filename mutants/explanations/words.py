@@ -1,4 +1,4 @@
-"""What is wrong with words that mothra refuses: which option, and which values it takes."""
+"""What is wrong with words that mothra refuses: which option it is, and which values it takes."""
 
 import difflib
 from collections.abc import Mapping, Sequence
@@ -17,7 +17,7 @@ OPTIONS: dict[str, dict[str, Range | None]] = {
 
 
 def ops_says(value: str) -> str | None:
-    """What keeps a value of --ops from being a list of operators, or None."""
+    """Why a value of --ops is no list of operators; None where it is one."""
     for part in value.split(","):
         if part not in NAMES:
             near = difflib.get_close_matches(part.strip().upper(), NAMES, 1)
@@ -48,7 +48,7 @@ def option_says(option: str, value: str | None, known: Mapping[str, Range | None
 
 
 def pairs_of(words: Sequence[str]) -> list[tuple[str, str | None]]:
-    """The options with their values, None where there is none; a value may stand behind an equals sign."""
+    """The options with their values, or None where an option has none. A value may stand after an equals sign."""
     pairs: list[tuple[str, str | None]] = []
     at = 0
     while at < len(words):

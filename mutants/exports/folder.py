@@ -1,4 +1,4 @@
-"""All programs that a file of options names, checked one after the other: a line on each, and the page of them."""
+"""The programs that a file of options names are checked one after the other, with a line on each and a page of all."""
 
 import argparse
 import copy
@@ -19,7 +19,7 @@ from mutants.program.calling import naming
 from mutants.statuses import BELOW, FAULT, MEANINGS, SUCCESS, UNEXPECTED
 from mutants.texts.reports import summed
 
-# The statuses from the best to the worst, and what is said of a program that has one.
+# The statuses from the best to the worst, and what is said of a program with this status.
 WORST = (SUCCESS, BELOW, UNEXPECTED, FAULT)
 SAID = {BELOW: "BELOW", UNEXPECTED: "NOT AS EXPECTED", FAULT: "FAULT"}
 INDEX = "mutants.html"
@@ -28,8 +28,8 @@ OF_ONE = "report json csv junit markdown sarif expect baseline lines changed sin
 
 
 class Done(NamedTuple):
-    """What came of the check of a program: its text, its status, where its page lies, a remark on the build, and what
-    changed, in lines."""
+    """The result of the check of a program: its text, its status, the path of its page, a remark on the build, and
+    lines on what changed."""
 
     checked: Checked
     text: str
@@ -43,7 +43,7 @@ Check = Callable[[argparse.Namespace, str], Done]
 
 
 def sections_in(folder: Path) -> Sections:
-    """The programs of a folder; ValueError tells that there are none."""
+    """The programs of a folder; ValueError where there are none."""
     path = file_in(folder)
     if path is None:
         raise ValueError(f"{folder}: there is neither {INI} nor {TOML}; give PROGRAM.f and TESTS")
@@ -69,7 +69,7 @@ def entry_of(source: str, folder: Path, done: Done) -> Entry:
 
 
 class Folder:
-    """The course of the checks."""
+    """The checks of a folder, made one after the other."""
 
     def __init__(self, given: argparse.Namespace, folder: Path, name: str) -> None:
         self.given, self.folder, self.name = given, folder, name

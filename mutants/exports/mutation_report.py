@@ -20,7 +20,7 @@ SCHEMA_VERSION = "2"
 # From this score on, in percent, a file is shown as good, and below that one as bad.
 HIGH, LOW = 80, 60
 EQUIVALENT = "declared equivalent"
-# What stands behind the text of a mutant that has twins.
+# What stands after the text of a mutant that has twins.
 SAME = " (the same program as "
 
 
@@ -31,7 +31,7 @@ InFile = Callable[[Span], Span]
 def in_file(lines: Sequence[str], span: Span) -> Span:
     """A span of the source as a span of the file, of which these are the lines: they may have tabs."""
     (first, begin), (last, end) = span
-    # The end stands behind a character, and not before one.
+    # The end is after a character, and not before one.
     return Span((first, written_column(lines[first - 1], begin)), (last, written_column(lines[last - 1], end - 1) + 1))
 
 
@@ -55,8 +55,8 @@ def text_in(described: str) -> str:
 
 
 def config_object(checked: Checked) -> dict[str, Any]:
-    """What a comparison has to know beside the mutants: what was asked, the statements, all values of the tests, and
-    which mutants are declared by a proof alone."""
+    """What a later comparison needs beside the mutants: what was asked, the statements, all values of the tests, and
+    which mutants are declared only by a proof."""
     proofs = checked.said.proofs
     return {
         "unit": checked.report.unit,

@@ -16,13 +16,13 @@ from mutants.files import written
 from mutants.pages.report import KIND, Analysed, Outcomes, report_page
 from mutants.texts.report_lines import report_text
 
-# How the title of a page ends, and within how many bytes.
+# How the title of a page ends, and within how many bytes of the file.
 TITLE, TOP = f": {KIND}</title>", 1000
 
 
 class Shown(NamedTuple):
-    """What files are written of: a check, its files, a remark for them, for each line the tests that come to it, and
-    what changed, in lines."""
+    """What the files are made of: a check, its files, a remark for them, for each line the tests that come to it, and
+    lines on what changed."""
 
     checked: Checked
     program: Path
@@ -33,7 +33,7 @@ class Shown(NamedTuple):
 
 
 class Output(NamedTuple):
-    """A file: what it is called in the summary, its path, its text, and whether that tells which tests come where."""
+    """A file: its name in the summary, its path, its text, and whether that needs to know which tests come where."""
 
     what: str
     path: Path
@@ -66,13 +66,13 @@ def read_files(given: argparse.Namespace) -> list[Path]:
 
 
 def assert_made_here(path: Path) -> None:
-    """What stands where a page is to be written, and nobody has said so, is a page that a check has written."""
+    """Refuses to write a page, at a path that nobody gave, over a file that is no page of a check."""
     if path.is_file() and TITLE not in path.read_bytes()[:TOP].decode("utf-8", "replace"):
         raise ValueError(f"{path}: no check has written it, so it stays; --page {path} takes its place")
 
 
 def assert_free(outputs: Sequence[Output], reads: Sequence[Path]) -> None:
-    """Each file has a folder, and takes the place neither of another one nor of one that is read."""
+    """Refuses files that have no folder, or would take the place of another one or of one that is read."""
     for place, output in enumerate(outputs):
         path, folder = output.path, output.path.parent
         if not folder.is_dir():
@@ -80,7 +80,7 @@ def assert_free(outputs: Sequence[Output], reads: Sequence[Path]) -> None:
         if path.is_dir():
             raise ValueError(f"{path}: it is a folder, and the {output.what} is a file")
         if path.exists() and not path.is_file():
-            # A pipe or a terminal takes whatever comes.
+            # A pipe or a terminal may be written to by several.
             continue
         if not os.access(path.resolve().parent, os.W_OK):
             raise ValueError(f"{path}: nothing may be written in the folder {folder}")
@@ -97,7 +97,7 @@ def page_of(given: argparse.Namespace) -> Path:
 
 
 def outputs_of(given: argparse.Namespace) -> list[Output]:
-    """The files that are asked for. That each can be written is seen before anything is run."""
+    """The files that are asked for. Whether each can be written is tested before anything is run."""
     page = None if given.no_page else page_of(given)
     asked: list[tuple[str, Path | None, Callable[[Shown], str], bool]] = [
         ("page", page, page_text, False),
@@ -119,6 +119,6 @@ def write_outputs(outputs: Sequence[Output], shown: Shown) -> list[str]:
     """Writes them; a line on each."""
     texts = [output.text(shown) for output in outputs]
     for output, text in zip(outputs, texts):
-        # A name that is no UTF-8 fails behind no work.
+        # A name that is no UTF-8 would else fail after all the work.
         written(output.path, text.encode("utf-8", "replace"))
     return [f"The {output.what}: {output.path}" for output in outputs]

@@ -32,7 +32,7 @@ class Record(NamedTuple):
 
 
 def status_of(row: Row, covered: str) -> str:
-    """The status by the names that reports of mutants share."""
+    """The status, named as in mutation reports of other tools."""
     if row.status in "KW":
         return "Killed"
     if row.status == "E":

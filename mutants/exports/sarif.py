@@ -34,7 +34,7 @@ def rule(op: str) -> dict[str, Any]:
 
 
 def result(twins: Sequence[Mutant], statement: str, span: Span, uri: str, ops: Sequence[str]) -> dict[str, Any]:
-    """A survivor with all its names. It is found again by its texts, wherever its line is."""
+    """A survivor with all its names. A forge finds it again by its texts, also where its line has moved."""
     first = twins[0]
     message = f"{names_text(twins)} survives: {changed_text(statement, first.text)}. {ASKED}"
     print_of = hashlib.sha256(f"{first.op}\n{statement}\n{first.text}".encode()).hexdigest()

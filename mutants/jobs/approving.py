@@ -7,7 +7,7 @@ from mutants.texts.separated import records_in, row_text
 
 
 def with_cell(cells: Cells, place: int, text: str) -> Cells:
-    """A row with another cell at a place, which may be the one behind its last."""
+    """A row with another cell at a place, which may be just after its last cell."""
     return [*cells[:place], text, *cells[place + 1 :]]
 
 

@@ -1,4 +1,4 @@
-"""The cells of a table of tests: the values that they write, and why one writes none."""
+"""The cells of a table of tests: their values, and why a cell has none."""
 
 import json
 import re
@@ -7,9 +7,9 @@ from typing import Any
 from mutants.texts.jobs import Value
 
 TRUTHS = {"T": True, "TRUE": True, "F": False, "FALSE": False}
-# The same as FORTRAN writes it.
+# The truth values as FORTRAN writes them.
 TRUTHS |= {f".{word}.": value for word, value in TRUTHS.items()}
-# Repeats as FORTRAN has them: 15*0 are fifteen zeros. An array has no more elements.
+# Repetitions as in FORTRAN: 15*0 are fifteen zeros. An array has at most this many elements.
 REPEAT, MOST = re.compile(r"(\d+)\*(.+)"), 10_000
 LEAST, GREATEST = -(2**31), 2**31 - 1
 # So many characters of a cell are shown.

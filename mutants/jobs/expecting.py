@@ -19,7 +19,8 @@ class Expected(NamedTuple):
 
 
 def lines_for(text: str, tests: int) -> list[str]:
-    """The lines of a text, one for each test. A blank one expects nothing; behind the last test they do not count."""
+    """The lines of a text, one for each test. A blank line expects nothing; blank lines after the last test do not
+    count."""
     lines = text.removesuffix("\n").split("\n")
     while len(lines) > tests and not lines[-1].strip():
         lines.pop()

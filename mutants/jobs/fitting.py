@@ -1,4 +1,4 @@
-"""The arrays of the tests and the bounds of the program: elements that are missing, and more than there are."""
+"""The arrays of the tests and the bounds of the program: elements that are missing, and elements too many."""
 
 from collections.abc import Mapping, Sequence
 from typing import Any
@@ -12,8 +12,8 @@ from mutants.texts.dummies import read_unit
 
 
 def sized_arrays(source: Source, sizes: Mapping[str, int]) -> dict[str, bool]:
-    """The arrays whose bounds --size gives; and whether that is true of the last bound alone, so that an array that
-    has fewer elements has those in front."""
+    """The arrays whose bounds --size gives; and whether it gives the last bound alone, so that an array with fewer
+    elements has those in front."""
     by_array: dict[str, list[Bound]] = {}
     for card in cards_of(source.shown):
         for bound in bounds_of(card.text):
@@ -29,8 +29,8 @@ def filled(value: Any, elements: int) -> list[Any]:
 
 
 def fit(source: Source, table: Table, names: Sequence[str], sizes: Mapping[str, int]) -> list[str]:
-    """Fills the arrays of the tests that have fewer elements than --size gives; remarks on it. An array has no
-    more elements than its bounds say, and no N is above its value."""
+    """Fills the arrays of the tests that have fewer elements than --size gives, and makes remarks on that. An array may
+    not have more elements than its bounds say, and no N may be above its value."""
     arrays, short = sized_arrays(source, sizes), set[str]()
     for row, test in zip(table.rows, table.tests):
         for place, (name, (_, elements), value) in enumerate(zip(names, read_unit(source.text)[1], test)):
@@ -47,7 +47,8 @@ def fit(source: Source, table: Table, names: Sequence[str], sizes: Mapping[str, 
 
 
 def sizes_remarks(source: Source, table: Table, names: Sequence[str]) -> list[str]:
-    """A sentence on dummy arrays whose size the tests tell: the one bound is no number, or 1, which once meant any."""
+    """A sentence on dummy arrays whose size follows from the tests: the one bound is no number, or it is 1, which once
+    meant any."""
     bounds = [bound for card in cards_of(source.text) for bound in bounds_of(card.text)]
     is_open = {bound.array for bound in bounds if bound.is_last and not bound.text.isdecimal()}
     is_open -= {bound.array for bound in bounds if not bound.is_last}

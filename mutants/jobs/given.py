@@ -48,7 +48,7 @@ def of_program(given: argparse.Namespace, program: Path, tests: Path | None, mot
 
 
 def given_job(given: argparse.Namespace, path: Path, tests: Path | None, mothra: Callable[[], str | None]) -> Given:
-    """What the words name: a program in fixed form, by the ending of its name or with a table behind it; else a job."""
+    """What the words name: a program in fixed form, if its name ends so or a table follows; else a job."""
     if tests is not None or is_program(path):
         return of_program(given, path, tests, mothra)
     if given.unit or given.size or given.expand_tabs or given.undeclared:
@@ -57,7 +57,7 @@ def given_job(given: argparse.Namespace, path: Path, tests: Path | None, mothra:
 
 
 def job_to_tell(given: argparse.Namespace, path: Path, tests: Path | None, mothra: Callable[[], str | None]) -> Given:
-    """The same; where the source has a fault, which is reported later, there are no mutants that could be declared."""
+    """What the words name. Where the source has a fault, which is reported later, no mutants are declared."""
     try:
         return given_job(given, path, tests, mothra)
     except Fault:

@@ -58,9 +58,9 @@ def dummies_of(source: str) -> list[str] | None:
 
 
 def made_of(program: Path, tests: Path | None = None, wish: Wish = Wish()) -> Made:
-    """The job of these files; ValueError names the file that does not serve, and why.
+    """The job of these files; ValueError names the file that can not be used, and says why.
 
-    Of what does not begin with SUBROUTINE the program tells too, so no table is read for it.
+    The program, too, reports a source that does not begin with SUBROUTINE, so no table is read for it.
     """
     with naming(program):
         source = source_of(bytes_of(program), wish)
@@ -94,7 +94,7 @@ def meant_for(
 
 
 def whole_text(made: Made, equivalent: Sequence[str] | None = None) -> str:
-    """The text of a job that has to hold all its tests at once; ValueError tells what is over a limit."""
+    """The text of a job that has to have all its tests at once; ValueError says what is above a limit."""
     text = made.text(equivalent)
     if len(made.suite) > TESTS:
         raise ValueError(f"the table has {len(made.suite)} tests, and a job takes {TESTS}")

@@ -1,7 +1,7 @@
-"""Which dummy arguments are only set: no run reads what they had before the call.
+"""Which dummy arguments are only set: no run reads the value that they had before the call.
 
-Read from the texts of the statements, so it is known of fewer arguments than it is true of. An argument is only set
-where it is never read, or where its first statement gives it a value on every way through the program.
+This is found in the texts of the statements, so it is recognised for fewer arguments than it is true of. An argument is
+only set where it is never read, or where on every way through the program a statement sets it before one reads it.
 """
 
 import re
@@ -38,7 +38,7 @@ def has_name(text: str, name: str) -> bool:
 
 
 class Way:
-    """How the statements are come to, one after the other: whether each run comes to this one, or ends before it."""
+    """A way through the statements, one after the other: whether each run comes to this one, or ends before it."""
 
     def __init__(self) -> None:
         self.blocks, self.loops, self.has_jump = 0, list[str](), False
@@ -57,7 +57,7 @@ class Way:
 
 
 def is_only_set(cards: Iterable[Card], name: str) -> bool:
-    """Whether no run reads what an argument had before the call, as far as this is seen."""
+    """Whether no run reads the value that an argument had before the call, as far as this is recognised."""
     way = Way()
     for card in cards:
         target, read = target_of(card.text)

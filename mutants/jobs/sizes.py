@@ -1,7 +1,7 @@
 """Adjustable bounds: those of INTEGER X(N), JPNTR(N+1), LAST(1) and A(*) get the values that --size gives them.
 
-The bounds are written into the source of the job alone, on the lines where they stand. A name of a variable gives the
-bounds that are made of it their values; the name of an array gives its last bound.
+The values are written only into the source of the job, on the lines of the bounds. The name of a variable gives values
+to the bounds that are made of it; the name of an array gives its last bound.
 """
 
 import ast
@@ -66,7 +66,7 @@ def bounds_of(text: str) -> Iterator[Bound]:
 
 
 def value_of(node: ast.expr, sizes: Mapping[str, int]) -> int:
-    """The value of an expression of bounds; KeyError tells a name without one, ValueError what is none."""
+    """The value of an expression of bounds; KeyError names a name without a value, ValueError what is no expression."""
     if isinstance(node, ast.Constant) and isinstance(node.value, int):
         return node.value
     if isinstance(node, ast.Name):
@@ -85,13 +85,13 @@ def value_of(node: ast.expr, sizes: Mapping[str, int]) -> int:
 
 
 def bound_value(bound: Bound, sizes: Mapping[str, int]) -> int | None:
-    """The value that a bound gets; None where none is given, or where it is a number already."""
+    """The value that a bound gets; None where it gets none, or is a number already."""
     if bound.is_last and bound.array in sizes:
         return sizes[bound.array]
     if bound.text.isdecimal() or not re.fullmatch(r"[A-Z0-9+\-*/()]+", bound.upper) or "**" in bound.upper:
         return None
     try:
-        # Python reads sums and products as FORTRAN does, but for zeros in front of a number.
+        # Python reads sums and products as FORTRAN does, except numbers with zeros in front.
         text = re.sub(r"(?<![A-Z0-9])0+(?=\d)", "", bound.upper)
         return value_of(ast.parse(text, mode="eval").body, sizes)
     except (KeyError, ValueError, SyntaxError):
@@ -125,7 +125,7 @@ def with_bounds(card: Card, sizes: Mapping[str, int]) -> tuple[str, set[str]]:
 
 
 def lines_of_card(lines: Sequence[str], line: int) -> list[int]:
-    """The places of the lines of a statement, by the number of its first one: comments between are none of them."""
+    """The places of the lines of a statement, by the number of its first line. Comments between them are left out."""
     places = [line - 1]
     for at in range(line, len(lines)):
         if is_continuation(lines[at]):
@@ -146,7 +146,8 @@ def lay(lines: list[str], line: int, text: str) -> None:
 
 
 def sized(source: str, sizes: Mapping[str, int], shares: bool = False) -> str:
-    """The source with the bounds that have a value now. Each name of --size has to give one, unless they are shared."""
+    """The source, with values for bounds. Each name of --size has to give some bound a value, unless names are
+    shared."""
     lines, used = source.split("\n"), set[str]()
     for card in cards_of(source):
         text, names = with_bounds(card, sizes)

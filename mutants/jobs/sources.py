@@ -13,16 +13,16 @@ from mutants.jobs.units import picked, units_of, with_lines
 from mutants.texts.decoding import decoded
 from mutants.texts.tabs import has_tab, without_tabs
 
-# What a source may have, in bytes.
+# The most bytes that a source may have.
 LARGEST = 65_536
 SUFFIXES = (".f", ".for", ".ftn", ".f77")
 FREE = (".f90", ".f95", ".f03", ".f08")
 
 
 class Wish(NamedTuple):
-    """What is asked of the making of a job: a unit by name, the values of bounds, and whether tabs become blanks.
+    """How a job is to be made: a unit by name, the values of bounds, and whether tabs become blanks.
 
-    Sizes that are shared are for several programs: one that is of none of a program's bounds is passed over.
+    Sizes that are shared are for several programs: those that fit no bound of a program are passed over.
     """
 
     unit: str | None = None
@@ -34,7 +34,7 @@ class Wish(NamedTuple):
 class Source(NamedTuple):
     """A source: the text that the job has, the text as it is shown, line for line, and remarks on it.
 
-    The unit is the name of the one that was picked among several; else it is empty. `file` is the whole text of the
+    `unit` is the name of the unit that was picked among several; else it is empty. `file` is the whole text of the
     file, with its tabs and its other units.
     """
 
@@ -46,12 +46,12 @@ class Source(NamedTuple):
 
 
 def is_program(path: Path) -> bool:
-    """Whether the name of a file is that of a program in fixed form."""
+    """Whether a file is a program in fixed form, by the ending of its name."""
     return path.suffix.lower() in SUFFIXES
 
 
 def tabs_fault(source: str) -> str:
-    """Why a source with tabs does not serve, and what does; no text where it has none."""
+    """Why a source with tabs can not be used, and what to do; no text where it has no tabs."""
     lines = [number for number, line in enumerate(source.split("\n"), 1) if has_tab(line)]
     if not lines:
         return ""
@@ -87,10 +87,10 @@ def bounds_remarks(source: str) -> list[str]:
 
 
 def source_of(data: bytes, wish: Wish) -> Source:
-    """The source of a job, of the bytes of a file; ValueError says why there is none."""
+    """The source of a job, made of the bytes of a file; ValueError says why there is none."""
     text = decoded(data)
     plain = "\n".join(map(without_tabs, text.split("\n")))
-    # The units are told by the statements, which tabs would hide.
+    # Units are found by their statements, which tabs would hide.
     kept, unit, remarks = unit_in(plain, wish.unit)
     if not wish.expands_tabs:
         kept = "\n".join(old if new else "" for old, new in zip(text.split("\n"), kept.split("\n"))) if unit else text

@@ -1,4 +1,4 @@
-"""Tables of tests: JSON or CSV, with or without a row of names, and why a cell does not serve."""
+"""Tables of tests: JSON or CSV, with or without a row of names; and why a cell can not be used."""
 
 import difflib
 import json
@@ -14,7 +14,7 @@ from mutants.texts.decoding import decoded
 from mutants.texts.separated import rows_in
 
 NAME = re.compile(r"[A-Za-z][A-Za-z0-9]*")
-# A column that means something beside those of the dummy arguments; and those that name the tests, where one is there.
+# A column with a meaning of its own beside those of the dummy arguments; and columns that may name the tests.
 EXPECT, TITLES = "EXPECT", ("TEST", "NAME")
 Cells = list[Any]
 
@@ -91,7 +91,7 @@ def columns_of(row: int, cells: Cells, dummies: Sequence[str]) -> list[str]:
 
 
 def shape_fault(row: int, cells: Cells, columns: Sequence[str], is_text: bool) -> str:
-    """Why a row does not serve that has another number of cells than there are columns."""
+    """Why a row can not be used, if it does not have as many cells as there are columns."""
     wanted = f"{len(columns)} are wanted: {', '.join(columns)}" if columns else "there is no dummy argument"
     count = f"row {row} has {plural(len(cells), 'cell')}, and {wanted}"
     if is_text and len(cells) == 1 and ";" in cells[0]:
@@ -164,8 +164,8 @@ def titles_of(table: Table) -> list[str]:
 
 
 def read_table(path: Path, dummies: Sequence[str] | None = None, blanks: Mapping[str, Any] = {}) -> Table:
-    """The table of a file for these dummy arguments; None where they are not known. Some of them have values for blank
-    cells."""
+    """The table of a file for these dummy arguments, which are None where they are not known. `blanks` has values for
+    blank cells of some of them."""
     text = decoded(bytes_of(path))
     reading = Reading(dummies, blanks)
     if path.suffix.lower() == ".csv":

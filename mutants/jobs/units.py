@@ -11,7 +11,8 @@ HEAD = re.compile(rf"(SUBROUTINE|{KIND}|PROGRAM|BLOCKDATA)([A-Z][A-Z0-9]*)?(?:\(
 
 
 class Unit(NamedTuple):
-    """Its kind ("" where no statement says it), its name ("" where it has none), its first line and its last one."""
+    """A program unit: its kind ("" where no statement says it), its name ("" where it has none), its first and last
+    line."""
 
     kind: str
     name: str
@@ -33,7 +34,7 @@ def unit_of(cards: Sequence[Card], first: int) -> Unit:
 
 
 def units_of(source: str) -> list[Unit]:
-    """The units of a file. What stands behind the last END, and has none of its own, is part of the last unit."""
+    """The units of a file. What stands after the last END is part of the last unit."""
     units: list[Unit] = []
     cards: list[Card] = []
     first = 1
@@ -65,5 +66,5 @@ def picked(units: Sequence[Unit], name: str | None) -> Unit:
 def with_lines(source: str, unit: Unit) -> str:
     """The source with blank lines in the place of those outside of the unit."""
     lines = source.split("\n")
-    # Comments behind the last unit are nobody's, and do no harm: a unit ends with its END.
+    # Comments after the last unit belong to no unit, and do no harm: a unit ends with its END.
     return "\n".join([*[""] * (unit.first - 1), *lines[unit.first - 1 : unit.last], ""])

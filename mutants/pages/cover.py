@@ -1,12 +1,12 @@
-"""The smallest set of tests that kills all that a suite kills: a smallest set of columns that meets each row.
+"""The smallest set of tests that kills all that a suite kills, found as a smallest set of columns that meets each row.
 
-A mutant is a number whose bits are the tests that kill it. A mutant whose killers are more than those of another one is
-met where that one is, and a test that kills no more than another test is not needed: both are left out first, until
-nothing changes. That alone settles most suites. What is left is searched: branch and bound, from the mutant with the
-fewest killers, with mutants that share no killer as the bound. Up to 2,000 branches the set is a smallest one, and this
-is said. Then the search is given up, and the set is that of the greedy rule: again and again the test that kills the
-most of what is left. Settled were 2,543 tests of the triangle, and tables of 25 tests and
-600 mutants drawn at random; not settled were 60 tests and 500 mutants drawn at random.
+A mutant is a number whose bits are the tests that kill it. A mutant whose killers include all those of another one is
+met wherever that one is, and a test that kills no more than another test is not needed. Both are left out first, until
+nothing changes, which settles most suites. What is left is searched by branch and bound: it branches at the mutant with
+the fewest killers, and mutants that share no killer give the bound. If 2,000 branches suffice, the set is a smallest
+one, and the page says so. Else the search is given up, and the set is that of the greedy rule: again and again the test
+that kills the most of what is left. Settled were 2,543 tests of the triangle, and tables of 25 tests and 600 mutants
+drawn at random; not settled were 60 tests and 500 mutants drawn at random.
 """
 
 from collections.abc import Iterable
@@ -17,7 +17,7 @@ BRANCHES = 2_000
 
 
 class GivenUp(Exception):
-    """The search has taken all its branches."""
+    """The search has used up all its branches."""
 
 
 def bits_of(number: int) -> list[int]:
@@ -40,7 +40,7 @@ def columns_of(rows: Iterable[int]) -> dict[int, int]:
 
 
 def needless(rows: Iterable[int]) -> int:
-    """The tests that are in no more rows than another one, as bits; of tests in the same rows the first is needed."""
+    """The tests that are only in rows of another test, as bits. Of tests in the same rows the first is kept."""
     kept: list[int] = []
     unneeded = 0
     columns = columns_of(rows)
@@ -53,7 +53,7 @@ def needless(rows: Iterable[int]) -> int:
 
 
 def reduced(rows: list[int]) -> list[int]:
-    """Rows that ask for no more than the given ones do: no row holds another, and no test is needless."""
+    """Rows that need the same as the given ones: no row contains another, and no test is needless."""
     while True:
         rows = least_sets(rows)
         without = needless(rows)
@@ -63,7 +63,7 @@ def reduced(rows: list[int]) -> list[int]:
 
 
 def greedy(rows: list[int]) -> int:
-    """Tests that meet all rows: each the one that is in the most of what is left, the first of these."""
+    """Tests that meet all rows: again and again the first of those that are in the most of the rows that are left."""
     chosen = 0
     while rows:
         columns = columns_of(rows)
@@ -74,7 +74,7 @@ def greedy(rows: list[int]) -> int:
 
 
 def apart(rows: Iterable[int]) -> int:
-    """How many rows are found that share no test: so many tests are needed at least."""
+    """How many rows are found that share no test. At least this many tests are needed."""
     seen = count = 0
     for row in sorted(rows, key=int.bit_count):
         if not row & seen:
@@ -84,7 +84,7 @@ def apart(rows: Iterable[int]) -> int:
 
 
 def without_forced(rows: list[int]) -> tuple[int, list[int]]:
-    """The tests that alone are left for some row, as bits, and the rows that these do not meet."""
+    """The tests that are the only ones left for some row, as bits, and the rows that these do not meet."""
     rows, forced = reduced(rows), 0
     for row in rows:
         forced |= row if row.bit_count() == 1 else 0
@@ -112,12 +112,13 @@ class Search:
             if self.left < 0:
                 raise GivenUp
             self.go([row for row in rows if not row >> test & 1], chosen | 1 << test)
-            # From here on the set is one without this test.
+            # From here on only sets without this test are searched.
             rows = [row & ~(1 << test) for row in rows]
 
 
 def smallest_set(rows: Iterable[int], branches: int = BRANCHES) -> tuple[list[int], bool]:
-    """Places of tests, ascending, such that each row that is not 0 has one of them, and whether no smaller set has."""
+    """The places of tests, ascending, so that each row that is not 0 has one of them; and whether no smaller set has
+    that."""
     forced, left = without_forced([row for row in rows if row])
     by_greed = greedy(left)
     search = Search(by_greed, branches)

@@ -1,6 +1,6 @@
 """The declared mutants of a page: each with its change and its reason, and first those that a test kills anyway.
 
-Those that are declared by a proof alone stand apart from those of a person, and are folded.
+Mutants that are declared by a proof alone stand apart from those of a person, and are folded.
 """
 
 from collections.abc import Iterable, Mapping, Sequence
@@ -14,7 +14,7 @@ from mutants.texts.lines import Mutant
 from mutants.texts.reports import Row, tests_in
 from mutants.texts.twins import name_of, names_text
 
-# What proofs promise, and what those with steps to spare do.
+# What proofs promise, and what SPARE-n proofs promise.
 ALL_TESTS = (
     "No test that a suite may have kills these, and nobody has to think about them: of each it is proved that it"
     " does what the program does, on all arguments on which the program returns or stops."

@@ -20,14 +20,14 @@ def text(value: object) -> str:
 
 
 def bar(part: int, whole: int, said: str = "") -> str:
-    """A bar of which a part is full. What it says is not said again where that stands beside it."""
+    """A bar of which a part is full. It has a text for screen readers unless the same stands beside it."""
     share = 100 * part / whole if whole else 0
     label = f'role="img" aria-label="{text(said)}"' if said else 'aria-hidden="true"'
     return f'<svg class="full" {label}><rect width="{share:.3g}%" height="100%"/></svg>'
 
 
 def cell_part(cell: Cell, scope: str = "") -> str:
-    """A cell, or the head of what the scope says."""
+    """A cell, or the head of a row or column, as the scope says."""
     (mark, inner), tag = cell, f'th scope="{scope}"' if scope else "td"
     kind = f' class="{mark}"' if mark else ""
     return f"<{tag}{kind}>{inner}</{tag[:2]}>"
@@ -40,7 +40,7 @@ def headed_row(cells: Iterable[Cell]) -> str:
 
 
 def head_row(cells: Iterable[Cell]) -> str:
-    """The row of the heads of columns; one without a word is a cell as others."""
+    """The row of the heads of columns. A head without a word is a plain cell."""
     return f"<tr>{''.join(cell_part(cell, 'col' if cell[1] else '') for cell in cells)}</tr>"
 
 
@@ -56,7 +56,7 @@ def table(
     label: str = "",
     does_sort: bool = False,
 ) -> str:
-    """A table of rows, whose cells are HTML as it is; the first cell of each is its head. A script may sort it."""
+    """A table of rows, whose cells are HTML. The first cell of each row is its head. A script may sort the table."""
     feet = f"<tfoot>{headed_row(foot)}</tfoot>\n" if foot else ""
     kind = (' class="sorts"' if does_sort else "") + (f' aria-label="{text(label)}"' if label else "")
     inner = f"<thead>{head_row(head)}</thead>\n<tbody>\n{''.join(map(headed_row, rows))}</tbody>\n{feet}"
@@ -64,12 +64,12 @@ def table(
 
 
 def remark_part(remark: str) -> str:
-    """What a page says at its top, if anything, of where all on it comes from."""
+    """What a page says at its top, if anything, about the programs that its contents come from."""
     return f'<p class="warn"><b>{text(remark)}</b></p>\n' if remark else ""
 
 
 def sections(parts: Iterable[tuple[str, str, str]]) -> tuple[str, str]:
-    """Links to sections, and the sections: of each its name, its title and its HTML."""
+    """Links to sections, and the sections themselves. Each is given by its name, its title and its HTML."""
     every = list(parts)
     links = "".join(f'<a href="#{name}">{title}</a> ' for name, title, _ in every)
     bodies = "".join(
@@ -80,7 +80,7 @@ def sections(parts: Iterable[tuple[str, str, str]]) -> tuple[str, str]:
 
 
 def page(title: str, head: str, body: str) -> str:
-    """A whole page, of HTML as it is: what stands at its top, and what it is about."""
+    """A whole page, of HTML: its top, and its body."""
     return (
         '<!DOCTYPE html>\n<html lang="en">\n<head>\n<meta charset="utf-8">\n'
         '<meta name="viewport" content="width=device-width, initial-scale=1">\n'

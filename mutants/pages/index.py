@@ -10,7 +10,7 @@ from mutants.texts.reports import Count, score_of
 
 
 class Entry(NamedTuple):
-    """A program: its file, its page (no text where there is none), what its mutants come to, and what is wrong."""
+    """A program: its file, its page (no text where there is none), the counts of its mutants, and what is wrong."""
 
     program: str
     link: str = ""

@@ -15,7 +15,7 @@ def ranges_of(numbers: Iterable[int]) -> str:
 
 
 def killers_text(bits: str) -> str:
-    """The tests that kill, or those that do not where that is shorter."""
+    """The tests that kill, or where that is shorter the tests that do not."""
     if "1" not in bits or "0" not in bits:
         return "all tests" if "1" in bits else "no test"
     killers, rest = ranges_of(tests_in(bits)), f"all but {ranges_of(tests_in(bits, '0'))}"

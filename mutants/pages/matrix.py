@@ -19,11 +19,11 @@ from mutants.texts.lines import Mutant
 from mutants.texts.reports import Row, tests_in
 from mutants.texts.spans import change_of
 
-# A cell is so wide; so many mutants stand in a panel, and have a number each tenth; so many cells stand in a matrix.
+# The width of a cell; how many mutants stand in a panel, each tenth with a number; how many cells a matrix may have.
 WIDE, TOGETHER, TENTH, MOST = 4, 80, 10, 400_000
-# Up to so many mutants all operators but ABS are unfolded, and so many columns at most have titles.
+# Up to how many mutants all operators but ABS are unfolded, and how many columns have titles at most.
 UNFOLDED, TITLED = 600, 4_000
-# So many characters of a piece of a change are in a title, and so many tests.
+# How many characters of a piece of a change are in a title, and how many tests.
 PIECE, NAMED = 16, 4
 MARKS = {"S": "s", "E": "e"}
 
@@ -37,12 +37,12 @@ class Column(NamedTuple):
 
 
 def height_of(tests: int) -> int:
-    """How high a row is: with room for its number where there are few."""
+    """How high a row is. Where there are few rows, each has room for its number."""
     return 12 if tests <= 20 else 10 if tests <= 40 else 4
 
 
 def thinned(columns: Sequence[Column], tests: int) -> tuple[list[Column], int]:
-    """Each q-th column of each operator, and q: 1 where the picture has room for all."""
+    """Each q-th column of each operator, and q, which is 1 where the picture has room for all."""
     every = -(-len(columns) * max(tests, 1) // MOST) or 1
     groups = groupby(columns, key=lambda column: column.row.op)
     return [column for _, group in groups for column in list(group)[::every]], every
@@ -52,7 +52,7 @@ def shortened(piece: str) -> str:
     return piece if len(piece) <= PIECE else piece[: PIECE - 2] + ".."
 
 
-# A class shows the same mutants on many pages.
+# The pages of a class show the same mutants many times.
 @lru_cache(maxsize=65_536)
 def change_text(statement: str, mutant: str) -> str:
     """What a mutant changes, as HTML."""
@@ -109,7 +109,7 @@ def panel(columns: Sequence[Column], tests: int, is_titled: bool) -> str:
 
 
 def in_panels(columns: Sequence[Column]) -> list[Sequence[Column]]:
-    """Columns in parts that are alike in length, and no longer than a panel."""
+    """Columns in parts of about the same length, none longer than a panel."""
     count = -(-len(columns) // TOGETHER)
     return [columns[part * len(columns) // count : (part + 1) * len(columns) // count] for part in range(count)]
 

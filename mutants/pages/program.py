@@ -1,4 +1,4 @@
-"""The program on a page: each line with its marks, and under each statement its survivors with what they change."""
+"""The program on a page: each line with its marks, and after each statement its survivors with what they change."""
 
 from collections.abc import Mapping, Sequence
 from typing import NamedTuple
@@ -36,14 +36,15 @@ def line_part(number: int, line: str, count: Count | None, survived: int, has_li
 
 
 def numbered_lines(source: str) -> list[tuple[int, str]]:
-    """The lines with their numbers. Blank ones at both ends, where other units of a file stand, are left out."""
+    """The lines with their numbers. Blank lines at both ends, where other units of the file stand, are left out."""
     lines = list(enumerate(source_lines(source), 1))
     kept = [number for number, line in lines if line.strip()] or [0]
     return lines[max(kept[0] - 1, 0) : kept[-1]]
 
 
 class AtLines(NamedTuple):
-    """By the initial line of a statement: counts of its mutants, and those that survive, are declared, or proved."""
+    """By the initial line of a statement: the counts of its mutants, and those that survive, are declared, or are
+    proved."""
 
     counts: Mapping[int, Count]
     survivors: Mapping[int, Sequence[Mutant]]
@@ -57,7 +58,7 @@ class AtLines(NamedTuple):
 def program_part(source: str, statements: Mapping[int, str], marked: AtLines, has_links: bool = False) -> str:
     """The whole program with its mutants.
 
-    The mutants of a statement stand behind its last line, so that its lines stay together.
+    The mutants of a statement stand after its last line, so that its lines stay together.
     """
     ends, parts = last_lines(source), []
     initial = {ends.get(line, line): line for line in {*marked.survivors, *marked.declared, *marked.proved}}

@@ -23,7 +23,7 @@ from mutants.texts.reports import Count, Report, Row, assert_same_mutants, count
 from mutants.texts.subsuming import subsuming
 from mutants.texts.twins import name_of, twins_in
 
-# What a page is, as its title says it.
+# What a page is, for its title.
 KIND = "kills and survivors"
 
 
@@ -49,7 +49,7 @@ def at_lines(listed: Sequence[Mutant], rows: Sequence[Row], survivors: Iterable[
 
 
 def score_part(count: Count, proved: int = 0) -> str:
-    """The score in large figures, and what it is made of; so many mutants do not count by a proof alone."""
+    """The score in large figures, and what it is made of; `proved` mutants do not count, by a proof alone."""
     score, wanted = score_of(count), count.wanted
     said = f"{count.killed} of {plural(wanted, 'mutant')} killed{left_out_text(count, proved)}"
     figures = "no score" if score == "NONE" else f"{score} %"
@@ -63,7 +63,7 @@ def proofs_part(count: Count, proved: int) -> str:
 
 
 def subsuming_part(listed: Sequence[Mutant], rows: Sequence[Row]) -> str:
-    """The score over the mutants that subsume all others, and those of them that are killed, folded."""
+    """The score over the mutants that subsume all others, and a fold with those of them that are killed."""
     least = subsuming(listed, rows)
     if least.counted.total == sum(row.status != "E" for row in rows):
         return ""
@@ -80,7 +80,7 @@ def facts_of(report: Report) -> str:
 
 
 def first_look(survivors: Sequence[Mutant], proved: int, said: Said) -> str:
-    """Where the survivors are, and of how many of them no row of a box kills."""
+    """Where the survivors are, and how many of them are killed by no row of a box."""
     if not survivors:
         return f"<p>{no_survivor_text(proved)}</p>\n"
     lines = Counter(mutant.line for mutant in survivors)
@@ -95,7 +95,7 @@ def first_look(survivors: Sequence[Mutant], proved: int, said: Said) -> str:
 
 
 def survivors_text(survivors: Sequence[Mutant]) -> str:
-    """How many survivors there are, on how many lines, and how many programs they are."""
+    """How many survivors there are, on how many lines, and how many different programs they are."""
     different, lines = len(twins_in(survivors)), {mutant.line for mutant in survivors}
     count = f"{plural(len(survivors), 'survivor')} on {plural(len(lines), 'line')}"
     return f"{count}, {plural(different, 'different program')}" if different < len(survivors) else count

@@ -9,7 +9,7 @@ from mutants.pages.frame import Cell, bar, numbers, table, text
 from mutants.texts.reports import Row
 from mutants.texts.twins import names_text
 
-# So many characters of a test's values are shown, so many numbers of tests in a sentence, so many mutants of a test.
+# How many characters of a test's values are shown, how many numbers of tests in a sentence, how many mutants of a test.
 LONGEST, NUMBERS, NAMED = 72, 20, 4
 
 
@@ -47,7 +47,7 @@ def least_set_text(kept: Sequence[int], is_least: bool, killed: int, noun: str =
 
 
 def needless_text(alone: Iterable[int]) -> str:
-    """One sentence on the tests that kill nothing alone."""
+    """One sentence on the tests that kill nothing which no other test kills."""
     numbers = [number for number, count in enumerate(alone, 1) if not count]
     if not numbers:
         return "Each test kills a mutant that no other test kills."
@@ -111,7 +111,7 @@ def tests_part(
     unexpected: Mapping[int, str] = {},
     titles: Sequence[str] = (),
 ) -> str:
-    """The table of the tests of a suite, those first that alone kill the most, and what follows of it.
+    """The table of the tests of a suite, first those that alone kill the most, and what follows from it.
 
     The outcomes are those of the program, where known.
     """

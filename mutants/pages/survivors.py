@@ -1,7 +1,7 @@
-"""The survivors of a line, each with what it changes; of many some are folded.
+"""The survivors of a line, each with what it changes. Of many, some are folded.
 
-A long statement is not shown whole for each of them: what is far from the change is marked, so that a small screen can
-leave it out, and what is very far is left out everywhere.
+A long statement is not shown whole for each of them: text that is far from the change is marked, so that a small screen
+can leave it out, and text that is very far is left out everywhere.
 """
 
 from collections.abc import Iterable, Mapping, Sequence
@@ -15,10 +15,10 @@ from mutants.texts.differences import WORD, pieces
 from mutants.texts.lines import Mutant
 from mutants.texts.twins import name_of, names_text, twins_in
 
-# So many survivors of a line are unfolded.
+# How many survivors of a line are unfolded.
 UNFOLDED = 5
-# So many characters of a statement at least stand beside a change; so many more are worth to be left out on a small
-# screen; and so many are left out everywhere.
+# How many characters of a statement stand at least beside a change; how many more are worth to be left out on a small
+# screen; and how many are left out everywhere.
 NEAR, FAR, FARTHEST = 14, 8, 90
 NO_REMARKS: Mapping[str, str] = MappingProxyType({})
 MARKS = {"=": "{}", "-": "<del>{}</del>", "+": "<ins>{}</ins>"}
@@ -29,7 +29,7 @@ Twins = Sequence[Mutant]
 
 
 def near(words: Iterable[str]) -> int:
-    """How many characters of what is the same stand near a change: whole words, from the change on."""
+    """How many characters of unchanged text are near a change: whole words, counted from the change."""
     count = 0
     for word in words:
         if count >= NEAR:
@@ -39,7 +39,7 @@ def near(words: Iterable[str]) -> int:
 
 
 def far_part(far: str) -> str:
-    """What is far from a change: marked, or left out."""
+    """Text that is far from a change, marked or left out."""
     if len(far) > FARTHEST:
         return "\u2026"
     return f"<i>{text(far)}</i>" if len(far) > FAR else text(far)
@@ -48,7 +48,7 @@ def far_part(far: str) -> str:
 # A class shows the same survivors on many pages.
 @lru_cache(maxsize=65_536)
 def with_context(old: str, new: str) -> str:
-    """The two statements as one text in which what is gone and what is new are marked, and what is far from both."""
+    """The two statements as one text, in which what is gone, what is new, and what is far from both is marked."""
     parts = pieces(old, new)
     shown = [MARKS[mark].format(text(piece)) for mark, piece in parts]
     if parts and parts[0][0] == "=":
@@ -63,7 +63,7 @@ def with_context(old: str, new: str) -> str:
 
 
 def survivor_item(twins: Twins, statement: str, remarks: Mapping[str, str]) -> str:
-    """A survivor with all its names, and what is said of one of them, as of the others."""
+    """A survivor with all its names, and the remark on one of them, which holds for the others too."""
     remark = next((remarks[name] for name in map(name_of, twins) if name in remarks), "")
     why = f'<span class="soft">{text(remark)}</span>' if remark else ""
     code = f"<code>{with_context(statement, twins[0].text)}</code>"
@@ -71,7 +71,7 @@ def survivor_item(twins: Twins, statement: str, remarks: Mapping[str, str]) -> s
 
 
 def items(groups: Iterable[Twins], statement: str, remarks: Mapping[str, str]) -> str:
-    """The mutants of a line in groups of twins, with what is said of them by their names."""
+    """The mutants of a line in groups of twins, with the remarks on them by their names."""
     return "<ul>\n" + "".join(survivor_item(twins, statement, remarks) for twins in groups) + "</ul>\n"
 
 
@@ -86,7 +86,7 @@ def ops_of(groups: Iterable[Twins]) -> list[str]:
 
 
 def survivors_part(survivors: Iterable[Mutant], statement: str, remarks: Mapping[str, str] = NO_REMARKS) -> str:
-    """The survivors of a line: the first few, the others folded, and those of ABS alone folded too."""
+    """The survivors of a line: the first few, the others in a fold, and those of ABS alone in a fold of their own."""
     groups = twins_in(survivors)
     others = [twins for twins in groups if ops_of([twins]) != [ABS]]
     absolute = [twins for twins in groups if ops_of([twins]) == [ABS]]

@@ -1,4 +1,4 @@
-"""What the program says of a job, read as values: its printed text, its mutants, its outcomes, its report."""
+"""The answers of the program to a job, read as values: its printed text, its mutants, its outcomes, its report."""
 
 from collections.abc import Mapping, Sequence
 
@@ -11,7 +11,7 @@ from mutants.texts.lists import read_list
 from mutants.texts.prints import read_print
 from mutants.texts.reports import Report, read_report
 
-# Operators are run together up to so many mutants.
+# Operators are run together up to this many mutants.
 BATCH = 40
 
 
@@ -33,7 +33,7 @@ def asked_outcome(program: str, number: int, words: Sequence[str], job: bytes) -
 def asked_report(program: str, words: Sequence[str], totals: Mapping[str, int], job: bytes, name: str) -> Report:
     """The report on the operators of these totals, asked for in batches; the words are other options of `mothra run`.
 
-    Where it takes long, standard error shows how far it is, by the name of the command.
+    Where this takes long, its progress is shown on standard error, with the name of the command.
     """
     progress, done, whole, reports = Paced(name), 0, sum(totals.values()), []
     try:

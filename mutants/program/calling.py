@@ -14,7 +14,7 @@ Read = TypeVar("Read")
 
 
 class Fault(ValueError):
-    """What a program wrote in place of an answer: its line, and its exit status. Only mothra has commands."""
+    """What a program wrote instead of an answer: its line, and its exit status. Only mothra has commands."""
 
     def __init__(self, command: str, line: str, status: int = FAULT, program: str = MOTHRA.name) -> None:
         super().__init__(f"{program} {command}: {line}" if command else f"{program}: {line}")
@@ -27,7 +27,7 @@ class OutOfTime(Exception):
 
 def call(program: str, words: Sequence[str], job: bytes, seconds: float | None = None) -> tuple[str, int]:
     """What the program writes for these words and the bytes of a job, and its exit status.
-    A call that takes longer than so many seconds is ended."""
+    A call that takes longer than `seconds` seconds is ended."""
     try:
         ended = subprocess.run([program, *words], input=job, capture_output=True, timeout=seconds)
     except subprocess.TimeoutExpired:
@@ -46,7 +46,8 @@ def answer(program: str, words: Sequence[str], job: bytes, seconds: float | None
 
 
 def plain_answer(name: str, program: str, words: Sequence[str], job: bytes) -> str:
-    """The same of a program of this name that has no commands."""
+    """The text that a program without commands answers; a fault, refused words and a failure are a Fault with one
+    line."""
     text, status = call(program, words, job)
     if status == SUCCESS:
         return text
@@ -54,7 +55,7 @@ def plain_answer(name: str, program: str, words: Sequence[str], job: bytes) -> s
 
 
 def failure_of(text: str, status: int) -> str:
-    """One line on what was written with a status other than 0."""
+    """One line that says what was written with a status other than 0."""
     lines = [line for line in text.splitlines() if line.strip()]
     if lines:
         return lines[0].strip()
@@ -64,13 +65,13 @@ def failure_of(text: str, status: int) -> str:
 
 
 def text_of(path: str | Path) -> str:
-    """A text that was stored, ends of lines as they are."""
+    """A text that was stored, with ends of lines as they are."""
     return Path(path).read_bytes().decode("utf-8", "replace")
 
 
 @contextmanager
 def naming(path: Path) -> Iterator[None]:
-    """While it holds, what is wrong with a file names it; a fault that a program wrote stays as it is."""
+    """Inside this context an error about a file names the file; a fault that a program wrote stays as it is."""
     try:
         yield
     except Fault:
@@ -80,7 +81,7 @@ def naming(path: Path) -> Iterator[None]:
 
 
 def read_as(name: str | Path, read: Callable[[Text], Read], text: Text) -> Read:
-    """What is read of a text; a fault names where the text is from."""
+    """What `read` makes of a text; an error says where the text is from."""
     try:
         return read(text)
     except ValueError as fault:

@@ -14,7 +14,7 @@ from mutants.program.unproved import find_unproved, is_unproved, said
 BUILT = ROOT / "crates" / "mothra" / "out" / "mothra"
 BUILT_EQUIVALENTS = ROOT / "crates" / "equivalents" / "out" / "equivalents"
 
-# What is said where there is none: how one comes to it, and how long that takes.
+# What is said where there is no program: how to get one, and how long that takes.
 MISSING = f"""\
 the program mothra is not found: {MOTHRA.option} and {MOTHRA.variable} name none, none is built here, and the path has\
  none.
@@ -25,11 +25,11 @@ the program mothra is not found: {MOTHRA.option} and {MOTHRA.variable} name none
 
 
 class NoProgram(ValueError):
-    """There is no program mothra."""
+    """No program mothra was found."""
 
 
 def named_program(word: str, where: str) -> str:
-    """The path of the program that a word names: a path, or a name on the path."""
+    """The path of the program that a word names, which is a path or a name to be found on PATH."""
     path = shutil.which(word)
     if not path:
         raise ValueError(f"there is no program {word}, which {where} names")
@@ -37,8 +37,8 @@ def named_program(word: str, where: str) -> str:
 
 
 def searched_program(kind: Program, word: str | None, built: Path) -> str | None:
-    """The program of the option's word, of the environment, of the repository, of a release that has one beside the
-    package, of the path, or an unproved build.
+    """The first program of these: that of the option, that of the environment, that of the repository, that of a
+    release beside the package, one on PATH, an unproved build.
 
     That it is an unproved build is said on standard error.
     """

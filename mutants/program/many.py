@@ -1,4 +1,4 @@
-"""Calls of the program side by side, so many at once; they end together."""
+"""Calls of the program side by side, several at once. A fault of one ends all."""
 
 import os
 import queue
@@ -12,14 +12,14 @@ from typing import NamedTuple
 from mutants.program.calling import Fault, failure_of
 from mutants.statuses import SUCCESS
 
-# The words of a call, and the job that is handed to it.
+# The words of a call, and the job that it gets.
 Call = tuple[Sequence[str], bytes]
 Keep = Callable[[int, str], None]
-# What is raised in the place of a fault of the call at a place.
+# What is raised instead of a fault of the call at a place.
 Refuse = Callable[[int, Fault], Exception]
-# What a call gives, of those that are running, its words and its job.
+# What gives the text of a call, from the calls that are running, its words and its job.
 Ask = Callable[["Calls", Sequence[str], bytes], str]
-# So often, in seconds, it is asked whether there is something to tell.
+# How often, in seconds, progress may be shown.
 TICK = 0.5
 
 
@@ -29,7 +29,7 @@ def processors() -> int:
 
 
 class Calls:
-    """The calls that are running: once they are stopped, no further one begins."""
+    """The calls that are running. Once they are stopped, no other one begins."""
 
     def __init__(self, program: str) -> None:
         self.program, self.lock, self.is_over = program, threading.Lock(), False
@@ -70,7 +70,7 @@ class Calls:
 
 
 def first_failed(calls: "Sequence[Future[str]]", place: int) -> int:
-    """The place of the first call that fails, where the one at this place did: earlier ones have begun before it."""
+    """The place of the first call that fails, where the one at this place did: earlier calls may be running still."""
     earlier = [each for each in calls[:place] if not each.cancel()]
     wait(earlier)
     failed = [at for at, each in enumerate(calls[:place]) if not each.cancelled() and each.exception()]
@@ -78,7 +78,7 @@ def first_failed(calls: "Sequence[Future[str]]", place: int) -> int:
 
 
 def keep_each(calls: "Sequence[Future[str]]", handling: "Handling") -> None:
-    """Keeps what comes of each call as it ends."""
+    """Keeps the text of each call as it ends."""
     ended: queue.SimpleQueue[int] = queue.SimpleQueue()
     for place, each in enumerate(calls):
         each.add_done_callback(lambda _, place=place: ended.put(place))
@@ -98,8 +98,8 @@ def keep_each(calls: "Sequence[Future[str]]", handling: "Handling") -> None:
 
 
 class Handling(NamedTuple):
-    """What is done with calls: `keep` with the place and the text of each as it ends, `tick` now and then, `refuse`
-    with the place of one that fails; and how one is made."""
+    """How calls are handled: `keep` gets the place and the text of each as it ends, `tick` is called now and then,
+    `refuse` gets the place of one that fails; and how a call is made."""
 
     keep: Keep
     tick: Callable[[], None] = lambda: None
@@ -112,7 +112,7 @@ def ask_many(program: str, calls: Sequence[Call], at_once: int, handling: Handli
     running = Calls(program)
     with ThreadPoolExecutor(at_once) as pool:
         try:
-            # A signal may come as soon as the first of them runs.
+            # A signal may come as soon as the first call runs.
             keep_each([pool.submit(handling.ask, running, *call) for call in calls], handling)
         finally:
             running.stop()

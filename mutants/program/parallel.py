@@ -1,8 +1,8 @@
 """Calls of the program by GNU parallel on several machines.
 
 A call is two lines of the standard input of one `parallel --pipe`: its words, and its job. So no file has to be brought
-to another machine, and none is left there. What comes of a call is written as a whole when it has ended, between a line
-with its place and a line with its exit status.
+to another machine, and none is left there. The answer to a call is written as a whole after the call has ended, between
+a line with its place and a line with its exit status.
 """
 
 import shlex
@@ -19,14 +19,14 @@ from mutants.statuses import SUCCESS
 
 BEGIN, END = "JOB ", "STATUS "
 MISSING = "GNU parallel is not found: --sshlogin spreads the jobs by it (Debian's package parallel)"
-# More than a job may have, so that one job is one block.
+# More bytes than a job may have, so that one job is one block.
 BLOCK = "2M"
-# What takes the place, the text and the status of each call as it ends.
+# What gets the place, the text and the status of each call as it ends.
 Take = Callable[[int, str, int], None]
 
 
 def find_parallel() -> None:
-    """Raises ValueError where GNU parallel is not there; another program of its name is not it."""
+    """Raises ValueError where GNU parallel is not there. Another program may have its name."""
     try:
         version = subprocess.run(["parallel", "--version"], capture_output=True, text=True, errors="replace")
     except OSError:
@@ -36,12 +36,13 @@ def find_parallel() -> None:
 
 
 def on_one_line(job: bytes) -> bytes:
-    """A job without ends of lines: JSON has none in its texts, and between them they mean nothing."""
+    """A job on one line. JSON has no ends of lines in its texts, and elsewhere they mean nothing."""
     return job.replace(b"\r", b" ").replace(b"\n", b" ") + b"\n"
 
 
 def command_of(program: str) -> str:
-    """What is run for each call, for any shell: {#} is its place. The words have no character that a shell reads."""
+    """The command for each call, for any shell; {#} is the place of the call. The words have no character that means
+    something to a shell."""
     inner = f"echo {BEGIN}{{#}}; read -r words; {shlex.quote(program)} $words; status=$?; echo; echo {END}$status"
     return f"sh -c {shlex.quote(inner)}"
 
@@ -61,14 +62,14 @@ def lines_of(calls: Iterable[Call]) -> Iterable[bytes]:
 
 
 def answers_in(lines: Iterable[str]) -> Iterator[tuple[int, str, int]]:
-    """The place, the text and the status of each job, as they come."""
+    """The place, the text and the status of each call, as they come."""
     place: int | None = None
     kept: list[str] = []
     for line in lines:
         if line.startswith(BEGIN):
             place, kept = int(line.removeprefix(BEGIN)) - 1, []
         elif line.startswith(END) and place is not None:
-            # In front of the status stands an end of line that the program did not write.
+            # The end of line before the status was not written by the program.
             text = "".join(kept)
             yield place, text.removesuffix("\n"), int(line.removeprefix(END))
             place = None
@@ -82,7 +83,7 @@ def text_of_answer(text: str, status: int) -> str:
 
 
 def feed_lines(pipe: IO[bytes], lines: Iterable[bytes]) -> None:
-    """Hands the lines over. Where parallel has ended before, no more is wanted."""
+    """Writes the lines to parallel. If it has ended before that, no more are needed."""
     try:
         with pipe:
             for line in lines:
@@ -92,24 +93,24 @@ def feed_lines(pipe: IO[bytes], lines: Iterable[bytes]) -> None:
 
 
 def stop(running: "subprocess.Popen[bytes]") -> None:
-    """Ends parallel and its jobs, where they still run: asked once it would wait for these."""
+    """Ends parallel and its jobs, if they still run. If it were asked once, it would wait for the jobs."""
     for _ in range(2):
         running.terminate()
     running.wait()
 
 
 def last_line(errors: IO[bytes]) -> str:
-    """The last line of what parallel and its jobs say of a failure."""
+    """The last line in which parallel or its jobs report a failure."""
     errors.seek(0)
     lines = errors.read().decode("utf-8", "replace").splitlines()
-    # An unproved build says at each call what it is, which is no failure.
+    # An unproved build says at each call that it is one, which is no failure.
     messages = [line.strip() for line in lines if line.strip() and not line.startswith(MARK)]
     return messages[-1] if messages else ""
 
 
 def spread(program: str, calls: Sequence[Call], jobs: int | None, logins: Iterable[str], take: Take) -> str:
-    """Makes these calls on the machines; `take` has the place, the text and the status of each as it ends. The last
-    line of the errors."""
+    """Makes these calls on the machines. `take` gets the place, the text and the status of each as it ends. The result
+    is the last line of the errors."""
     words, pipe = parallel_words(program, jobs, logins), subprocess.PIPE
     with tempfile.TemporaryFile() as errors:
         with subprocess.Popen(words, stdin=pipe, stdout=pipe, stderr=errors) as running:

@@ -1,10 +1,10 @@
-"""The programs of the repository that the command calls."""
+"""The programs that the command calls."""
 
 from typing import NamedTuple
 
 
 class Program(NamedTuple):
-    """A program, by its name, which is that of its crate."""
+    """A program, named as its crate."""
 
     name: str
 
@@ -26,6 +26,6 @@ class Program(NamedTuple):
         )
 
 
-# It runs mutants; and it proves some of them equivalent.
+# The one that runs mutants, and the one that proves some of them equivalent.
 MOTHRA, EQUIVALENTS = Program("mothra"), Program("equivalents")
 PROGRAMS = {program.name: program for program in (MOTHRA, EQUIVALENTS)}

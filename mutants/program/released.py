@@ -1,6 +1,6 @@
-"""The programs of a release: they lie beside the package, with a file that says what the gate said of them.
+"""The programs of a release lie beside the package, with a file that says what the gate said of them.
 
-Called proved is a program with the digest of that file; nothing is said of another one in its place.
+A program with the digest in that file is called proved. Nothing is said of another program in its place.
 """
 
 import hashlib
@@ -15,7 +15,7 @@ FACTS = "release.json"
 
 @cache
 def facts() -> dict[str, str]:
-    """The commit, the kit, the last line of the gate, and the digest of each program; nothing without a release."""
+    """The commit, the kit, the last line of the gate, and the digest of each program; empty without a release."""
     path = FOLDER / FACTS
     return dict(json.loads(path.read_text(encoding="utf-8"))) if path.is_file() else {}
 
@@ -26,14 +26,14 @@ def digest_of(path: Path) -> str:
 
 
 def released_path(name: str) -> str | None:
-    """The path of a program of the release; None where there is none, or another file in its place."""
+    """The path of a program of the release; None where there is none, or another file is in its place."""
     path = FOLDER / name
     is_right = name in facts() and os.access(path, os.X_OK) and digest_of(path) == facts()[name]
     return str(path) if is_right else None
 
 
 def remark_on_release(program: str) -> str:
-    """One sentence for all that is written with a program of the release; of another one no text."""
+    """One sentence for all that is written with a program of the release; no text for another program."""
     name = Path(program).name
     if released_path(name) != program:
         return ""

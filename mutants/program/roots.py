@@ -1,4 +1,4 @@
-"""Where the repository lies that the package stands in."""
+"""The folder of the repository of which the package is a part."""
 
 from pathlib import Path
 

@@ -1,9 +1,10 @@
-"""Unproved builds of the programs, for a first look: made once, kept, and called unproved wherever they are used.
+"""Unproved builds of the programs, for a first look. They are made once, kept, and called unproved wherever they are
+used.
 
-A build is kept in the user's folder for caches, with a digest of the sources that it was built from. What lies there
-under its name is a script that says on standard error that the build is unproved, and then runs it: so a call of it is
-marked whoever makes it. Where the package lies beside other sources it is not used. Where it lies beside none, as when
-it was installed, there is nothing to compare with: the build is used, and named by the digest.
+A build is kept in the user's folder for caches, with a digest of the sources from which it was built. Under its name
+there is a script, which says on standard error that the build is unproved and then runs it, so each call is marked,
+whoever makes it. Where the package lies beside other sources, the build is not used. Where it lies beside no sources,
+as when it was installed, there is nothing to compare with: the build is used, and named by the digest.
 """
 
 import hashlib
@@ -18,13 +19,13 @@ from mutants.program.roots import ROOT
 from mutants.program.trying import build
 
 CRATES = ROOT / "crates"
-# What is said wherever a build is used, and how each line begins that the script writes.
+# What is said wherever a build is used; and the beginning of each line that the script writes.
 SAID_OF = "an unproved build of {}: nothing that it says is proved"
 SAID = SAID_OF.format(MOTHRA.name)
 MARK = "unproved build: "
-# So many digits of the digest are shown.
+# How many digits of the digest are shown.
 DIGITS = 12
-# A job, and for each program the words with which a build of it is tried, and what it has to write of that job.
+# A job on which a build is tried, and for each program the words and what it has to write.
 JOB = b'{"source": "      SUBROUTINE ADD(I,J,K)\\n      K=I+J\\n      END\\n"}'
 PRINTED = b"      SUBROUTINE ADD(I,J,K)\n      K=I+J\n      END\n"
 TRIALS = {MOTHRA.name: (["print"], PRINTED), EQUIVALENTS.name: (["--ops", "SDL"], b"PROVED 0 OF 1\n")}
@@ -37,7 +38,7 @@ exec {program} "$@"
 
 
 def kept_path(name: str = MOTHRA.name) -> Path:
-    """Where the build of a program is called, whether it is there or not: the script that marks it."""
+    """The path of the script for the build of a program, whether it is there or not."""
     # Below the null device there is nothing.
     return caches_folder(f"unproved-{name}") or Path(os.devnull, f"unproved-{name}")
 
@@ -51,7 +52,7 @@ def digest_path(name: str = MOTHRA.name) -> Path:
 
 
 def digest_of(crates: Path) -> str:
-    """The digest of all that a build is made of."""
+    """The digest of all sources of a build."""
     digest = hashlib.sha256()
     for path in sorted([*crates.glob("*/src/**/*.rt"), crates.parent / "crates.txt"]):
         data = path.read_bytes()
@@ -60,7 +61,7 @@ def digest_of(crates: Path) -> str:
 
 
 def kept_digest(name: str = MOTHRA.name) -> str | None:
-    """The digest of the sources that a build is of; None where there is no whole build."""
+    """The digest of the sources of the build that is kept; None where there is no whole build."""
     there = [path for path in (kept_path(name), binary_path(name)) if os.access(path, os.X_OK)]
     digest = digest_path(name)
     return digest.read_text().strip() if len(there) == 2 and digest.exists() else None
@@ -75,7 +76,7 @@ def find_unproved(name: str = MOTHRA.name) -> str | None:
 
 
 def is_unproved(program: str, name: str = MOTHRA.name) -> bool:
-    """Whether a program is the unproved build of this name, called by the script or without it."""
+    """Whether a program is the unproved build of this name, or the script that calls it."""
     kept = [path for path in (kept_path(name), binary_path(name)) if path.exists()]
     return os.path.exists(program) and any(os.path.samefile(program, path) for path in kept)
 
@@ -90,12 +91,13 @@ def said(name: str = MOTHRA.name) -> str:
 
 
 def remark_on(program: str) -> str:
-    """One sentence for all that is written with an unproved build, or with a program of a release. Else no text."""
+    """One sentence for all that is written with an unproved build, or with a program of a release; else no text."""
     return f"This is of {said()}." if is_unproved(program) else remark_on_release(program)
 
 
 def remark_on_proofs(program: str) -> str:
-    """The same for proofs that the program equivalents tells."""
+    """One sentence for all that is written with proofs of the program equivalents, where this is an unproved build or
+    one of a release."""
     name = EQUIVALENTS.name
     return f"What is called proved here is of {said(name)}." if is_unproved(program, name) else ""
 
@@ -112,7 +114,7 @@ def script_of(digest: str, name: str) -> str:
 
 
 def programs_here() -> list[str]:
-    """The programs that the repository has; mothra where there is no repository, which then is the fault."""
+    """The programs that the repository has; mothra where there is no repository, so that this is reported."""
     return [name for name in PROGRAMS if (CRATES / name).is_dir()] or [MOTHRA.name]
 
 

@@ -44,7 +44,7 @@ def add_words(parser: argparse.ArgumentParser) -> None:
 
 
 def cells_of(made: Made, is_anew: bool) -> dict[int, str]:
-    """What stands in the cells already, by the numbers of the tests."""
+    """The texts that the cells have already, by the numbers of the tests."""
     expected = made.table.expected if made.table and not is_anew else {}
     return {number: cell for number, cell in expected.items() if cell.strip()}
 

@@ -60,7 +60,7 @@ from mutants.words import add_mothra_options, add_operators, number_from_1, read
 
 
 def add_choices(parser: argparse.ArgumentParser) -> None:
-    """The options that say which mutants are asked about."""
+    """Adds the options that say which mutants are asked about."""
     add_operators(parser)
     text = "mutants of the statements on these lines alone, as 10-20,25"
     parser.add_argument("--lines", metavar="A-B", type=read_by(ranges_in), help=text)
@@ -79,7 +79,7 @@ def add_means(parser: argparse.ArgumentParser) -> None:
 
 
 def add_results(parser: argparse.ArgumentParser) -> None:
-    """The options that say what is asked of the result, and where it is written."""
+    """Adds the options that say what is asked of the result, and where it is written."""
     add_threshold(parser)
     text = "tell what changed since this file of --json; exit status 3 where a mutant that was killed survives"
     parser.add_argument("--baseline", metavar="OLD.json", type=Path, help=text)
@@ -128,14 +128,14 @@ def status_of(checked: Checked, is_below: bool, is_lost: bool) -> int:
 
 
 def end_lines(proofs: Proofs, settings: Path | None, remark: str) -> list[str]:
-    """The last lines: why nothing was proved, a file of options, and that a build is unproved."""
+    """The last lines: why no proofs were asked for, which file of options was read, and that a build is unproved."""
     lines = [proofs.not_asked_text(), f"Options are from {settings}, too." if settings else "", proofs.remark, remark]
     return [each for each in lines if each]
 
 
 def last_check(start: Start, checked: Checked) -> list[Since]:
-    """What changed since the last check that was asked the same, if anything did; the state of this one takes its
-    place."""
+    """What changed since the last check that was asked the same, if anything did. The state of this check takes the
+    place of that one's."""
     asked, folder = start.asked, caches_folder("checks")
     if folder is None or not asked.tests.is_file():
         return []

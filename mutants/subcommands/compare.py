@@ -41,7 +41,7 @@ from mutants.statuses import BELOW, NEWLY_SURVIVING, SUCCESS
 from mutants.subcommands.check import add_options
 from mutants.words import add_operators, visible
 
-# What a file of options says of a comparison: all else is of the checks that were made.
+# What a comparison takes from a file of options; all else in it is for checks.
 TAKEN = ("ops", "without", "fail_under")
 
 

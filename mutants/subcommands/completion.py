@@ -22,8 +22,7 @@ VALUES = [*NAMES, *(name.lower() for name in SETS)]
 
 
 class Option(NamedTuple):
-    """An option: its word, its help, what its value is called (no text where it has none), and what kind of
-    value that is."""
+    """An option: its word, its help, the name of its value (no text where it has none), and the kind of value."""
 
     word: str
     help: str

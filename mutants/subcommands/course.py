@@ -75,7 +75,7 @@ from mutants.words import (
 
 # What a file of options says of the whole class.
 OF_CLASS = ("ops", "without", "steps", "no_proofs", "fail_under")
-# So much of what parallel says of a failure is shown.
+# How much of what parallel says of a failure is shown.
 LONGEST = 200
 
 
@@ -93,7 +93,7 @@ def add_words(parser: argparse.ArgumentParser) -> None:
 
 
 def run_missing(given: argparse.Namespace, program: str, tasks: list[Task], results: Results, name: str) -> bool:
-    """Runs the jobs that have no result yet; whether there were some."""
+    """Runs the jobs that have no result yet. The result says whether there were any."""
     missing = [task for task in tasks if results.is_missing(task)]
     if not missing:
         return False
@@ -111,7 +111,7 @@ def run_missing(given: argparse.Namespace, program: str, tasks: list[Task], resu
     batched = Batched([task.text for task in missing if task.text is not None], keep)
     try:
         if given.sshlogin:
-            # On other machines the word is one that each of them knows.
+            # With other machines the word names a program that each of them knows.
             called, calls = given.mothra or program, [(["run", *words], text) for text in batched.texts]
             complaint = spread(called, calls, given.jobs, given.sshlogin, batched.take_answer)
         else:
@@ -154,7 +154,7 @@ def prove_with(given: argparse.Namespace, program: str) -> Prove:
     def prove(source: str, declared: Collection[str]) -> Proofs:
         known = known_of(program, json.dumps({"source": source}).encode(), words)
         if not known:
-            # The run tells the fault of the source.
+            # The run reports the fault of the source.
             return NO_PROOFS
         # The suites of a class are compared, so the same mutants are declared for each.
         return prover.proofs(words, Job(source, [], list(declared)), known[1]).for_all_tests()
@@ -163,7 +163,7 @@ def prove_with(given: argparse.Namespace, program: str) -> Prove:
 
 
 def proof_remarks(tasks: Sequence[Task]) -> list[str]:
-    """Why nothing was proved, and that a build is unproved."""
+    """Why no proofs were asked for, and that a build is unproved."""
     remarks = [text for task in tasks for text in (task.proofs.not_asked_text(), task.proofs.remark) if text]
     return list(dict.fromkeys(remarks))
 
@@ -193,7 +193,7 @@ def write_class(out: Path, suites: Sequence[Suite], known: Mapping[str, Known], 
 
 
 def summary_of(suites: Sequence[Suite], out: Path, remark: str, least: Fraction | None) -> Summary:
-    """What is said of the class."""
+    """The text on the class."""
     results = [suite.result for suite in suites]
     below = [each.name for each in reported_of(results) if is_below(summed(each.report.counts.values()), least)]
     names = [each.name for each in reported_of(results)]
@@ -204,7 +204,7 @@ def summary_of(suites: Sequence[Suite], out: Path, remark: str, least: Fraction 
 
 
 def made_anew(given: argparse.Namespace, means: Means, tasks: list[Task], results: Results, remark: str) -> Summary:
-    """All files of the class but for those that are there as they have to be, and what is said of them."""
+    """Writes all files of the class that are not there yet or would be others, and gives what is said of them."""
     known, out, asked = known_programs(given, means.program, tasks), given.folder / "out", Asked(means)
     suites = [suite_of(task, known.get(task.program_name), asked, results) for task in tasks]
     write_class(out, suites, known, remark)
@@ -225,7 +225,7 @@ def read_with(given: argparse.Namespace, has_settings: bool) -> Read:
 
 
 def take_settings(given: argparse.Namespace) -> bool:
-    """Fills in what the file of options says of the whole class; whether it is read at all."""
+    """Fills in what the file of options says of the whole class. The result says whether the file is read at all."""
     has_settings: bool = suites_folder(given.folder) != given.folder
     if has_settings:
         with_settings(given, given.folder / SUITES, add_options, OF_CLASS)

@@ -45,7 +45,7 @@ from mutants.texts.twins import name_of, others_by_name
 from mutants.words import visible
 
 Name = tuple[str, int]
-# What is said of mutants that are proved with steps to spare alone.
+# What is said of mutants that are proved only by SPARE-n.
 OF_THESE_TESTS = "this holds for the tests as they are, where each leaves that room under the limit on steps"
 
 
@@ -62,7 +62,7 @@ def add_words(parser: argparse.ArgumentParser) -> None:
 
 
 def names_in(words: Iterable[str]) -> list[Name]:
-    """The mutants that words name: codes, each with one number or more behind it."""
+    """The mutants that words name: codes, each followed by one number or more."""
     names: list[Name] = []
     op = ""
     for part in re.split(r"[\s,]+", " ".join(words).strip(" ,")):
@@ -88,13 +88,13 @@ def chosen_mutants(names: Sequence[Name], present: Present) -> list[Mutant]:
 
 
 def renewed(entries: Sequence[Entry], meant: Settled, present: Present) -> list[Entry]:
-    """The entries as they would be written now; one that is refused stays as it is."""
+    """The entries as they would be written now. An entry that is refused stays as it is."""
     now = {each.entry.row: entry_for(each.mutant, each.reason, present) for each in meant.declared}
     return [now.get(entry.row, entry) for entry in entries]
 
 
 def new_entries(given: argparse.Namespace, names: Sequence[Name], meant: Settled, present: Present) -> list[Entry]:
-    """The entries of mutants that are not declared yet, each with those of its twins behind it."""
+    """The entries of mutants that are not declared yet, each followed by those of its twins."""
     chosen = chosen_mutants(names, present)
     for mutant in chosen:
         if name_of(mutant) in meant.names:
@@ -118,14 +118,14 @@ def needless_text(left: Sequence[Entry], proofs: Proofs) -> str:
 
 
 def new_text(new: Sequence[Entry], names: Sequence[Name], meant: Settled) -> str:
-    """What was declared in one call, and which of it was not named."""
+    """What one call declared, and which of these mutants were not named."""
     twins = [entry.name for entry in new if (entry.op, entry.place) not in names]
     same = f", {joined_words(twins)} among them as the same program" if twins else ""
     return f"{plural(len(new), 'mutant')} declared{same}, and {len(meant.declared)} before"
 
 
 def renew(path: Path, entries: Sequence[Entry], meant: Settled, present: Present) -> str:
-    """Writes the numbers of now; how many there are."""
+    """Writes the present numbers into the file. The result is how many entries got another number."""
     written(path, entries_text(renewed(entries, meant, present)).encode())
     return f"{len(meant.moved)} of {len(entries)} entries with a new number"
 
@@ -133,7 +133,7 @@ def renew(path: Path, entries: Sequence[Entry], meant: Settled, present: Present
 def declare(
     given: argparse.Namespace, names: Sequence[Name], path: Path, source: Source, meant: Settled, present: Present
 ) -> str:
-    """Writes the entries of these mutants behind those of the file; which these are."""
+    """Writes the entries of these mutants at the end of the file. The result is these entries."""
     wanted = new_entries(given, names, meant, present)
     proofs = prover_of(given).proofs([], Job(source.text, []), present.listed)
     new = [entry for entry in wanted if entry.name not in proofs.whys]

@@ -55,7 +55,7 @@ def given_line(words: list[str]) -> str | None:
 
 
 def asked_line(program: str, words: list[str], text: bytes) -> str | None:
-    """What the program says against the job, or None."""
+    """The line of the fault that the program gives the job, or None."""
     answer, status = call(program, words, text)
     return failure_of(answer, status) if status else None
 
@@ -72,14 +72,14 @@ def given_words(given: argparse.Namespace) -> tuple[Path | None, list[str]]:
 
 
 def row_text(line: str, rows: Sequence[int]) -> str:
-    """In which row of its table a test stands that a fault names."""
+    """The row of the table for the test that a fault names."""
     of_test = re.fullmatch(r"FAULT (?:B3|B4|J4) (\d+)", line)
     place = int(of_test[1]) - 1 if of_test else -1
     return f"\nTest {place + 1} stands in row {rows[place]} of its table.\n" if 0 <= place < len(rows) else ""
 
 
 def explanation(line: str, words: list[str], asked: Given, program: str | None, is_asked: bool) -> str:
-    """What is said of a line; where the program was asked, all else that keeps the unit from being read as well."""
+    """The explanation of a line. Where the program was asked, all other faults of the unit, too."""
     if line.startswith("FAULT "):
         text = explained(line, asked.job, program, words, asked.said.shown)
         if program and is_asked and line[6:7] in "FSC":

@@ -63,7 +63,7 @@ def add_words(parser: argparse.ArgumentParser) -> None:
 
 
 def text_from(path: str | None, program: str, words: Sequence[str], job: bytes) -> tuple[str, str]:
-    """A text that is given as a file, or that the program is asked for; and the name that a fault tells."""
+    """A text that is given as a file, or that the program is asked for; and the name that an error gives it."""
     return (path, text_of(path)) if path else (f"mothra {words[0]}", answer(program, words, job))
 
 
@@ -78,14 +78,14 @@ def outcomes_of(given: argparse.Namespace, program: str, job: Job, name: str) ->
 
 
 def proofs_of(given: argparse.Namespace, job: Job, listed: Sequence[Mutant]) -> Proofs:
-    """What is proved of the mutants of a job. A report that is given is of declarations that were made before."""
+    """What is proved of the mutants of a job; nothing where a report is given, which has its own declarations."""
     if given.report:
         return NO_PROOFS
     return prover_of(given).proofs(asked_words(given, "ops", "every", "steps"), job, listed)
 
 
 def report_of(given: argparse.Namespace, program: str, totals: Mapping[str, int], text: bytes, name: str) -> Report:
-    """The report that is given, or that the program is asked for."""
+    """The report, from a file or asked for."""
     if given.report:
         return read_as(given.report, read_report, text_of(given.report))
     try:

@@ -61,7 +61,7 @@ def seconds_word(word: str) -> float:
 
 
 def add_search(parser: argparse.ArgumentParser) -> None:
-    """The options that say how long is searched, and where."""
+    """Adds the options that say how long and where is searched."""
     most = parser.add_mutually_exclusive_group()
     text = f"how long the search is, with the last run on top; {SECONDS:g} where nothing is said"
     most.add_argument("--seconds", metavar="N", type=read_by(seconds_word), help=text)
@@ -94,12 +94,12 @@ def add_words(parser: argparse.ArgumentParser) -> None:
     text = "how many parts at once, where a run is in parts"
     parser.add_argument("--jobs", metavar="N", type=number_from_1, help=text)
     add_search(parser)
-    # A file beside the program may say it for the check. Other machines are not asked.
+    # A file beside the program may name other machines for the check. They are not used here.
     parser.set_defaults(expect=None, sshlogin=[])
 
 
 def aim_of(given: argparse.Namespace) -> Aim:
-    """How is searched. With a number of rounds nothing goes by the clock."""
+    """How is searched. With a number of rounds nothing depends on the clock."""
     if given.rounds and given.within:
         raise ValueError("--within tries all rows of a box, and --rounds says nothing then")
     seconds = given.seconds if given.rounds or given.within else given.seconds or SECONDS
@@ -109,28 +109,28 @@ def aim_of(given: argparse.Namespace) -> Aim:
 
 
 def tell_box(aim: Aim, start: Checked, name: str) -> None:
-    """How many rows of the box will be tried, before they are."""
+    """Shows, before the search, how many rows of the box will be tried."""
     if aim.within and start.report.survivors:
         box = box_of(aim.within, start.job.source, dummies_of(start.printed))
         sys.stderr.write(f"{name}: {plural(box.size, 'row')} of the box {box.text} are tried, in order\n")
 
 
 def assert_table_free(given: argparse.Namespace) -> None:
-    """The table that is to be written has a folder, and takes the place of no file that is read."""
+    """Refuses to write a table that has no folder, or would take the place of a file that is read."""
     reads = [given.program, given.tests, given.expect, given.changed, given.equivalent]
     outputs = [Output("table", given.table, lambda shown: "")] if given.table else []
     assert_free(outputs, [path for path in reads if path is not None and path.is_file()])
 
 
 def write_table(path: Path, given: argparse.Namespace, table: Table, result: Suggested, layout: Layout) -> str:
-    """Writes the table with the rows; a line on it."""
+    """Writes the table with the rows. The result is a line on it."""
     lines = [layout.line(row) for row in result.rows]
     written(path, table_with(given.tests, table, lines, result.needless).encode())
     return f"The table with the rows: {path}"
 
 
 def keep_box(result: Suggested, program: str, layout: Layout) -> list[str]:
-    """Keeps what all rows of a box say of the survivors, for the pages of later checks; a line on it."""
+    """Keeps what all rows of a box say of the survivors, for the pages of later checks. The result is a line on it."""
     search = result.search
     results = search.results(layout) if isinstance(search, BoxSearch) else {}
     is_kept = results and keep_boxes(program, result.start.job.source, search.steps, results)
@@ -147,7 +147,7 @@ def run(given: argparse.Namespace, name: str) -> int:
     start = begun.checked(name)
     assert table
     tell_box(aim, start, name)
-    # What comes before, such as proofs, takes nothing of the time of the search.
+    # What comes before, such as proofs, does not count as time of the search.
     result = suggested(start, aim, begun.means, Clock(aim.seconds), name)
     layout = layout_of(given.tests, table, dummies_of(start.printed))
     more = [write_table(given.table, given, table, result, layout)] if given.table else []

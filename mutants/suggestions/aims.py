@@ -8,13 +8,13 @@ from mutants.jobs.cells import GREATEST, LEAST
 from mutants.suggestions.shapes import Kept, Order, Range, Row, order_of
 
 NUMBER = r"[+-]?\d{1,10}"
-# The seconds of a search where neither seconds nor rounds are said.
+# The seconds of a search where neither seconds nor rounds are given.
 SECONDS = 30.0
 
 
 class Aim(NamedTuple):
-    """How long is searched, by which chance, what rows keep, and the box whose rows are all tried, where one is asked
-    for; arguments are named as the words name them."""
+    """How long is searched, with which seed, what rows keep, and the box whose rows are all tried, where one is asked
+    for. Arguments are named as in the words of the call."""
 
     seconds: float | None = SECONDS
     rounds: int | None = None
@@ -51,7 +51,7 @@ def place_of(word: str, names: Sequence[str]) -> int:
 
 
 def ranges_of(aim: Aim, names: Sequence[str], suite: Sequence[Row]) -> dict[int, Range]:
-    """The ranges by the places of the arguments; each test keeps them."""
+    """The ranges by the places of the arguments. Each test has to be within them."""
     ranges = {}
     for word, (low, high) in aim.ranges:
         place = place_of(word, names)
@@ -72,7 +72,7 @@ def assert_within(number: int, row: Row, ranges: Mapping[int, Range], names: Seq
 
 
 def orders_of(aim: Aim, names: Sequence[str], suite: Sequence[Row]) -> dict[int, Order]:
-    """The orders of arrays that all tests have, but of those arguments that are free."""
+    """The orders that the arrays of all tests have, without the arguments that are free."""
     free = {place_of(word, names) for word in aim.free}
     orders = {place: order_of(values) for place, values in enumerate(zip(*suite)) if place not in free}
     return {place: order for place, order in orders.items() if order is not None}

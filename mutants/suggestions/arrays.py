@@ -27,21 +27,21 @@ def rotated(values: list[Item], chance: Random) -> list[Item]:
 
 
 def with_elements(values: list[int], chance: Random, propose: Propose) -> list[int]:
-    """One to three elements are others."""
+    """One to three elements are changed."""
     for _ in range(chance.choice((1, 1, 1, 2, 3))):
         values[chance.randrange(len(values))] = propose()
     return values
 
 
 def with_equal(values: list[int], chance: Random, propose: Propose) -> list[int]:
-    """An element is that of another place, or one beside it."""
+    """An element gets the value at another place, or one beside that value."""
     one, other = chance.randrange(len(values)), chance.randrange(len(values))
     values[one] = clamped(values[other] + chance.choice((0, 0, 0, 1, -1)))
     return values
 
 
 def of_few(values: list[int], chance: Random, propose: Propose) -> list[int]:
-    """All elements are of two or three values."""
+    """All elements have one of two or three values."""
     few = [propose() for _ in range(chance.choice((2, 2, 3)))]
     return [chance.choice(few) for _ in values]
 
@@ -73,7 +73,7 @@ WAYS: tuple[tuple[int, Way], ...] = (
 
 
 def with_flips(values: list[bool], chance: Random) -> list[bool]:
-    """One to three elements are the other truth value."""
+    """One to three elements get the other truth value."""
     for _ in range(chance.choice((1, 1, 1, 2, 3))):
         place = chance.randrange(len(values))
         values[place] = not values[place]
@@ -89,7 +89,7 @@ def all_but_few(values: list[bool], chance: Random, most: bool) -> list[bool]:
 
 
 def of_a_share(values: list[bool], chance: Random) -> list[bool]:
-    """Each element is .TRUE. by the same chance."""
+    """Each element is .TRUE. with the same probability."""
     share = chance.choice((0.1, 0.2, 0.35, 0.5, 0.8))
     return [chance.random() < share for _ in values]
 

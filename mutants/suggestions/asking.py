@@ -15,15 +15,16 @@ from mutants.texts.jobs import Job
 from mutants.texts.lines import Mutant
 from mutants.texts.reports import Report, read_report
 
-# Words by which an operator has one mutant at most; of DSA few programs have any, so the program alone is run.
+# Words with which an operator has at most one mutant. Few programs have a mutant of DSA, so only the program is run.
 FIRST_ALONE = ("--every", "1048575")
 MOST_STEPS = 1_000_000
-# A run has so many threads at most.
+# The most threads of a run.
 THREADS = 32
 
 
 def masks_of(report: Report, numbers: Mapping[tuple[str, int], int]) -> list[int]:
-    """For each test of a report the mutants that it kills, as bits by their numbers; others are left out."""
+    """For each test of a report the mutants that it kills, as bits by their numbers. Mutants without a number are left
+    out."""
     masks = [0] * report.tests
     for row in report.rows:
         number = numbers.get((row.op, row.place))
@@ -52,11 +53,11 @@ class Asker:
         return (1 << len(self.mutants)) - 1
 
     def of_mask(self, mask: int) -> list[Mutant]:
-        """The mutants whose bits are 1."""
+        """The mutants whose bits are 1 in the mask."""
         return [mutant for number, mutant in enumerate(self.mutants) if mask >> number & 1]
 
     def lines(self) -> list[int]:
-        """For each line that has some of the mutants these, as bits."""
+        """For each line with some of the mutants, these as bits."""
         masks: dict[int, int] = {}
         for number, mutant in enumerate(self.mutants):
             masks[mutant.line] = masks.get(mutant.line, 0) | 1 << number
@@ -76,12 +77,12 @@ class Asker:
         return words_of(self.means._replace(steps=str(steps)), ops, min(THREADS, processors()))
 
     def parts(self, rows: Sequence[Row]) -> list[list[Row]]:
-        """The rows in parts that fit a job each."""
+        """The rows in parts, each of which fits into a job."""
         ends = batches(Job(self.checked.job.source, list(map(test_of, rows))))
         return [list(rows[first:last]) for first, last in ends]
 
     def kills(self, rows: Sequence[Row], ops: Sequence[str], steps: int) -> dict[Row, int]:
-        """For each row on which the program ends within the limit the mutants that it kills, as bits."""
+        """For each row on which the program ends within the limit, the mutants that it kills, as bits."""
         masks: dict[Row, int] = {}
         for part in self.parts(rows):
             masks.update(self.kills_of_part(part, self.words(ops, steps)))
@@ -92,7 +93,7 @@ class Asker:
             try:
                 report = self.report(rows, words)
             except Fault as fault:
-                # This comes before a mutant is run.
+                # This fault comes before a mutant is run.
                 del rows[failing_place(fault)]
             else:
                 return dict(zip(rows, masks_of(report, self.numbers)))
@@ -117,7 +118,7 @@ class Asker:
         return low
 
     def ending(self, rows: Sequence[Row], steps: int) -> list[Row]:
-        """Those of the rows on which the program ends within a limit, or some more: what one call tells."""
+        """Those of the rows on which the program ends within a limit, or some more, as far as one call shows it."""
         if not rows:
             return []
         if not self.has_guard:
@@ -139,7 +140,7 @@ class Asker:
 
 
 def failing_place(fault: Fault) -> int:
-    """The place, from 0, of the test on which the program fails; what says something else stays a fault."""
+    """The place, from 0, of the test on which the program fails. Any other fault stays a fault."""
     match = re.fullmatch(r"FAULT B4 (\d+)", fault.line)
     if not match:
         raise fault

@@ -1,7 +1,8 @@
-"""Rows between two that kill different mutants of a line: somewhere between them is what decides, such as an equality.
+"""Rows between two rows that kill different mutants of a line: somewhere between these lies what decides, such as an
+equality.
 
-The way from one to the other goes in steps, and of those steps whose ends still differ some are gone into again, until
-they are as small as can be.
+The way from one row to the other has steps. Of the steps whose ends still differ, some are divided again, until they
+are as small as can be.
 """
 
 from collections.abc import Collection, Iterable, Mapping, Sequence
@@ -10,11 +11,11 @@ from typing import NamedTuple
 
 from mutants.suggestions.shapes import Row, Scalar, Shape, Value, items_of
 
-# A way has so many steps; so many ways begin in a round, and so many are kept; and so often two rows are looked at.
+# How many steps a way has; how many ways begin in a round, and how many are kept; and how often two rows are looked at.
 STEPS, BEGUN, KEPT, TRIES = 8, 48, 400, 200
-# So many steps of a way are gone into again.
+# How many steps of a way are divided again.
 AGAIN = 2
-# How often the rows have no far value.
+# How often the rows may have no far value.
 NEAR = 0.8
 
 
@@ -56,7 +57,7 @@ def is_apart(one: Row, other: Row) -> bool:
 
 
 class Borders:
-    """Ways that are gone, of rows whose kills are known."""
+    """The ways that are searched, between rows whose kills are known."""
 
     def __init__(self, shape: Shape, chance: Random, lines: Iterable[int]) -> None:
         self.shape, self.chance, self.lines = shape, chance, list(lines)
@@ -77,7 +78,7 @@ class Borders:
                 self.ways.append(Way(End(one, kills[one]), End(other, kills[other]), line))
 
     def rows(self, known: Collection[Row], most: int) -> list[Row]:
-        """Rows of the ways, about so many."""
+        """Rows on the ways, about `most`."""
         made: dict[Row, None] = {}
         self.gone = []
         while self.ways and len(made) < most - STEPS:
@@ -90,7 +91,8 @@ class Borders:
         return list(made)
 
     def between(self, one: Row, other: Row) -> list[Row]:
-        """Rows on the way: where one number differs those with numbers between, else with some of the differences."""
+        """Rows on the way. Where one number differs, rows with numbers between; else rows with some of the
+        differences."""
         items, others = flat(one), flat(other)
         places = [place for place, pair in enumerate(zip(items, others)) if pair[0] != pair[1]]
         if len(places) == 1 and not isinstance(items[places[0]], bool):
@@ -108,7 +110,7 @@ class Borders:
                 yield [*items[:place], value, *items[place + 1 :]]
 
     def learn(self, kills: Mapping[Row, int]) -> None:
-        """Keeps those steps of the ways that were gone whose ends differ in what they kill."""
+        """Keeps those steps of the ways that were tried whose ends kill different mutants."""
         for way in self.gone:
             ends = [way.one, *(End(row, kills[row]) for row in way.between if row in kills), way.other]
             pairs = [(one, other) for one, other in zip(ends, ends[1:]) if (one.kills ^ other.kills) & way.line]

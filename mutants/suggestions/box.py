@@ -1,7 +1,7 @@
 """All rows of a box, in order: each argument from its least value to its greatest, and each element of an array.
 
-What no row of the box kills may still be killed by one outside. So it is more than a hint at equivalence, and less than
-a proof.
+A mutant that no row of the box kills may still be killed by a row outside. So the result is more than a hint at
+equivalence, and less than a proof.
 """
 
 import math
@@ -20,12 +20,12 @@ from mutants.suggestions.tables import Layout
 from mutants.texts.dummies import Dummy, read_unit
 from mutants.texts.twins import name_of
 
-# A box has so many rows at most; of so many rows it is asked to which lines they come.
+# The most rows of a box; and of how many rows it is asked to which lines they come.
 MOST, ASKED = 1_000_000, 8 * SIZE
 
 
 class Side(NamedTuple):
-    """What an argument may be: the values of it, or of each of its elements where it is an array."""
+    """The values that an argument may have, or each of its elements where it is an array."""
 
     values: Sequence[Scalar]
     elements: int | None
@@ -39,7 +39,7 @@ class Side(NamedTuple):
 
 
 class Box(NamedTuple):
-    """The sides, in the order of the arguments, and in words those that were asked for."""
+    """The sides, in the order of the arguments; and those that were asked for, in words."""
 
     sides: Sequence[Side]
     text: str
@@ -68,7 +68,7 @@ def side_of(name: str, dummy: Dummy, ranges: Mapping[str, Range], zeros: Mapping
 
 
 def box_of(asked: Sequence[tuple[str, Range]], source: str, names: Sequence[str]) -> Box:
-    """The box of these ranges; ValueError tells what it leaves open, and that it has too many rows."""
+    """The box of these ranges; ValueError says what it leaves open, or that it has too many rows."""
     ranges = {names[place_of(word, names)]: limits for word, limits in asked}
     zeros = zeros_of(source, names)
     sides = [side_of(name, dummy, ranges, zeros) for name, dummy in zip(names, read_unit(source)[1])]
@@ -79,7 +79,7 @@ def box_of(asked: Sequence[tuple[str, Range]], source: str, names: Sequence[str]
 
 
 class BoxSearch(Search):
-    """A search that tries the rows of a box, in order and under the limit on steps that is asked for."""
+    """A search that tries the rows of a box in order, under the limit on steps that is asked for."""
 
     def put(self, box: Box) -> None:
         self.box, self.count, self.is_whole = box, 0, False
@@ -108,7 +108,7 @@ class BoxSearch(Search):
                 self.alive &= ~mask
 
     def results(self, layout: Layout) -> dict[str, Searched]:
-        """Where all rows were tried, what they say of each survivor, by its name: the first row that kills it."""
+        """What the rows say of each survivor, by its name, if all rows were tried: the first row that kills it."""
         killers = {number: row for row, mask in reversed(self.exact.items()) for number in bits_of(mask)}
         rows = {number: layout.line(row) for number, row in killers.items()}
         box, mutants = (self.box.text, self.box.size), self.asker.mutants if self.is_whole else []

@@ -1,4 +1,4 @@
-"""The rows that are suggested: few of those that were found, and these made simpler."""
+"""The rows that are suggested: few of those that were found, made simpler."""
 
 import time
 from collections import Counter
@@ -10,16 +10,17 @@ from mutants.suggestions.rounds import SIZE, Search, Tell
 from mutants.suggestions.shapes import Row
 from mutants.suggestions.simpler import simpler_rows
 
-# So many rows that kill what few others do are run at the limit that is asked for, and of so many a small set is taken.
+# How many rows that kill what few others kill are run at the limit that is asked for; and of how many a small set is
+# taken.
 POOL, MOST = 2 * SIZE, 8 * SIZE
-# Rows are made simpler in so many turns at most, and in so many even where nothing became simpler.
+# In how many turns rows are made simpler at most, and in how many even if nothing became simpler.
 TURNS, LEAST_TURNS = 12, 3
-# A row has so many simpler ones in a turn at least; and this share of the time is not gone beyond.
+# How many simpler rows a row gets in a turn at least; and the share of the time that is not exceeded.
 LEAST_TRIES, SHARE = 4, 0.9
 
 
 class Choice:
-    """The chosen rows, with what each row that was run at the limit kills, and what they kill together."""
+    """The chosen rows; what each row kills that was run at the limit; and what they kill together."""
 
     def __init__(self, search: Search) -> None:
         self.search, self.shape, self.asker = search, search.shape, search.asker
@@ -29,24 +30,24 @@ class Choice:
         self.cost = 0.0
 
     def widen(self) -> None:
-        """Chooses among more of the rows that were found, which are run at the limit that is asked for first."""
+        """Chooses among more of the rows that were found. These are run at the limit that is asked for first."""
         begun = time.monotonic()
         self.run([row for row in self.pool() if row not in self.exact])
         self.choose()
         self.cost = time.monotonic() - begun
 
     def choose(self) -> None:
-        """Takes the smallest set that is found; that of before only where it is smaller and kills as much."""
+        """Takes the smallest set that is found, unless the set from before is smaller and kills as much."""
         rows = few_rows(self.wanted, self.exact, self.shape.cost)
         if len(rows) <= len(self.chosen) or self.killed() & self.wanted != self.wanted:
             self.chosen = rows
 
     def killed(self) -> int:
-        """What the chosen rows kill."""
+        """The mutants that the chosen rows kill."""
         return union_of(self.exact[row] for row in self.chosen)
 
     def pool(self) -> list[Row]:
-        """The rows of a small set within the limit of the search, and those that kill what few others do."""
+        """The rows of a small set within the limit of the search, and those that kill what few others kill."""
         seen = self.search.seen
         killers = Counter(number for mask in seen.values() for number in bits_of(mask))
         weights = {row: sum(1 / killers[number] for number in bits_of(mask)) for row, mask in seen.items()}
@@ -55,7 +56,7 @@ class Choice:
         return list(dict.fromkeys([*few, *best[:POOL]]))
 
     def run(self, rows: Sequence[Row]) -> None:
-        """Runs rows at the limit that is asked for. What they kill anew is wanted from here on."""
+        """Runs rows at the limit that is asked for. Mutants that they are the first to kill are wanted from here on."""
         ops = self.asker.ops_of(self.asker.whole)
         for at in range(0, len(rows), SIZE):
             ending = self.asker.ending(rows[at : at + SIZE], self.search.steps)
@@ -78,13 +79,13 @@ class Choice:
                 break
 
     def simplify_once(self) -> bool:
-        """Takes simpler rows in the place of chosen ones. Whether anything changed."""
+        """Takes simpler rows in the place of chosen ones. The result says whether anything changed."""
         most = max(LEAST_TRIES, SIZE // len(self.chosen))
         tries = {row: simpler_rows(self.shape, row, self.search.chance, most) for row in self.chosen}
         new = dict.fromkeys(row for rows in tries.values() for row in rows if row not in self.exact)
         before = list(self.chosen), self.wanted
         self.run(list(new)[:SIZE])
-        # What these kill that none of the chosen did is wanted too.
+        # Mutants that these kill and none of the chosen rows did are wanted too.
         more = {row: self.exact[row] for row in new if row in self.exact}
         self.chosen += few_rows(self.wanted & ~self.killed(), more, self.shape.cost)
         for place, row in enumerate(self.chosen):

@@ -4,7 +4,7 @@ import time
 
 
 class Clock:
-    """The time that is left. Without a number of seconds there is always enough, and nothing goes by time."""
+    """The time that is left. Without a number of seconds there is always enough, and nothing depends on time."""
 
     def __init__(self, seconds: float | None) -> None:
         self.seconds, self.begun = seconds, time.monotonic()

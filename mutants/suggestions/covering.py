@@ -1,4 +1,5 @@
-"""Few rows that kill as much as many do: the smallest set that pages tell of a suite, of rows as cheap as can be."""
+"""Few rows that kill as much as many do: a smallest set, as on the pages of a suite, of rows that are as cheap as can
+be."""
 
 from collections.abc import Callable, Iterable, Mapping, Sequence
 
@@ -6,10 +7,10 @@ from mutants.pages.cover import columns_of, smallest_set
 from mutants.suggestions.shapes import Row
 from mutants.texts.subsuming import least_sets
 
-# The search for a smallest set takes so many branches at most; then the greedy rule chooses.
+# The most branches of the search for a smallest set; after these the greedy rule chooses.
 BRANCHES = 300
 Cost = Callable[[Row], int]
-# What rows kill, and the cheapest row that kills just this.
+# A set of mutants, and the cheapest row that kills just these.
 Kinds = dict[int, Row]
 
 
@@ -21,7 +22,7 @@ def union_of(masks: Iterable[int]) -> int:
 
 
 def kinds_of(pairs: Iterable[tuple[int, Row]], wanted: int, cost: Cost) -> Kinds:
-    """For each set of the wanted mutants that a row kills the cheapest such row; the widest sets first."""
+    """For each set of wanted mutants that a row kills, the cheapest row that kills this set; the largest sets first."""
     kinds: Kinds = {}
     for mask, row in pairs:
         mask &= wanted
@@ -31,7 +32,7 @@ def kinds_of(pairs: Iterable[tuple[int, Row]], wanted: int, cost: Cost) -> Kinds
 
 
 def deciding(kinds: Kinds) -> int:
-    """The mutants that decide: whatever kills all of them kills the others too."""
+    """The mutants that matter: rows that kill all of them kill the others too."""
     killers = columns_of(kinds)
     least = set(least_sets(killers.values()))
     bits = 0
@@ -53,7 +54,7 @@ def few_rows(wanted: int, kills: Mapping[Row, int], cost: Cost) -> list[Row]:
 
 
 def needed_of(row: Row, chosen: Sequence[Row], wanted: int, kills: Mapping[Row, int]) -> int:
-    """What a row kills of the wanted mutants that no other one of the chosen does."""
+    """The wanted mutants that a row kills and no other chosen row does."""
     return kills[row] & wanted & ~union_of(kills[other] for other in chosen if other != row)
 
 

@@ -1,16 +1,18 @@
-"""On which values of the arguments the program failed, and beyond which: rows with such values are seldom tried."""
+"""On which values of the arguments the program failed, and beyond which values. Rows with such values are seldom
+tried."""
 
 from collections import Counter
 from collections.abc import Collection, Iterable, Sequence
 
 from mutants.suggestions.shapes import Row, Shape
 
-# A value is without hope after so many failures, and all values on a side after so many beyond what ended there.
+# After how many failures a value is without hope, and after how many all values beyond those on which the program
+# ended.
 OF_VALUE, OF_SIDE = 3, 6
 
 
 class Edge:
-    """Between which values of an argument the program ended, and how often it failed below and above."""
+    """The values of an argument between which the program ended, and how often it failed below and above these."""
 
     def __init__(self, low: int, high: int) -> None:
         self.low, self.high, self.below, self.above = low, high, 0, 0
@@ -31,7 +33,7 @@ class Edge:
 
 
 class Experience:
-    """What was seen of INTEGER variables; arrays are not looked at."""
+    """What was learned of INTEGER variables. Arrays are not looked at."""
 
     def __init__(self, shape: Shape) -> None:
         arguments = shape.arguments
@@ -40,7 +42,7 @@ class Experience:
         self.failures: Counter[tuple[int, int]] = Counter()
 
     def learn(self, rows: Sequence[Row], ended: Collection[Row]) -> None:
-        """Takes in on which of the rows the program ended."""
+        """Learns on which of the rows the program ended."""
         for row in rows:
             for place, value in self.scalars(row):
                 if row in ended:
@@ -55,7 +57,7 @@ class Experience:
         return ((place, value) for place, value in values if not isinstance(value, tuple))
 
     def is_hopeless(self, row: Row) -> bool:
-        """Whether on a value of the row the program only failed, or beyond it and all good ones."""
+        """Whether the row has a value on which the program only failed, or one beyond which it only failed."""
         return any(
             (place, value) not in self.good
             and (self.failures[place, value] >= OF_VALUE or self.edges[place].is_beyond(value))

@@ -1,8 +1,8 @@
-"""A program by which one call tells on which of many rows a given program fails.
+"""A program with which one call shows on which of many rows a given program fails.
 
-A run is refused where the program fails on a test, and the refusal names one test. So another program is made, which
-returns at once. The first mutant of SDL leaves that RETURN out: it does what the given program does, and then gives
-each argument the value that it had. So it is killed by just those rows on which the given program fails.
+A job is refused where the program fails on a test, and the refusal names only one test. So another program is made,
+which returns at once. Its first mutant by SDL leaves that RETURN out: it does what the given program does, and then
+gives each argument the value that it had before. So it is killed by just those rows on which the given program fails.
 """
 
 import re
@@ -16,7 +16,7 @@ from mutants.texts.cards import cards_of, lines_of
 Statement = tuple[str, str]
 DECLARING = ("INTEGER ", "LOGICAL ", "DIMENSION ")
 HEAD = re.compile(r"SUBROUTINE [A-Z0-9]+\(([A-Z0-9,]+)\)")
-# The copies of the arguments take so many steps, and so many more for each element.
+# How many steps the copies of the arguments take, and how many more for each element.
 STEPS, STEPS_OF_ITEM = 60, 8
 
 
@@ -26,7 +26,7 @@ def more_steps(row: Row) -> int:
 
 
 def jumping(text: str, label: str) -> str:
-    """A statement that jumps to a label in the place of ending the run."""
+    """A statement that jumps to a label where the given one ends the run."""
     if text in ("RETURN", "STOP"):
         return f"GO TO {label}"
     match = re.fullmatch(r"(IF \(.*\)) (?:RETURN|STOP)", text)
@@ -39,7 +39,7 @@ def free_labels(statements: Iterable[Statement]) -> Iterator[str]:
 
 
 def free_names(statements: Iterable[Statement]) -> Iterator[str]:
-    """Names of variables that are INTEGER undeclared, and that stand nowhere in these statements."""
+    """Names of variables that are INTEGER without a declaration, and do not occur in these statements."""
     used = {word for _, text in statements for word in re.findall(r"[A-Z][A-Z0-9]*", text)}
     return (name for name in (f"N{number:05d}" for number in count()) if name not in used)
 
@@ -67,13 +67,13 @@ def declared(name: str, value: object, bounds: str) -> Statement:
 
 
 def body_of(executed: Sequence[Statement], end_label: str, label: str) -> list[Statement]:
-    """The executable statements, each end of which is a jump to a label, which stands behind them."""
+    """The executable statements, where a jump to a label after them takes the place of each end of the run."""
     jumps = [(own, jumping(text, label)) for own, text in executed]
     return [*jumps, *([(end_label, "CONTINUE")] if end_label else []), (label, "CONTINUE")]
 
 
 def guarded(source: str, printed: Sequence[str], row: Row) -> str | None:
-    """The program that tells on which rows that of a source fails; None where none can be made.
+    """The program that shows on which rows the program of a source fails; None where none can be made.
 
     `printed` has the text of each of its statements, and the row is one of those that fit it.
     """

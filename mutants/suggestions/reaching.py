@@ -10,14 +10,15 @@ from mutants.suggestions.rounds import SIZE, Search
 from mutants.suggestions.shapes import test_of
 from mutants.texts.jobs import Job
 
-# So many rows are asked about at once: at first, and then.
+# How many rows are asked about at once: at first, and later.
 FIRST, AT_ONCE = SIZE, 8 * SIZE
-# Statements that have 1-0 in them may take so many times the steps.
+# How many times as many steps a run may take with 1-0 in its statements.
 TIMES = 4
 
 
 class Reached:
-    """Of so many rows how many come to each line; a line that is not known has no number."""
+    """How many rows were asked about, and how many of them come to each line. Lines of which this is not known are left
+    out."""
 
     def __init__(self) -> None:
         self.asked = 0
@@ -30,7 +31,7 @@ class Reached:
 
 
 def reached_of(search: Search, lines: Collection[int], means: Means, name: str) -> Reached:
-    """Asks about as many rows as there is time for. Within the steps of the search the program ends on each of them."""
+    """Asks about as many rows as there is time for. The program ends on each of them within the steps of the search."""
     reached, at, size, cost = Reached(), 0, FIRST, 0.0
     few_steps = means._replace(steps=str(min(MOST_STEPS, TIMES * search.steps)))
     while lines and at < len(search.tried) and search.clock.has(cost):

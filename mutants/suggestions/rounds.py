@@ -1,4 +1,4 @@
-"""The search: rounds of rows, each of which keeps what kills a survivor."""
+"""The search: rounds of rows. Each round keeps the rows that kill a survivor."""
 
 import time
 from collections.abc import Callable, Sequence
@@ -11,28 +11,28 @@ from mutants.suggestions.experience import Experience
 from mutants.suggestions.rows import Rows
 from mutants.suggestions.shapes import Row, Shape
 
-# So many rows has a round, and a search ends after so many rounds without a kill.
+# How many rows a round has, and after how many rounds without a kill a search ends.
 SIZE, PATIENCE = 256, 40
 LEAST_SIZE = 16
-# A search takes so much of the time, and a round so much of what is left of that.
+# Which share of the time a search takes, and which share of what is left of that a round takes.
 SHARE, OF_ROUND = 0.55, 6
-# A round has so many times the rows of the one before at most.
+# How many times as many rows a round may have as the one before.
 GROWTH = 4
-# The limit on steps of the search is this times what the tests need, or this at least.
+# How many times the steps that the tests need are the limit of the search; and the least limit.
 TIMES, LEAST_STEPS = 8, 300
-# Where the mutants of all operators times the limit are more, operators whose survivors are killed are left out.
+# Where the number of all mutants times the limit is more, operators without survivors are left out.
 LARGE = 400_000
-# How many of the rows have far values: in the first rounds, later, and after some rounds without a kill.
+# Which share of the rows has far values: in the first rounds, later, and after some rounds without a kill.
 FAR_SHARES, FIRST_ROUNDS, SOME_DRY = (0.15, 0.35, 0.5), 3, 5
-# How many rows have all values anew: in the first rounds, and later.
+# Which share of the rows has all values new: in the first rounds, and later.
 ANEW_SHARES = (0.35, 0.15)
-# A row with a value without hope is proposed with this chance, and so many proposals are made for each row.
+# The probability that a row with a value without hope is tried; and how many proposals are made for each row.
 HOPE, PROPOSALS = 0.05, 20
 Tell = Callable[[str], None]
 
 
 class Search:
-    """The survivors that are left, and the rows that kill others."""
+    """A search: the survivors that are left, and the rows that kill others."""
 
     def __init__(self, asker: Asker, shape: Shape, suite: Sequence[Row], chance: Random, rounds: int | None) -> None:
         self.asker, self.shape, self.chance, self.most = asker, shape, chance, rounds
@@ -40,7 +40,7 @@ class Search:
         self.borders = Borders(shape, chance, asker.lines())
         self.suite, self.elite = list(suite), list(map(shape.simple, suite))
         self.alive = asker.whole
-        # What each row kills: within the limit of the search, and as it is.
+        # What each row kills: within the limit of the search, and within the limit that is asked for.
         self.seen: dict[Row, int] = {}
         self.exact: dict[Row, int] = {}
         self.known: set[Row] = set(suite)
@@ -62,7 +62,7 @@ class Search:
             self.size = max(LEAST_SIZE, int(left / OF_ROUND / cost_of_row))
 
     def go(self, tell: Tell) -> None:
-        """Makes rounds until nothing is left, the time or the rounds are over, or nothing is found any more."""
+        """Makes rounds until no survivor is left, the time or the rounds are over, or nothing more is found."""
         while self.alive and self.dry < PATIENCE and self.may_go_on():
             begun = time.monotonic()
             self.round()
@@ -90,7 +90,7 @@ class Search:
         return first if self.round_number <= FIRST_ROUNDS else later if self.dry < SOME_DRY else last
 
     def proposed(self) -> Row | None:
-        """A row that was not tried yet; None where what was proposed does not serve."""
+        """A row that was not tried yet; None where the proposed rows can not be used."""
         is_far, chance = self.chance.random() < self.far_share(), self.chance
         parent, partner = chance.choice(self.elite), chance.choice(self.elite)
         is_anew = chance.random() < ANEW_SHARES[self.round_number > FIRST_ROUNDS]
@@ -113,7 +113,7 @@ class Search:
         return rows
 
     def at_borders(self) -> list[Row]:
-        """In every other round rows between those that kill different mutants; in the others, and first, none."""
+        """Rows between rows that kill different mutants, in every other round; none in the others and in the first."""
         if self.round_number <= FIRST_ROUNDS or self.round_number % 2:
             return []
         # The tests kill no survivor.
@@ -121,7 +121,8 @@ class Search:
         return self.borders.rows(self.known, self.size // 2)
 
     def ops(self) -> list[str]:
-        """The operators that are run: those with survivors at the start, or of large programs with those of now."""
+        """The operators that are run: those with survivors at the start, or for large programs those that have some
+        now."""
         all_ops = self.asker.ops_of(self.asker.whole)
         mutants = sum(self.asker.checked.whole.counts[op].total for op in all_ops)
         return self.asker.ops_of(self.alive) if mutants * self.steps > LARGE else all_ops
@@ -140,7 +141,8 @@ class Search:
         self.dry = self.round_number - self.last_round
 
     def settle(self, rows: Sequence[Row]) -> bool:
-        """Runs rows at the limit that is asked for: a kill under a lower one may be none. Whether one kills anew."""
+        """Runs rows at the limit that is asked for, since a kill under a lower limit may be none under that. The result
+        says whether a row kills a mutant that was not killed before."""
         exact = self.asker.kills(rows, self.asker.ops_of(self.asker.whole), self.asker.steps) if rows else {}
         before = self.alive
         for row, mask in exact.items():

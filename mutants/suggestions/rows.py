@@ -6,7 +6,7 @@ from mutants.suggestions.arrays import changed_numbers, changed_truths
 from mutants.suggestions.shapes import Row, Shape, Value, items_of
 from mutants.suggestions.values import Values, clamped
 
-# The ways to change a row, with how often each is taken, and how many INTEGER variables it needs.
+# The ways to change a row, with the weight of each, and how many INTEGER variables it needs.
 WAYS = ((15, "swapped", 2), (12, "with_equal", 2), (6, "permuted", 3), (7, "with_sum", 3), (5, "alike", 2),
         (7, "mixed", 0), (48, "changed", 0))  # fmt: skip
 
@@ -42,12 +42,12 @@ class Rows:
         return self.changed(row, is_far) if way == "changed" else self.tied(row, way)
 
     def alike(self, row: Row, is_far: bool) -> Row:
-        """All INTEGER variables have the same value."""
+        """All INTEGER variables get the same value."""
         value = self.values.value(self.chance.choice(self.scalars), row, is_far)
         return tuple(value if place in self.scalars else other for place, other in enumerate(row))
 
     def changed(self, row: Row, is_far: bool) -> Row:
-        """One to three arguments are others."""
+        """One to three arguments get other values."""
         values = list(row)
         for _ in range(self.chance.choice((1, 1, 1, 2, 3))):
             place = self.chance.randrange(len(values))
@@ -55,7 +55,7 @@ class Rows:
         return tuple(values)
 
     def tied(self, row: Row, way: str) -> Row:
-        """INTEGER variables have values that others of the row have, or that are made of these."""
+        """INTEGER variables get values of others of the row, or values made of these."""
         values, chance, scalars = list(row), self.chance, self.scalars
         numbers = {place: int(value) for place, value in enumerate(row) if not isinstance(value, tuple)}
         if way == "permuted":
@@ -90,7 +90,7 @@ class Rows:
         return tuple(values)
 
     def array_anew(self, place: int, row: Row, is_far: bool) -> Value:
-        """An array that was changed twice, or whose elements are all proposed."""
+        """An array that is changed twice, or whose elements are all new."""
         if self.shape.arguments[place].is_integer and self.chance.random() < 0.5:
             value = row[place]
             assert isinstance(value, tuple)

@@ -1,17 +1,17 @@
-"""What the tests of a table tell of the arguments: kinds, ranges, values, and the order that an array is in."""
+"""What the tests of a table show of the arguments: kinds, ranges, values, and the order of an array."""
 
 from collections.abc import Collection, Iterable, Mapping, Sequence
 from typing import Any, NamedTuple
 
-# A value of a row is a number or a truth value, or of an array all of them. A row has one for each argument.
+# A value of a row is a number, a truth value, or all elements of an array. A row has a value for each argument.
 Scalar = int
 Value = Scalar | tuple[Scalar, ...]
 Row = tuple[Value, ...]
 Range = tuple[int, int]
 
-# A value up to so much beyond those of the tests (and 0) is not far from them.
+# How far beyond the values of the tests (and 0) a value may be without being far from them.
 MARGIN = 2
-# What a value far from the tests costs at once, and for each of its binary digits; other digits cost 2, known values 1.
+# What a value far from the tests costs, and each of its binary digits; digits of other values cost 2, known values 1.
 FAR, FAR_DIGIT = 16, 8
 
 
@@ -20,7 +20,7 @@ def items_of(value: Value) -> tuple[Scalar, ...]:
 
 
 def row_of(test: Iterable[Any]) -> Row:
-    """The row of a test, which can be looked up."""
+    """The row of a test, as a value that can be hashed."""
     return tuple(tuple(value) if isinstance(value, list) else value for value in test)
 
 
@@ -64,13 +64,13 @@ class Order(NamedTuple):
 
 
 def argument_of(values: Sequence[Value]) -> Argument:
-    """What these values of an argument tell of it."""
+    """What these values of an argument show of it."""
     items = [item for value in values for item in items_of(value)]
     return Argument(not isinstance(items[0], bool), isinstance(values[0], tuple), tuple(sorted(set(items))))
 
 
 def order_of(values: Sequence[Value]) -> Order | None:
-    """The order that all these arrays are in; None where there is none, or nothing that shows one."""
+    """The order that all these arrays have; None where they have none, or nothing shows one."""
     arrays = [items_of(value) for value in values if isinstance(value, tuple)]
     has_steps = len(set(arrays)) > 1 and any(array[0] != array[-1] for array in arrays)
     if not has_steps or isinstance(arrays[0][0], bool):
@@ -103,7 +103,7 @@ class Shape:
         self.costs: dict[Row, int] = {}
 
     def simple(self, row: Row) -> Row:
-        """The row with 0 or .FALSE. for what is only set."""
+        """The row with 0 or .FALSE. for arguments that are only set."""
         zeros = [tuple(False if isinstance(item, bool) else 0 for item in items_of(value)) for value in row]
         simple: list[Value] = [zero if isinstance(value, tuple) else zero[0] for zero, value in zip(zeros, row)]
         return tuple(simple[at] if at in self.only_set else value for at, value in enumerate(row))
@@ -131,7 +131,7 @@ class Shape:
         return row if not self.keeps.is_near or self.is_near(row) else None
 
     def cost(self, row: Row) -> int:
-        """How unwelcome a row is to who has to check it by hand."""
+        """How unwelcome a row is to a person who has to check it by hand."""
         cost = self.costs.get(row)
         if cost is None:
             cost = self.costs[row] = sum(map(self.value_cost, range(len(row)), row))

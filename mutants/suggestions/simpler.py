@@ -6,7 +6,7 @@ from random import Random
 
 from mutants.suggestions.shapes import Row, Scalar, Shape, Value, items_of
 
-# Of the values that the tests have for an argument the first and the last so many are tried.
+# How many of the first and of the last values that the tests have for an argument are tried.
 FIRST, LAST = 6, 3
 Items = tuple[Scalar, ...]
 
@@ -16,7 +16,7 @@ def with_item(items: Items, place: int, item: Scalar) -> Items:
 
 
 def simpler_items(shape: Shape, place: int, items: Items) -> Iterable[Items]:
-    """Numbers of an argument with one that is smaller, nearer to those of the tests, or one of them."""
+    """The numbers of an argument, with one of them smaller, nearer to those of the tests, or one of those."""
     argument = shape.arguments[place]
     values = argument.values
     for at, item in enumerate(items):

@@ -29,9 +29,10 @@ from mutants.texts.jobs import Job
 
 
 class Suggested(NamedTuple):
-    """What came of a search. `start` is the check of the tests, `final` that of them and the rows, which come last.
+    """The result of a search. `start` is the check of the tests, `final` that of the tests and the rows, which come
+    last.
 
-    `needless` has the numbers of tests that are needless then, from 1.
+    `needless` has the numbers, from 1, of tests that are needless after that.
     """
 
     start: Checked
@@ -62,13 +63,13 @@ def checked_with(start: Checked, rows: list[Row], means: Means, name: str) -> Ch
 
 
 def needless_in(checked: Checked) -> list[int]:
-    """The tests, from 1, without which the others kill as much."""
+    """The numbers, from 1, of tests without which the others kill as much."""
     kept, _ = smallest_set([killers_of(row.bits) for row in checked.whole.rows], BRANCHES)
     return [place + 1 for place in range(len(checked.job.suite)) if place not in kept]
 
 
 class Suggesting:
-    """The course of a search, which Ctrl-C cuts short; what was found until then is shown all the same."""
+    """A search, which Ctrl-C ends early. What was found until then is shown all the same."""
 
     def __init__(self, start: Checked, aim: Aim, means: Means, clock: Clock, paced: Paced) -> None:
         self.start, self.aim, self.means, self.paced = start, aim, means, paced
@@ -105,7 +106,7 @@ class Suggesting:
 
     @contextmanager
     def cut_short(self) -> Iterator[None]:
-        """Ctrl-C, and a call that takes too long, end what is going on, and no more."""
+        """Inside this context Ctrl-C, or a call that takes too long, ends only what is going on."""
         try:
             yield
         except KeyboardInterrupt:
@@ -135,7 +136,7 @@ def suggested(start: Checked, aim: Aim, means: Means, clock: Clock, name: str) -
     needless = needless_in(final) if aim.drops and rows else []
     kept = [row for number, row in enumerate(rows, len(course.tests) + 1) if number not in needless]
     if len(kept) < len(rows):
-        # Where a smaller set does without a new row, that is not suggested.
+        # A new row that a smaller set does not need is not suggested.
         rows, final = kept, checked_with(start, kept, means, name)
     old = [number for number in needless if number <= len(course.tests)]
     return Suggested(start, final, rows, course.search, course.reached, old, course.is_cut)

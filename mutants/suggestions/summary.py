@@ -54,7 +54,7 @@ def row_lines(result: Suggested, row: Row, number: int, layout: Layout) -> Itera
 
 
 def block_lines(rows: Sequence[Row], layout: Layout) -> Iterator[str]:
-    """Rows, ready to be put behind those of the table."""
+    """Rows, ready to be added to the table."""
     lines = [layout.line(row) for row in rows]
     yield from (",\n".join(lines) if layout.is_json else "\n".join(lines)).split("\n")
 
@@ -94,7 +94,7 @@ def tried_line(result: Suggested, seed: int) -> str:
 
 
 def which_lines(result: Suggested) -> Iterator[str]:
-    """Of all rows of a box: which of three each mutant is that the tests leave alive."""
+    """For all rows of a box: which of three things holds of each mutant that survives the tests."""
     if not isinstance(result.search, BoxSearch) or not result.search.is_whole:
         return
     start, left = len(result.start.report.survivors), len(result.final.report.survivors)
@@ -104,7 +104,7 @@ def which_lines(result: Suggested) -> Iterator[str]:
 
 
 def reached_text(result: Suggested, line: int) -> str:
-    """How many of the rows came to a line, where that is known."""
+    """How many of the rows came to a line, if that is known."""
     count, asked = result.reached.by_line.get(line), result.reached.asked
     if count is None:
         return ""
@@ -142,7 +142,7 @@ def needless_lines(result: Suggested) -> Iterator[str]:
 
 
 def spare_lines(result: Suggested) -> Iterator[str]:
-    """The mutants with steps to spare that a row kills. The next check does not call them proved."""
+    """The mutants with SPARE-n proofs that a row kills. The next check does not call them proved."""
     names = killed_later(result.final.report.rows, result.final.said.proofs)
     if names:
         verb, them = ("is", "it") if len(names) == 1 else ("are", "them")
@@ -163,7 +163,7 @@ def head_lines(result: Suggested, program: Path) -> Iterator[str]:
 
 
 def summary(result: Suggested, program: Path, tests: Path, layout: Layout, aim: Aim) -> str:
-    """The whole text, but for what is said of files and of the program mothra."""
+    """The whole text, without what is said of files and of the program mothra."""
     lines = [*head_lines(result, program), ""]
     if not result.start.report.survivors:
         lines += ["No mutant survives that is not declared equivalent: there is nothing to suggest."]

@@ -12,13 +12,13 @@ from mutants.texts.separated import records_in, row_text
 
 
 class Layout(NamedTuple):
-    """How a table is written: in JSON or CSV, with which columns, and which of these are arguments, by place."""
+    """How a table is written: in JSON or CSV; with which columns; and which of these are arguments, by their places."""
 
     is_json: bool
     places: list[int | None]
 
     def line(self, row: Row) -> str:
-        """A row as a line of the table, without its end. Of other columns, such as `expect`, nothing is said."""
+        """A row as a line of the table, without its end. Other columns, such as `expect`, stay empty."""
         if self.is_json:
             return json.dumps(test_of(row))
         return row_text(("" if place is None else cell_of(row[place]) for place in self.places), end="")
@@ -40,7 +40,7 @@ def layout_of(path: Path, table: Table, names: Sequence[str]) -> Layout:
 
 
 def table_with(path: Path, table: Table, lines: Sequence[str], needless: Collection[int]) -> str:
-    """The table of a file with these rows behind its own, and without some of its tests, by their numbers from 1."""
+    """The table of a file, with these rows after its own, and without the tests with the numbers `needless`, from 1."""
     text = decoded(path.read_bytes())
     if path.suffix.lower() != ".csv":
         old = [json.dumps(test) for number, test in enumerate(table.tests, 1) if number not in needless]

@@ -9,10 +9,10 @@ from mutants.jobs.cells import GREATEST, LEAST
 from mutants.suggestions.shapes import MARGIN, Argument, Row, Shape, items_of
 
 HALF = GREATEST // 2
-# The ends of INTEGER, and what stands beside them; halves; and where a square leaves it.
+# The ends of the range of INTEGER, and numbers beside them; halves; and numbers whose squares leave the range.
 ENDS = (GREATEST, LEAST, GREATEST - 1, LEAST + 1, GREATEST - 2, HALF)
 EXTREMES = (*ENDS, HALF + 1, -HALF, -HALF - 1, 46340, 46341)
-# How often a value of a row that may have far ones is one.
+# How often a value is a far one, in a row that may have far values.
 FAR_SHARE = 0.55
 SMALL = (0, 1, -1, 2, -2)
 LABELS = re.compile(r"^DO \d+|GO TO \d+|GO TO \([\d,]+\)|\) ?\d+,\d+,\d+$")
@@ -73,7 +73,7 @@ class Values:
         return constant + self.chance.choice((0, 0, 1, -1, 2, -2))
 
     def of_another(self, argument: Argument, row: Row) -> int:
-        """A value made of others of the row."""
+        """A value made of other values of the row."""
         numbers = self.numbers(row)
         one, other = self.chance.choice(numbers), self.chance.choice(numbers)
         ways = (one, one + 1, one - 1, -one, one + other, one - other, one + other + 1, one + other - 1)
@@ -84,7 +84,8 @@ class Values:
         return self.chance.randint(argument.low - MARGIN, argument.high + MARGIN)
 
     def far(self, argument: Argument, row: Row) -> int:
-        """A value at an end of INTEGER, or that leaves it with others; or far beyond the range of the tests."""
+        """A value at an end of the range of INTEGER, or one that leaves the range together with others; or one far
+        beyond the range of the tests."""
         chance, way = self.chance, self.chance.random()
         if way < 0.4:
             return chance.choice(ENDS if chance.random() < 0.7 else EXTREMES)
@@ -94,7 +95,7 @@ class Values:
         return chance.randint(argument.low - width, argument.high + width)
 
     def near_an_end(self, numbers: Sequence[int]) -> int:
-        """A value that reaches an end of INTEGER, or twice or half of what is there, with others."""
+        """A value that together with others reaches an end of the range of INTEGER, or twice or half of that."""
         one, other = self.chance.choice(numbers), self.chance.choice(numbers)
         ends = (GREATEST - one, LEAST + abs(one), GREATEST - abs(one) - abs(other), (GREATEST - one) // 2)
         more = (GREATEST - one // 2, -one, one + other, one - other, one // 2, 2 * one)

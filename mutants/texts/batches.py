@@ -1,5 +1,5 @@
-"""A job of any length as jobs that mothra takes: each has the whole program and a batch of the tests. And operators in
-groups, so that each is worth a call."""
+"""A job of any length as jobs that mothra takes: each has the whole program and a batch of the tests. Also operators in
+groups, each worth a call."""
 
 import json
 from collections.abc import Iterator, Mapping, Sequence
@@ -9,18 +9,18 @@ from mutants.texts.jobs import Job
 
 # The limits of a job: tests, and bytes.
 MOST_TESTS, MOST_BYTES = 256, 1_048_576
-# What JSON needs beside the source, the tests and the declared mutants.
+# How many bytes JSON needs beside the source, the tests and the declared mutants.
 FRAME = 64
 
 
 def batch_text(job: Job, first: int = 0, last: int | None = None) -> bytes:
-    """The job with those of its tests that have these places."""
+    """The job with its tests from place `first` on, up to `last`."""
     part: dict[str, object] = {"source": job.source, "suite": job.suite[first:last]}
     return json.dumps({**part, "equivalent": job.equivalent} if job.equivalent else part).encode()
 
 
 def ends_of(sizes: Sequence[int], room: int) -> Iterator[int]:
-    """Where the batches end: each has as many tests as a job may have, and as have room."""
+    """Where the batches end: each has as many tests as a job may have, and as fit into it."""
     begin, used = 0, 0
     for place, size in enumerate(sizes):
         if place > begin and (place - begin == MOST_TESTS or used + size > room):
@@ -36,15 +36,15 @@ def size_of(value: Any) -> int:
 
 
 def batches(job: Job) -> list[tuple[int, int]]:
-    """The batches of the tests of a job: the place of the first of each, and that behind its last.
-    There is one at least."""
+    """The batches of the tests of a job: the place of the first test of each, and the place after its last test.
+    There is at least one batch."""
     room = MOST_BYTES - FRAME - size_of(job.source) - size_of(job.equivalent)
     ends = list(ends_of([size_of(test) for test in job.suite], room))
     return list(zip([0, *ends], ends))
 
 
 def groups_of(totals: Mapping[str, int], least: int) -> list[list[str]]:
-    """The operators in their order, in groups that have so many mutants at least, but for the last."""
+    """The operators in their order, in groups with at least `least` mutants each, except the last one."""
     groups: list[list[str]] = [[]]
     count = 0
     for op, total in totals.items():

@@ -11,8 +11,8 @@ Place = tuple[int, int]
 
 
 class Card(NamedTuple):
-    """A statement: the number of its initial line, its label ("" where it has none), its text, upper case and no
-    blanks, and for each character of the text its place."""
+    """A statement: the number of its initial line, its label ("" where it has none), its text in upper case without
+    blanks, and the place of each character of the text."""
 
     line: int
     label: str
@@ -24,7 +24,7 @@ LETTERS = str.maketrans("abcdefghijklmnopqrstuvwxyz", "ABCDEFGHIJKLMNOPQRSTUVWXY
 
 
 def source_lines(source: str) -> list[str]:
-    """The lines of a source: cut at LF, without the CR right before it; nothing behind the last LF is no line."""
+    """The lines of a source: cut at LF, without a CR right before it. An empty rest after the last LF is no line."""
     lines = source.split("\n")
     if not lines[-1]:
         lines.pop()
@@ -46,7 +46,7 @@ def statement_field(number: int, line: str) -> tuple[str, tuple[Place, ...]]:
 
 
 def card_of(lines: list[tuple[int, str]]) -> Card:
-    """The statement of an initial line and those that continue it, each with its number."""
+    """The statement of an initial line and its continuation lines, each given with its number."""
     fields = [statement_field(number, line) for number, line in lines]
     number, first = lines[0]
     places = tuple(chain.from_iterable(places for _, places in fields))
@@ -86,7 +86,7 @@ def last_lines(source: str) -> dict[int, int]:
 
 
 def action_at(text: str) -> int:
-    """Where the statement in a logical IF begins, and 0 of another statement."""
+    """Where the statement in a logical IF begins; 0 for another statement."""
     if not text.startswith("IF("):
         return 0
     end = closing(text, len("IF"))
@@ -94,6 +94,6 @@ def action_at(text: str) -> int:
 
 
 def lines_of(label: str, text: str) -> list[str]:
-    """The lines in fixed form of a statement."""
+    """The lines of a statement in fixed form."""
     pieces = [text[at : at + 66] for at in range(0, len(text), 66)]
     return [(f"{label:>5} " if at == 0 else "     +") + piece for at, piece in enumerate(pieces)]

@@ -1,10 +1,10 @@
-"""The text of a source or a table, of the bytes of its file."""
+"""The text of a source or a table, from the bytes of its file."""
 
 UTF_16 = (b"\xff\xfe", b"\xfe\xff")
 
 
 def decoded(data: bytes) -> str:
-    """The text of a file. What is no UTF-8 is Latin-1, as comments of old programs are;
+    """The text of a file. Bytes that are no UTF-8 are read as Latin-1, as comments of old programs are;
     an end of file of DOS is left out."""
     if data.startswith(UTF_16):
         raise ValueError("it is a text in UTF-16: save it in UTF-8")

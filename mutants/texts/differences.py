@@ -18,7 +18,7 @@ def common_front(old: Sequence[str], new: Sequence[str]) -> int:
 def pieces(old: str, new: str) -> list[tuple[str, str]]:
     """The two texts as pieces in order: a mark ("=", "-" or "+") and a text; the "=" and "-" are old, "=" and "+" new.
 
-    What is the same at both ends is left aside first: so the change is looked for where it is.
+    What is the same at both ends is set aside first, so that the change is looked for where it is.
     """
     olds, news = WORD.findall(old), WORD.findall(new)
     front = common_front(olds, news)

@@ -4,7 +4,7 @@ import json
 from collections.abc import Sequence
 from typing import Any, NamedTuple
 
-# A value of a test is a number, a truth value or a list of either; what is read of a job may be anything.
+# A value of a test is a number, a truth value or a list of one kind; but what is read from a job may be anything.
 Value = int | list[int]
 
 

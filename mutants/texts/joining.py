@@ -1,4 +1,4 @@
-"""Reports joined: those of groups of operators, and those of batches of tests."""
+"""Reports are joined: those of groups of operators, and those of batches of tests."""
 
 from collections.abc import Sequence
 
@@ -16,14 +16,15 @@ def joined_operators(reports: Sequence[Report]) -> Report:
 
 
 def joined_row(rows: Sequence[Row]) -> Row:
-    """The row of a mutant whose tests are those of these rows side by side."""
+    """The row of a mutant, with the tests of these rows one after the other."""
     bits, is_declared = "".join(row.bits for row in rows), rows[0].status in "EW"
     status = ("KW" if "1" in bits else "SE")[is_declared]
     return rows[0]._replace(status=status, bits=bits)
 
 
 def what_batches_share(report: Report) -> object:
-    """What is the same in the reports of all batches: the head but for the tests, the mutants, which are declared."""
+    """What is the same in the reports of all batches: the head without the tests, the mutants, and which are
+    declared."""
     mutants = [(*row[:3], row.status in "EW") for row in report.rows]
     return report.unit, report.steps, report.every, list(report.counts), mutants
 

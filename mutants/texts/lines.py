@@ -1,7 +1,7 @@
 """What the texts that mothra writes have in common: whole lines, numbers, and lines that name a mutant.
 
-Where a text is not what it should be, or is cut short, ValueError has one line that says so: what is shown of a text is
-then never a part of it.
+Where a text is not what it should be, or is cut short, ValueError has one line that says so. So no text is ever read in
+part.
 """
 
 import re
@@ -13,7 +13,8 @@ MUTANT = re.compile(rf"([A-Z]{{3}}) {NUMBER} {NUMBER} LINE {NUMBER} (.+)")
 
 
 class Mutant(NamedTuple):
-    """Its operator, its number there, its number in the whole list, its line, and what stands there then."""
+    """A mutant: its operator, its number in the list, its number in the whole list, its line, and the changed
+    statement."""
 
     op: str
     number: int
@@ -23,7 +24,7 @@ class Mutant(NamedTuple):
 
 
 class Named(Protocol):
-    """What names a mutant: a mutant of a list, or a row of a report."""
+    """A name of a mutant: of a mutant of a list, or of a row of a report."""
 
     @property
     def op(self) -> str: ...
@@ -36,7 +37,7 @@ class Named(Protocol):
 
 
 def lines_of_text(text: str, what: str) -> list[str]:
-    """The lines of a whole text; `what` is how a fault names it."""
+    """The lines of a whole text; `what` is the name of the text in an error."""
     if text.startswith(("FAULT ", "BAD ")):
         raise ValueError(f"{what} is a fault: {text.splitlines()[0]}")
     if not text.endswith("\n"):
@@ -45,7 +46,8 @@ def lines_of_text(text: str, what: str) -> list[str]:
 
 
 def assert_numbered(mutants: Iterable[Named], totals: Mapping[str, int], what: str) -> None:
-    """Each operator has as many mutants as is said, numbered from 1, in the order of the operators."""
+    """Refuses mutants unless each operator has as many as the totals say, numbered from 1, in the order of the
+    operators."""
     wanted = [(op, number) for op, total in totals.items() for number in range(1, total + 1)]
     if [(mutant.op, mutant.number) for mutant in mutants] != wanted:
         raise ValueError(f"{what} is cut short or mixed: its mutants are not those of its counts")

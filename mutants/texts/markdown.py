@@ -10,7 +10,7 @@ def cell(value: object) -> str:
 
 
 def code(value: str) -> str:
-    """A text in code; < stays as it is there."""
+    """A text as code, in which < stays as it is."""
     return f"`{value.replace('`', chr(39)).replace('|', chr(92) + '|')}`" if value else ""
 
 

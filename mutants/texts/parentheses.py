@@ -1,10 +1,10 @@
-"""Parentheses of a text: how deep a place is in them, which closes which, and the commas that are in none."""
+"""Parentheses of a text: how deep a place is in them, which closes which, and the commas outside them."""
 
 from collections.abc import Iterable, Iterator
 
 
 def depths(words: Iterable[str]) -> Iterator[int]:
-    """How many are open behind each character, or each word, of a text."""
+    """How many parentheses are open after each character, or each word, of a text."""
     depth = 0
     for word in words:
         depth += {"(": 1, ")": -1}.get(word, 0)
@@ -12,7 +12,7 @@ def depths(words: Iterable[str]) -> Iterator[int]:
 
 
 def closing(text: str, begin: int) -> int:
-    """The place of the parenthesis that closes the one at a place; the end of the text where none does."""
+    """The place of the parenthesis that closes the one at `begin`; the end of the text where none does."""
     return next((at for at, depth in enumerate(depths(text[begin:]), begin) if depth == 0), len(text))
 
 

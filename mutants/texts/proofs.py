@@ -7,19 +7,19 @@ from mutants.texts.lines import NUMBER, Mutant, lines_of_text, mutant_of
 
 LINE = re.compile(rf"EQUIVALENT ([A-Z]{{3}} {NUMBER} {NUMBER}) ([A-Z]+|SPARE-[1-9]\d*) (LINE .+)")
 LAST = re.compile(rf"PROVED {NUMBER} OF {NUMBER}")
-# What a proof rests on that holds for each test and each limit on steps.
+# The rules of proofs that hold for every test and every limit on steps.
 WHYS = {
     "SAME": "it does the same there",
     "UNREAD": "what it changes is not read",
     "CONTINUES": "the run comes to the same statement",
     "UNREACHED": "no run comes there",
 }
-# What is of another promise: behind it stands how many steps more the mutant may take.
+# The rule with another promise. It is followed by the number of steps that the mutant may take more.
 SPARE = "SPARE-"
 
 
 def has_spare(why: str) -> bool:
-    """Whether a proof is one with steps to spare: it holds for the tests and the limit that it was asked for."""
+    """Whether a proof is SPARE-n, which holds only for the tests and the limit that it was asked for."""
     return why.startswith(SPARE)
 
 
@@ -29,7 +29,7 @@ def spare_of(why: str) -> int:
 
 
 def meaning_of(why: str) -> str:
-    """What a proof rests on, in words for people."""
+    """The rule of a proof, in words for people."""
     steps = spare_of(why)
     if not steps:
         return WHYS[why]
@@ -38,19 +38,19 @@ def meaning_of(why: str) -> str:
 
 
 class Proof(NamedTuple):
-    """A mutant that is proved equivalent, and what the proof rests on."""
+    """A mutant that is proved equivalent, and the rule of the proof."""
 
     mutant: Mutant
     why: str
 
     @property
     def has_spare(self) -> bool:
-        """Whether the mutant may take some steps more, so that the proof is none for each limit on steps."""
+        """Whether the mutant may take more steps, so that the proof does not hold for every limit on steps."""
         return has_spare(self.why)
 
 
 def proof_of(line: str) -> Proof:
-    """The proof that a line tells."""
+    """The proof of a line."""
     match = LINE.fullmatch(line)
     mutant = mutant_of(f"{match[1]} {match[5]}") if match else None
     if not match or not mutant or match[4] not in WHYS and not has_spare(match[4]):
@@ -59,7 +59,7 @@ def proof_of(line: str) -> Proof:
 
 
 def read_proofs(text: str) -> tuple[list[Proof], int]:
-    """The proofs, each of another mutant, and of how many mutants it was asked."""
+    """The proofs, each of another mutant; and how many mutants the program was asked about."""
     *lines, last = lines_of_text(text, "the text of the proofs")
     proofs, counts = [proof_of(line) for line in lines], LAST.fullmatch(last)
     if not counts or int(counts[1]) != len(proofs) or len(proofs) > int(counts[2]):

@@ -4,7 +4,7 @@ from collections.abc import Iterable
 
 
 def rows_of(numbers: Iterable[int]) -> list[list[int]]:
-    """Numbers in ascending order, those in a row as the first and the last of them, and the others alone."""
+    """Numbers in ascending order: those in a row by the first and the last of them, others alone."""
     rows: list[list[int]] = []
     for number in numbers:
         if rows and rows[-1][-1] == number - 1:

@@ -1,4 +1,5 @@
-"""A report as mothra writes it, of its value: what is read of a report is written back byte for byte."""
+"""The text of a report, as mothra writes it, made from its value. A report that was read is written back byte for
+byte."""
 
 from mutants.texts.reports import VERSION, Report, name_of, sum_lines
 

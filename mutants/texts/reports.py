@@ -22,7 +22,8 @@ class Row(NamedTuple):
 
 
 class Count(NamedTuple):
-    """Of an operator, or of all: how many mutants, how many killed, how many declared equivalent that survived."""
+    """Counts of an operator, or of all: how many mutants, how many killed, how many declared equivalent that
+    survived."""
 
     total: int
     killed: int
@@ -53,7 +54,7 @@ COUNTS = re.compile(rf"([A-Z]{{3}}) {NUMBER} {NUMBER} {NUMBER}")
 
 
 def read_head(lines: Sequence[str]) -> dict[str, str]:
-    """The four numbers and names at the front of a report: a dictionary."""
+    """The numbers and names at the front of a report, by their words."""
     head = dict(line.partition(" ")[::2] for line in lines[1:5])
     if lines[0] != VERSION or list(head) != ["UNIT", "TESTS", "STEPS", "EVERY"]:
         raise ValueError(f"it is no report of mothra run with the first line {VERSION}")
@@ -63,7 +64,7 @@ def read_head(lines: Sequence[str]) -> dict[str, str]:
 
 
 def read_report(text: str) -> Report:
-    """A report, each line of which agrees with the others."""
+    """Reads a report, and refuses it unless its lines agree with each other."""
     lines = lines_of_text(text, "the report")
     head = read_head(lines)
     if lines[-1] != "END":
@@ -80,7 +81,7 @@ def read_report(text: str) -> Report:
 
 
 def matches(pattern: re.Pattern[str], lines: Iterable[str]) -> list[re.Match[str]]:
-    """The lines as matches of a pattern, which each of them has to be."""
+    """The matches of the lines with a pattern, which each of them has to match."""
     matched = [pattern.fullmatch(line) for line in lines]
     if not all(matched):
         raise ValueError("the report has a line that is none")
@@ -99,7 +100,7 @@ def survivors(lines: Iterable[str]) -> list[Mutant]:
 
 
 def assert_agrees(report: Report, sums: list[str], rest: list[str]) -> None:
-    """The counts, the rows, the survivors, the wrong declarations and the score of a report say the same."""
+    """Refuses a report unless its counts, rows, survivors, wrong declarations and score agree."""
     assert_numbered(report.rows, {op: count.total for op, count in report.counts.items()}, "the report")
     if any(len(row.bits) != report.tests or ("1" in row.bits) != (row.status in "KW") for row in report.rows):
         raise ValueError("the report has a row whose digits do not agree with its tests or its status")
@@ -121,7 +122,8 @@ def name_of(mutant: Named) -> str:
 
 
 def counts_by(statuses: Iterable[tuple[Key, str]], keys: Iterable[Key]) -> dict[Key, Count]:
-    """For each of these keys how many statuses it has, how many of them of killed mutants, and of declared ones."""
+    """For each key, how many statuses belong to it, how many of these are of killed mutants, and how many of declared
+    ones that survived."""
     count = Counter(statuses)
     return {
         key: Count(sum(count[key, status] for status in "KSEW"), count[key, "K"] + count[key, "W"], count[key, "E"])
@@ -158,7 +160,7 @@ def with_status(listed: Iterable[Mutant], rows: Iterable[Row], status: str) -> l
 
 
 def assert_same_mutants(listed: Sequence[Mutant], report: Report) -> None:
-    """A list and a report are of the same mutants, and say the same of the survivors."""
+    """Refuses a list and a report unless they are of the same mutants and say the same of the survivors."""
     same = [mutant[:3] for mutant in listed] == [row[:3] for row in report.rows]
     if not same or report.survivors != with_status(listed, report.rows, "S"):
         raise ValueError("the list and the report are not of the same mutants")

@@ -1,4 +1,4 @@
-"""Tables in CSV: their rows as cells, and as the text that they stand in."""
+"""Tables in CSV: their rows as cells, and as the text of which these are read."""
 
 import csv
 import io
@@ -13,8 +13,8 @@ def row_text(cells: Iterable[object], end: str = "\n") -> str:
 
 
 def records_in(text: str, strict: bool = False) -> Iterator[tuple[int, list[str], str]]:
-    """Of each row the number of the line on which it ends, its cells, and its text; ValueError names one that is
-    none."""
+    """For each row the number of the line on which it ends, its cells, and its text; ValueError names a line that is no
+    row."""
     lines = list(io.StringIO(text, newline=""))
     reader, begin = csv.reader(lines, strict=strict), 0
     try:

@@ -1,4 +1,4 @@
-"""What a mutant changes: the piece of its statement that is another one, and where that stands in the source."""
+"""What a mutant changes: the piece of its statement that is replaced, and where that piece stands in the source."""
 
 from collections.abc import Sequence
 from difflib import SequenceMatcher
@@ -19,7 +19,7 @@ class Change(NamedTuple):
 
 
 class Span(NamedTuple):
-    """The place of the first character of a piece of the source, and the place behind its last one."""
+    """The place of the first character of a piece of the source, and the place after its last one."""
 
     start: Place
     end: Place
@@ -29,7 +29,7 @@ def operand_before(words: Sequence[str]) -> int:
     """How many words at the end of these are an operand: a name, a number, or what is in parentheses and its name."""
     backwards = words[::-1]
     for count, (word, depth) in enumerate(zip(backwards, depths(backwards))):
-        # Read backwards a parenthesis that closes comes first, so what is open is counted below 0.
+        # Read backwards, a closing parenthesis comes first, so the count of open ones is below 0.
         if depth > 0 or depth == 0 and not (word.isalnum() or word == "("):
             return count
         if depth == 0 and word.isalnum():
@@ -38,7 +38,7 @@ def operand_before(words: Sequence[str]) -> int:
 
 
 def widened(olds: Sequence[str], front: int, back: int) -> tuple[int, int]:
-    """The same piece with the operand before it, or else the word behind it, where the piece has no word of its own."""
+    """The piece, with the operand before it, or else the word after it, where the piece has no word of its own."""
     if "".join(olds[front : len(olds) - back]).strip():
         return front, back
     before = operand_before(olds[:front])
@@ -53,7 +53,7 @@ def depths_of(words: Sequence[str]) -> tuple[int, int]:
 
 
 def balanced(olds: Sequence[str], front: int, back: int) -> tuple[int, int]:
-    """The same piece with so many words more that each of its parentheses has its partner in it."""
+    """The piece, with as many more words as needed so that each of its parentheses has its partner in it."""
     while True:
         opened, closed = depths_of(olds[front : len(olds) - back])
         if opened and back:
@@ -65,7 +65,7 @@ def balanced(olds: Sequence[str], front: int, back: int) -> tuple[int, int]:
 
 
 def change_of(old: str, new: str) -> Change:
-    """The change of a statement to that of a mutant, in whole words; what is changed has a word at least."""
+    """The change from a statement to that of a mutant, in whole words. The replaced piece has at least one word."""
     olds, news = WORD.findall(old), WORD.findall(new)
     front = common_front(olds, news)
     back = common_front(olds[front:][::-1], news[front:][::-1])
@@ -79,7 +79,7 @@ def squeezed(text: str) -> str:
 
 
 def aligned(printed: str, text: str) -> dict[int, int]:
-    """For each character of the printed text, without blanks, its place in the text of the card, where it has one."""
+    """For each character of the printed text, without blanks, its place in the text of the card, if it has one."""
     if printed == text:
         return {place: place for place in range(len(text))}
     blocks = SequenceMatcher(None, printed, text, autojunk=False).get_matching_blocks()

@@ -1,7 +1,7 @@
 """Which mutants matter: one subsumes another where each test that kills it kills the other (Ammann, Delamaro and
 Offutt 2014). The smallest set that subsumes all mutants has one of each set of killers that has no other one within.
 
-Of a survivor no test tells what it subsumes, so it is in the set, each program once.
+No test shows what a survivor subsumes, so all survivors are in the set, each program once.
 """
 
 from collections.abc import Iterable, Sequence

@@ -1,8 +1,8 @@
 """Tabs in a source: where they stand in the way of a statement, and lines without them.
 
-FORTRAN 77 has no tab. What DEC's compilers made of it became the custom, and gfortran follows it: a first tab in
-columns 1 to 6 leads to column 7, or to column 6 where a digit from 1 to 9 stands behind it, which is then a
-continuation line. Any other tab is a blank.
+FORTRAN 77 has no tab. The way of DEC's compilers became the custom, and gfortran follows it: a first tab in columns 1
+to 6 leads to column 7, or to column 6 where a digit from 1 to 9 follows, and the line is then a continuation line. Any
+other tab is a blank.
 """
 
 from mutants.texts.cards import is_comment
@@ -25,7 +25,7 @@ def without_tabs(line: str) -> str:
 
 
 def written_column(line: str, column: int) -> int:
-    """The column of a character in a line as it is written, by the one that it has in the line without tabs."""
+    """The column of a character in the line as it is written, from its column in the line without tabs."""
     if not has_tab(line) or column <= line.index("\t"):
         return column
     return column - (len(without_tabs(line)) - len(line))

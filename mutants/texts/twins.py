@@ -1,7 +1,7 @@
-"""Twins: mutants of a list that are one program, since they make the same of the same statement.
+"""Twins: mutants of a list that are the same program, since they make the same of the same statement.
 
-Most are of different operators: K=I is K=J by one that puts a variable there, and by one that puts an array element.
-Their verdicts are the same. The report counts each of them.
+Most are of different operators: M(I) becomes M(J) by AAR, which puts another array reference there, and by SVR, which
+puts another variable in the place of I. Their verdicts are the same. The report counts each of them.
 """
 
 from collections import defaultdict
@@ -26,7 +26,7 @@ def name_of(mutant: Named) -> str:
 
 
 def names_text(group: Iterable[Named]) -> str:
-    """All names of a group, as one can hand them to `mutants declare`: AAR 1, SVR 15; and of one operator ABS 1, 4."""
+    """All names of a group, as `mutants declare` takes them: AAR 1, SVR 15; and for one operator ABS 1, 4."""
     parts = groupby(group, key=lambda mutant: mutant.op)
     return ", ".join(f"{op} {', '.join(str(mutant.place) for mutant in alike)}" for op, alike in parts)
 
@@ -38,9 +38,10 @@ def others_by_name(listed: Iterable[Mutant]) -> dict[str, list[Mutant]]:
 
 
 def count_of_programs(listed: Iterable[Mutant], rows: Iterable[Row]) -> Count:
-    """How many different programs the mutants are, and how many of these are killed, or declared and not killed.
+    """How many different programs the mutants are, how many of these are killed, and how many are declared and not
+    killed.
 
-    Where one of twins is declared, the program is.
+    A program is declared if one of its twins is.
     """
     statuses: Mapping[str, str] = {name_of(row): row.status for row in rows}
     groups = [{statuses[name_of(mutant)] for mutant in group} for group in twins_in(listed)]

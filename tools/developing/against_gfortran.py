@@ -37,7 +37,7 @@ def add_words(parser: argparse.ArgumentParser) -> None:
 
 
 def differs(mothra: str, path: Path, with_mutants: bool) -> bool:
-    """Compares one job, and tells what came of it. Whether there is a difference."""
+    """Compares one job, and prints the result. The value says whether there is a difference."""
     with tempfile.TemporaryDirectory() as folder:
         mutants, counts, lines = compared_runs(mothra, path.read_bytes(), Path(folder), with_mutants)
     compared = counts["agree"] + counts["differ"]

@@ -38,13 +38,13 @@ from mutants.statuses import FAULT, SUCCESS
 Tried = tuple[bool, str]
 # A module, a function of it, and what is proved with that.
 Place = tuple[str, str, str]
-# Edits by what they change; one of no single function is alone, and has no place.
+# Edits by what they change. An edit that is not of one function has no place, and is alone.
 Group = dict[Place | None, Path]
 LONGEST = 200
 PARTS = ("src/", "specs/", "proofs/")
-# What the check says of a file that it cannot read, where a statement that is only false reads well.
+# What the check says of a file that it can not read; a statement that is only false can be read.
 UNREADABLE = "is not in scope|has no field|is no name|operand is missing|expected the end|cannot continue"
-# What it says of a proof that names what an edit has taken away, and of what cites that proof.
+# What the check says of a proof that names what an edit has removed, and of what cites that proof.
 TAKEN_AWAY = r"(note: )?(\./)?proofs/.*(has no field|is not in scope|has no `|was not admitted)"
 
 
@@ -68,7 +68,7 @@ def wanted_edits(crates: Crates, names: Sequence[str], with_gate: bool) -> dict[
 
 
 def read_edit(path: Path, folder: Path) -> dict[str, str]:
-    """The texts that an edit makes of the files of a crate."""
+    """The texts of the files of a crate that an edit changes, with the changes."""
     file, old = "", None
     texts: dict[str, str] = {}
     for line in path.read_text(encoding="utf-8").split("\n"):
@@ -137,7 +137,7 @@ def judge(status: int, lines: Sequence[str], files: Container[str]) -> Tried:
     if status != FAULT or not lines[-1].startswith("logic=not-proved"):
         faults = [line for line in lines if "error" in line] or lines
         return False, f"BAD EDIT: no goal was tried: {faults[0]}"
-    # A message goes on in the lines behind it that begin with blanks.
+    # Lines that begin with blanks belong to the message before them.
     messages = re.sub("\n +", " ", "\n".join(lines)).split("\n")
     messages = [line for line in messages if re.match(r"note: \S+:\d+:\d+: |\S+:\d+:\d+: error", line)]
     goals = [line.partition("; ")[0] for line in messages if "it is not proved" in line]
@@ -175,8 +175,8 @@ def try_edit(path: Path, folder: Path) -> Tried:
 
 
 def place_of(path: Path, folder: Path) -> Place | None:
-    """The module, the function whose body is all that an edit changes, and what is proved with it,
-    None where there is no such."""
+    """The module, the function whose body is all that an edit changes, and what is proved together with it;
+    None where the edit is not of one body."""
     files = {line[5:].strip() for line in path.read_text(encoding="utf-8").split("\n") if line.startswith("file:")}
     olds = [line[5:] for line in path.read_text(encoding="utf-8").split("\n") if line.startswith("old: ")]
     if len(files) != 1 or not min(files).startswith("src/"):
@@ -192,7 +192,7 @@ def place_of(path: Path, folder: Path) -> Place | None:
 
 
 def function_at(text: str, at: int) -> tuple[str, str] | None:
-    """The function in whose body a place of the text is, and its cycle of calls, or else where it begins."""
+    """The function in whose body a place of the text is, and its cycle of calls; else the place where it begins."""
     heads = [it for it in re.finditer(r"(?m)^( *)(?:pub(?:\(crate\))? )?fn (\w+)", text) if it.start() <= at]
     if not heads:
         return None
@@ -205,7 +205,8 @@ def function_at(text: str, at: int) -> tuple[str, str] | None:
 
 
 def in_groups(edits: Sequence[Path], folder: Path) -> list[Group]:
-    """The edits in groups: those of one group change different functions, and one of no single function is alone."""
+    """The edits in groups. The edits of a group change different functions; an edit that is not of one function is
+    alone."""
     groups: list[Group] = []
     alone: list[Group] = []
     for path in edits:
@@ -226,7 +227,7 @@ def in_groups(edits: Sequence[Path], folder: Path) -> list[Group]:
 
 
 def try_group(group: Group, name: str, folder: Path) -> dict[Path, str]:
-    """What is said of each edit of a group that one check of all refuses, by its path."""
+    """What is said of each edit of a group that one check of the whole group refuses, by its path."""
     texts: dict[str, str] = {}
     kept: dict[str, bytes] = {}
     try:
@@ -245,7 +246,7 @@ def try_group(group: Group, name: str, folder: Path) -> dict[Path, str]:
         for place, path in group.items():
             module, function, _ = place or ("", "", "")
             own = [it for it in unproved if re.match(rf"fn {name}::{module}(\S+::)?{function}: ", it)]
-            # One that is only not proved since it calls others tells nothing of its own body.
+            # A function that is unproved only since it calls others shows nothing of its own body.
             if own and not any(re.search(r"\bit calls ", it) for it in own):
                 said[path] = f"refused: {own[0]}"
         return said
@@ -256,8 +257,8 @@ def try_group(group: Group, name: str, folder: Path) -> dict[Path, str]:
 
 
 def try_on_copy(folder: Path, name: str, waiting: deque[Group]) -> list[bool]:
-    """Tries groups of edits while some wait: whether each edit was refused;
-    none counts where the crate is not proved at last."""
+    """Tries groups of edits while some wait. The result says whether each edit was refused;
+    nothing counts if the crate is not proved at the end."""
     refused = []
     while waiting:
         try:

@@ -47,10 +47,10 @@ from mutants.texts.reports import Count, Report
 from mutants.words import number_from_1, whole_path
 
 PROGRAMS, TESTS, SEED = 500, 256, 1
-# So many rounds of rows are made at most, and so many rows are tried with a small limit on steps.
+# The most rounds of rows that are made, and how many rows are tried with a small limit on steps.
 ROUNDS, FEW = 6, 48
 SMALL = (2, 4, 7, 12, 20, 40)
-# The operator that is run where the program alone is asked about: few programs have a mutant of it.
+# The operator that is run where only the program itself is asked about: few programs have a mutant of it.
 FEW_MUTANTS = "DSA"
 
 
@@ -76,7 +76,7 @@ class Killed(NamedTuple):
 
 
 class Tried(NamedTuple):
-    """What came of a program: how many mutants it has, the proofs, how many tests were run, and what is wrong."""
+    """The result for a program: how many mutants it has, the proofs, how many tests were run, and what is wrong."""
 
     case: Case
     mutants: int
@@ -100,7 +100,7 @@ class Programs(NamedTuple):
 
 
 def asker_of(case: Case, printed: list[str], proofs: Sequence[Proof], mothra: str) -> Asker:
-    """What asks which of the mutants that are proved are killed."""
+    """An asker for the mutants that are proved: which of them are killed."""
     ops = sorted({proof.mutant.op for proof in proofs})
     report = Report("", 0, STEPS, 1, dict.fromkeys(ops, Count(0, 0, 0)), [], [])
     checked = Checked(Job(case.source, []), printed, {}, [], report, report, [], [], [])
@@ -108,7 +108,7 @@ def asker_of(case: Case, printed: list[str], proofs: Sequence[Proof], mothra: st
 
 
 def fitting_rows(case: Case, asker: Asker, printed: Sequence[str], tests: int, chance: Random) -> list[Row]:
-    """Rows on which the program ends, about so many."""
+    """Rows on which the program ends, about `tests`."""
     fitting: dict[Row, None] = {}
     make = rows_for(read_unit(case.source)[1], constants_of(printed), chance)
     for _ in range(ROUNDS):
@@ -125,8 +125,8 @@ def within(asker: Asker, rows: Sequence[Row], steps: int) -> set[Row]:
 
 
 def killed_in(asker: Asker, proofs: Sequence[Proof], rows: Sequence[Row], steps: int) -> tuple[int, list[Killed]]:
-    """How many rows were run, and the mutants that one of them kills, each once. A row that leaves a mutant not the
-    steps that its proof needs may kill it."""
+    """How many rows were run, and the mutants that one of them kills, each once. A row that does not leave a mutant the
+    steps which its proof needs may kill it."""
     kills = asker.kills(rows, asker.ops_of(asker.whole), steps)
     spares = {spare_of(proof.why) for proof in proofs} - {0}
     fits = {0: set(kills), **{spare: within(asker, list(kills), steps - spare) for spare in spares}}

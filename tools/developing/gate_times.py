@@ -29,18 +29,18 @@ def task_in(words: list[str], folder: str) -> Task | None:
 
 
 def look(spent: dict[tuple[str, str], tuple[Task, float]], family: set[int]) -> None:
-    """Keeps what each check of a family of processes has taken up to now; children join the family."""
+    """Keeps the time that each check of a family of processes has taken up to now. Children join the family."""
     for pid in sorted(filter(str.isdigit, os.listdir("/proc")), key=int):
         try:
             stat = Path("/proc", pid, "stat").read_text(errors="replace").rpartition(") ")[2].split()
             words = Path("/proc", pid, "cmdline").read_bytes().decode(errors="replace").split("\0")
             task = task_in(words, os.readlink(f"/proc/{pid}/cwd"))
         except OSError:
-            # It has ended since.
+            # The process has ended since.
             continue
         if int(stat[1]) in family:
             family.add(int(pid))
-            # What a check starts is a part of it, and is in its times once it has ended.
+            # A process that a check starts is a part of the check, and counts in its times once it has ended.
             if task and stat[1] not in {check for check, _ in spent}:
                 spent[pid, stat[19]] = task, sum(map(int, stat[11:15])) / TICKS
 

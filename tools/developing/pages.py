@@ -49,7 +49,7 @@ addEventListener("load", () => {
 });
 </script>
 """
-# The pictures: of which page each is, how wide and how high, and the part that is shown.
+# The pictures: the page of each, its width and height, and the part that is shown.
 SHOTS: dict[str, tuple[str, int, int, str]] = {
     "page.png": ("date.html", 1000, 1200, "body"),
     "page-narrow.png": ("date.html", 400, 1500, "body"), "course.png": ("class/out/course.html", 1200, 1100, "body"),
@@ -66,7 +66,7 @@ CHECKS = {
 
 
 def shown(chromium: str, page: Path, script: str, size: tuple[int, int], *words: str) -> str:
-    """What the browser writes of a copy of a page that begins with a script."""
+    """What the browser writes for a copy of a page that begins with a script."""
     copy = page.with_name(f"copy-of-{page.name}")
     copy.write_text(page.read_text(encoding="utf-8").replace("<head>", f"<head>{script}", 1), encoding="utf-8")
     call = [chromium, *OPTIONS, f"--window-size={size[0]},{size[1]}", *words, copy.as_uri()]
@@ -82,7 +82,7 @@ def is_there(link: str, page: Path, names: list[str]) -> bool:
 
 
 def faults_of(page: Path, width: int, dump: str) -> Iterator[str]:
-    """What is wrong with a page, of what the browser wrote."""
+    """What is wrong with a page, from what the browser wrote."""
     looked = re.search(r'<pre id="looked">(.*?)</pre>', dump, re.S)
     if not looked:
         yield "the browser has not shown it"
@@ -95,7 +95,8 @@ def faults_of(page: Path, width: int, dump: str) -> Iterator[str]:
 
 
 def output_of(mothra: str, *words: str) -> str:
-    """What a subcommand writes, from the top of the repository. One suite of the class cannot be run, and is told."""
+    """What a subcommand writes, called at the top of the repository. One suite of the class can not be run, which is
+    reported."""
     call = [sys.executable, "-B", str(ROOT / "bin" / "mutants"), *words, "--mothra", mothra, "--no-proofs"]
     ended = subprocess.run(call, cwd=ROOT, capture_output=True, text=True)
     if ended.returncode != SUCCESS and words[0] != "course":

@@ -39,17 +39,17 @@ CALLS: dict[str, tuple[list[str], list[Any], str]] = {
     "list": (LOOP, [[3, 0]], "J1 F1 S1 C1 O1"),
     "run": (SUM, [[2, 3, 0]], "J1 F1 S1 C1 O1 B1 B2"),
 }
-# By a trap, or by the checks that tell of it.
+# The ways in which a program stops: by a trap, or by a check that reports it.
 STOPPED = (-signal.SIGTRAP, -signal.SIGABRT)
-# How many more allocations a call with threads may make than were found.
+# How many allocations a call with threads may make beyond those that were found.
 SPARE = 8
-# Of a test that ends with an error of its own, and not by an assertion: there was no memory for what it is made of.
+# The answer of a test that ends with an error of its own and not by an assertion: it had no memory for its own data.
 OWN_ERROR = 101
 ROUNDS = {"alone": ONLY, "with all behind it": FROM_THEN_ON}
 
 
 class Subject:
-    """Words, the bytes given, and the answers that may come in place of the undisturbed one."""
+    """Words, the bytes that are given, and the answers that may come in the place of the undisturbed one."""
 
     def __init__(self, name: str, words: list[str], given: bytes, faults: list[str]) -> None:
         self.name, self.words, self.given, self.faults = name, words, given, faults
@@ -77,7 +77,7 @@ def commands() -> Iterator[Subject]:
 
 
 def tests_of(crate: str, program: Refusing) -> Iterator[Subject]:
-    """The tests of a crate that are about refused memory. They pass, or have none for their own jobs."""
+    """The tests of a crate that are about refused memory. They pass, or have no memory for their own jobs."""
     names = called([program.path, "--list"], b"").text.decode().split()
     for name in names:
         if "refused_memory" in name.rpartition("::")[2]:
@@ -85,7 +85,7 @@ def tests_of(crate: str, program: Refusing) -> Iterator[Subject]:
 
 
 def reaches(subject: Subject, program: Refusing, number: int) -> bool:
-    """Whether a call makes so many allocations: whether one of three stops there."""
+    """Whether a call makes this many allocations: whether one of three calls stops there."""
     program.refuse(number, answer=STOPS)
     return any(subject.call(program).status in STOPPED for _ in range(3))
 
@@ -106,7 +106,7 @@ def last_of(subject: Subject, program: Refusing) -> int:
 
 
 def sweep(subject: Subject, copies: list[Refusing], last: int, jump: bytes, undisturbed: Ended) -> list[str]:
-    """How many numbers gave which answer, and the first number that gave one that may not be."""
+    """How many numbers gave which answer, and the first number that gave an answer which may not come."""
     free: Queue[Refusing] = Queue()
     for copy in copies:
         free.put(copy)
@@ -123,7 +123,7 @@ def sweep(subject: Subject, copies: list[Refusing], last: int, jump: bytes, undi
 
 
 def tell(subject: Subject, copies: list[Refusing]) -> bool:
-    """Sweeps a call in both rounds, and prints what came of it. Whether each answer may be."""
+    """Tries a call in both rounds, and prints the answers. The result says whether each answer may come."""
     copies[0].refuse(2**31 - 1)
     undisturbed = subject.call(copies[0])
     has_threads = any(word in subject.name for word in ("run", "workers"))

@@ -56,7 +56,7 @@ def last_line(gate: Path) -> str:
 
 
 def committed() -> str:
-    """The commit that all files are of."""
+    """The commit, of which all files have to be."""
     changed = said_by("git", "status", "--porcelain", "--untracked-files=no")
     if changed:
         raise ValueError(f"a file is changed and not committed: {changed.split()[-1]}")

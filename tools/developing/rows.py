@@ -20,7 +20,7 @@ from mutants.statuses import FAULT, SUCCESS
 CRATE = ROOT / "crates" / "rows"
 TABLE, WANTED, BUILT = CRATE / "stdin", CRATE / "stdout", CRATE / "out" / "rows"
 MISSING = "rows is not built: (cd crates/rows && rt run) proves and builds it; --unproved builds it for one call"
-# So many lines stand around one that differs: the row of an answer, and its words.
+# How many lines stand around one that differs: the row of an answer, and its words.
 AROUND = 2
 
 
@@ -35,13 +35,13 @@ def blocks_of(answers: str) -> dict[str, list[str]]:
 
 
 def differences(wanted: list[str], got: list[str]) -> list[str]:
-    """The lines of a block that differ, with those around them; none where all are the same."""
+    """The lines of a block that differ, with the lines around them; none where all are the same."""
     lines = list(unified_diff(wanted, got, lineterm="", n=AROUND))[2:]
     return [line for line in lines if not line.startswith("@@")]
 
 
 def answers_of(program: Path) -> bytes:
-    """What the program writes of the table."""
+    """What the program writes for the table."""
     try:
         ended = subprocess.run([program], input=TABLE.read_bytes(), capture_output=True)
     except OSError as fault:
@@ -52,7 +52,7 @@ def answers_of(program: Path) -> bytes:
 
 
 def unproved_answers() -> bytes:
-    """What a build of rt try writes of the table."""
+    """What a build of rt try writes for the table."""
     with tempfile.TemporaryDirectory() as folder:
         build(CRATE, program := Path(folder, "rows"), [])
         return answers_of(program)

@@ -35,7 +35,7 @@ SLOW = 600
 
 
 def slipped(node: ast.AST) -> bool:
-    """Whether a node can be changed; it is then."""
+    """Changes a node, if it can be changed. The result says whether it can."""
     part = "ops" if isinstance(node, ast.Compare) else "op"
     old = node.ops[0] if isinstance(node, ast.Compare) else getattr(node, "op", None)
     other = OTHER.get(type(old)) if isinstance(old, ast.AST) else None
@@ -79,7 +79,7 @@ def tried(seed: str) -> tuple[str, str]:
         before = {node: ast.unparse(node).partition("\n")[0] for node in nodes}
         node = next((node for node in nodes if slipped(node)), None)
         if node is None:
-            # The module has nothing to slip in: another one is taken.
+            # The module has nothing to change: another one is taken.
             return tried(f"{seed}+")
         path.write_text(ast.unparse(tree), encoding="utf-8")
         after = ast.unparse(node).partition("\n")[0]

@@ -32,8 +32,9 @@ Kills = set[tuple[str, int]]
 
 
 class Case(NamedTuple):
-    """A program; the whole suite; the tests that a search begins with, a table or so many of the whole suite; how many
-    rounds are made; the share that has to be killed of what the suite kills and the start does not; tests at most."""
+    """A program; the whole suite; the tests with which a search begins, a table or a number of tests of the whole
+    suite; how many rounds are made; the share that has to be killed of what the suite kills and the start does not; the
+    most tests."""
 
     program: Path
     full: Path

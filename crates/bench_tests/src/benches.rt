@@ -1,4 +1,4 @@
-//! Benches of one test, the rows of all their mutants, and their reports as one thread comes to them.
+//! Benches with one test, the rows of all their mutants, and their reports, all made by one thread.
 
 ghost use Rattle.mothra_exchange.specs.Table.{IsPassOf};
 
@@ -13,7 +13,7 @@ fn plan(rt: &impl AllocGlobal, statements: &str, ops: &[Op]) -> Result<Plan, Fai
     Ok(Plan::new(rt.alloc(), checked(rt, statements)?, ops, 1)?)
 }
 
-/// The bench of statements with `; ` between them, with these operators and declared mutants, or why there is none.
+/// The bench of these statements, separated by `; `, with these operators and declared mutants; or its fault.
 pub(crate) fn bench(
     rt: &impl AllocGlobal,
     statements: &str,
@@ -34,7 +34,7 @@ pub(crate) fn sum_bench(rt: &impl AllocGlobal) -> Result<Bench, Fail> {
     Ok(bench(rt, ADD, &Op::ALL, &[])??)
 }
 
-/// So many sums behind a RETURN, with these operators.
+/// The bench of `times` sums after a RETURN, with these operators.
 pub(crate) fn sums(rt: &impl AllocGlobal, times: usize, ops: &[Op]) -> Result<Bench, Fail> {
     let front = "SUBROUTINE MANY(I,J,K); RETURN";
     let statements = repeated(rt, front, times, "; K=I+J", "; END")?;
@@ -50,7 +50,7 @@ pub(crate) fn counts(plan: &Plan) -> [u32; 22] {
     counts
 }
 
-/// Hands out so many tickets of an operator.
+/// Offers and takes `count` tickets of an operator.
 fn hand_out(exchange: &TableExchange<64>, pass: &mut Pass, op: Op, count: u32)
     requires { IsPassOf exchange.now pass.old }
     ensures { IsPassOf exchange.now pass.new }
@@ -67,7 +67,7 @@ fn hand_out(exchange: &TableExchange<64>, pass: &mut Pass, op: Op, count: u32)
     }
 }
 
-/// What an exchange ends with through which so many tickets of each operator went.
+/// The tally of an exchange that handed out all tickets of each operator.
 pub(crate) fn tally(rt: &impl AllocGlobal, counts: [u32; 22]) -> Result<Tally, Fail> {
     let (exchange, mut pass) = TableExchange::<64>::new(rt.alloc(), counts)?;
     for op in Op::ALL {
@@ -76,7 +76,7 @@ pub(crate) fn tally(rt: &impl AllocGlobal, counts: [u32; 22]) -> Result<Tally, F
     Ok(exchange.finish(pass))
 }
 
-/// The row of each mutant of one operator, behind the others.
+/// Adds the row of each mutant of one operator.
 fn push_rows(
     rt: &impl AllocGlobal,
     bench: &Bench,

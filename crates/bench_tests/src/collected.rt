@@ -1,4 +1,5 @@
-//! Rows collected. A row of a table is what is changed in the rows of all mutants, ` => ` and what they come to.
+//! Tests of `collect`. A line of the table says how the rows of all mutants are changed, and after ` => ` what they
+//! give then.
 
 use crate::benches::{counts, rows, sum_bench, tally};
 use f77_meaning::Values;
@@ -8,7 +9,7 @@ use mothra_ops::Op;
 use samples::{expect, parts};
 use std::test::Fail;
 
-/// `reversed`, `without the last`, or a row that is added: its ticket and its digits, `-` for none.
+/// A change is `reversed`, `without the last`, or a row that is added: its ticket, and a digit or `-` for no tests.
 const ROWS: &str = "
  => 33 entries from ABS 1 to UOI 9
 reversed => 33 entries from ABS 1 to UOI 9
@@ -25,7 +26,7 @@ without the last; ABS 1 1 => Double(Ticket { op: Abs, number: 1 })
 without the last; ABS 10 1 => Stranger(Ticket { op: Abs, number: 10 })
 ";
 
-/// The ticket written as `ABS 3`.
+/// The ticket of a text such as `ABS 3`.
 fn ticket(text: &str) -> Result<Ticket, Fail> {
     let Some((code, number)) = text.split_once(' ') else {
         return Err(Fail::new("a ticket is a code and a number"));
@@ -39,7 +40,7 @@ fn ticket(text: &str) -> Result<Ticket, Fail> {
     }
 }
 
-/// A row written as `ABS 1 1`.
+/// The row of a text such as `ABS 1 1`.
 fn row(rt: &impl AllocGlobal, text: &str) -> Result<Row, Fail> {
     let Some((written, digits)) = text.rsplit_once(' ') else {
         return Err(Fail::new("a row is a ticket and digits"));
@@ -118,7 +119,7 @@ fn assert_collected(
     Ok(())
 }
 
-/// An exchange handed out all tickets, or all of ABS but the last, and no other.
+/// Collects rows after an exchange handed out all tickets, and after one handed out those of ABS without the last.
 fn assert_all(rt: &impl AllocGlobal, bench: &Bench) -> Result<(), Fail> {
     assert_collected(rt, bench, &tally(rt, counts(bench.plan()))?, ROWS)?;
     let mut short = [0u32; 22];

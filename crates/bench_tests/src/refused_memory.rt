@@ -1,5 +1,5 @@
-//! Each allocation can be refused: the workers then end all the same, with each row, or with want of memory or of a
-//! thread. Every operator is closed in the end, also where the feeder could not begin that would close it.
+//! Each allocation is refused in turn. The workers end nevertheless: with all rows, or with want of memory or of a
+//! thread. Every operator is closed in the end, also where the feeder that would close it could not begin.
 
 ghost use Rattle.std.specs.Prelude.{◌≤◌};
 
@@ -14,7 +14,7 @@ use std::sync::atomic::Ordering;
 use std::test::Fail;
 use std::thread::Threads;
 
-/// Drives workers through an exchange, whose making may be refused, too.
+/// Drives workers through an exchange. The allocation that is refused may also be that of the exchange.
 fn assert_undisturbed<R: Abort + AllocGlobal + Threads + Wait + Sync>(
     rt: &R,
     bench: &Bench,
@@ -42,7 +42,7 @@ fn refused_memory_ends_the_workers(rt: HostRuntime) -> Result<(), Fail> {
     Ok(())
 }
 
-/// Of these tickets 64 may wait: a worker without memory takes on, or a feeder would wait for it.
+/// Of these 72 tickets 64 may wait: a worker without memory goes on taking, or a feeder would wait for it.
 #[test]
 fn refused_memory_lets_workers_take_on(rt: HostRuntime) -> Result<(), Fail> {
     let bench = sums(&rt, 12, &[Op::Svr])?;
@@ -50,7 +50,7 @@ fn refused_memory_lets_workers_take_on(rt: HostRuntime) -> Result<(), Fail> {
     Ok(())
 }
 
-/// Over a gate that gives up at once: that a thread could not begin is told before it.
+/// Where memory was wanting or a thread could not begin, that is the fault, also over a gate that gives up at once.
 fn assert_own_fault_first<R: Abort + AllocGlobal + Threads + Wait + Sync>(rt: &R, bench: &Bench) {
     let Ok((inner, pass)) = TableExchange::<64>::new(rt.alloc(), counts(bench.plan())) else {
         return;

@@ -1,4 +1,4 @@
-//! Benches and scores that no job shows.
+//! Tests of benches and scores that no job can show.
 
 use crate::benches::{bench, counts, tally};
 use f77_meaning::Values;
@@ -14,12 +14,12 @@ const NONE: Ticket = Ticket {
     number: 0,
 };
 
-/// What keeps a bench of ABS from being made that has this declared mutant.
+/// The fault of a bench of ABS with this declared mutant.
 fn fault(rt: &impl AllocGlobal, declared: Ticket) -> Result<Option<BenchFault>, Fail> {
     Ok(bench(rt, ADD, &[Op::Abs], &[declared])?.err())
 }
 
-/// An entry of number 0 names no mutant. It is passed over where its operator was not asked for.
+/// An entry with number 0 names no mutant. It is passed over where its operator was not asked for.
 #[test]
 fn number_0_is_no_mutant(rt: HostRuntime) -> Result<(), Fail> {
     assert_eq!(rt; fault(&rt, NONE)?, Some(BenchFault::EquivalentUnknown(1)));
@@ -40,7 +40,7 @@ fn killed(rt: &impl AllocGlobal, ticket: Ticket, kill: bool) -> Result<Row, Fail
     })
 }
 
-/// Rows by which the test kills every mutant but the first.
+/// Rows in which the test kills every mutant but the first.
 fn all_but_one(rt: &impl AllocGlobal, bench: &Bench) -> Result<Vec<Row>, Fail> {
     let mut rows = Vec::new(rt.alloc());
     for op in Op::ALL {

@@ -1,6 +1,6 @@
-//! Workers over gates that hold the first of them, invent tickets, drop them, hand them out in another order, end
-//! early, refuse offers, or give up. The passes of two workers are split off first, then those of the feeders. A feeder
-//! over a gate with answers of its own.
+//! Tests of workers over gates that hold the first worker, invent tickets, drop them, hand them out in another order,
+//! end early, refuse offers, or give up; and of a feeder over a gate that makes up its answers. The passes of two
+//! workers are split off first (numbers 1 and 2), then those of the feeders (3 and 4).
 
 ghost use Rattle.std.specs.Prelude.{◌≡◌, ◌+◌, ◌≤◌, true};
 
@@ -14,7 +14,7 @@ use std::sync::Wait;
 use std::test::Fail;
 use std::thread::Threads;
 
-/// The report that so many workers come to through a gate.
+/// The report of a bench, made by `workers` workers through a gate.
 fn driven<G: Gate + Sync, R: AllocGlobal + Threads + Wait + Sync>(
     rt: &R,
     bench: &Bench,
@@ -33,7 +33,7 @@ where
     render(rt.alloc(), bench, &matrix)
 }
 
-/// The same over a gate that plays a trick, round an exchange of words.
+/// The report of a bench through a gate that plays a trick, around an exchange of packed words.
 fn tricked<R: AllocGlobal + Threads + Wait + Sync>(
     rt: &R,
     bench: &Bench,
@@ -48,7 +48,7 @@ fn tricked<R: AllocGlobal + Threads + Wait + Sync>(
     Ok(driven(rt, bench, gate, pass, workers))
 }
 
-/// Round a locked exchange.
+/// The report of a bench through a gate that plays a trick, around a locked exchange.
 fn tricked_locked<R: AllocGlobal + Threads + Wait + Sync>(
     rt: &R,
     bench: &Bench,
@@ -74,7 +74,7 @@ fn assert_answer(
     }
 }
 
-/// Over both forms of the exchange the workers come to this report, or to this fault.
+/// Around both forms of the exchange the workers give this report or this fault.
 fn assert_tricked<R: Abort + AllocGlobal + Threads + Wait + Sync>(
     rt: &R,
     bench: &Bench,
@@ -104,13 +104,13 @@ const LAST: Ticket = Ticket {
     number: 9,
 };
 
-/// Of no mutant.
+/// A ticket of no mutant.
 const NONE: Ticket = Ticket {
     op: Op::Abs,
     number: 10,
 };
 
-/// Of two threads with a fault that of the first is told: of the feeders, then of the workers.
+/// Where two threads have a fault, that of the first is given: feeders come before workers.
 const FAULTS: [(Trick, BenchFault); 8] = [
     (Trick::Invents(1, FIRST), BenchFault::Double(FIRST)),
     (Trick::Invents(0, NONE), BenchFault::Stranger(NONE)),
@@ -138,7 +138,7 @@ fn assert_faults<R: Abort + AllocGlobal + Threads + Wait + Sync>(
             Err(BenchFault::Stalled),
         )?;
     }
-    // It waits for a second worker, which there is not.
+    // The first worker waits for a second one, but there is none.
     assert_tricked(rt, bench, Trick::Holds, 1, Err(BenchFault::Stalled))
 }
 
@@ -148,7 +148,7 @@ fn tell_the_fault_that_a_trick_leads_to(rt: HostRuntime) -> Result<(), Fail> {
     assert_faults(&rt, &bench)
 }
 
-/// Of 72 tickets 64 may wait: a worker with a fault takes on, or a feeder would wait for it.
+/// Of 72 tickets 64 may wait: a worker with a fault goes on taking, or a feeder would wait for it.
 #[test]
 fn take_on_behind_a_fault(rt: HostRuntime) -> Result<(), Fail> {
     let bench = sums(&rt, 12, &[Op::Svr])?;
@@ -175,7 +175,7 @@ fn is_short(report: Result<String, BenchFault>) -> bool {
     matches!(report.err(), Some(BenchFault::Missing(_)))
 }
 
-/// Over both forms some ticket is missing: which one, the order of the threads decides.
+/// Some ticket is missing in both forms; the order of the threads decides which one.
 #[test]
 fn miss_mutants_where_a_gate_ends_early(rt: HostRuntime) -> Result<(), Fail> {
     let bench = sum_bench(&rt)?;
@@ -189,7 +189,7 @@ const FIRST_OF_UOI: Ticket = Ticket {
     number: 1,
 };
 
-/// What a feeder of two operators is answered.
+/// The answers that a feeder of two operators gets, in order.
 const ANSWERS: [Offer; 8] = [
     Offer::Busy,
     Offer::Busy,
@@ -201,7 +201,7 @@ const ANSWERS: [Offer; 8] = [
     Offer::GaveUp,
 ];
 
-/// What it offers: behind Busy the same ticket, behind Full one of the next operator.
+/// What the feeder offers: after Busy the same ticket, after Full one of the next operator.
 const OFFERED: [Ticket; 8] = [
     FIRST,
     FIRST,

@@ -8,18 +8,18 @@ use std::hint::spin_loop;
 use std::sync::Wait;
 use std::sync::atomic::{AtomicBool, AtomicU64, Ordering};
 
-/// How often the gate looks for another take before it gives up.
+/// How often a take that is held looks for a take of another pass before it gives up.
 const MOST_TURNS: u32 = 50_000_000;
 
-/// How many offers a pass notes.
+/// How many offers a pass keeps.
 const NOTED: usize = 8;
 
-/// Passes are numbered from 1 in the order in which they are split off.
+/// What a gate does differently. Passes are numbered from 1 in the order in which they are split off.
 #[derive(Clone, Copy, Drop)]
 pub(crate) enum Trick {
-    /// Each call is handed on.
+    /// Each call is passed to the gate inside.
     Nothing,
-    /// The take behind so many takes answers a ticket of its own.
+    /// One take, after this many others, answers this ticket.
     Invents(u64, Ticket),
     /// Two tickets change places.
     Swaps(Ticket, Ticket),
@@ -27,35 +27,35 @@ pub(crate) enum Trick {
     Refuses,
     /// A ticket is dropped, and the take is made again.
     Drops(Ticket),
-    /// The takes behind so many tickets answer that all is finished.
+    /// After this many tickets, takes answer that all is finished.
     Ends(u64),
-    /// Of all offers, takes and closes those behind so many give up.
+    /// After this many offers, takes and closes, each call gives up.
     GivesUp(u64),
-    /// The first take of the first pass waits for a take of another one.
+    /// The first take of the first pass waits for a take of another pass.
     Holds,
-    /// The first take of one pass answers a ticket of its own, and each call of another gives up.
+    /// The first take of one pass answers this ticket, and each call of another pass gives up.
     Mishaps(u64, Ticket, u64),
-    /// Offers have these answers, one after another.
+    /// Offers get these answers, one after another.
     Answers([Offer; NOTED]),
 }
 
-/// What such a gate has counted.
+/// What a gate has counted.
 #[derive(Drop)]
 pub(crate) struct Counted {
     /// How many passes were split off.
     pub(crate) splits: AtomicU64,
-    /// How many closes were answered to be done.
+    /// How many closes were answered with Done.
     pub(crate) closes: AtomicU64,
-    /// How many calls, or tickets, the trick has counted.
+    /// How many calls or tickets the trick has counted.
     made: AtomicU64,
-    /// Another pass than the first took.
+    /// Whether another pass than the first made a take.
     others: AtomicBool,
-    /// A call gave up. Takes then give up, too, since the operators of a feeder may stay open.
+    /// Whether a call gave up. Then takes give up, too, since the operators of a feeder may stay open.
     stalled: AtomicBool,
 }
 
 impl Counted {
-    /// Nothing so far.
+    /// Counts of a gate that was not called yet.
     pub(crate) fn new() -> Counted {
         Counted {
             splits: AtomicU64::new(0),
@@ -66,7 +66,7 @@ impl Counted {
         }
     }
 
-    /// Whether another pass than the first takes in time.
+    /// Whether another pass than the first makes a take in time.
     fn waits(&self) -> bool {
         for _ in 0..MOST_TURNS {
             if self.others.load(Ordering::SeqCst) {
@@ -78,7 +78,7 @@ impl Counted {
     }
 }
 
-/// Round another gate.
+/// A gate that plays a trick around another gate.
 #[derive(Drop)]
 pub(crate) struct Tricky<'a, G> {
     inner: G,
@@ -86,25 +86,25 @@ pub(crate) struct Tricky<'a, G> {
     counted: &'a Counted,
 }
 
-/// A pass of the gate within.
+/// A pass of the gate, with a pass of the gate inside.
 #[derive(Drop)]
 pub(crate) struct TrickyPass<P> {
     inner: P,
     number: u64,
-    /// It took already.
+    /// Whether the pass made a take already.
     took: bool,
-    /// The tickets that it offered, where the trick has the answers.
+    /// The tickets that the pass offered, where the trick has the answers.
     pub(crate) offered: [Ticket; NOTED],
 }
 
-/// Nothing is noted so far.
+/// The offers of a pass that offered nothing yet.
 const NO_OFFERS: [Ticket; NOTED] = [Ticket {
     op: Op::Aar,
     number: 0,
 }; NOTED];
 
 impl<'a, G> Tricky<'a, G> {
-    /// Round this gate, with its pass.
+    /// The gate that plays the trick around this one, and its pass.
     pub(crate) fn of<P>(
         inner: G,
         pass: P,
@@ -127,7 +127,7 @@ impl<'a, G> Tricky<'a, G> {
         (gate, pass)
     }
 
-    /// Whether this call of the pass of this number gives up.
+    /// Whether this call of the pass with this number gives up.
     fn gives_up(&self, number: u64) -> bool {
         let gives_up = match self.trick {
             Trick::GivesUp(calls) => self.counted.made.fetch_add(1, Ordering::SeqCst) >= calls,
@@ -140,7 +140,7 @@ impl<'a, G> Tricky<'a, G> {
         gives_up
     }
 
-    /// Whether this take, the first of its pass or a later one, may be made.
+    /// Whether this take may be made; `first` says whether it is the first of its pass.
     fn lets(&self, number: u64, first: bool) -> bool {
         if number != 1 {
             self.counted.others.store(true, Ordering::SeqCst);
@@ -152,7 +152,7 @@ impl<'a, G> Tricky<'a, G> {
         }
     }
 
-    /// The ticket that this take answers by itself.
+    /// The ticket that the trick gives this take, if it does.
     fn invented(&self, number: u64, first: bool) -> Option<Ticket> {
         match self.trick {
             Trick::Invents(takes, ticket) => {
@@ -163,7 +163,7 @@ impl<'a, G> Tricky<'a, G> {
         }
     }
 
-    /// The answer that the trick has for this offer, which it notes.
+    /// The answer that the trick has for this offer, which is kept in `offered`.
     fn answered(&self, offered: &mut [Ticket; NOTED], ticket: Ticket) -> Option<Offer> {
         let Trick::Answers(answers) = self.trick else {
             return None;
@@ -176,7 +176,7 @@ impl<'a, G> Tricky<'a, G> {
         Some(answers[made])
     }
 
-    /// Whether so many tickets were handed out that no more are.
+    /// Whether so many tickets were handed out that there are no more.
     fn ends(&self) -> bool {
         match self.trick {
             Trick::Ends(tickets) => self.counted.made.load(Ordering::SeqCst) >= tickets,
@@ -198,7 +198,7 @@ impl<'a, G> Tricky<'a, G> {
         }
     }
 
-    /// What is handed out in the place of a ticket.
+    /// The ticket that is handed out in the place of this one.
     fn handed(&self, ticket: Ticket) -> Ticket {
         match self.trick {
             Trick::Swaps(one, other) if ticket == one => other,

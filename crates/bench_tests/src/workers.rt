@@ -1,4 +1,4 @@
-//! Each mutant has its row, and there is one report, by any number of workers.
+//! Any number of workers gives each mutant its row, and the same report.
 
 ghost use Rattle.std.specs.Prelude.{◌≤◌};
 
@@ -13,7 +13,7 @@ use std::sync::atomic::Ordering;
 use std::test::Fail;
 use std::thread::Threads;
 
-/// A pass is split off for each worker and each feeder: as many are started as are asked for.
+/// As many workers are started as are asked for: a pass is split off for each of them and for each feeder.
 fn assert_driven<R: Abort + AllocGlobal + Threads + Wait + Sync>(
     rt: &R,
     bench: &Bench,
@@ -42,7 +42,7 @@ fn are_as_many_as_are_asked_for(rt: HostRuntime) -> Result<(), Fail> {
     Ok(())
 }
 
-/// So many workers write this report, so many times.
+/// The report of `workers` workers is this one, each of `times` times.
 fn assert_report<R: Abort + AllocGlobal + Threads + Wait + Sync>(
     rt: &R,
     bench: &Bench,

@@ -1,4 +1,4 @@
-//! What `mothra` answers.
+//! Answers of `mothra` to words and a job.
 
 use mothra_app::{Status, Watched, serve};
 use std::process::Abort;
@@ -7,7 +7,7 @@ use std::sync::Wait;
 use std::test::Fail;
 use std::thread::Threads;
 
-/// The answer to words, which stand between blanks, and the bytes of a job.
+/// The answer to words, separated by blanks, and the bytes of a job.
 pub(crate) fn answer(
     rt: &(impl AllocGlobal + Threads + Wait + Sync),
     words: &str,
@@ -21,7 +21,7 @@ pub(crate) fn answer(
     Ok((status, out))
 }
 
-/// Compares a text with the line that is wanted. The case is named where they differ.
+/// Compares a text with the line that is wanted. Where they differ, the test fails and names the case.
 fn assert_line(rt: &impl Abort, bytes: &[u8], want: &str, case: &str) {
     let Ok(text) = from_utf8(bytes) else {
         panic!(rt; "{case}: the answer is no text")
@@ -29,7 +29,7 @@ fn assert_line(rt: &impl Abort, bytes: &[u8], want: &str, case: &str) {
     assert_eq!(rt; text.strip_suffix('\n'), Some(want), "{case}");
 }
 
-/// A fault is told on a line that begins so, and all else is a report.
+/// The status of an answer: that of a fault where the line begins with FAULT, else that of a report.
 fn status_of(want: &str) -> Status {
     if want.starts_with("FAULT") {
         Status::Fault

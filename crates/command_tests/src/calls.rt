@@ -1,4 +1,4 @@
-//! One read and one write of what is watched are one call of the reader or the writer within, whatever comes of it.
+//! A read or a write of a `Watched` is one call of the reader or the writer inside, also where that call fails.
 
 ghost use Rattle.std.specs.Prelude.{◌≡◌, IfOk};
 
@@ -7,7 +7,7 @@ use std::io;
 use std::io::{Read, Write};
 use std::process::Abort;
 
-/// A reader and a writer that count their calls, each of which fails or moves nothing.
+/// A reader and a writer that count their calls. Each call fails, or moves nothing.
 #[derive(Drop)]
 struct Counting<'a> {
     calls: &'a mut u32,
@@ -42,7 +42,7 @@ impl Write for Counting<'_> {
     }
 }
 
-/// The call fails as the reader or the writer does, or moves nothing.
+/// The call fails where the reader or the writer does; else it moves nothing.
 fn assert_passed(rt: &impl Abort, moved: io::Result<usize>, fails: bool) {
     match moved {
         Ok(count) => assert!(rt; !fails && count == 0),

@@ -1,4 +1,4 @@
-//! A job with one byte replaced by one that no text of JSON may have there.
+//! A job in which one byte is replaced by one that no JSON text may have there.
 
 use crate::answers::assert_answer;
 use std::process::Abort;
@@ -12,7 +12,7 @@ const BYTES: &[u8] = b"\0\n\x80\xff";
 const JOB: &[u8] =
     br#"{"source":"      SUBROUTINE ADD(I,J,K)\n      K=I+J\n      END\n","suite":[[2,3,0]]}"#;
 
-/// The job with the byte at this place replaced by each of these is none.
+/// With the byte at this place replaced by any of these, the bytes are no job.
 fn assert_none(
     rt: &(impl AllocGlobal + Abort + Threads + Wait + Sync),
     place: usize,

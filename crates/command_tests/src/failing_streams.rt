@@ -1,4 +1,4 @@
-//! Readers and writers that fail at one call and then go on: that call's fault is due, whichever call it is.
+//! Readers and writers that fail at one call and then go on: the answer is the fault of that call, whichever it is.
 
 use crate::streams::{Faltering, Stumbling};
 use equivalents_app::tell;
@@ -7,7 +7,7 @@ use std::process::Abort;
 use std::sync::Wait;
 use std::thread::Threads;
 
-/// A call of a program: its words, the job, and the text that is written where nothing fails.
+/// A call of a program: its words, its job, and the text that it writes where nothing fails.
 #[derive(Clone, Copy)]
 struct Call {
     words: &'static [&'static str],
@@ -28,7 +28,7 @@ const CALLS: [Call; 2] = [
     },
 ];
 
-/// What comes of a call, and whether a read or a write has failed.
+/// The result of a call, and whether a read or a write has failed.
 #[derive(Drop)]
 struct Ended {
     result: Result<Status, AppFault>,
@@ -57,7 +57,7 @@ fn end_of(
     }
 }
 
-/// The read behind so many good ones fails: it is not tried again, and nothing is written.
+/// The read after `good` reads fails: it is not tried again, and nothing is written.
 fn assert_failed_read(
     rt: &(impl AllocGlobal + Abort + Threads + Wait + Sync),
     call: Call,
@@ -81,7 +81,7 @@ fn a_read_that_fails_is_told(rt: HostRuntime) {
     }
 }
 
-/// The write behind so many good ones fails or takes none: it is not tried again.
+/// The write after `good` writes fails or takes no byte: it is not tried again.
 fn assert_failed_write(
     rt: &(impl AllocGlobal + Abort + Threads + Wait + Sync),
     call: Call,
@@ -110,7 +110,7 @@ fn a_write_that_fails_is_told(rt: HostRuntime) {
     }
 }
 
-/// No call fails: the whole text is written.
+/// Where no call fails, the whole text is written.
 fn assert_written(rt: &(impl AllocGlobal + Abort + Threads + Wait + Sync), call: Call) {
     let mut taken = Vec::new(rt.alloc());
     let reader = Stumbling::new(call.job.as_bytes(), usize::MAX);

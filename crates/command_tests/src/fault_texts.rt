@@ -1,4 +1,4 @@
-//! The texts of faults.
+//! The texts of faults, as `Display` gives them.
 
 use mothra_app::{AppFault, JobFault, Key};
 use std::fmt::Display;

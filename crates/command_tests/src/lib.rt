@@ -1,5 +1,5 @@
-//! Tests of the commands where no row of `rows` comes: streams that fail, memory that is refused, words with blanks,
-//! bytes that are no text, and jobs that are long.
+//! Tests of the commands for what no row of `rows` can show: streams that fail, memory that is refused, words with
+//! blanks, bytes that are no text, and jobs that are long.
 #![tactic(auto)]
 
 #[cfg(test)]

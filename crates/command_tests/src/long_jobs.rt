@@ -1,4 +1,4 @@
-//! Jobs at the limits of their lengths, that nest, and that have many items.
+//! Jobs that are as long as they may be, that nest, or that have many items.
 
 use crate::answers::assert_answer;
 use std::alloc::Global;
@@ -7,7 +7,7 @@ use std::sync::Wait;
 use std::test::Fail;
 use std::thread::Threads;
 
-/// The parts before and behind a mark.
+/// The parts of a text before and after a mark.
 fn halves<'a>(text: &'a str, mark: &str) -> Result<(&'a str, &'a str), Fail> {
     match text.split_once(mark) {
         Some(halves) => Ok(halves),
@@ -15,7 +15,7 @@ fn halves<'a>(text: &'a str, mark: &str) -> Result<(&'a str, &'a str), Fail> {
     }
 }
 
-/// Adds `PART` so many times for `TIMES*PART`.
+/// Adds what `TIMES*PART` stands for: the part, repeated.
 fn push_repeated(whole: &mut String, repeated: &str) -> Result<(), Fail> {
     let (times, part) = halves(repeated, "*")?;
     let Ok(times) = times.parse::<u32>() else {
@@ -27,7 +27,7 @@ fn push_repeated(whole: &mut String, repeated: &str) -> Result<(), Fail> {
     Ok(())
 }
 
-/// A text in which each `@TIMES*PART@` stands for the part so many times.
+/// The text, with each `@TIMES*PART@` replaced by the part as many times.
 fn expanded(alloc: Global, text: &str) -> Result<String, Fail> {
     let mut whole = String::new(alloc);
     let mut is_repeated = false;
@@ -70,7 +70,7 @@ fn texts_nest_and_have_a_million_bytes(rt: HostRuntime) -> Result<(), Fail> {
     assert_rows(&rt, TEXTS)
 }
 
-// A job may nest 127 deep: the object and 126 lists.
+// Values of a job may nest 127 deep: the object and 126 lists.
 const TEXTS: &str = r#"
 mothra print | @200*[@ => FAULT J2
 mothra print | @100000*[@ => FAULT J2
@@ -89,7 +89,7 @@ fn lists_have_many_items(rt: HostRuntime) -> Result<(), Fail> {
     assert_rows(&rt, LISTS)
 }
 
-// A job whose items are as they should be has no line of a program: S7. A suite has at most 256 tests.
+// A suite has at most 256 tests. A job with no other fault has the fault S7 here: its source has no line of a program.
 const LISTS: &str = r#"
 mothra print | {@10000*"source":1,@"source":""} => FAULT S7
 mothra print | {"source":"","suite":[@10000*[],@[]]} => FAULT J6
@@ -105,7 +105,8 @@ fn numbers_have_400_digits(rt: HostRuntime) -> Result<(), Fail> {
     assert_rows(&rt, NUMBERS)
 }
 
-// What is no more than a float holds is a number, and no whole one.
+// A number larger than a float can hold is refused by the reader of JSON: J2. A number with a point or an exponent that
+// a float can hold is no whole number: J4.
 const NUMBERS: &str = r#"
 mothra print | {"source":"","suite":[[@400*7@]]} => FAULT J2
 mothra print | {"source":"","suite":[[-@400*7@]]} => FAULT J2
@@ -126,9 +127,9 @@ fn jobs_and_sources_have_limits(rt: HostRuntime) -> Result<(), Fail> {
     assert_rows(&rt, LIMITS)
 }
 
-// A job has at most 1048576 bytes, here 61 and blanks. A source has at most 65536, the last of them a line's end here:
-// one line, which is a comment, blank, or a label that is too long, and as many cards as there can be, which are empty;
-// and a program of 32 bytes with a comment behind it.
+// A job has at most 1048576 bytes: here 61 and blanks. A source has at most 65536 bytes: here one line, which is a
+// comment, blank, or a label that is too long; as many empty cards as there can be; and a program of 32 bytes with a
+// comment after it. The last byte of each source is a line's end.
 const LIMITS: &str = r#"
 mothra exec --test 1 | {"source":"      SUBROUTINE S(K)\n      END\n","suite":[[4]]}@1048515* @ => RETURNED 4
 mothra exec --test 1 | {"source":"      SUBROUTINE S(K)\n      END\n","suite":[[4]]}@1048516* @ => FAULT J7
@@ -151,7 +152,7 @@ fn with_keys(alloc: Global) -> Result<String, Fail> {
     Ok(job)
 }
 
-// The first by bytes is not the first that stands there.
+// The first key in the order of bytes is reported, which is not the first one in the job.
 #[test]
 fn tells_the_first_of_ten_thousand_keys(rt: HostRuntime) -> Result<(), Fail> {
     let job = with_keys(rt.alloc())?;

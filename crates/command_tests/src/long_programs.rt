@@ -6,8 +6,8 @@ use std::sync::Wait;
 use std::test::Fail;
 use std::thread::Threads;
 
-/// The job of a subroutine of 500 statements, each with a label, and a test. All but the first and the last are jumps
-/// to the next.
+/// The job of a subroutine and a test. The subroutine has 500 statements, each with a label; all but the first and the
+/// last are jumps to the next one.
 fn jumps(alloc: Global) -> Result<String, Fail> {
     let mut job = String::from_str(alloc, "{\"source\":\"    1 SUBROUTINE JUMPS(K)\\n")?;
     for label in 2..500u32 {
@@ -28,7 +28,7 @@ fn answer_to_jumps(
     Ok(text)
 }
 
-// Each of 498 jumps may lead to 498 other labels.
+// Each of the 498 jumps may lead to 498 other labels.
 #[test]
 fn lists_a_program_of_jumps(rt: HostRuntime) -> Result<(), Fail> {
     let text = answer_to_jumps(&rt, "mothra list --ops GLR --every 1000")?;

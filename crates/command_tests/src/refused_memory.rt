@@ -1,29 +1,29 @@
-//! Each allocation can be refused: the answer is then A1 or a fault line of want of memory, for `run` also that of a
-//! thread that can not begin, and else the undisturbed one.
+//! Each allocation is refused in turn. The answer is then A1, the line of a fault for want of memory, for `run` also
+//! that of a thread that can not begin, or the answer that comes when nothing is refused.
 
 use mothra_app::{AppFault, Status, Watched, serve};
 use std::process::Abort;
 use std::sync::Wait;
 use std::thread::Threads;
 
-/// Each text is shorter.
+/// Room for a text; each text here is shorter.
 const ROOM: usize = 1024;
 
-/// The line of a fault of want of memory, with one of these letters, or of a thread that can not begin.
+/// The line is that of want of memory, with one of these letters, or of a thread that can not begin.
 fn assert_fault(rt: &impl Abort, line: &[u8; ROOM], letters: &[u8]) {
     assert!(rt; line.starts_with(b"FAULT ") && line[8..].starts_with(b"\n\0"));
     assert!(rt; letters.contains(&line[6]));
     assert!(rt; line[7] == b'1' || line[6] == b'B' && line[7] == b'2');
 }
 
-/// The whole text of a report, and nothing behind the end of its last line.
+/// The text is the whole report, and nothing follows the end of its last line.
 fn assert_report(rt: &impl Abort, text: &[u8; ROOM], report: &str) {
     assert!(rt; text.starts_with(report.as_bytes()));
     let end = text.get(report.len()..);
     assert!(rt; end.is_some_and(|end| end.starts_with(b"\n\0")));
 }
 
-/// A fault has one of these letters.
+/// Serves a job; a fault for want of memory has one of these letters.
 fn assert_undisturbed(
     rt: &(impl AllocGlobal + Abort + Threads + Wait + Sync),
     words: &[&str],

@@ -1,9 +1,9 @@
-//! Streams that move one byte a call and may fail at one call.
+//! Streams that move one byte in a call and may fail at one call.
 
 use std::io;
 use std::io::{Read, Write};
 
-/// Gives its bytes one by one, and fails at one call: behind so many good ones. Then it goes on.
+/// A reader that gives its bytes one by one. The call after `good` calls fails; then it goes on.
 #[derive(Drop)]
 pub(crate) struct Stumbling<'a> {
     pub(crate) bytes: &'a [u8],
@@ -13,7 +13,7 @@ pub(crate) struct Stumbling<'a> {
 }
 
 impl Stumbling<'_> {
-    /// A reader whose call behind so many good ones fails.
+    /// A reader of these bytes; the call after `good` calls fails.
     pub(crate) fn new(bytes: &[u8], good: usize) -> Stumbling<'_> {
         Stumbling {
             bytes,
@@ -39,7 +39,7 @@ impl Read for Stumbling<'_> {
     }
 }
 
-/// Takes its bytes one by one, and at one call fails or takes none: behind so many good ones. Then it goes on.
+/// A writer that takes bytes one by one. The call after `good` calls fails or takes no byte; then it goes on.
 #[derive(Drop)]
 pub(crate) struct Faltering<'a> {
     pub(crate) taken: &'a mut Vec<u8>,
@@ -49,7 +49,7 @@ pub(crate) struct Faltering<'a> {
 }
 
 impl<'a> Faltering<'a> {
-    /// A writer whose call behind so many good ones fails or takes none.
+    /// A writer into `taken`; the call after `good` calls fails, or else takes no byte.
     pub(crate) fn new(taken: &'a mut Vec<u8>, good: usize, fails: bool) -> Faltering<'a> {
         Faltering {
             taken,

@@ -1,4 +1,5 @@
-//! Words that rows cannot have, with blanks within or none at all; nothing is read for words, help and the version.
+//! Words that rows can not have: words with blanks, and no words at all. For words that are refused, help and the
+//! version nothing is read.
 
 use crate::streams::Stumbling;
 use equivalents_app::tell;
@@ -8,7 +9,7 @@ use std::sync::Wait;
 use std::test::Fail;
 use std::thread::Threads;
 
-/// What is written for the words, though each first read fails.
+/// What is written for the words, with a reader whose first read fails.
 fn unread(
     rt: &(impl AllocGlobal + Abort + Threads + Wait + Sync),
     words: &[&str],
@@ -25,7 +26,7 @@ fn unread(
     Ok((status, out))
 }
 
-/// The words have this answer, which begins so, and nothing is read for them.
+/// The answer to the words begins so, and nothing is read for them.
 fn assert_unread(
     rt: &(impl AllocGlobal + Abort + Threads + Wait + Sync),
     words: &[&str],

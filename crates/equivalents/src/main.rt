@@ -11,7 +11,7 @@ use std::io::ErrorKind;
 use std::process::ExitCode;
 use std::{env, io};
 
-/// The status that the program ends with.
+/// The exit status: 0 for a list, help or version, 1 for a fault, 2 for words that are refused.
 fn exit_status(told: Result<Status, AppFault>) -> u8
     ensures report { told ≡ Ok Status.Report → result ≡ 0 }
     ensures help { told ≡ Ok Status.Help → result ≡ 0 }
@@ -31,7 +31,8 @@ fn words_of(rt: &(impl Env + AllocGlobal)) -> io::Result<Vec<String>> {
     Ok(env::args(rt)?.collect(rt.alloc())?)
 }
 
-/// What comes of words that cannot be had: memory ran out, or they are no UTF-8 and are refused without a text.
+/// The answer where the words can not be read: want of memory, or words that are no UTF-8, which are refused without
+/// a text.
 fn without_words(error: &io::Error) -> Result<Status, AppFault>
     ensures memory { error_kind error.now ≡ ErrorKind.OutOfMemory → result ≡ Err AppFault.Memory }
     ensures words { error_kind error.now ≢ ErrorKind.OutOfMemory → result ≡ Ok Status.Words }

@@ -1,4 +1,4 @@
--- From what was read and answered to what is told.
+-- What was read and answered is what is written.
 use Rattle.std.proofs.Common.{arith, ◌≡◌, ◌≢◌, ℕ, ◌⊎◌, sym, refl, subst, inl, inr}
 use Rattle.std.proofs.Common.{List, Option, Some, None, Result, Ok, Err, MatchResult, String, string_bytes}
 use Rattle.std.specs.Prelude.{Contains}
@@ -29,7 +29,7 @@ use Rattle.equivalents_app.specs.Words.{HasBadInquiryOperators, equivalents}
 use Rattle.equivalents_app.specs.declared.words.Inquiry.{Inquiry}
 use Rattle.equivalents_app.proofs.Findings.{later_in}
 
--- ---- what was read stands for all the bytes
+-- ---- what was read gives the job of all the bytes
 
 -- the answer for what was read is that for all the bytes
 pub answer_by : (old new : Option (List ℕ)) (v : List ℕ) (i : Inquiry) (s : Status) (t : List ℕ) → ReadsUpTo limit old new v
@@ -42,7 +42,7 @@ answer_by (Some xs) (Some rest) v i s t reads is = record {
   is = subst (λ read. IsInquiryAnswer i read s t) (sym (job_same xs v rest reads.0 reads.2)) is;
 }
 
--- ---- what the inquiry comes to
+-- ---- the outcome of the inquiry
 
 pub job_refused : (i : Inquiry) (read answer : JobRead) (fault : JobFault) → answer ≡ Err fault → (answer ≡ read) ⊎ (answer ≡ Err Memory)
     → IsInquiryOutcome i read (Err (Job fault)) ⊎ Contains memory_faults (Job fault)
@@ -59,7 +59,7 @@ read_so job read (inr is) = absurd (cc)
 abbrev Text : Type 0
 Text = Result (String Global) Fault
 
--- the job was read: what the inquiry comes to is what is found
+-- where the job was read, the outcome of the inquiry is what is found
 own_outcome : (i : Inquiry) (job : JobFields) (text : Text)
     → MatchResult text (λ t. IsFound job i (Ok (string_bytes t))) (λ f. IsFound job i (Err f) ⊎ Contains of_mutants f)
     → MatchResult text (λ t. IsInquiryOutcome i (Ok job) (Ok (string_bytes t))) (λ f. IsInquiryOutcome i (Ok job) (Err f) ⊎ Contains memory_faults f)
@@ -101,7 +101,7 @@ answered words left now i s t asks by read = record {
   read = read_for i (job_of by.bytes) left now s t by.is read;
 }
 
--- it is neither a refusal of words nor help
+-- an answer to an inquiry is neither a refusal of words nor help
 pub answer_never : {A : Type 0} (i : Inquiry) (left : Option (List ℕ)) (s other : Status) (t : List ℕ) → IsAnswerBy i left s t → s ≡ other
     → other ≢ status.Report → other ≢ status.Fault → A
 answer_never {A} i left s other t by e no_report no_fault = go s t by.is e

@@ -1,4 +1,4 @@
--- Words that the command line takes ask for something.
+-- Words that the command line takes are an inquiry, or have a bad list of operators.
 use Rattle.std.proofs.Common.{arith, ◌≡◌, ◌≤◌, ◌<◌, ◌^◌, ◌∙◌, ℕ, Bool, inl, ap, sym, subst, true, false, true≢false, List, [], ◌∷◌, map, Option, Some, None, Ok, Err, codes, is_some, IsSome, refl}
 use Rattle.std.specs.List.{list_any}
 use Rattle.clap.specs.Words.{Row, Shape, Text, fault_of, matches_of}
@@ -40,7 +40,7 @@ no_subcommands = refl
 apart : {X : Type 0} → false ≡ true → X
 apart e = absurd (true≢false (sym e))
 
--- `--every` and `--steps` have defaults, and their numbers are in their bounds
+-- `--every` and `--steps` have defaults, and their numbers are within their bounds
 serves_every : Each (Serves (codes "every") 1 1048575) (built equivalents).top.rules
 unfolding clap_on_literals equivalents
 serves_every = (apart, (λ f. record { action = refl; parser = refl; range = omega arith }, (apart, (apart, (apart, (apart, tt))))))
@@ -57,7 +57,7 @@ given_steps : list_any (has_default (codes "steps")) (built equivalents).top.rul
 unfolding clap_on_literals equivalents
 given_steps = refl
 
--- words that are taken have a number for each option of that kind
+-- words that are taken have a number for each option of a number
 option_number : (id : Text) (low high : ℕ) → high < 2 ^ 32 → Each (Serves id low high) (built equivalents).top.rules
     → list_any (has_default id) (built equivalents).top.rules ≡ true
     → (words : List Text) → fault_of equivalents words ≡ [] → HasNumber id low high (matches_of equivalents words)
@@ -68,9 +68,9 @@ option_number id low high small serves given words taken =
     subst (λ names. HasNumber id low high (rows_after top.rules names rest)) (sym (ap (map label_of) no_subcommands))
     (default_number top rest id low high small serves given level)
 
--- ---- what the words are
+-- ---- the meaning of the words
 
--- what the command line takes: an inquiry in its bounds, or operators that are none
+-- what the command line takes: an inquiry whose numbers are within bounds, or a bad list of operators
 abbrev IsAccepted : InquiryMeaning → Type 0
 IsAccepted refused = ⊥
 IsAccepted bad_operators = Unit {0}

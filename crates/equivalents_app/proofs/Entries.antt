@@ -1,4 +1,4 @@
--- The entries of the JSON list, from one of the mutants on.
+-- The entries of the JSON list are written one by one.
 use Rattle.std.proofs.Common.{◌≡◌, ◌∙◌, ◌<◌, ◌+◌, ◌++◌, ℕ, List, ◌∷◌, length, drop, get_or, drop-cons, add-one, append_assoc, ap, sym, refl, Some, None, codes}
 use Rattle.f77_tree.specs.Joined.{separated}
 use Rattle.mothra_codes.specs.declared.ticket.Ticket.{Ticket}
@@ -12,7 +12,7 @@ module _ (every : ℕ) (list : List Equivalent) (i : ℕ) (e : Equivalent) (with
   abbrev given : Equivalent
   given = get_or list i e
 
-  -- a mutant whose number the key takes, and one whose number it does not take
+  -- one more mutant, whose number the key may have or not
   pub one_more : (t : Ticket) → if_declarable (in_whole_list every given) ≡ Some t
       → declarable every (drop i list) ≡ t ∷ declarable every (drop (i + 1) list)
   one_more t is = ap (declarable every) at ∙ rw is refl
@@ -20,7 +20,7 @@ module _ (every : ℕ) (list : List Equivalent) (i : ℕ) (e : Equivalent) (with
   pub one_less : if_declarable (in_whole_list every given) ≡ None → declarable every (drop i list) ≡ declarable every (drop (i + 1) list)
   one_less is = ap (declarable every) at ∙ rw is refl
 
--- one entry more is written
+-- one more entry is written
 pub entry_more : (old new before whole : List ℕ) (t : Ticket) (left rest : List Ticket) → left ≡ t ∷ rest
     → old ++ separated entry_text before left ≡ whole → new ≡ old ++ (before ++ entry_text t)
     → new ++ separated entry_text (codes ",") rest ≡ whole

@@ -1,4 +1,4 @@
--- From what the calls on a source answer to which mutants of its program are named.
+-- Which mutants of a program are named, concluded from the answers of the calls on its source.
 use Rattle.std.proofs.Common.{arith, ◌≡◌, ◌⊎◌, inl, inr, ℕ, suc, List, ◌∷◌, refl, sym, subst, Result, Ok, Err, MatchResult}
 use Rattle.std.specs.Prelude.{Contains, IsErrAnd, IsTrue, ◌↔◌}
 use Rattle.f77_program.specs.Program.{LineFields}
@@ -18,7 +18,7 @@ use Rattle.equivalents_app.specs.Room.{AreNamedMutants}
 use Rattle.equivalents_app.specs.Telling.{told_text}
 use Rattle.equivalents_app.specs.declared.words.Inquiry.{Inquiry}
 
--- a result that is this fault
+-- where the result is this fault, what holds of the fault holds of the result
 pub failed_by : {A : Type 0} (r : Result A Fault) (P : A → Type 0) (Q : Fault → Type 0) (fault : Fault) → IsErrAnd r (λ e. e ≡ fault) → Q fault
     → MatchResult r P Q
 failed_by (Ok x) P Q fault is q = absurd is
@@ -43,7 +43,7 @@ module _ (job : JobFields) (i : Inquiry) where
     program_refused fault (inl is) = inl (IsFound.no_program (subst (λ s. IsLegalProgramOf s (Err fault)) own is))
     program_refused fault (inr memory) = inr (later_in (Ops ops.Memory) of_legal_programs fault memory)
 
-    -- and the operators are those that are asked for
+    -- the operators are those that are asked for
     module _ (named : List Op) (are : named ≡ i.operators) where
       pub plan_refused : (program : List LineFields) (fault : OpsFault) → IsLegalProgramOf source (Ok program)
           → IsNoPlan named program i.every fault → MayFail (Ops fault)

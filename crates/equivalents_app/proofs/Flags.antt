@@ -1,4 +1,4 @@
--- What the getter of an option without a value reads.
+-- What the getter of an option that takes no value reads.
 use Rattle.std.proofs.Common.{arith, ◌≡◌, ◌∙◌, ℕ, Bool, true, false, ap, refl, sym, List, length, Option, Some, None, Result, Ok, Err, codes, bytes_eq, unwrap_or}
 use Rattle.std.proofs.lemmas.Slice.Eq.{bytes_eq-Decides}
 use Rattle.std.specs.Str.Parse.{ParsesBool}
@@ -15,7 +15,7 @@ unlike text other = go (bytes_eq text (codes "true")) refl
     go true is = absurd (other ((bytes_eq-Decides text (codes "true")).0 is))
     go false is = refl
 
--- what `get_one` reads at a `bool` tells whether the text is that of a flag that was given
+-- where `get_one` reads a `bool`, it says whether the text is that of a flag that was given
 pub reads_flag : {E : Type 0} (G : List ℕ → Result Bool E → Type 0) (text : Text) (r : Option Bool)
     → ((u : List ℕ) (x : Result Bool E) → G u x → ParsesBool u x) → ReadsOne G text r → unwrap_or r false ≡ bytes_eq text (codes "true")
 reads_flag G text (Some true) parses h = sym ((bytes_eq-Decides text (codes "true")).1 (parses text (Ok true) h))

@@ -1,4 +1,4 @@
--- A run that ends within a limit on steps ends so within each larger one.
+-- A run that returns or stops within a limit on steps has the same outcome within each larger limit.
 use Rattle.std.proofs.Common.{arith, ◌≡◌, ◌≤◌, ◌+◌, ◌-◌, ℕ, zero, suc, inl, inr, List, subst}
 use Rattle.f77_equivalence.specs.Equivalent.{IsEnd}
 use Rattle.f77_program.specs.Program.{LineFields}
@@ -11,7 +11,7 @@ use Rattle.f77_meaning.specs.declared.outcome.Outcome.{Outcome}
 use Rattle.f77_actions.specs.declared.finish.Finish.{Finish}
 use Rattle.f77_actions.specs.declared.finish.Finish.TheVariants.{StepLimit}
 
--- what is told as an end is not the limit
+-- where the outcome is an end, the run did not come to the limit
 not_the_limit : (p : List LineFields) (finish : Finish) (values : Store) (outcome : Outcome) → Tells p finish values outcome → IsEnd outcome
     → finish ≡ StepLimit → ⊥
 not_the_limit p finish values outcome tells end is = subst IsEnd (subst (λ f. Tells p f values outcome) is tells) end

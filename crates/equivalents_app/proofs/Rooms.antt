@@ -1,4 +1,4 @@
--- The room that tests leave, and the mutants that take no more.
+-- The room that tests leave, and the mutants that need at most this room.
 use Rattle.std.proofs.Common.{arith, leb-true, ◌≡◌, ◌≤◌, ◌<◌, ◌+◌, ℕ, true, true≢false, List, get_or, length, take, Option, Some, None, sym, subst}
 use Rattle.std.specs.Prelude.{filter, IfSome}
 use Rattle.std.proofs.lemmas.List.{take_all}
@@ -21,7 +21,7 @@ use Rattle.equivalents_app.specs.code.Room.{is_within}
 
 -- ---- one test
 
--- what is left behind the steps that were made to an end is the room
+-- the steps that are left after the end of the program are the room
 pub left_behind : (program : List LineFields) (test : List Arg) (made steps : ℕ) (outcome : Outcome) (found : Option ℕ)
     → IsOutcomeOf program test made outcome → IfSome found (λ room. (made + room ≡ steps) × IsEnd outcome)
     → IfSome found (λ room. LeavesRoomOn program steps room test)
@@ -39,7 +39,7 @@ pub less_room : (program : List LineFields) (tests : List (List Arg)) (steps les
 less_room program tests steps less more below =
     All-weaker (LeavesRoomOn program steps more) (LeavesRoomOn program steps less) (λ test. less_on program steps less more test below) tests
 
--- one test more, and the room that it and the others leave
+-- one more test, and the least room that it and the others leave
 pub one_more : (program : List LineFields) (tests : List (List Arg)) (i steps room left least : ℕ) (test : List Arg) → i < length tests
     → test ≡ get_or tests i test → least ≤ room → least ≤ left → LeavesRoom program (take i tests) steps room
     → LeavesRoomOn program steps left test → LeavesRoom program (take (i + 1) tests) steps least

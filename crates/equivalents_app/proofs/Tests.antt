@@ -1,4 +1,4 @@
--- The tests of a bench on a mutant that is equivalent.
+-- No test of a bench kills an equivalent mutant.
 use Rattle.std.proofs.Common.{arith, ◌≡◌, ◌∙◌, ◌+◌, ◌==◌, ℕ, suc, Bool, true, false, cond, inl, inr, not, ap, refl, sym, subst, List, [], ◌∷◌, length, nat_lt, Option, Some, None}
 use Rattle.std.specs.Prelude.{All, option_map, position}
 use Rattle.std.specs.List.{position_or_len, zip}
@@ -103,7 +103,7 @@ module _ (one : OneAnswer) (p q : List LineFields) (steps : ℕ) where
       (none_killed same tests outcomes kills (All-tail (FitsProgram p) test tests fit) (All-tail AreStorable test tests storable) are.1
       (All-tail IsProgramEnd own outcomes end) alone.1)
 
-  -- where the program ends as many steps before the limit as are to be spared
+  -- no test kills the mutant where the program ends at least `spare` steps before the limit
   not_killed_spared : (spare : ℕ) (arguments : List Arg) (kill : Bool) → KeepsEndsWithin spare p q arguments
       → LeavesRoomOn p steps spare arguments → IsKill p q arguments steps kill → kill ≡ false
   not_killed_spared spare arguments kill keeps room (IsKill.survived first second) = refl

@@ -1,4 +1,4 @@
--- How many mutants the operators from a place on have.
+-- How many mutants the operators from place i on have.
 use Rattle.std.proofs.Common.{◌≡◌, ◌∙◌, ◌<◌, ◌+◌, ℕ, true, false, cond, List, ◌∷◌, length, drop, map, drop-cons, add-one, sym, ap, refl}
 use Rattle.std.specs.Prelude.{filter, sum}
 use Rattle.std.proofs.lemmas.List.Sums.{sum_by-cons, sum-map}
@@ -10,7 +10,7 @@ use Rattle.mothra_ops.specs.Plan.{PlanFields, asked, edits_of}
 abbrev count_of : PlanFields → Op → ℕ
 count_of plan op = length (edits_of plan op)
 
--- the operators that were asked for and stand behind the first ones
+-- the operators after the first i that were asked for
 abbrev asked_behind : PlanFields → ℕ → List Op
 asked_behind plan i = filter (asked plan) (drop i all_ops)
 
@@ -20,7 +20,7 @@ count_behind plan i = sum (map (count_of plan) (asked_behind plan i))
 behind : (plan : PlanFields) (i : ℕ) → i < 22 → asked_behind plan i ≡ cond (asked plan (op_at i)) (op_at i ∷ asked_behind plan (i + 1)) (asked_behind plan (i + 1))
 behind plan i within = rw (add-one, drop-cons all_ops i (op_at 0) within) refl
 
--- the operator at a place was asked for, or was not
+-- one more operator, which was asked for or not
 pub counts_more : (plan : PlanFields) (i : ℕ) → i < 22 → asked plan (op_at i) ≡ true
     → count_behind plan i ≡ length (edits_of plan (op_at i)) + count_behind plan (i + 1)
 counts_more plan i within is =

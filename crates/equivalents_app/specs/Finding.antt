@@ -1,4 +1,4 @@
--- Which mutants of the program of a job are named, and how.
+-- Which mutants of the program of a job are named, and the text that names them.
 use Rattle.std.specs.Prelude.{ℕ, List, Result, Ok, Err}
 use Rattle.f77_program.specs.Program.{LineFields}
 use Rattle.mothra_app.specs.Program.{IsLegalProgramOf}
@@ -14,9 +14,9 @@ use Rattle.equivalents_app.specs.Room.{AreNamedMutants}
 use Rattle.equivalents_app.specs.Telling.{told_text}
 use Rattle.equivalents_app.specs.declared.words.Inquiry.{Inquiry}
 
--- What is told of the job: equivalent mutants of the plan, for each of which
--- the tests leave room under the limit on steps, or the first fault. Which of
--- the equivalent mutants are named is left open; each that is named is one.
+-- The outcome of an inquiry for a job: the text that names equivalent mutants of the
+-- plan, for each of which the tests leave room under the limit on steps; or the first
+-- fault. Which equivalent mutants are named is left open, but only such are named.
 pub data IsFound (job : JobFields) (i : Inquiry) : Result (List ℕ) Fault → Type 0 where
   no_program : {fault : Fault} → IsLegalProgramOf job.source (Err fault) → IsFound job i (Err fault)
   too_many : {program : List LineFields} {op : Op} → IsLegalProgramOf job.source (Ok program)

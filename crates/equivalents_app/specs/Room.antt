@@ -1,4 +1,4 @@
--- Whether the tests leave room for mutants that take more steps than the program.
+-- Whether the tests leave room for mutants that may take more steps than the program.
 use Rattle.std.specs.Prelude.{◌≤◌, ◌+◌, ⊤, ℕ, All, List}
 use Rattle.f77_equivalence.specs.Equivalent.{IsEnd}
 use Rattle.f77_program.specs.Program.{LineFields}
@@ -12,17 +12,17 @@ use Rattle.mothra_equivalents.specs.declared.why.Why.TheVariants as why
 use Rattle.mothra_ops.specs.Mutants.{program_of}
 use Rattle.mothra_ops.specs.Plan.{PlanFields}
 
--- on the test the program returns or stops, as many steps before the limit
+-- the program returns or stops on the test at least `room` steps before the limit
 abbrev pub LeavesRoomOn : List LineFields → ℕ → ℕ → List Arg → Type 0
 LeavesRoomOn program steps room test =
     (limit : ℕ) × (outcome : Outcome)
     × (limit + room ≤ steps) × IsOutcomeOf program test limit outcome × IsEnd outcome
 
--- so it does on each of the tests
+-- the program returns or stops on each test at least `room` steps before the limit
 abbrev pub LeavesRoom : List LineFields → List (List Arg) → ℕ → ℕ → Type 0
 LeavesRoom program tests steps room = All (LeavesRoomOn program steps room) tests
 
--- the tests leave a mutant that is proved by this rule the room that it takes
+-- the tests leave the room that a mutant proved by this rule needs
 abbrev pub HasRoom : List LineFields → List (List Arg) → ℕ → Why → Type 0
 HasRoom program tests steps why.Same = ⊤
 HasRoom program tests steps why.Unread = ⊤
@@ -30,7 +30,7 @@ HasRoom program tests steps why.Continues = ⊤
 HasRoom program tests steps (why.Spare spare) = LeavesRoom program tests steps spare
 HasRoom program tests steps why.Unreached = ⊤
 
--- mutants that are equivalent, for each of which the tests leave room
+-- the mutants are equivalent, and the tests leave the room that each of them needs
 pub record AreNamedMutants (plan : PlanFields) (tests : List (List Arg)) (steps : ℕ)
     (list : List Equivalent) : Type 0 where
   pub are : AreEquivalents plan list

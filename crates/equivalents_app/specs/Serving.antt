@@ -1,4 +1,4 @@
--- What is told: a status and a text, by the words and all the bytes of the reader.
+-- What is written for words and all the bytes of the reader: a status and a text.
 use Rattle.std.specs.Prelude.{◌≡◌, ℕ, List, ◌∷◌, Contains, Option, Some, Ok, Err}
 use Rattle.std.specs.Io.KnownBytes.{Appends}
 use Rattle.clap.specs.Words.{Text, fault_of}
@@ -22,16 +22,16 @@ use Rattle.equivalents_app.specs.declared.words.Inquiry.{Inquiry}
 
 -- ---- the answer to an inquiry
 
--- what the inquiry comes to on a job, or on bytes that are none
+-- the outcome of the inquiry on a job, or on bytes that are no job
 abbrev pub IsInquiryOutcome : Inquiry → JobRead → Outcome → Type 0
 IsInquiryOutcome i (Err fault) outcome = outcome ≡ Err (Job fault)
 IsInquiryOutcome i (Ok j) outcome = IsFound j i outcome
 
--- want of memory, which may come in place of any other answer
+-- want of memory, which may come in the place of any answer
 abbrev pub memory_faults : List Fault
 memory_faults = Job job.Memory ∷ of_mutants
 
--- The answer to an inquiry: what it comes to, or the line of a fault that may come in its place.
+-- The answer to an inquiry: its outcome, or the line of a fault that may come in the place of any.
 pub data IsInquiryAnswer (i : Inquiry) (read : JobRead) : Status → List ℕ → Type 0 where
   report : {text : List ℕ}
       → IsInquiryOutcome i read (Ok text) → IsInquiryAnswer i read status.Report text
@@ -42,14 +42,14 @@ pub data IsInquiryAnswer (i : Inquiry) (read : JobRead) : Status → List ℕ �
 
 -- ---- by the words
 
--- the command line takes the words, and they ask for
--- this, with numbers in the bounds of their options
+-- the command line takes the words, and they are this
+-- inquiry, with numbers within the bounds of their options
 pub record AsksForInquiry (words : List Text) (i : Inquiry) : Type 0 where
   pub is : inquiry_of words ≡ Some i
   pub bounded : IsInquiryBounded i
 
--- What may be written for the words and the bytes: the answer to what
--- the words ask for, or what is told of words that ask for nothing.
+-- What may be written for the words and the bytes: an answer to the
+-- inquiry, or the answer to words that are no inquiry.
 pub data MayBeWrittenByInquiry (words : List Text) (bytes : List ℕ) : Status → List ℕ → Type 0 where
   answer : {i : Inquiry} {status : Status} {text : List ℕ}
       → AsksForInquiry words i → IsInquiryAnswer i (job_of bytes) status text
@@ -60,8 +60,8 @@ pub data MayBeWrittenByInquiry (words : List Text) (bytes : List ℕ) : Status �
       → IsRefusal cause status → IsAmong cause (fault_of equivalents words)
       → MayBeWrittenByInquiry words bytes status text
 
--- the text with this status may be written for the words,
--- where the reader had the bytes `left` and now has `now`
+-- the text with this status may be written for the words, where
+-- the reader had the bytes `left` before and has `now` after that
 pub record IsInquiryAnswered (words : List Text) (left now : Option (List ℕ)) (status : Status)
     (text : List ℕ) : Type 0 where
   pub bytes : List ℕ
@@ -69,15 +69,15 @@ pub record IsInquiryAnswered (words : List Text) (left now : Option (List ℕ)) 
   pub may : MayBeWrittenByInquiry words bytes status text
   pub read : IsReadFor status left now
 
--- the whole of such a text was written to the writer that
--- held the bytes `old` and now holds `new`, and nothing else
+-- such a text was written whole, and nothing else, to a writer
+-- that held the bytes `old` before and holds `new` after that
 pub record WritesInquiryWhole (words : List Text) (left now old new : Option (List ℕ))
     (status : Status) : Type 0 where
   pub text : List ℕ
   pub answered : IsInquiryAnswered words left now status text
   pub written : Appends old new text
 
--- a front of such a text was written, and nothing else
+-- only a front of such a text was written
 pub record WritesInquiryFront (words : List Text)
     (left now old new : Option (List ℕ)) : Type 0 where
   pub status : Status

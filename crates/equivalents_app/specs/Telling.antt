@@ -1,4 +1,4 @@
--- How mutants of a plan that are proved equivalent are told.
+-- The text that names the mutants of a plan that are proved equivalent.
 use Rattle.std.specs.Prelude.{ℕ, Bool, List, [], ◌++◌, Option, Some, None, codes}
 use Rattle.std.specs.Prelude.{filter_map, flat_map, if◌then◌else◌, length, nat_le}
 use Rattle.std.specs.Fmt.{decimal}
@@ -29,7 +29,7 @@ reason_text every e =
     codes "EQUIVALENT " ++ (mutant_name every e.ticket.op e.ticket.number
     ++ (codes " " ++ (why_text e.why ++ codes " ")))
 
--- and then where it is changed
+-- the line of a mutant: its name, the rule, and the change that it makes
 abbrev pub rule_line : PlanFields → Equivalent → MutantFields → List ℕ
 rule_line plan e mutant =
     reason_text plan.every e ++ (change_text (program_of plan) mutant ++ codes "\n")
@@ -53,7 +53,7 @@ lines_text plan list =
 abbrev pub in_whole_list : ℕ → Equivalent → Ticket
 in_whole_list every e = ticket e.ticket.op (original_number every e.ticket.number)
 
--- where the key takes the number
+-- the mutant, where the key `equivalent` may have its number
 abbrev pub if_declarable : Ticket → Option Ticket
 if_declarable t = if nat_le t.number 1048575 then Some t else None
 
@@ -66,7 +66,7 @@ entry_text t = codes "\"" ++ (ticket_text t ++ codes "\"")
 abbrev pub json_line : ℕ → List Equivalent → List ℕ
 json_line every list = codes "[" ++ (separated entry_text [] (declarable every list) ++ codes "]\n")
 
--- ---- in the manner that is asked for
+-- ---- lines or JSON, as asked for
 
 abbrev pub told_text : PlanFields → List Equivalent → Bool → List ℕ
 told_text plan list json = if json then json_line plan.every list else lines_text plan list

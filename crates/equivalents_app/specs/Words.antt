@@ -1,4 +1,4 @@
--- The command line of the program, which has no subcommand, and what its words ask for.
+-- The command line of `equivalents`, which has no subcommand, and what its words ask for.
 use Rattle.std.specs.Prelude.{◌≡◌, ◌≤◌, ℕ, Bool, true, false, [], ◌∷◌, List, Option, Some, None, codes, if◌then◌else◌}
 use Rattle.std.specs.Option.{option_map_or}
 use Rattle.std.specs.Str.{bytes_eq}
@@ -28,26 +28,26 @@ equivalents = record {
   subs = [];
 }
 
--- What a list of words is, one of three.
+-- the three meanings of a list of words
 pub data InquiryMeaning : Type 0 where
-  -- words that the command line refuses, or a call for its help or version
+  -- the command line refuses the words, or they ask for help or the version
   refused : InquiryMeaning
-  -- a value of `--ops` that is no list of operators' codes
+  -- the value of `--ops` is no list of operators' codes
   bad_operators : InquiryMeaning
   inquiry : Inquiry → InquiryMeaning
 
--- an option without a value was given
+-- whether the option of this name, which takes no value, was given
 abbrev pub flag_at : Text → List Row → Bool
 flag_at name rows = option_map_or (λ text. bytes_eq text (codes "true")) (one_of name rows) false
 
--- these operators, these numbers, which the command line wants, and this manner
+-- the meaning of these operators and numbers, which have to be there, and of lines or JSON
 abbrev pub inquiry_meaning : Option (List Op) → Option ℕ → Option ℕ → Bool → InquiryMeaning
 inquiry_meaning None every steps json = bad_operators
 inquiry_meaning (Some operators) (Some every) (Some steps) json =
     inquiry (record { operators = operators; every = every; steps = steps; json = json })
 inquiry_meaning (Some operators) _ _ json = refused
 
--- the values of the options
+-- the meaning of the values of the options
 abbrev pub options_meaning : List Row → InquiryMeaning
 options_meaning rows =
     inquiry_meaning (operators_at rows) (option_number (codes "every") rows)
@@ -57,7 +57,7 @@ options_meaning rows =
 abbrev pub IsInquiryTaken : List Text → Type 0
 IsInquiryTaken words = fault_of equivalents words ≡ []
 
--- what the words are
+-- the meaning of the words
 unfoldable pub meaning_of_inquiry : List Text → InquiryMeaning
 meaning_of_inquiry words = if is_empty (fault_of equivalents words)
     then options_meaning (matches_of equivalents words) else refused
@@ -74,16 +74,16 @@ inquiry_of words = inquiry_in (meaning_of_inquiry words)
 abbrev pub HasBadInquiryOperators : List Text → Type 0
 HasBadInquiryOperators words = meaning_of_inquiry words ≡ bad_operators
 
--- the numbers are in the bounds of their options
+-- the numbers of the inquiry are within the bounds of their options
 abbrev pub IsInquiryBounded : Inquiry → Type 0
 IsInquiryBounded i = (1 ≤ i.every) × (i.every ≤ 1048575) × (1 ≤ i.steps) × (i.steps ≤ 1000000)
 
--- memory ran out, or the command line refuses the words by
--- such an error, or answers a call for help or version by it
+-- the error is one by which the command line refuses the words, or answers
+-- a call for help or the version; or it says that memory ran out
 abbrev pub IsInquiryRefusal : List Text → Error → Type 0
 IsInquiryRefusal words error = HasKind (fault_of equivalents words) error
 
--- why the words are no inquiry, or memory that ran out
+-- the fault says why the words are no inquiry, or that memory ran out
 abbrev pub IsInquiryFault : List Text → WordsFault → Type 0
 IsInquiryFault words (fault.Refused error) = IsInquiryRefusal words error
 IsInquiryFault words fault.BadOperatorList = HasBadInquiryOperators words

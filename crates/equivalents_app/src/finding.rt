@@ -1,4 +1,4 @@
-//! Which mutants of the program of a job are named.
+//! Which mutants of the program of a job are named as equivalent.
 
 ghost use Rattle.std.specs.Prelude.{◌≡◌, ◌⊎◌, Ok, Err, Contains, IfErr, IfOk, MatchResult, string_bytes};
 ghost use Rattle.mothra_app.specs.Fault.{of_mutants};
@@ -18,8 +18,8 @@ use mothra_job::Job;
 use mothra_ops::{OpsFault, Plan};
 use std::alloc::Global;
 
-/// The mutants of the plan that are named: those that are proved
-/// equivalent, without those for which the tests leave no room.
+/// The mutants of the plan that are named: those that are proved equivalent,
+/// without those for which the tests leave no room.
 fn named_of(
     alloc: Global,
     plan: &Plan,
@@ -35,7 +35,7 @@ fn named_of(
     Ok(list)
 }
 
-/// The text that names equivalent mutants of the program of a job, as the inquiry asks.
+/// The text that names equivalent mutants of the program of a job, as the words ask for it.
 pub(crate) fn find(alloc: Global, job: &Job, inquiry: &Inquiry) -> Result<String, Fault>
     requires { IsInquiryBounded inquiry.now }
     ensures { MatchResult result

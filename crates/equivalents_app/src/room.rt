@@ -1,4 +1,4 @@
-//! The room that the tests of a job leave under the limit on steps.
+//! The room that the tests of a job leave: how many steps before the limit the program returns or stops.
 
 ghost use Rattle.std.specs.Prelude.{◌≡◌, ◌≤◌, ◌+◌, IfErr, IfOk, IfSome, filter, map};
 ghost use Rattle.f77_equivalence.specs.Equivalent.{IsEnd};
@@ -14,7 +14,7 @@ use mothra_equivalents::{Equivalent, Why};
 use mothra_ops::OpsFault;
 use std::alloc::Global;
 
-/// How many steps are left of so many behind those that were made, where the program returned or stopped.
+/// How many of `steps` steps are left after the `made` ones, where the program returned or stopped; else None.
 fn room_behind(outcome: &Outcome, made: u32, steps: u32) -> Option<u32>
     requires { made ≤ steps }
     ensures { IfSome result (λ room. (made + room ≡ steps) × IsEnd outcome.now) }
@@ -32,7 +32,7 @@ fn room_behind(outcome: &Outcome, made: u32, steps: u32) -> Option<u32>
     }
 }
 
-/// The room that a test leaves; none where it does not fit, or the program neither returns nor stops on it.
+/// The room that a test leaves; None where the test does not fit, or the program neither returns nor stops on it.
 fn room_on(
     alloc: Global,
     checked: &Checked,
@@ -50,7 +50,7 @@ fn room_on(
     }
 }
 
-/// The room that each of the tests leaves; none where one of them leaves none.
+/// The least room that the tests leave; None where one test has no room by `room_on`.
 fn room_of(
     alloc: Global,
     checked: &Checked,
@@ -71,13 +71,14 @@ fn room_of(
     Ok(Some(room))
 }
 
-/// Whether one of the mutants takes more steps than the program.
+/// Whether one of the mutants may take more steps than the program.
 fn ask_for_room(list: &[Equivalent]) -> bool {
     list.iter()
         .any(|equivalent| matches!(equivalent.why, Why::Spare(_)))
 }
 
-/// The room that each of the tests leaves for the mutants. The program is run only where one of them asks for room.
+/// The least room that the tests leave. The program is run only where one of the mutants needs room; else the result is
+/// None.
 pub(crate) fn room_for(
     alloc: Global,
     list: &[Equivalent],
@@ -96,7 +97,7 @@ pub(crate) fn room_for(
     }
 }
 
-/// Whether a mutant that is proved by this rule takes no more room than that.
+/// Whether a mutant that is proved by this rule needs at most this room.
 fn is_within(room: Option<u32>, why: Why) -> bool
     ensures { result ≡ definition.is_within room why }
 {
@@ -109,7 +110,7 @@ fn is_within(room: Option<u32>, why: Why) -> bool
     }
 }
 
-/// Keeps the mutants that take no more room than that.
+/// Keeps the mutants that need at most this room.
 pub(crate) fn keep_within(list: &mut Vec<Equivalent>, room: Option<u32>)
     ensures { list.new.items ≡ filter (λ equivalent. definition.is_within room equivalent.why) list.old.items }
 {

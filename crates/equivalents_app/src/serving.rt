@@ -21,7 +21,7 @@ use std::alloc::{AllocError, Global};
 use std::convert::AsStr;
 use std::io::{Read, Write};
 
-/// The text that the inquiry comes to on the job that the bytes are.
+/// The text for the inquiry on the job that the bytes are, or a fault.
 fn text_for(alloc: Global, inquiry: &Inquiry, bytes: &[u8]) -> Result<String, Fault>
     requires { IsInquiryBounded inquiry.now }
     ensures { MatchResult result
@@ -32,7 +32,7 @@ fn text_for(alloc: Global, inquiry: &Inquiry, bytes: &[u8]) -> Result<String, Fa
     find(alloc, &job, inquiry)
 }
 
-/// The answer to the inquiry on the job that the bytes are.
+/// The answer to the inquiry on the job that the bytes are; a fault gives an answer with its line.
 fn answer_to(alloc: Global, inquiry: &Inquiry, bytes: &[u8]) -> Result<Answer, AllocError>
     requires { IsInquiryBounded inquiry.now }
     ensures { IfOk result (λ a. IsInquiryAnswer inquiry.now (job_of bytes.now) a.status (string_bytes a.text)) }
@@ -46,7 +46,7 @@ fn answer_to(alloc: Global, inquiry: &Inquiry, bytes: &[u8]) -> Result<Answer, A
     }
 }
 
-/// The answer to the inquiry, over all the bytes of the reader.
+/// Reads all bytes of the reader, and answers the inquiry.
 fn read_and_answer<R: Read>(
     alloc: Global,
     inquiry: &Inquiry,
@@ -65,7 +65,7 @@ fn read_and_answer<R: Read>(
     Ok(answer_to(alloc, inquiry, &bytes)?)
 }
 
-/// The answer to the words, over all the bytes of the reader where the command line takes them.
+/// The answer to the words. The reader is read only where the words are an inquiry.
 fn answer_for<S: AsStr, R: Read>(
     alloc: Global,
     words: &[S],
@@ -87,10 +87,10 @@ fn answer_for<S: AsStr, R: Read>(
     }
 }
 
-/// Reads a job, and writes the text that the words ask for. The first word is the program's name.
+/// Reads a job and writes the text that the words ask for. The first word is the program's name.
 ///
-/// Nothing is written before the whole text stands, and the writer is not flushed. An interrupted call of the reader or
-/// the writer has failed, and is not tried again.
+/// Nothing is written before the whole text is there, and the writer is not flushed. A call of the reader or the writer
+/// that was interrupted has failed; it is not tried again.
 pub fn tell<S: AsStr, R: Read, W: Write>(
     alloc: Global,
     words: &[S],
@@ -100,9 +100,9 @@ pub fn tell<S: AsStr, R: Read, W: Write>(
     requires reader_works { has_failed reader.old ≡ false }
     requires writer_works { has_failed writer.old ≡ false }
 
-    // What is written: it is told by the words, the bytes, and which mutants are
-    // named. Each that is named is an equivalent mutant of the plan, as its rule says,
-    // and where it takes more steps than the program, each test leaves room for them.
+    // What is written: it follows from the words, the bytes, and which mutants are named.
+    // Each mutant that is named is an equivalent mutant of the plan, as its rule promises,
+    // and where it may take more steps than the program, each test leaves room for them.
     ensures written { IfOk result (WritesInquiryWhole (map S.text words.now)
         (R.remaining (inside reader.old)) (R.remaining (inside reader.new))
         (W.contents (inside writer.old)) (W.contents (inside writer.new))) }

@@ -1,4 +1,4 @@
-//! The command line that the program takes, and what its words ask for.
+//! The command line of `equivalents`, and what its words ask for.
 
 ghost use Rattle.std.specs.Prelude.{◌≡◌, IfErr, IfOk, Ok, OnOk, Some, false, map};
 ghost use Rattle.clap.specs.Words.{FailsBy, app_of, fault_of, found_of, matches_of, rows_of, rule_of};
@@ -20,17 +20,17 @@ use std::convert::AsStr;
 /// What the words ask for.
 #[derive(Debug, Drop)]
 pub struct Inquiry {
-    /// The operators whose mutants are asked about.
+    /// The operators whose mutants are to be proved equivalent.
     pub operators: Operators,
-    /// The step from one mutant of an operator to the next, 1 to 1,048,575.
+    /// q, 1 to 1,048,575, where each q-th mutant of an operator is kept, from the first.
     pub every: u32,
     /// The limit on steps of a run, 1 to 1,000,000.
     pub steps: u32,
-    /// Whether a JSON list is asked for in place of lines.
+    /// Whether the text is a JSON list, and not lines.
     pub json: bool,
 }
 
-/// The option `--steps` of `mothra run`.
+/// The option `--steps`: 1 to 1,000,000; 10,000 where it is absent.
 fn steps_option<'a>(alloc: Global) -> Arg<'a>
     ensures rule { rule_of result ≡ steps_rule }
     ensures global { result.global ≡ false }
@@ -76,7 +76,7 @@ fn command<'a>(alloc: Global) -> Result<Command<'a>, AllocError>
     Ok(command)
 }
 
-/// What the words say, or why they are refused.
+/// What `clap` finds in the words, or why it refuses them.
 fn matches_in<'a, S: AsStr>(alloc: Global, words: &'a [S]) -> Result<ArgMatches<'a>, Error>
     ensures kinds { FailsBy (fault_of equivalents (map S.text words.entry.now)) result }
     ensures matches { IfOk result (λ m. rows_of (found_of m) ≡ matches_of equivalents (map S.text words.entry.now)) }
@@ -84,14 +84,14 @@ fn matches_in<'a, S: AsStr>(alloc: Global, words: &'a [S]) -> Result<ArgMatches<
     command(alloc)?.try_get_matches_from(words)
 }
 
-/// Whether an option without a value was given.
+/// Whether the option of this name, which takes no value, was given.
 fn has_flag(matches: &ArgMatches<'_>, name: &str) -> bool
     ensures { result ≡ flag_at name.now (rows_of (found_of matches.now)) }
 {
     matches.get_one(name).unwrap_or(false)
 }
 
-/// What these operators and numbers, and this manner, ask for.
+/// The inquiry with these operators and numbers, and with lines or JSON.
 fn inquiry_with(
     operators: Operators,
     every: Option<u32>,
@@ -108,7 +108,7 @@ fn inquiry_with(
     })
 }
 
-/// What these values of the options ask for.
+/// The inquiry of these values of the options.
 fn inquiry_in(alloc: Global, matches: &ArgMatches<'_>) -> Result<Option<Inquiry>, WordsFault>
     ensures { ReadsInquiry (options_meaning (rows_of (found_of matches.now))) result }
 {
@@ -123,7 +123,7 @@ fn inquiry_in(alloc: Global, matches: &ArgMatches<'_>) -> Result<Option<Inquiry>
     }
 }
 
-/// What the words ask for, or why they ask for nothing. The first word is the program's name.
+/// The inquiry that the words are, or why they are none. The first word is the program's name.
 pub fn inquiry_of<S: AsStr>(alloc: Global, words: &[S]) -> Result<Inquiry, WordsFault>
     ensures inquiry { IfOk result (λ i. asked.inquiry_of (map S.text words.now) ≡ Some i) }
     ensures bounds { IfOk result IsInquiryBounded }

@@ -1,4 +1,5 @@
-//! The two forms of the exchange answer alike, to calls, of every operator and to split passes.
+//! The two forms of the exchange give the same answers: to the calls of a table, for every operator, and to passes that
+//! were split.
 ghost use Rattle.std.specs.Prelude.{◌≡◌, ◌<◌, true};
 
 use crate::tickets::{aar, assert_tally, counts, taken};
@@ -75,7 +76,7 @@ fn the_word_form_answers_the_turns(rt: HostRuntime) -> Result<(), Fail> {
     plays_the_turns(&rt, gate, pass)
 }
 
-/// A new operator that has two tickets is offered one, hands it out, and is closed.
+/// Of an operator with two tickets, one is offered and handed out; then the operator is closed.
 fn serves<G: Gate, R: Wait + Abort>(rt: &R, gate: &G, pass: &mut G::Pass, op: Op)
     requires { G.is_pass gate.now pass.old }
     ensures { G.is_pass gate.now pass.new }
@@ -94,7 +95,7 @@ fn assert_served(rt: &impl Abort, tally: &Tally) {
     }
 }
 
-/// Each operator begins open with nothing offered, and is tallied as it was served.
+/// Each operator is open at first, with nothing offered, and the tally has what was done with it.
 fn serves_every_operator<G: Gate, R: Wait + Abort>(rt: &R, gate: G, mut pass: G::Pass)
     requires { G.is_pass gate pass }
 {

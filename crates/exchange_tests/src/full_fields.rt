@@ -1,4 +1,4 @@
-//! A word whose fields are full.
+//! A word all of whose fields are full.
 ghost use Rattle.mothra_exchange.specs.Table.{IsPassOf};
 
 use crate::offers::offers_all;

@@ -1,4 +1,4 @@
-//! Two halves of a join take each ticket once.
+//! Two threads take each ticket once.
 ghost use Rattle.mothra_exchange.specs.Table.{IsPassOf};
 
 use crate::offers::offers_all;
@@ -11,7 +11,7 @@ use std::test::Fail;
 use std::thread;
 use std::thread::Threads;
 
-/// Takes until Finished, at most a million times. None where that was not enough.
+/// The numbers that a pass takes until Finished, by a million takes at most. None where these were not enough.
 fn take_all<const C: u32>(
     alloc: Global,
     exchange: &TableExchange<C>,
@@ -30,7 +30,7 @@ fn take_all<const C: u32>(
     Ok(None)
 }
 
-/// What two threads take, each until Finished, in order.
+/// The numbers that two threads take, each until Finished, in ascending order.
 fn taken_by_two(
     rt: &(impl AllocGlobal + Threads),
     exchange: &TableExchange<2_000>,
@@ -57,7 +57,7 @@ fn taken_by_two(
     Ok(numbers)
 }
 
-/// In order the numbers are 1 to 2,000, each once.
+/// The numbers are 1 to 2,000 in order.
 fn assert_each_once(rt: &impl Abort, numbers: &[u32]) {
     for (&number, want) in numbers.iter().zip(1..=2_000) {
         assert!(rt; number == want, "{number} in the place of {want}");

@@ -15,7 +15,7 @@ fn a_count_may_be_1048575(rt: HostRuntime) {
     assert!(rt; TableExchange::<2>::new(alloc, [1_048_575; 22]).is_ok());
 }
 
-/// No form takes the counts, since that of this operator is too large.
+/// A `State` and both forms of the exchange refuse the counts, since that of this operator is too large.
 fn assert_too_large(rt: &(impl AllocGlobal + Abort), many: [u32; 22], op: Op) {
     let alloc = rt.alloc();
     let fault = Some(ExchangeFault::CountTooLarge(op));

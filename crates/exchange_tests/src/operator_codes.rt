@@ -3,11 +3,11 @@
 use mothra_codes::Op;
 use std::process::Abort;
 
-// Codes and order as King and Offutt list them.
+// The codes in their order, as King and Offutt (1991) list them.
 const CODES: &str =
     "AAR ABS ACR AOR ASR CAR CNR CRP CSR DER DSA GLR LCR ROR RSR SAN SAR SCR SDL SRC SVR UOI";
 
-/// The code is that of the operator of this number, from 0.
+/// The operator at this place, from 0, has this code.
 fn assert_code(rt: &impl Abort, index: usize, code: &str) {
     let Some(op) = Op::of(code) else {
         panic!(rt; "{code}")

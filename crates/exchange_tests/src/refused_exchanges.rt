@@ -1,4 +1,4 @@
-//! Each allocation of an exchange can be refused: the answer is then X1, and else the exchange works.
+//! Each allocation of an exchange is refused in turn: the answer is then X1, or the exchange works.
 
 use crate::both_forms::splits_and_merges;
 use crate::tickets::{aar, counts};

@@ -5,7 +5,7 @@ use mothra_codes::Op;
 use mothra_exchange::{Take, Tally, Ticket};
 use std::process::Abort;
 
-/// The counts of the operators where one of them has this many, and the others have none.
+/// The counts of the operators where this one has `count` tickets and the others have none.
 pub(crate) fn counts(op: Op, count: u32) -> [u32; 22] {
     let mut counts = [0u32; 22];
     counts[op.index()] = count;
@@ -22,12 +22,13 @@ pub(crate) fn aar(number: u32) -> Ticket
     }
 }
 
-/// The answer that hands out a ticket.
+/// The answer to a take that hands out this ticket.
 pub(crate) fn taken(op: Op, number: u32) -> Take {
     Take::Taken(Ticket { op, number })
 }
 
-/// How many tickets the operator had, how many were offered, how many handed out, and whether it was closed.
+/// The tally says of the operator how many tickets it had, how many were offered, how many were handed out, and whether
+/// it was closed.
 pub(crate) fn assert_tally(
     rt: &impl Abort,
     tally: &Tally,

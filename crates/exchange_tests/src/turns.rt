@@ -1,4 +1,5 @@
-//! Calls of an exchange in which AAR has three tickets and ABS none, and at most two wait.
+//! A table of calls, with their answers, for an exchange in which AAR has three tickets and ABS none, and at most two
+//! tickets may wait.
 
 use mothra_codes::Op;
 use mothra_exchange::Ticket;
@@ -6,7 +7,7 @@ use std::alloc::{AllocError, Global};
 use std::fmt::Debug;
 use std::test::Fail;
 
-/// Rows `CALL => ANSWER`.
+/// Rows of the form `CALL => ANSWER`.
 pub(crate) const TURNS: &str = "
 take AAR => Empty
 offer AAR 1 => Accepted
@@ -37,7 +38,7 @@ pub(crate) fn parts(row: &str) -> Result<(&str, &str), Fail> {
     }
 }
 
-/// What a call asks for.
+/// A call of the exchange.
 #[derive(Clone, Copy, Drop)]
 pub(crate) enum Turn {
     Offer(Ticket),
@@ -45,7 +46,7 @@ pub(crate) enum Turn {
     Close(Op),
 }
 
-/// The ticket of a code and a number, with a blank between.
+/// The ticket of a text: a code, a blank and a number.
 fn ticket_of(text: &str) -> Option<Ticket> {
     let (code, number) = text.split_once(' ')?;
     Some(Ticket {
@@ -54,7 +55,7 @@ fn ticket_of(text: &str) -> Option<Ticket> {
     })
 }
 
-/// The call that a text is.
+/// The call that a text names.
 pub(crate) fn turn_of(call: &str) -> Option<Turn> {
     let (name, of) = call.split_once(' ')?;
     match name {
@@ -65,7 +66,7 @@ pub(crate) fn turn_of(call: &str) -> Option<Turn> {
     }
 }
 
-/// An answer as the rows have it.
+/// An answer, written as in the rows.
 pub(crate) fn shown<T: Debug + Drop>(alloc: Global, answer: T) -> Result<String, AllocError> {
     format!(in alloc; "{answer:?}")
 }

@@ -1,4 +1,4 @@
--- Values within the range, and numbers that tell faults beyond it.
+-- Values within the range, and beyond it the numbers that stand for faults.
 use Rattle.std.proofs.Common.{arith, ◌≡◌, ◌<◌, ◌≤◌, ◌^◌, Bool, true, false, ℤ, pos, negsuc, refl, ap, w64, FitsSigned, to_z, of_z}
 use lib.Signed.{le_z, lt_z}
 use Rattle.std.specs.Prelude.{Ok, Err, ◌≤ℤ◌, ◌<ℤ◌}

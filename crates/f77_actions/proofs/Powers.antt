@@ -76,7 +76,7 @@ pub odd_power : (b : ℤ) → int_rem b (pos 2) ≢ pos 0 → power_of (negsuc 0
 odd_power (pos n) h = let odd : n % 2 ≢ 0 = λ e. h (ap pos e) in rw (odds n odd) refl
 odd_power (negsuc n) h = let odd : suc n % 2 ≢ 0 = λ e. h (rw e refl) in let e = odds (suc n) odd in rw e refl
 
--- 1 over a power of another base
+-- 1 over the power of another base than 0, 1 and -1
 inverse : (z : ℤ) → 2 ≤ unsigned_abs z → int_div (pos 1) z ≡ pos 0
 inverse (pos n) h = let e : 1 / n ≡ 0 = div-eq_of_lt h in rw e refl
 inverse (negsuc n) h = let e : 1 / suc n ≡ 0 = div-eq_of_lt h in rw e refl

@@ -1,4 +1,4 @@
--- Sums, differences and products of numbers that tell values or faults.
+-- Sums, differences and products of numbers that stand for values or faults.
 use Rattle.std.proofs.Common.{arith, ◌≡◌, ◌≤◌, true, false, ℤ, pos, negsuc, refl, sym, subst, w64, FitsSigned}
 use Rattle.std.specs.Prelude.{◌+ℤ◌, ◌-ℤ◌, ◌*ℤ◌, Result, Ok, Err, unsigned_abs, ◌≤ℤ◌, ◌<ℤ◌}
 use Rattle.std.proofs.lemmas.Int.{ints, fits_signed_mul}
@@ -15,7 +15,7 @@ valued z e = let range : in_range z ≡ Ok z = rw e refl in subst (λ r. TellsRe
 overflowed : (u z : ℤ) → fits z ≡ false → TellsResult u (Err Overflow) → TellsResult u (in_range z)
 overflowed u z e t = let range : in_range z ≡ Err Overflow = rw e refl in subst (λ r. TellsResult u r) (sym range) t
 
--- no sum with a fault's number fits
+-- no sum with a fault is in the range
 pub sum_fits : (x y : ℤ) → fits (x +ℤ y) ≡ true → (r q : Result ℤ Fault) → TellsResult x r → TellsResult y q → TellsResult (x +ℤ y) (both (λ a b. in_range (a +ℤ b)) r q)
 sum_fits x y e (Ok z) (Ok v) a b = subst (λ w. TellsResult w (in_range (z +ℤ v))) (λ i. sym a.is i +ℤ sym b.is i) (valued (z +ℤ v) (subst (λ w. fits w ≡ true) (λ i. a.is i +ℤ b.is i) e))
 sum_fits x y e (Ok z) (Err f) a b =

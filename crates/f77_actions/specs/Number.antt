@@ -1,4 +1,5 @@
--- INTEGER values: the exact number first, then the range (ANSI X3.9-1978, 4.3, 6.1.5 and 15.10).
+-- INTEGER values: the exact number, then the test against the range (ANSI X3.9-1978, 4.3, 6.1.5 and
+-- 15.10).
 use Rattle.std.specs.Prelude.{◌^◌, ◌==◌, if◌then◌else◌, ◌∷◌, ◌+ℤ◌, ◌-ℤ◌, ◌*ℤ◌, ℕ, zero, suc, Bool, true}
 use Rattle.std.specs.Prelude.{false, nat_lt, List, [], ℤ, pos, negsuc, int_div, int_rem, Result, Ok, Err}
 use Rattle.f77_tree.specs.declared.intrinsic.Intrinsic.{Intrinsic}
@@ -34,8 +35,8 @@ abbrev pub exact_power : ℤ → ℕ → ℤ
 exact_power a zero = pos 1
 exact_power a (suc n) = a *ℤ exact_power a n
 
--- the power of a base that is not zero: for a negative
--- exponent 1 over the exact power, truncated (6.1.5)
+-- the power of a base that is not zero; for a negative exponent 1 over the exact power, truncated
+-- (6.1.5)
 abbrev pub power_of : ℤ → ℤ → Result ℤ Fault
 power_of a (pos n) = in_range (exact_power a n)
 power_of a (negsuc n) = in_range (int_div (pos 1) (exact_power a (suc n)))
@@ -52,6 +53,7 @@ power (negsuc a) b = power_of (negsuc a) b
 abbrev pub negated : ℤ → ℤ
 negated z = pos zero -ℤ z
 
+-- the value behind a sign
 abbrev pub signed : Sign → ℤ → Result ℤ Fault
 signed Plus z = Ok z
 signed Minus z = in_range (negated z)
@@ -70,19 +72,22 @@ is_same (pos a) (negsuc b) = false
 is_same (negsuc a) (pos b) = false
 is_same (negsuc a) (negsuc b) = a == b
 
+-- the absolute value, not tested against the range
 abbrev pub without_sign : ℤ → ℤ
 without_sign (pos n) = pos n
 without_sign (negsuc n) = pos (suc n)
 
+-- the least of these numbers
 abbrev pub least : ℤ → List ℤ → ℤ
 least a [] = a
 least a (b ∷ bs) = least (if is_below b a then b else a) bs
 
+-- the greatest of these numbers
 abbrev pub greatest : ℤ → List ℤ → ℤ
 greatest a [] = a
 greatest a (b ∷ bs) = greatest (if is_below a b then b else a) bs
 
--- The value of a call. No legal program has another number of arguments.
+-- the value of a call; no legal program has another number of arguments
 abbrev pub called : Intrinsic → List ℤ → Result ℤ Fault
 called Mod (a ∷ (b ∷ [])) = modulus a b
 called Iabs (a ∷ []) = in_range (without_sign a)
@@ -90,7 +95,7 @@ called Min0 (a ∷ rest) = Ok (least a rest)
 called Max0 (a ∷ rest) = Ok (greatest a rest)
 called f rest = Err Undefined
 
--- the passes of a DO: none where the number is negative (11.10)
+-- the trip count of a DO, which is 0 where the number is negative (11.10)
 abbrev pub trip_count : ℤ → ℤ → ℤ → ℕ
 trip_count first last step = above_zero (int_div (last -ℤ first +ℤ step) step)
   where

@@ -9,6 +9,7 @@ use Rattle.f77_actions.specs.declared.expression.Relation.TheVariants as relatio
 use Rattle.f77_actions.specs.declared.expression.Connective.{Connective}
 use Rattle.f77_actions.specs.declared.expression.Connective.TheVariants as connective
 
+-- the operation of an arithmetic operator; other operators have none
 abbrev pub arithmetic_of : Operator → Option Arithmetic
 arithmetic_of operator.Add = Some arithmetic.Add
 arithmetic_of operator.Subtract = Some arithmetic.Subtract
@@ -17,6 +18,7 @@ arithmetic_of operator.Divide = Some arithmetic.Divide
 arithmetic_of operator.Power = Some arithmetic.Power
 arithmetic_of _ = None
 
+-- the relation of a relational operator; other operators have none
 abbrev pub relation_of : Operator → Option Relation
 relation_of operator.Less = Some relation.Less
 relation_of operator.LessOrEqual = Some relation.LessOrEqual
@@ -26,6 +28,7 @@ relation_of operator.GreaterOrEqual = Some relation.GreaterOrEqual
 relation_of operator.Greater = Some relation.Greater
 relation_of _ = None
 
+-- the connective of a logical operator; other operators have none
 abbrev pub connective_of : Operator → Option Connective
 connective_of operator.And = Some connective.And
 connective_of operator.Or = Some connective.Or

@@ -1,4 +1,7 @@
 //! Expressions with their names looked up.
+//!
+//! INTEGER and LOGICAL expressions are two types, and their operators three, so a run does not ask again what the check
+//! has settled. A sign `+` leaves no trace.
 
 ghost use Rattle.std.specs.Prelude.{◌≡◌};
 ghost use Rattle.f77_actions.specs.Operators.{arithmetic_of, relation_of, connective_of};
@@ -56,7 +59,7 @@ pub enum Connective {
     NotEquivalent,
 }
 
-/// Where a reference finds its value. Slots are numbered from 0.
+/// A variable or an array element. Slots are numbered from 0.
 #[cycle(resolved)]
 #[derive(Drop)]
 pub enum Element {
@@ -84,7 +87,8 @@ pub enum Element {
 pub enum Number {
     /// A constant.
     Constant(i32),
-    /// A constant above 2147483647, which only a program that was made of lines has.
+    /// A constant above 2147483647: its value is Overflow. No program that was read has one, only one that was made of
+    /// lines (`Program::of`).
     TooLarge,
     /// The value of a variable or an array element.
     Element(Element),
@@ -92,9 +96,9 @@ pub enum Number {
     Negated(Box<Number>),
     /// IABS (15.10).
     Absolute(Box<Number>),
-    /// What a mutant has in place of an expression, to be told where it is zero.
+    /// ZPUSH(e), which only mutants have: the value of e, but Trapped where that is 0.
     ZeroPush(Box<Number>),
-    /// An operation on two numbers, the left one evaluated first.
+    /// An operation on two numbers. The left one is evaluated first.
     Binary(Arithmetic, Box<Number>, Box<Number>),
 }
 
@@ -107,14 +111,14 @@ pub enum Condition {
     Element(Element),
     /// `.NOT.` before its operand.
     Not(Box<Condition>),
-    /// A relation of two numbers, the left one evaluated first.
+    /// A relation of two numbers. The left one is evaluated first.
     Related(Relation, Number, Number),
-    /// A logical operator on two truth values, the left one evaluated first, and both of them.
+    /// A logical operator on two truth values. Both are evaluated, the left one first.
     Connected(Connective, Box<Condition>, Box<Condition>),
 }
 
 impl Arithmetic {
-    /// The operation that an arithmetic operator stands for (6.1).
+    /// The operation of an arithmetic operator (6.1).
     pub fn of(operator: Operator) -> Option<Arithmetic>
         ensures { result ≡ arithmetic_of operator }
     {
@@ -139,7 +143,7 @@ impl Arithmetic {
 }
 
 impl Relation {
-    /// The relation that a relational operator stands for (6.3).
+    /// The relation of a relational operator (6.3).
     pub fn of(operator: Operator) -> Option<Relation>
         ensures { result ≡ relation_of operator }
     {
@@ -164,7 +168,7 @@ impl Relation {
 }
 
 impl Connective {
-    /// What a logical operator stands for (6.4).
+    /// The connective of a logical operator (6.4).
     pub fn of(operator: Operator) -> Option<Connective>
         ensures { result ≡ connective_of operator }
     {

@@ -1,4 +1,5 @@
-//! INTEGER arithmetic: the exact number, where the range holds it (ANSI X3.9-1978, 4.3, 6.1.5 and 15.10).
+//! INTEGER arithmetic: the exact number if it is in the range, and else Overflow (ANSI X3.9-1978, 4.3, 6.1.5 and
+//! 15.10).
 
 ghost use Rattle.std.specs.Prelude.{◌≡◌, ◌≢◌, ◌+ℤ◌, ◌-ℤ◌, ◌*ℤ◌, ◌^◌, ◌<◌, ◌≤◌, pos};
 ghost use Rattle.std.specs.Prelude.{negsuc, int_div, unsigned_abs, if◌then◌else◌};
@@ -13,21 +14,21 @@ fn narrow(number: i64) -> Result<i32, Fault>
     i32::try_from(number).map_err(|_| Fault::Overflow)
 }
 
-/// The sum.
+/// The sum, or Overflow.
 pub fn sum(a: i32, b: i32) -> Result<i32, Fault>
     ensures { result ≡ exact.in_range (a +ℤ b) }
 {
     narrow(i64::from(a) + i64::from(b))
 }
 
-/// The difference.
+/// The difference, or Overflow.
 pub fn difference(a: i32, b: i32) -> Result<i32, Fault>
     ensures { result ≡ exact.in_range (a -ℤ b) }
 {
     narrow(i64::from(a) - i64::from(b))
 }
 
-/// The product.
+/// The product, or Overflow.
 pub fn product(a: i32, b: i32) -> Result<i32, Fault>
     ensures { result ≡ exact.in_range (a *ℤ b) }
 {
@@ -45,7 +46,7 @@ pub fn quotient(a: i32, b: i32) -> Result<i32, Fault>
     a.checked_div(b).ok_or(Fault::Overflow)
 }
 
-/// MOD: `a` minus `b` times the truncated quotient, which is in the range even where the quotient is not.
+/// MOD: `a` minus `b` times the truncated quotient. It is in the range even where the quotient is not.
 pub fn modulus(a: i32, b: i32) -> Result<i32, Fault>
     ensures { result ≡ exact.modulus a b }
 {
@@ -58,35 +59,35 @@ pub fn modulus(a: i32, b: i32) -> Result<i32, Fault>
     Ok(a % b)
 }
 
-/// The number with the other sign.
+/// The negative of the number: Overflow for -2147483648.
 pub fn negated(a: i32) -> Result<i32, Fault>
     ensures { result ≡ exact.in_range (exact.negated a) }
 {
     difference(0, a)
 }
 
-/// IABS.
+/// IABS: Overflow for -2147483648.
 pub fn absolute(a: i32) -> Result<i32, Fault>
     ensures { result ≡ exact.in_range (exact.without_sign a) }
 {
     narrow(i64::from(a).abs())
 }
 
-/// The number, unless it is zero, which springs a mutant's trap.
+/// The value of ZPUSH: the number, but Trapped where it is 0.
 pub fn pushed(a: i32) -> Result<i32, Fault>
     ensures { result ≡ meaning.pushed a }
 {
     if a == 0 { Err(Fault::Trapped) } else { Ok(a) }
 }
 
-/// Whether the first is below the second.
+/// Whether the first number is below the second.
 pub fn is_below(a: i32, b: i32) -> bool
     ensures { result ≡ exact.is_below a b }
 {
     a < b
 }
 
-/// Whether both are one number.
+/// Whether the two numbers are equal.
 pub fn is_same(a: i32, b: i32) -> bool
     ensures { result ≡ exact.is_same a b }
 {
@@ -107,7 +108,7 @@ pub fn greater(a: i32, b: i32) -> i32
     a.max(b)
 }
 
-/// The exact power, or for a negative exponent 1 over it, truncated toward zero.
+/// The exact power. For a negative exponent it is 1 over the power of its negative, truncated toward zero.
 #[inline(never)]
 #[tactic(auto, using(crate::proofs::Powers::power_of_one, crate::proofs::Powers::inverse_power))]
 pub fn power(base: i32, exponent: i32) -> Result<i32, Fault>
@@ -131,7 +132,7 @@ fn alternating(exponent: i32) -> i32
     if exponent % 2 == 0 { 1 } else { -1 }
 }
 
-/// The power of a base other than 0, 1 and -1: the product is beyond the range after 32 factors at the latest.
+/// The power of a base other than 0, 1 and -1. The product leaves the range after 32 factors at the latest.
 fn repeated_product(base: i32, factors: u32) -> Result<i32, Fault>
     requires { 2 ≤ unsigned_abs base }
     ensures { result ≡ exact.in_range (exact.exact_power base factors) }
@@ -143,7 +144,7 @@ fn repeated_product(base: i32, factors: u32) -> Result<i32, Fault>
     Ok(power)
 }
 
-/// The number of passes of a DO with these parameters.
+/// The trip count of a DO with these parameters (11.10.3), which can need more than 32 bits.
 pub fn trip_count(first: i32, last: i32, step: i32) -> u64
     requires { step ≢ pos 0 }
     ensures { result ≡ exact.trip_count first last step }
@@ -163,7 +164,7 @@ fn steps_within(distance: i64, step: i32) -> i64
     requires small { unsigned_abs distance < 2 ^ 40 }
     ensures { result ≡ int_div distance step }
 {
-    // nearly all DOs count by one, and a division costs as much as many of their steps
+    // Nearly all DOs count by one, and a division costs as much as many of their steps.
     if step == 1 {
         return distance;
     }

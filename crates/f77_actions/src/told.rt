@@ -1,5 +1,8 @@
-//! Operations on numbers that tell values or faults: one of 64 bits tells
-//! both, so that no test is made for a fault but that of the range.
+//! Operations on numbers of 64 bits, each of which stands for a value or for a fault. A number within the range of
+//! INTEGER is a value, and from 2^40 on it is a fault.
+//!
+//! A sum with a fault is outside of the range, so one test of the range is all that a sum needs. Of two faults the left
+//! one counts. Other operations can bring a fault back into the range, so they test their operands.
 
 ghost use Rattle.std.specs.Prelude.{◌≡◌, ◌+ℤ◌, ◌-ℤ◌, ◌*ℤ◌, if◌then◌else◌, ℤ, Result, Ok, Err};
 ghost use Rattle.f77_actions.specs.declared.finish.Fault.{Fault};
@@ -13,7 +16,7 @@ ghost use Rattle.f77_actions.specs.Value.{given, both};
 use crate::finish::Fault;
 use crate::number;
 
-/// Numbers from here on tell a fault, this one that there is no value.
+/// The least number that stands for a fault: there is no value. The other faults follow.
 pub const UNDEFINED: i64 = 1_099_511_627_776;
 /// A result outside the range of INTEGER (4.3).
 pub const OVERFLOW: i64 = 1_099_511_627_777;
@@ -21,14 +24,14 @@ pub const OVERFLOW: i64 = 1_099_511_627_777;
 pub const BAD_SUBSCRIPT: i64 = 1_099_511_627_778;
 /// A DO with an incrementation parameter of zero (11.10.3).
 pub const ZERO_STEP: i64 = 1_099_511_627_779;
-/// The trap of a mutant.
+/// TRAP was executed, or ZPUSH had a 0.
 pub const TRAPPED: i64 = 1_099_511_627_780;
 /// A division by zero, or MOD by zero (6.1.5, 15.10).
 pub const DIVIDE_BY_ZERO: i64 = 1_099_511_627_781;
 /// Zero to a power of zero or less (6.1.5).
 pub const ZERO_POWER: i64 = 1_099_511_627_782;
 
-/// The number is a value of INTEGER.
+/// Whether the number is a value of INTEGER.
 #[inline(always)]
 fn is_value(x: i64) -> bool
     ensures { result ≡ fits x }
@@ -36,7 +39,8 @@ fn is_value(x: i64) -> bool
     i32::try_from(x).is_ok()
 }
 
-/// The fault where an operation on these two has no value.
+/// The fault of an operation on these two numbers that has no value: that of the left one, else that of the right one,
+/// else Overflow.
 #[cold]
 #[inline(never)]
 #[tactic(auto, using(crate::proofs::Faults::unfit_left, crate::proofs::Faults::unfit_right, crate::proofs::Faults::unfit_neither))]
@@ -52,7 +56,7 @@ pub fn unfit(x: i64, y: i64) -> i64
     OVERFLOW
 }
 
-/// A sum with what tells a fault is beyond the range, so the range alone is tested.
+/// The sum. With a fault it is outside of the range, so the range alone is tested.
 #[inline(always)]
 pub fn sum(x: i64, y: i64) -> i64
     requires x { IsValueOrFault x }
@@ -64,7 +68,7 @@ pub fn sum(x: i64, y: i64) -> i64
     if is_value(z) { z } else { unfit(x, y) }
 }
 
-/// A difference to what tells a fault may be in the range, so the right operand is tested too.
+/// The difference. Where the right operand is a fault it may be in the range, so the right operand is tested too.
 #[inline(always)]
 pub fn difference(x: i64, y: i64) -> i64
     requires x { IsValueOrFault x }
@@ -79,7 +83,7 @@ pub fn difference(x: i64, y: i64) -> i64
     if is_value(z) { z } else { unfit(x, y) }
 }
 
-/// A product with what tells a fault may be in the range, or beyond 64 bits, so both operands are tested.
+/// The product. With a fault it may be in the range, or beyond 64 bits, so both operands are tested.
 #[inline(always)]
 pub fn product(x: i64, y: i64) -> i64
     requires x { IsValueOrFault x }
@@ -97,7 +101,7 @@ pub fn product(x: i64, y: i64) -> i64
     if is_value(z) { z } else { unfit(x, y) }
 }
 
-/// The number that tells a fault.
+/// The number that stands for a fault.
 #[cold]
 #[inline(never)]
 fn code(fault: Fault) -> i64
@@ -114,7 +118,7 @@ fn code(fault: Fault) -> i64
     }
 }
 
-/// The number that tells this.
+/// The number that stands for a value or a fault.
 #[inline(always)]
 fn told(outcome: Result<i32, Fault>) -> i64
     ensures { TellsResult result outcome }
@@ -125,7 +129,7 @@ fn told(outcome: Result<i32, Fault>) -> i64
     }
 }
 
-/// A truth value as a number.
+/// A truth value as a number: 1 or 0.
 #[inline(always)]
 pub fn truth(truth: bool) -> i64
     ensures { result ≡ meaning.truth_number truth }
@@ -133,7 +137,7 @@ pub fn truth(truth: bool) -> i64
     if truth { 1 } else { 0 }
 }
 
-/// What an operation on these two gives, if it gives this on values.
+/// The result of an operation on `x` and `y`, where `z` is its result if both are values.
 #[inline(always)]
 pub fn settled(x: i64, y: i64, z: i64) -> i64
     ensures { (f : ℤ → ℤ → Result ℤ Fault) (r q : Result ℤ Fault)
@@ -149,7 +153,7 @@ pub fn settled(x: i64, y: i64, z: i64) -> i64
     z
 }
 
-/// A value in 32 bits. What is no value is 0 there.
+/// A value in 32 bits. For a number that is no value it is 0.
 #[inline(always)]
 fn narrow(x: i64) -> i32
     requires { IsValueOrFault x }
@@ -225,7 +229,7 @@ pub fn greater(x: i64, y: i64) -> i64
     settled(x, y, greatest(x, y))
 }
 
-/// A minus before a number (6.1).
+/// The number with a minus before it (6.1).
 #[inline(always)]
 pub fn negated(x: i64) -> i64
     requires { IsValueOrFault x }
@@ -250,7 +254,7 @@ pub fn absolute(x: i64) -> i64
     told(number::absolute(x as i32))
 }
 
-/// The number, unless it is zero, which springs a mutant's trap.
+/// The value of ZPUSH: the number, but TRAPPED where it is 0.
 #[inline(always)]
 pub fn pushed(x: i64) -> i64
     requires { IsValueOrFault x }
@@ -262,7 +266,7 @@ pub fn pushed(x: i64) -> i64
     if x == 0 { TRAPPED } else { x }
 }
 
-/// `.NOT.` of a truth value as a number (6.4).
+/// `.NOT.` of a truth value, as a number (6.4).
 #[inline(always)]
 pub fn negation(x: i64) -> i64
     requires { IsValueOrFault x }

@@ -23,7 +23,7 @@ module _ {X : Type 0} where
   abbrev pub with_cell : (Symbol → ℕ → X) → Cell → X → Symbol → ℕ → X
   with_cell f cell v name k = if is_cell (name, k) cell then v else f name k
 
-  -- an element of two lists in a row
+  -- an element of two lists, one behind the other
   get_left : (xs ys : List X) (i : ℕ) → i < length xs → slice_get (xs ++ ys) i ≡ slice_get xs i
   get_left [] ys i h = absurd (omega arith)
   get_left (x ∷ xs) ys zero h = refl
@@ -173,7 +173,7 @@ module _ (bounds : Symbol → List ℕ) where
             ∙ ap (λ i. map (f x) (first_numbers n) ++ slice_set (laid_out names f) i v) at
             ∙ (λ i. sym own i ++ later i))
 
-    -- the same of each element
+    -- a list with one value for each of n elements
     table_of : (v : X) (n : ℕ) → map (λ i. v) (first_numbers n) ≡ replicate n v
     table_of v zero = refl
     table_of v (suc n) =

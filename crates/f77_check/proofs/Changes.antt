@@ -1,4 +1,4 @@
--- When a changed statement stands alone, and what is told of it.
+-- When a program can be judged by its changed statement alone, and what follows then.
 use Rattle.std.proofs.Common.{arith, ◌≡◌, ◌<◌, ◌==◌, ◌∙◌, inl, inr, ℕ, Bool, true, false, true≢false, cond, List, []}
 use Rattle.std.proofs.Common.{◌∷◌, length, get_or, set, map, filter, reverse, Option, Some, None, refl, sym, ap, subst}
 use Rattle.std.specs.Prelude.{◌-◌, is_some, option_map}
@@ -49,7 +49,7 @@ use Rattle.f77_check.proofs.Carried.{all_resolved_same, can_resolve_same, shapes
 use Rattle.f77_check.proofs.CheckedParts.{checked_of}
 use Rattle.f77_check.proofs.KeptNames.{mentions_at}
 
--- where no DO ends any statement may stand
+-- any statement may stand where no DO ends
 none_reversed : (xs : List ℕ) → reverse xs ≡ [] → xs ≡ []
 none_reversed [] none = refl
 none_reversed (x ∷ xs) none = let long = length-reverse (x ∷ xs) in let empty = ap length none in absurd (omega (arith, long, empty))
@@ -89,7 +89,7 @@ no_items (x ∷ xs) none = absurd (true≢false (sym none ∙ more))
     more : (length (x ∷ xs) == 0) ≡ false
     more = grind (arith, nat_tests)
 
--- which DOs end at a statement is told by its resolved form
+-- the resolved form of a statement says which DOs end at it
 pub may_stand_by : (checked : CheckedFields) → IsChecked checked → (i : ℕ) (s : Statement) → i < length checked.program → (r : Resolved)
     → r ≡ get_or checked.statements i r → (length r.ends.items == 0) ≡ true → MayStandAt (map line_of checked.program) i s
 may_stand_by checked is i s within r read none =
@@ -131,7 +131,7 @@ line_read lines i x line at read =
     let told : slice_get lines i ≡ Some x = slice_get_read lines (length lines) i x refl (omega (arith, within, long)) read in
     same_Some (line_of x) line (sym (slice_get-map line_of lines i ∙ ap (option_map line_of) told) ∙ at)
 
--- a statement that cannot be executed is all of it in the frame
+-- the frame has the whole of a statement that is not executable
 unframed : (t s : Statement) → is_executed s ≡ false → s ≡ framed t → s ≡ t
 unframed (Statement.Subroutine name names) s e same = same
 unframed (Statement.Declare kind declarations) s e same = same
@@ -171,7 +171,7 @@ no_fault : (list : List CheckFault) → slice_get list 0 ≡ None → list ≡ [
 no_fault [] none = refl
 no_fault (fault ∷ list) none = absurd (cc (none))
 
--- what the tables of a program tell of the changed statement, where they have its names and the frame stays
+-- what the tables of a program say of the changed statement, where they have its names and the frame stays
 module _ (r : Resolver) (p : List LineFields) (can : CanResolve r p) (i : ℕ) (s : Statement) (formed : IsFormed s) (stays : FrameStays p i s) (told : Broken)
     (names : names_pass (has_name r.tables.names) s ≡ has_known_names told)
     (first : Serve r.tables p → has_known_names told ≡ true → clause_told told ≡ first_clause p i s) (known : has_known_names told ≡ true) where
@@ -221,7 +221,7 @@ module _ (names : List Symbol) (p : List LineFields) (i : ℕ) (s : Statement) (
 
 -- a checked program and what it keeps, which is changed in the statement i alone
 module _ (checked : CheckedFields) (is : IsChecked checked) (i : ℕ) (s : Statement) (alone : StandsAlone checked.names (map line_of checked.program) i s) where
-  -- what the changed statement is resolved by
+  -- the tables with which the changed statement is resolved
   pub changed_resolvable : (r : Resolver) → CanResolve r (map line_of checked.program) → keys r.tables.names.facts ≡ checked.names
       → (list : List Resolved) → list ≡ checked.statements → (own : Resolved) → own ≡ get_or list i own
       → (q : List LineFields) → q ≡ replaced (map line_of checked.program) i s → IsProgram None q → IsLegal q

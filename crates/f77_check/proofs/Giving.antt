@@ -73,7 +73,7 @@ newly_found before name k constant none = λ j. λ q. λ i. each q i (is_cell (q
         ap (λ b. if b then Some constant else found_in before q i) e
         ∙ sym (found_more before (name, k) constant q i ∙ ap (λ b. option_or (found_in before q i) (if b then Some constant else None)) e ∙ or_none (found_in before q i))
 
--- where it has one, it keeps that
+-- an element that has a constant keeps it
 found_before : (before : Given) (name : Symbol) (k : ℕ) (constant old : Constant) → found_in before name k ≡ Some old
     → found_in before ≡ found_in (before ++ ((name, k), constant) ∷ [])
 found_before before name k constant old some = λ j. λ q. λ i. each q i (is_cell (q, i) (name, k)) refl j
@@ -124,7 +124,7 @@ module _ (bounds : Symbol → List ℕ) (names : List Symbol) where
         ∙ given_cells (before ++ one ∷ []) given are.2
         ∙ ap (λ all. laid_out bounds names (found_in all)) (append_assoc before (one ∷ []) given)
 
-  -- the next slots are given so many copies
+  -- the next slots are given this many copies
   give_copies : (times : ℕ) (constant : Constant) (list : List Cell) (held : List (Option Constant)) (rest : List Constant)
       → fold give_cell held (zip list (replicate times constant ++ rest))
       ≡ fold give_cell (give_run constant held (take times (map slot_at list))) (zip (drop times list) rest)

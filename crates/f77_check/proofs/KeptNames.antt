@@ -1,4 +1,4 @@
--- A table keeps each name that a statement of its program bears, and no name of a legal program has more than two dimensions.
+-- A table keeps each name of the statements of its program, and no name of a legal program has more than two dimensions.
 use Rattle.std.proofs.Common.{arith, ◌≡◌, ◌≤◌, ℕ, zero, suc, List, [], ◌∷◌, ◌++◌, Bool, true, false, ◌&&◌, ◌||◌, refl, sym, ap, subst, ◌∙◌, map, length, Option, Some, None}
 use Rattle.std.specs.Prelude.{nat_le}
 use Rattle.std.specs.List.{All, cons_option, filter_map, list_all, list_any}
@@ -38,7 +38,7 @@ or_end : (a : Bool) → (a || true) ≡ true
 or_end true = refl
 or_end false = refl
 
--- The names that nodes bear: those of an expression are kept where the expression is.
+-- the names of nodes: those of an expression are in the table where the expression is kept
 module _ (names : Names) where
   abbrev pub nodes_kept : List NodeOf → Bool
   nodes_kept nodes = list_all (is_kept names) (filter_map node_name nodes)
@@ -68,7 +68,7 @@ module _ (names : Names) where
   step_is None = refl
   step_is (Some t) = tree_is t
 
-  -- labels bear no name
+  -- labels have no name
   labels_kept : (labels : List ℕ) (nodes : List NodeOf) → nodes_kept (map NodeOf.Labelled labels ++ nodes) ≡ nodes_kept nodes
   labels_kept [] nodes = refl
   labels_kept (label ∷ labels) nodes = labels_kept labels nodes
@@ -91,7 +91,7 @@ module _ (names : Names) where
       ∙ h
   statement_kept _ h = refl
 
--- each name of a list is in it
+-- what holds of each name that is in a list holds of the list
 pub all_among : (test : Symbol → Bool) (names : List Symbol) → ((name : Symbol) → list_any (bytes_eq name) names ≡ true → test name ≡ true) → list_all test names ≡ true
 all_among test [] among = refl
 all_among test (x ∷ names) among =
@@ -116,7 +116,7 @@ module _ (test : Mention → Bool) where
       let both = and_true (list_all test (mentions_of line.stmt)) (list_all test (mentions program)) (sym (mentions_apart line program) ∙ all) in
       mentions_at program both.1 i s at
 
-  -- and of each mention, where it holds of those of each statement
+  -- what holds of the mentions of each statement holds of each mention
   mentions_hold : (by_line : LineFields → Bool) → ((line : LineFields) → by_line line ≡ true → list_all test (mentions_of line.stmt) ≡ true)
       → (program : List LineFields) → list_all by_line program ≡ true → list_all test (mentions program) ≡ true
   mentions_hold by_line each [] all = refl
@@ -136,7 +136,7 @@ module _ (names : Names) where
   mentions_kept (Statement.Dimension ds) h = refl
   mentions_kept s h = statement_kept names s (sym (plain_kept (names_of s)) ∙ h)
 
-  -- where the names of the program are among those of the table
+  -- a program whose names are among those of the table
   module _ (program : List LineFields) (covers : All (λ name. is_name_among (keys names.facts) name ≡ true) (symbols program)) where
     pub mentioned_kept : list_all (λ m. is_kept names (name_in m)) (mentions program) ≡ true
     mentioned_kept = (λ i. list_all (λ m. sym (among_keys names (name_in m)) i) (mentions program)) ∙ symbols_pass (keys names.facts) program covers
@@ -168,7 +168,7 @@ statement_flat bounds s h = all_plain (names_of s)
 shape_short : (d : DeclFields) → is_shape d ≡ true → length d.bounds ≤ 2
 shape_short d h = let short = (and_true (nat_le (length d.bounds) 2) (list_all (nat_le 1) d.bounds) h).0 in grind (arith, nat_tests)
 
--- where the first bounds of a list are
+-- at most two bounds, where the first of a list of bounds are
 first_short : (xs : List ℕ) (rest : List (List ℕ)) → length xs ≤ 2 → length (first_item_or [] rest) ≤ 2 → length (first_item_or [] (cons_option (some_items xs) rest)) ≤ 2
 first_short [] rest short later = later
 first_short (x ∷ xs) rest short later = short

@@ -102,7 +102,7 @@ target_ready r name items t h =
       },
     )
 
--- what is known of a statement of the program, of its form
+-- what is known of a statement of the program, by its form
 module _ (r : Resolver) (p : List LineFields) (x : Stmt) (ready : CanBeResolved r (statement_of x)) (found : AreFound p (jumps_of (statement_of x))) where
   pub computed_ready : (labels : Vec ℕ Global) (value : Expr) (list : List ℕ) → x ≡ forms.ComputedGoto labels value → list ≡ labels.items
       → CanBeResolved r (Statement.ComputedGoto list (tree_of value)) × AreFound p list

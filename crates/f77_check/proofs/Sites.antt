@@ -75,7 +75,7 @@ pub resolved_here : {E : Type 0} (p : List LineFields) (names : List Symbol) (i 
 resolved_here p names i s at (Ok x) is = λ t also. subst (λ t. IsResolved p names i t x) (same_Some _ _ (sym at ∙ also)) is
 resolved_here p names i s at (Err e) is = is
 
--- the first so many statements resolved
+-- the first n statements, resolved
 pub record AreFirst (p : List LineFields) (names : List Symbol) (n : ℕ) (list : List Resolved) : Type 0 where
   pub count : length list ≡ n
   pub each : (i : ℕ) (s : Statement) (r : Resolved) → nth_statement p i ≡ Some s → slice_get list i ≡ Some r → IsResolved p names i s r

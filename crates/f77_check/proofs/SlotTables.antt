@@ -1,4 +1,4 @@
--- The names of a table: those of the program, where it is the program's own, and a stock of it. They stand once each, and have few slots.
+-- The names of a table are those of the program if the table is its own, and in any case a stock of it. They stand once each, and have few slots.
 use Rattle.std.proofs.Common.{arith, ◌≡◌, ◌≤◌, ◌<◌, ◌^◌, ◌+◌, List, [], ◌∷◌, Bool, true, false, refl, sym, ap, subst, ◌∙◌, length, filter}
 use Rattle.std.specs.List.{All, list_any}
 use Rattle.std.specs.Map.{keys_of}

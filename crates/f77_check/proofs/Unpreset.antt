@@ -1,4 +1,4 @@
--- DATA gives nothing to a name that no statement of its program bears.
+-- DATA gives nothing to a name that no statement of its program has.
 use Rattle.std.proofs.Common.{◌≡◌, ℕ, List, [], ◌∷◌, ◌++◌, Bool, false, ◌||◌, refl, sym, ap, ◌∙◌, map, Some, None}
 use Rattle.std.specs.List.{filter_map, find, flat_map, list_any, zip}
 use Rattle.std.specs.Option.{option_and_then}
@@ -71,7 +71,7 @@ module _ (program : List LineFields) (name : Symbol) (k : ℕ) where
   abbrev gives : Cell × Constant → Bool
   gives given = is_cell (name, k) given.0
 
-  -- where no part of a list bears the name, none gives it anything, if each does so
+  -- where no part of a list has the name, no part gives it anything
   none_given : {X : Type 0} (names : X → List Symbol) (given : X → List (Cell × Constant))
       → ((x : X) → bears (names x) ≡ false → list_any gives (given x) ≡ false)
       → (xs : List X) → bears (flat_map names xs) ≡ false → list_any gives (flat_map given xs) ≡ false

@@ -1,5 +1,4 @@
--- Which statement is which with its names and labels looked
--- up: by cases on both. Statements are numbered from 0 here.
+-- Which action is that of which statement, by cases on both. Statements are numbered from 0 here.
 use Rattle.std.specs.Prelude.{◌≡◌, ⊤, ℕ, List, Option, Some, None, pos}
 use Rattle.std.specs.List.{AllZip}
 use Rattle.f77_program.specs.Program.{LineFields}
@@ -20,21 +19,21 @@ use Rattle.f77_legal.specs.Loops.{terminal, left_by}
 use Rattle.f77_legal.specs.Names.{Symbol}
 use Rattle.f77_check.specs.Slots.{first_slot}
 
--- the jump from i to the statement with this label
+-- the jump leads from i to the statement with this label
 pub record IsJump (program : List LineFields) (i label : ℕ) (jump : Jump) : Type 0 where
   pub target : label_place program label ≡ Some jump.target
   pub leaves : jump.leaves.items ≡ left_by program i jump.target
 
--- the jumps from i to the statements with these labels, in order
+-- the jumps lead from i to the statements with these labels, in order
 abbrev pub AreJumps : List LineFields → ℕ → List ℕ → List Jump → Type 0
 AreJumps program i labels jumps = AllZip (IsJump program i) labels jumps
 
--- the incrementation parameter of a DO, 1 where none is written
+-- the incrementation parameter of a DO, which is 1 where none is written
 abbrev pub IsIncrementation : (Symbol → List ℕ) → List Symbol → Option Tree → Number → Type 0
 IsIncrementation bounds names None step = step ≡ number.Constant (pos 1)
 IsIncrementation bounds names (Some tree) step = IsNumber bounds names tree step
 
--- an assignment, by the kind of what is assigned to
+-- the action is an assignment, by the kind of its target
 abbrev pub IsAssignment : (Symbol → Kind)
     → (Symbol → List ℕ) → List Symbol → Symbol → Trees → Tree → Action → Type 0
 IsAssignment kinds bounds names name items tree (AssignNumber element value) =
@@ -45,8 +44,8 @@ IsAssignment kinds bounds names name items tree (AssignTruth element value) =
     × IsElement bounds names name items element × IsCondition bounds names tree value
 IsAssignment kinds bounds names name items tree _ = ⊥
 
--- The action is what the statement i does, where names have
--- these kinds and bounds, and slots in the order of this list.
+-- The action is that of statement i, where names have these kinds and bounds, and slots in the
+-- order of this list.
 abbrev pub IsAction : (Symbol → Kind)
     → (Symbol → List ℕ) → List Symbol → List LineFields → ℕ → Statement → Action → Type 0
 IsAction kinds bounds names program i (Statement.Subroutine name dummies) Declaration = ⊤

@@ -1,5 +1,5 @@
--- What a checked program is: a legal one, with the shapes
--- of its dummy arguments and what a run of it starts with.
+-- What a checked program is: a legal program, with the shapes of its dummy arguments and with what
+-- a run of it starts with.
 use Rattle.std.specs.Prelude.{◌≡◌, ℕ, List, map, Some, None, if◌then◌else◌}
 use Rattle.f77_program.specs.Program.{LineFields, IsProgram, line_of}
 use Rattle.f77_program.specs.declared.program.Line.{Line}
@@ -15,7 +15,7 @@ use Rattle.f77_check.specs.Start.{IsStartOf}
 use Rattle.f77_actions.specs.declared.resolved.Resolved.{Resolved}
 use Rattle.f77_check.specs.declared.start.Start.{Start}
 
--- the kind of a name, and the number of its elements where it is an array
+-- the shape of a name: its kind, and the number of its elements if it is an array
 abbrev pub shape_of : List LineFields → Symbol → Shape
 shape_of program name =
     record {
@@ -24,11 +24,12 @@ shape_of program name =
           then Some (element_count program name) else None;
     }
 
+-- the shapes of the dummy arguments, in order
 abbrev pub shapes : List LineFields → List Shape
 shapes program = map (shape_of program) (dummies program)
 
--- The program, the shapes of its dummy arguments, names that have slots, in their order,
--- how many slots these have, its statements resolved, and what a run starts with.
+-- What a checked program has: the program, the shapes of its dummy arguments, the names that have
+-- slots in their order, the number of slots, the resolved statements, and what a run starts with.
 pub record CheckedFields : Type 0 where
   pub program : List Line
   pub arguments : List Shape
@@ -37,6 +38,7 @@ pub record CheckedFields : Type 0 where
   pub statements : List Resolved
   pub start : Start
 
+-- the program is legal, and all else is what belongs to it
 pub record IsChecked (checked : CheckedFields) : Type 0 where
   pub formed : IsProgram None (map line_of checked.program)
   pub legal : IsLegal (map line_of checked.program)

@@ -1,4 +1,4 @@
--- What a checked program is, from what it keeps.
+-- The view of a checked program.
 use Rattle.std.specs.Prelude.{List}
 use Rattle.indexmap.specs.IndexMap.{keys}
 use Rattle.f77_program.specs.declared.program.Line.{Line}
@@ -8,6 +8,7 @@ use Rattle.f77_check.specs.declared.resolve.Resolver.{Resolver}
 use Rattle.f77_actions.specs.declared.resolved.Resolved.{Resolved}
 use Rattle.f77_check.specs.declared.start.Start.{Start}
 
+-- the view of a checked program, from its fields
 abbrev pub checked_fields : List Line
     → List Shape → Resolver → List Resolved → Start → CheckedFields
 checked_fields program arguments resolver statements start = record {

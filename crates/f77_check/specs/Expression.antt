@@ -1,5 +1,5 @@
--- Which expression is which with its names looked up: by cases on
--- both. Names have these bounds, and slots in the order of this list.
+-- Which resolved expression is that of which expression, by cases on both. Names have these bounds,
+-- and slots in the order of this list.
 use Rattle.std.specs.Prelude.{◌≡◌, ℕ, ◌<◌, ◌≤◌, List, [], ◌∷◌, Some, pos}
 use Rattle.f77_tree.specs.Tree.{Tree, Trees}
 use Rattle.f77_tree.specs.declared.intrinsic.Intrinsic.TheVariants.{Mod, Iabs, Min0, Max0}
@@ -17,7 +17,7 @@ use Rattle.f77_actions.specs.Operators.{arithmetic_of, relation_of, connective_o
 use Rattle.f77_check.specs.Slots.{first_slot}
 
 abbrev mutual
-  -- a reference to a variable or an array element
+  -- the element is that of a reference to a variable or an array element
   pub IsElement : (Symbol → List ℕ) → List Symbol → Symbol → Trees → Element → Type 0
   IsElement bounds names name Trees.None (Variable slot) =
       (bounds name ≡ []) × (first_slot bounds names name ≡ Some slot)
@@ -32,7 +32,7 @@ abbrev mutual
       × IsNumber bounds names right column
   IsElement bounds names name _ _ = ⊥
 
-  -- an INTEGER expression
+  -- the number is that of an INTEGER expression
   pub IsNumber : (Symbol → List ℕ) → List Symbol → Tree → Number → Type 0
   IsNumber bounds names (Tree.Number value) (Constant whole) =
       (whole ≡ pos value) × (value ≤ 2147483647)
@@ -59,7 +59,8 @@ abbrev mutual
       IsNumber bounds names tree operand
   IsNumber bounds names _ _ = ⊥
 
-  -- the least or the greatest of numbers, the first of them and then the rest
+  -- the number is the least or the greatest of these: an operation on the first and on the choice
+  -- among the rest
   pub IsChosen : (Symbol → List ℕ) → List Symbol → Arithmetic → Trees → Number → Type 0
   IsChosen bounds names choice Trees.None chosen = ⊥
   IsChosen bounds names choice (Trees.Then tree Trees.None) chosen =
@@ -70,7 +71,7 @@ abbrev mutual
       × IsChosen bounds names choice (Trees.Then right trees) rest
   IsChosen bounds names choice _ _ = ⊥
 
--- a LOGICAL expression
+-- the condition is that of a LOGICAL expression
 abbrev pub IsCondition : (Symbol → List ℕ) → List Symbol → Tree → Condition → Type 0
 IsCondition bounds names (Tree.Truth truth) (condition.Constant constant) = constant ≡ truth
 IsCondition bounds names (Tree.Reference name items) (condition.Element element) =

@@ -1,4 +1,4 @@
--- When a changed program is told from a checked one by the changed statement alone.
+-- When the changed statement alone decides what the changed program is.
 use Rattle.std.specs.Prelude.{◌-◌, ℕ, map, None, slice_set}
 use Rattle.f77_program.specs.Program.{IsProgram, line_of}
 use Rattle.f77_program.specs.Patching.{patched}
@@ -8,9 +8,9 @@ use Rattle.f77_check.specs.Checked.{CheckedFields}
 use Rattle.f77_check.specs.Resolved.{AreResolved}
 use Rattle.f77_actions.specs.declared.resolved.Resolved.{Resolved}
 
--- The program with this statement in the place of the one of this
--- number, from 1, is of the same frame, and its statements resolved
--- are those of this one, but for that statement, which is resolved so.
+-- The program with another statement in the place of the one with this number, from 1, has the same
+-- frame. Its resolved statements are those of the checked program, apart from that statement, whose
+-- resolved form is `new`.
 pub record IsInPlace (checked : CheckedFields) (number : ℕ) (statement : Statement)
     (new : Resolved) : Type 0 where
   pub formed : IsProgram None (patched (map line_of checked.program) number statement)

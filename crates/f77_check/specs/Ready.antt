@@ -1,4 +1,4 @@
--- What the tables and the statements of a legal program have, by which names are looked up.
+-- What the tables need, so that the names and labels of a legal program can be looked up.
 use Rattle.std.specs.Prelude.{List, None}
 use Rattle.indexmap.specs.IndexMap.{keys}
 use Rattle.f77_program.specs.Program.{LineFields, IsProgram}
@@ -8,7 +8,7 @@ use Rattle.f77_legal.specs.Patches.{IsStock}
 use Rattle.f77_legal.specs.Tables.{Serve}
 use Rattle.f77_check.specs.declared.resolve.Resolver.{Resolver}
 
--- the tables serve a legal program, and have its names
+-- the tables serve this legal program, and have its names
 pub record CanResolve (resolver : Resolver) (program : List LineFields) : Type 0 where
   pub tables : Serve resolver.tables program
   pub names : IsStock (keys resolver.tables.names.facts) program

@@ -1,5 +1,5 @@
--- The resolved form of a program: statement i with its names and labels
--- looked up is resolved statement i. Statements are numbered from 0 here.
+-- The resolved form of a program: resolved statement i is statement i with its names and labels
+-- looked up. Statements are numbered from 0 here.
 use Rattle.std.specs.Prelude.{◌≡◌, ℕ, List, length, Some, slice_get}
 use Rattle.f77_program.specs.Program.{LineFields}
 use Rattle.f77_tree.specs.Statement.{Statement}
@@ -10,6 +10,7 @@ use Rattle.f77_legal.specs.Labels.{nth_statement}
 use Rattle.f77_legal.specs.Loops.{loops_ending}
 use Rattle.f77_legal.specs.Names.{Symbol, kind_of, bounds_of}
 
+-- the resolved form of statement i: its action, the statement behind, and the DOs that end at it
 pub record IsResolved (program : List LineFields) (names : List Symbol) (i : ℕ)
     (statement : Statement) (resolved : Resolved) : Type 0 where
   pub action : IsAction (kind_of program) (bounds_of program) names program i
@@ -17,7 +18,7 @@ pub record IsResolved (program : List LineFields) (names : List Symbol) (i : ℕ
   pub next : statement_behind program i ≡ Some resolved.next
   pub ends : resolved.ends.items ≡ loops_ending program i
 
--- each statement resolved, in order, where names have slots in the order of this list
+-- these are the resolved statements, in order, where names have slots in the order of this list
 pub record AreResolved (program : List LineFields) (names : List Symbol)
     (list : List Resolved) : Type 0 where
   pub count : length list ≡ length program

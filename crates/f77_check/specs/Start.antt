@@ -15,25 +15,28 @@ use Rattle.f77_legal.specs.Names.{Symbol, kind_of, bounds_of}
 use Rattle.f77_legal.specs.Presets.{element_count, groups_of}
 use Rattle.f77_check.specs.Slots.{first_slot, slot_kinds}
 
--- an element of a name
+-- an element of a name: the name, and the number of the element from 0
 abbrev pub Cell : Type 0
 Cell = Symbol × ℕ
 
+-- the elements of these names, in order
 abbrev pub cells : List LineFields → List Symbol → List Cell
 cells program names =
     flat_map (λ name. map (λ k. (name, k)) (first_numbers (element_count program name))) names
 
--- the elements that a group of DATA gives a constant, each with it
+-- the elements to which a group of DATA gives a constant, each with its constant
 abbrev pub presets_of : List LineFields → GroupFields → List (Cell × Constant)
 presets_of program group = zip (cells program group.names)
     (flat_map (λ value. replicate value.times value.constant) group.values)
 
+-- the elements to which DATA gives a constant in a program, each with its constant
 abbrev pub presets : List LineFields → List (Cell × Constant)
 presets program = flat_map (λ line. flat_map (presets_of program) (groups_of line.stmt)) program
 
 abbrev pub is_cell : Cell → Cell → Bool
 is_cell one other = bytes_eq one.0 other.0 && one.1 == other.1
 
+-- the constant that DATA gives to element k of a name: the first, if there are several
 abbrev pub preset_value : List LineFields → Symbol → ℕ → Option Constant
 preset_value program name k = option_and_then (λ given. Some given.1)
     (find (λ given. is_cell (name, k) given.0) (presets program))

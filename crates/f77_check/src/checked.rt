@@ -1,4 +1,4 @@
-//! Programs that were checked.
+//! Checked programs: legal ones, with all that a run looks up.
 
 ghost use Rattle.std.specs.Prelude.{◌≡◌, ◌≤◌, length, map};
 ghost use Rattle.std.specs.Coded.{codes};
@@ -22,15 +22,16 @@ use f77_program::Program;
 use f77_tree::{Kind, Shared};
 use std::marker::Model;
 
-/// What a dummy argument is: a variable, or an array of so many elements.
+/// The shape of a dummy argument: its kind, and whether it is a variable or an array.
 #[derive(Clone, Copy, Debug, PartialEq, Eq, Drop)]
 pub struct Shape {
     pub kind: Kind,
-    /// The number of elements, 1 to 10000, where it is an array.
+    /// The number of elements of an array, 1 to 10000. None for a variable.
     pub elements: Option<u32>,
 }
 
-/// A legal program, with its resolved form and what a run starts with: what a run looks up is looked up once.
+/// A legal program, with its resolved form and with what a run starts with. It keeps a copy of the program, which
+/// shares the lines, so that it can be used without the program that it was made of.
 #[derive(Drop)]
 pub struct Checked {
     program: Program,
@@ -96,14 +97,14 @@ impl Checked {
         &self.arguments
     }
 
-    /// The same shapes, shared.
+    /// The shapes of the dummy arguments, to be shared.
     pub(crate) fn shared_arguments(&self) -> &Shared<Vec<Shape>>
         ensures { result.now.items ≡ self.now.arguments }
     {
         &self.arguments
     }
 
-    /// What names and labels are looked up in.
+    /// The tables in which names and labels are looked up.
     pub(crate) fn resolver(&self) -> &Shared<Resolver>
         ensures tables { CanResolve result.now (map line_of self.now.program) }
         ensures names { keys result.now.tables.names.facts ≡ self.now.names }
@@ -112,15 +113,14 @@ impl Checked {
         &self.resolver
     }
 
-    /// How many statements there are, 2 to 500. It takes no memory.
+    /// The number of statements, 2 to 500. It takes no memory.
     pub fn count(&self) -> usize
         ensures { result ≡ length self.now.program }
     {
         self.program.lines().len()
     }
 
-    /// How many slots the variables and arrays have: one for each variable
-    /// and each element of an array, 0 to 10100. It takes no memory.
+    /// The number of slots, 0 to 10100: one for each variable and one for each element of an array. It takes no memory.
     pub fn slots(&self) -> usize
         ensures slots { result ≡ self.now.slots }
         ensures few { result ≤ most_slots }
@@ -129,7 +129,7 @@ impl Checked {
         self.resolver.slots.count
     }
 
-    /// The statements resolved, in order. It takes no memory.
+    /// The resolved statements, in order. It takes no memory.
     pub fn statements(&self) -> &[Shared<Resolved>]
         ensures statements { result.now ≡ self.now.statements }
         ensures checked { IsChecked self.now }
@@ -145,7 +145,7 @@ impl Checked {
         &self.start
     }
 
-    /// The same, shared.
+    /// What a run of the program starts with, to be shared.
     pub(crate) fn shared_start(&self) -> &Shared<Start>
         ensures { result.now ≡ self.now.start }
     {

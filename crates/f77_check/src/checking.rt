@@ -28,10 +28,10 @@ pub(crate) fn judged(alloc: Global, lines: &[Shared<Line>]) -> Result<Tables, Ch
     Ok(tables)
 }
 
-/// Whether the program is legal: it and the shapes of its dummy
-/// arguments, or its first fault, clause by clause, in the order of test.
+/// Checks a program, and gives it with the shapes of its dummy arguments. Where the program is not legal, its first
+/// fault is reported, clause by clause in the order of test.
 ///
-/// Want of memory is told in place of any answer.
+/// Memory may be reported in place of any answer.
 #[tactic(auto, using(crate::proofs::SlotTables::slots_few))]
 pub fn check(alloc: Global, program: &Program) -> Result<Checked, CheckFault>
     ensures legal { IfOk result (λ checked. IsLegal (map line_of program.now)) }

@@ -9,7 +9,7 @@ use crate::checked::Checked;
 use f77_legal::CheckFault;
 
 impl Checked {
-    /// The labels that stand on statements, in order.
+    /// The labels that stand on statements, in the order of the statements.
     pub fn labels(&self) -> Result<Vec<u32>, CheckFault>
         ensures labels { IfOk result (λ list. list.items ≡ labelled.labels (map line_of self.now.program)) }
         ensures memory { IfErr result (λ fault. fault ≡ Memory) }

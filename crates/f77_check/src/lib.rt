@@ -1,4 +1,8 @@
 //! Which programs are legal, and the resolved form of those that are.
+//!
+//!     let checked = check(alloc, &program)?;   // or a fault: CheckFault::NoLabel(4) where line 4 names no statement
+//!     let shapes = checked.arguments();        // a Shape for each dummy argument
+//!     let statements = checked.statements();   // resolved: names as slots, labels as numbers of statements
 #![tactic(auto)]
 
 mod checked;

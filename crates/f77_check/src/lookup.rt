@@ -1,4 +1,4 @@
-//! Expressions of a legal program with their names looked up.
+//! Looking up the names in expressions of a legal program.
 
 ghost use Rattle.std.specs.Prelude.{◌≡◌, ◌<◌, true, None, Some, length, map, option_map, IfOk, IfErr, IfSome, List, ℕ};
 ghost use Rattle.std.specs.List.{All};
@@ -23,7 +23,7 @@ use f77_legal::CheckFault;
 use f77_tree::{Expr, Intrinsic, Name, Operator, Sign};
 use std::alloc::Global;
 
-/// An INTEGER constant.
+/// An INTEGER constant, or TooLarge where it is above 2147483647.
 fn constant(value: u32) -> Number
     ensures { (bounds : Symbol → List ℕ) (names : List Symbol) → IsNumber bounds names (Tree.Number value) result }
 {
@@ -33,7 +33,7 @@ fn constant(value: u32) -> Number
     }
 }
 
-/// What an arithmetic operator stands for.
+/// The operation of an arithmetic operator.
 pub(crate) fn operation(operator: Operator) -> Arithmetic
     requires { same_kind (result_kind operator) Integer ≡ true }
     ensures { arithmetic_of operator ≡ Some result }
@@ -44,7 +44,7 @@ pub(crate) fn operation(operator: Operator) -> Arithmetic
     }
 }
 
-/// What a logical operator on two truth values stands for.
+/// The connective of a logical operator between two truth values.
 pub(crate) fn connective(operator: Operator) -> Connective
     requires kind { same_kind (result_kind operator) Logical ≡ true }
     requires other { relation_of operator ≡ None }
@@ -57,7 +57,7 @@ pub(crate) fn connective(operator: Operator) -> Connective
 }
 
 impl Resolver {
-    /// A variable or an array element, where it is named.
+    /// A variable or an array element, from its name and its subscripts.
     #[cycle(numbers)]
     #[tactic(auto, using(f77_legal::proofs::Counts::count_trees, crate::proofs::Items::one_item, crate::proofs::Items::two_items))]
     pub(crate) fn element(
@@ -73,7 +73,7 @@ impl Resolver {
     {
         let names = &self.tables.names;
         let first = self.slots.first(names, name);
-        // It has as many bounds as subscripts: those of a variable need not be looked up.
+        // It has as many bounds as subscripts, so those of a variable need not be looked up.
         if subscripts.is_empty() {
             return Ok(Element::Variable(first));
         }
@@ -122,7 +122,7 @@ impl Resolver {
         }
     }
 
-    /// The same on the heap.
+    /// An INTEGER expression, on the heap.
     #[cycle(numbers)]
     #[tactic(auto, unfolding(crate::specs::code::Boxed::HoldsNumber))]
     pub(crate) fn boxed(&self, alloc: Global, expr: &Expr) -> Result<Box<Number>, CheckFault>
@@ -187,7 +187,7 @@ impl Resolver {
         }
     }
 
-    /// The least or the greatest of some numbers.
+    /// MIN0 or MAX0 of some numbers, as operations on two numbers each.
     #[cycle(numbers)]
     fn chosen(
         &self,
@@ -209,7 +209,7 @@ impl Resolver {
         Ok(chosen)
     }
 
-    /// Two numbers with a relational operator between them.
+    /// A relation of two numbers.
     pub(crate) fn related(
         &self,
         alloc: Global,
@@ -259,7 +259,7 @@ impl Resolver {
         }
     }
 
-    /// The same on the heap.
+    /// A LOGICAL expression, on the heap.
     #[cycle(conditions)]
     #[tactic(auto, unfolding(crate::specs::code::Boxed::HoldsCondition))]
     fn boxed_condition(&self, alloc: Global, expr: &Expr) -> Result<Box<Condition>, CheckFault>
@@ -270,7 +270,7 @@ impl Resolver {
         Ok(Box::new(alloc, self.condition(alloc, expr)?)?)
     }
 
-    /// The incrementation parameter of a DO, 1 where none is written (11.10).
+    /// The incrementation parameter of a DO: 1 where none is written (11.10).
     pub(crate) fn step(&self, alloc: Global, step: &Option<Expr>) -> Result<Number, CheckFault>
         requires { IfSome step.now (λ step. IsReadyTree self.now Integer (tree_of step)) }
         ensures step { IfOk result (by_tables self.now IsIncrementation (option_map tree_of step.now)) }

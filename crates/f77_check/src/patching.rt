@@ -1,4 +1,10 @@
 //! Checked programs with one statement changed.
+//!
+//! Where the changed statement alone decides, the tables, the start and all other lines and resolved statements are
+//! shared with the old program. The table of names may then have names that the program no longer has, in an order of
+//! its own; `IsStock` says what holds of them. Any other change is checked as a whole.
+//!
+//! Memory comes from where that of the old program came (`Program::allocator`), so no call needs an allocator.
 
 ghost use Rattle.std.specs.Prelude.{◌≡◌, ◌<◌, ◌⊎◌, ◌-◌, true, false, List, length};
 ghost use Rattle.std.specs.Prelude.{map, IfOk, IfErr, None, Some};
@@ -20,8 +26,8 @@ use f77_legal::{Broken, CheckFault, is_terminal, keeps_frame};
 use f77_tree::{Shared, Stmt};
 
 impl Checked {
-    /// Whether the statement may stand in the place of the one of this number, which is 1 for SUBROUTINE: it is of the
-    /// same group, some text spells it, and its names have six characters at most. It takes no memory.
+    /// Whether the statement may be put in the place of the statement with this number, counted from 1. It may if both
+    /// are of the same group, some text spells it, and its names have at most six characters. It takes no memory.
     pub fn fits(&self, number: usize, stmt: &Stmt) -> bool
         ensures yes { result ≡ true → Fits (map line_of self.now.program) number (statement_of stmt.now) }
         ensures no { result ≡ false → ¬ (Fits (map line_of self.now.program) number (statement_of stmt.now)) }
@@ -29,7 +35,7 @@ impl Checked {
         self.program().fits(number, stmt)
     }
 
-    /// Whether the statement may stand in the place of the statement `i`, where DOs may end. It takes no memory.
+    /// Whether the statement may be put in the place of statement `i`, at which DOs may end. It takes no memory.
     fn may_stand_at(&self, i: usize, stmt: &Stmt) -> bool
         requires { i < length self.now.program }
         ensures { result ≡ true → MayStandAt (map line_of self.now.program) i (statement_of stmt.now) }
@@ -46,8 +52,8 @@ impl Checked {
         keeps_frame(&self.program().lines()[i].stmt, stmt) && self.may_stand_at(i, stmt)
     }
 
-    /// What the changed statement alone tells of the changed program: true where it is legal, false where the
-    /// whole of it has to be judged, or its first fault. It takes no memory.
+    /// What follows from the changed statement alone: true if the changed program is legal, false if the whole of it
+    /// has to be judged, or its first fault. It takes no memory.
     fn judged_alone(&self, number: usize, stmt: &Stmt) -> Result<bool, CheckFault>
         requires { Fits (map line_of self.now.program) number (statement_of stmt.now) }
         ensures alone { IfOk result (λ alone. alone ≡ true
@@ -69,10 +75,11 @@ impl Checked {
         }
     }
 
-    /// Whether the program with this statement in the place of the one of this number is legal by that statement
-    /// alone; false where it is legal, and was judged as a whole; else its first fault, in the order of test.
+    /// Judges the program with another statement in the place of the one with this number, counted from 1. Gives true
+    /// if it is legal by that statement alone, false if it is legal and had to be judged as a whole; else its first
+    /// fault, in the order of test.
     ///
-    /// Want of memory is told in place of any answer. None is taken where the statement alone tells.
+    /// Memory may be reported in place of any answer. None is taken where the statement alone decides.
     pub fn judge(&self, number: usize, stmt: &Stmt) -> Result<bool, CheckFault>
         requires { Fits (map line_of self.now.program) number (statement_of stmt.now) }
         ensures legal { IfOk result
@@ -89,8 +96,8 @@ impl Checked {
         Ok(false)
     }
 
-    /// The statement resolved in the place of the one of this number, where the changed program is legal by it alone.
-    /// With it in the place of the old one, the statements resolved are those of the changed program.
+    /// The resolved form of the statement in its new place, where the changed program is legal by this statement alone.
+    /// With it in the place of the old one, the resolved statements are those of the changed program.
     pub fn resolved(&self, number: usize, stmt: &Stmt) -> Result<Shared<Resolved>, CheckFault>
         requires fits { Fits (map line_of self.now.program) number (statement_of stmt.now) }
         requires alone { StandsAlone self.now.names (map line_of self.now.program) (number - 1)
@@ -104,7 +111,7 @@ impl Checked {
         Ok(Shared::new(alloc, resolved)?)
     }
 
-    /// The statement `i` of the changed program, which this statement is, resolved.
+    /// The resolved form of statement `i` of the changed program.
     fn resolved_for(&self, i: usize, stmt: &Stmt) -> Result<Resolved, CheckFault>
         ghost program: { List LineFields }
         requires changed { program ≡ replaced (map line_of self.now.program) i (statement_of stmt.now) }
@@ -144,10 +151,10 @@ impl Checked {
         ))
     }
 
-    /// The program with this statement in the place of the one of this number, checked: it and the shapes of its dummy
-    /// arguments, or its first fault, clause by clause, in the order of test.
+    /// Checks the program with another statement in the place of the one with this number, counted from 1. Where it is
+    /// not legal, its first fault is reported, clause by clause in the order of test.
     ///
-    /// Want of memory is told in place of any answer. This program stays as it is.
+    /// Memory may be reported in place of any answer. The old program stays as it is.
     pub fn patched(&self, number: usize, stmt: &Stmt) -> Result<Checked, CheckFault>
         requires { Fits (map line_of self.now.program) number (statement_of stmt.now) }
         ensures legal { let program = patched (map line_of self.now.program) number (statement_of stmt.now) in
@@ -166,7 +173,7 @@ impl Checked {
         check(program.allocator(), &program)
     }
 
-    /// The faults of the whole changed program.
+    /// Judges the changed program as a whole.
     fn judged_as_a_whole(&self, number: usize, stmt: &Stmt) -> Result<(), CheckFault>
         requires { Fits (map line_of self.now.program) number (statement_of stmt.now) }
         ensures { TellsFirstFault result

@@ -1,4 +1,4 @@
-//! The names and labels of statements are looked up.
+//! Looking up the names and labels of statements.
 
 ghost use Rattle.std.specs.Prelude.{◌≡◌, ◌<◌, true, Some, List, length, map, option_map, IfOk, IfErr, IsSome};
 ghost use Rattle.indexmap.specs.IndexMap.{keys};
@@ -25,7 +25,7 @@ use f77_program::Line;
 use f77_tree::{Expr, Kind, Name, Ref, Shared, Stmt};
 use std::alloc::Global;
 
-/// What the names and labels of single statements are looked up in.
+/// The tables in which the names and labels of a statement are looked up.
 #[derive(Drop)]
 pub(crate) struct Resolver {
     pub(crate) tables: Tables,
@@ -33,7 +33,7 @@ pub(crate) struct Resolver {
 }
 
 impl Resolver {
-    /// The jump from the statement `i` to the one with this label.
+    /// The jump from statement `i` to the statement with this label.
     fn jump(&self, alloc: Global, i: usize, label: u32) -> Result<Jump, CheckFault>
         ghost program: { List LineFields }
         requires tables { Serve self.now.tables program }
@@ -48,7 +48,7 @@ impl Resolver {
         Ok(Jump { target, leaves })
     }
 
-    /// The jumps from the statement `i` to those with these labels, in order.
+    /// The jumps from statement `i` to the statements with these labels, in order.
     fn jumps(&self, alloc: Global, i: usize, labels: &[u32]) -> Result<Vec<Jump>, CheckFault>
         ghost program: { List LineFields }
         requires tables { Serve self.now.tables program }
@@ -63,7 +63,7 @@ impl Resolver {
         Ok(jumps)
     }
 
-    /// An assignment, by the kind of what is assigned to (10.1, 10.2).
+    /// An assignment, by the kind of its target (10.1, 10.2).
     fn assignment(&self, alloc: Global, target: &Ref, value: &Expr) -> Result<Action, CheckFault>
         requires { CanBeResolved self.now (Statement.Assign (reference_fields target.now).0
             (trees (reference_fields target.now).1) (tree_of value.now)) }
@@ -129,7 +129,7 @@ impl Resolver {
         })
     }
 
-    /// A statement that may stand in a logical IF.
+    /// The action of a statement that may stand in a logical IF.
     fn inner_action(&self, alloc: Global, i: usize, stmt: &Stmt) -> Result<Action, CheckFault>
         ghost program: { List LineFields }
         requires tables { Serve self.now.tables program }
@@ -246,7 +246,7 @@ impl Resolver {
         })
     }
 
-    /// What the statement `i` does (section 10, 11.1 to 11.14).
+    /// The action of statement `i` (section 10, 11.1 to 11.14).
     fn action(&self, alloc: Global, i: usize, stmt: &Stmt) -> Result<Action, CheckFault>
         ghost program: { List LineFields }
         requires tables { Serve self.now.tables program }
@@ -288,7 +288,7 @@ impl Resolver {
         }
     }
 
-    /// A statement of a legal program, resolved: the statement `i`, from which control goes on to `next`.
+    /// The resolved form of statement `i` of a legal program, from which control goes on to `next`.
     pub(crate) fn resolved_as(
         &self,
         alloc: Global,
@@ -309,7 +309,7 @@ impl Resolver {
         Ok(Resolved { action, next, ends })
     }
 
-    /// The statement `i` of a legal program, resolved.
+    /// The resolved form of statement `i` of a legal program.
     fn resolved(
         &self,
         alloc: Global,
@@ -331,7 +331,7 @@ impl Resolver {
         self.resolved_as(alloc, i, stmt, next)
     }
 
-    /// Each statement of a legal program, resolved, in order.
+    /// The resolved form of each statement of a legal program, in order.
     pub(crate) fn all(
         &self,
         alloc: Global,

@@ -10,7 +10,7 @@ use f77_legal::names::{Names, product};
 use f77_tree::Name;
 use std::alloc::Global;
 
-/// The number, 4294967295 for more than that.
+/// The number, or 4294967295 if it is larger.
 fn clipped(number: u64) -> u32
     ensures { result ≡ min number 4294967295 }
 {
@@ -35,7 +35,7 @@ fn shape(names: &Names, name: &Name) -> Shape
     }
 }
 
-/// The shape of each name, in order, the elements of an array as 4294967295 where they are more than that.
+/// The shape of each name, in order. An array with more than 4294967295 elements is said to have that many.
 pub(crate) fn shapes(alloc: Global, names: &Names, list: &[Name]) -> Result<Vec<Shape>, CheckFault>
     ensures shapes { IfOk result (λ shapes. shapes.items ≡ map (shape_at names.now) list.now) }
     ensures memory { IfErr result (λ fault. fault ≡ Memory) }

@@ -1,4 +1,4 @@
-//! Slots: where a run keeps the values of names.
+//! Slots: the places in which a run keeps the values of variables and array elements.
 
 ghost use Rattle.std.specs.Prelude.{◌≡◌, ◌<◌, ◌^◌, true, Some, IfOk, IfErr};
 ghost use Rattle.indexmap.specs.IndexMap.{keys};
@@ -21,7 +21,7 @@ pub(crate) struct Slots {
 }
 
 impl Slots {
-    /// The slots of these names.
+    /// The slots of these names, name by name.
     pub(crate) fn of(alloc: Global, names: &Names) -> Result<Slots, CheckFault>
         requires { slot_count (array_bounds names.now) (keys names.now.facts) < 2 ^ 32 }
         ensures table { IfOk result (λ slots. IsSlotTable slots names.now) }
@@ -36,7 +36,7 @@ impl Slots {
         Ok(Slots { first, count })
     }
 
-    /// The first slot of a name of the table.
+    /// The first slot of a name that is in the table.
     pub(crate) fn first(&self, names: &Names, name: &Name) -> usize
         requires table { IsSlotTable self.now names.now }
         requires kept { is_kept names.now name.now ≡ true }

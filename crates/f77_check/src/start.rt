@@ -34,13 +34,13 @@ pub struct Start {
     pub entry: usize,
     /// The first slot of each dummy argument, in order.
     pub dummies: Vec<usize>,
-    /// What DATA gives each slot (section 9).
+    /// The value that DATA gives each slot, if it gives one (section 9).
     pub initial: Vec<Option<Constant>>,
     /// The kind of each slot.
     pub kinds: Vec<Kind>,
 }
 
-/// The first executable statement.
+/// The first executable statement, from 0.
 fn entry(lines: &[Shared<Line>]) -> Option<usize>
     ensures { result ≡ position (λ line. is_executable_statement (statement_of line.stmt)) lines.now }
 {
@@ -49,7 +49,7 @@ fn entry(lines: &[Shared<Line>]) -> Option<usize>
         .position(|line| line.stmt.form().is_executable())
 }
 
-/// The groups of a DATA statement, none of another.
+/// The groups of a DATA statement. Another statement has none.
 #[tactic(auto, using(f77_legal::proofs::Forms::no_groups))]
 fn groups(stmt: &Stmt) -> &[DataGroup]
     ensures { map data_group_of result.now ≡ presets.groups_of (statement_of stmt.now) }
@@ -77,7 +77,7 @@ fn give_run(held: &mut [Option<Constant>], slots: &[usize], constant: Constant)
     }
 }
 
-/// Gives the slots the values, one after another, each as often as it is repeated.
+/// Gives the slots the values in order, each value as often as it is repeated.
 fn give_values(held: &mut [Option<Constant>], slots: &[usize], values: &[Value])
     ensures { held.new ≡ given.give_values held.old slots.now values.now }
 {
@@ -154,7 +154,7 @@ impl Resolver {
         Ok(())
     }
 
-    /// What DATA gives each slot.
+    /// The value that DATA gives each slot, if it gives one.
     fn initial(
         &self,
         alloc: Global,

@@ -43,7 +43,7 @@ module _ (plan : Plan) (statements : List Resolved) (registers : List ℤ) (coun
   truth_alike v (Ok b) same f g each = subst (λ v. IsMove plan statements (code.used_in_code v registers counters f) (g b)) (sym same) (each b)
   truth_alike v (Err e) same f g each = subst (λ v. IsMove plan statements (code.used_in_code v registers counters f) (Ends (Failed e) cells)) (sym same) (refl, holds)
 
-  -- a truth value tells where both go
+  -- a truth value decides where both go
   pub branched : (v : Result ℤ Fault) (w : Result Bool Fault) → v ≡ of_truth w → (there next : ℕ) (taken other : Move)
       → IsMove plan statements (point there registers counters) taken → IsMove plan statements (point next registers counters) other
       → IsMove plan statements (branch v there next registers counters) (moves.used w cells (λ b. jump_chosen b taken other))

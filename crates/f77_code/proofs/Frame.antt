@@ -58,7 +58,7 @@ module _ (registers extra : List ℤ) where
       → both f (register (registers ++ extra) left) (register (registers ++ extra) right) ≡ both f (register registers left) (register registers right)
   pair_more f left right a b = λ i. both f (register_more left a i) (register_more right b i)
 
-  -- an element by a subscript that tells the same
+  -- an element, where both subscripts stand for the same
   element_by : (first bound : ℕ) (r q : Result ℤ Fault) → array_within (length registers) first bound ≡ true → r ≡ q
       → element_at (registers ++ extra) first (vector_place bound r) ≡ element_at registers first (vector_place bound q)
   element_by first bound r q h e = ap (λ r. element_at (registers ++ extra) first (vector_place bound r)) e ∙ vector_more first bound h q
@@ -351,7 +351,7 @@ module _ (P : List ℤ → Type 0) (next : ℕ) (turns : List Turn) where
     ran_keeps (Load to first bound subscript) set =
         put_keeps to (element_at registers first (vector_place bound (register registers subscript))) (λ z. set to z refl)
 
--- as many registers as before
+-- an operation leaves the number of registers as it was
 pub ran_length : (operation : Operation) (next : ℕ) (registers : List ℤ) (turns : List Turn) → length (ran operation next registers turns).registers ≡ length registers
 ran_length operation next registers turns =
     ran_keeps (λ rs. length rs ≡ length registers) next turns registers refl operation (λ k z _. length-set registers k z)

@@ -38,7 +38,7 @@ module _ (variable counter body next : ℕ) (turn : Turn) (registers : List ℤ)
       (given (register registers variable) (λ z. in_range (z +ℤ turn.step))) tells
       ∙ next_is
 
-  -- it is given its next value, and there is one pass less
+  -- the variable gets its next value, and there is one pass less
   pub next_goes : (x : ℤ) → x <ℤ pos 1099511627776 → TellsResult x (given (register registers variable) (λ z. in_range (z +ℤ turn.step)))
       → passed counter body next (one_less turn.passes) turn.step (slice_set registers variable x) turns
       ≡ ran (Next variable counter body) next registers turns

@@ -1,4 +1,4 @@
--- DOs begin and go on alike.
+-- DOs begin and go on in the code as in the machine over slots.
 use Rattle.std.proofs.Common.{arith, ◌≡◌, ◌<◌, ℕ, zero, suc, ◌+◌, ◌-◌, Bool, true, false, List, Option, Some, None, ℤ, pos, negsuc, refl, sym, ap, ◌∙◌, subst}
 use Rattle.std.specs.Prelude.{Result, Ok, Err, slice_get, slice_set, MatchOption, ◌+ℤ◌}
 use Rattle.std.specs.Option.{option_map_or}

@@ -60,7 +60,7 @@ module _ (plan : Plan) (statements : List Resolved) (registers : List ℤ) (coun
           ∙ (λ i. both (related_number op) (left i) (right i))
           ∙ relation_told op (number_in cells x) (number_in cells y)
 
-  -- a test goes where the condition tells
+  -- a test goes where its condition leads
   pub tests : (x : Condition) (there : ℕ) (o : Operation) (taken other : Move) → IsMove plan statements (point there registers counters) taken
       → IsMove plan statements (point next registers counters) other → Tests plan x there o
       → IsMove plan statements (ran o next registers counters) (moves.used (truth_in cells x) cells (λ b. jump_chosen b taken other))

@@ -35,7 +35,7 @@ places_more statements increments new i place count here is each d k at =
     pushed (λ d k. k ≡ length statements + do_rank statements d) increments place each
     (subst (λ i. place ≡ length statements + do_rank statements i) (sym count) here) d k (subst (λ xs. slice_get xs d ≡ Some k) is at)
 
--- of the DOs that end at a statement, those round one are there
+-- of the DOs that end at a statement, those outside of one are there
 pub round_there : (statements : List Resolved) (t d : ℕ) (r : Resolved) → slice_get statements t ≡ Some r → have_places statements ≡ true
     → are_below (length statements) (round d r.ends.items) ≡ true
 round_there statements t d r at have =

@@ -20,12 +20,12 @@ use Rattle.f77_actions.specs.Value.{given, element}
 use Rattle.f77_actions.proofs.Bounds.{Within, within, at_least, told_value, tells_value, tells_fault, told_code}
 use Rattle.f77_code.proofs.Offsets.{vector_within, vector_beyond, matrix_within, row_beyond, column_beyond}
 
--- what a number tells that is a value
+-- the result that a number stands for where it is a value
 pub has_value : (x : ℤ) → x <ℤ pos 1099511627776 → (r : Result ℤ Fault) → TellsResult x r → r ≡ Ok x
 has_value x h (Ok z) a = ap Ok (sym a.is)
 has_value x h (Err f) a = let e : x ≡ pos (code f) = a.is in absurd (omega (arith, ints))
 
--- the end of the fault that a number tells
+-- the end by the fault that a number stands for
 pub fails : (p : ℕ) (registers : List ℤ) (turns : List Turn) (x : ℤ) → pos 1099511627776 ≤ℤ x → ((f : Fault) → TellsResult x (Err f) → p ≡ ended_point (Failed f))
     → (on : ℤ → Point) (r : Result ℤ Fault) → TellsResult x r → point p registers turns ≡ used_in_code r registers turns on
 fails p registers turns x h e on (Ok z) a = let w : Within z = within z a.fitting in absurd (omega (arith, ints))
@@ -69,7 +69,7 @@ column_fails first rows columns i j next p registers turns s t told o down small
     let bad = column_beyond rows columns i j s t o down small u above r q a b in
     rw bad.1 (ap (λ z. point z registers turns) (e rows columns r q bad.0 a b bad.1))
 
--- a truth value tells where control goes
+-- a truth value decides where control goes
 pub branch_zero : (there next : ℕ) (registers : List ℤ) (turns : List Turn) (x : ℤ) → x ≡ pos 0 → (r : Result ℤ Fault) → TellsResult x r
     → point next registers turns ≡ branch r there next registers turns
 branch_zero there next registers turns x h (Ok (pos zero)) a = refl
@@ -220,7 +220,7 @@ begun_some variable counter body next a b (pos zero) registers turns h = absurd 
 begun_some variable counter body next a b (pos (suc n)) registers turns h = refl
 begun_some variable counter body next a b (negsuc n) registers turns h = refl
 
--- a number of 32 bits tells a value
+-- a number of 32 bits is a value
 pub narrow_fits : (z : ℤ) → FitsSigned w32 z → fits z ≡ true
 narrow_fits (pos n) f = let small = f.sfits in lt-ltb n (2 ^ 31) (omega (arith, ints))
 narrow_fits (negsuc n) f = let small = f.sfits in lt-ltb n (2 ^ 31) (omega (arith, ints))

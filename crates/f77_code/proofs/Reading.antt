@@ -1,4 +1,4 @@
--- What registers tell, and the elements of arrays.
+-- What registers stand for, and the elements of arrays.
 use Rattle.std.proofs.Common.{arith, add-zero, ◌≡◌, ◌<◌, ◌≤◌, ℕ, zero, suc, Bool, true, false, List, [], ◌∷◌, length, get_or, refl, sym, ap, ◌∙◌, subst, ℤ, pos, negsuc, ◌+◌, ◌*◌, of_z, w64}
 use Rattle.std.specs.Prelude.{Ok, Err, ◌==◌, ◌||◌, nat_lt, Result, ◌-ℤ◌, ◌<ℤ◌, ◌≤ℤ◌}
 use Rattle.std.proofs.lemmas.Bool.{and_parts, eqb-true, lt-ltb, le-ltb}

@@ -244,7 +244,7 @@ module _ (before : ChangedCode) (own : IsAllOwn before) where
       (subst (AreCompiled before.code.constants statements) own_is (is.compiled before.code.constants own_table)) g
       (stands (slice_set statements i s) (one_frame statements i (slice_set statements i s) change) (set_is statements i s below))
 
-  -- its places stay
+  -- the places of the changed code stay
   pub put_places : (statements : List Resolved) (i : ℕ) (s : Resolved) → IsChangedCode statements before → i < length statements
       → IfSome (slice_get statements i) (λ r. MayReplace r s) → ArePlaces (slice_set statements i s) before.code.places
   put_places statements i s is below may =

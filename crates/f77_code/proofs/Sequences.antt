@@ -34,7 +34,7 @@ stays code (suc n) p none =
     let same : one code p ≡ p = ap (λ o. option_map_or (λ instruction. ran instruction.operation instruction.next p.registers p.turns) o p) none in
     ap (code_after code n) same ∙ stays code n p none
 
--- so many instructions, and so many behind them
+-- a instructions and then b are a + b instructions
 pub after_more : (code : List Instruction) (a b : ℕ) (p : Point) → code_after code (a + b) p ≡ code_after code b (code_after code a p)
 after_more code zero b p = ap (λ n. code_after code n p) (zero-add b)
 after_more code (suc a) b p = let more : suc a + b ≡ suc (a + b) = omega arith in ap (λ n. code_after code n p) more ∙ after_more code a b (one code p)
@@ -57,7 +57,7 @@ made_some code p q zero there out is =
     absurd (omega (arith, here, out, there))
 made_some code p q (suc made) there out is = omega arith
 
--- so many instructions were there, and the one behind them is
+-- each instruction so far was there, and so is the next
 pub there_more : (code : List Instruction) (made n : ℕ) (p q : Point) → code_after code made p ≡ q → q.place < n → ((k : ℕ) → k < made → (code_after code k p).place < n)
     → (k : ℕ) → k < made + 1 → (code_after code k p).place < n
 there_more code made n p q stands here each k below = by (last_or_below k made below)

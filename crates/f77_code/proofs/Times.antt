@@ -28,7 +28,7 @@ module _ (code : List Instruction) (i : ℕ) (start : Point) where
         let below = are.1 in
         (are.0, omega (arith, below), are.2, are.3, elsewhere (time.made + 1) times more apart are.4)
 
-    -- it is there, and the time is left out
+    -- control is at the instruction, and the time is left out
     pub left_out : (m : ℕ) (times : List Time) (more : Bool) → (code_after code done start).place ≡ i → m ≤ done → AreTimes code i start m done times more
         → AreTimes code i start m (done + 1) times true
     left_out m [] more is from are = record { made = done; from = from; below = omega arith; is = is }
@@ -36,7 +36,7 @@ module _ (code : List Instruction) (i : ℕ) (start : Point) where
         let below = are.1 in
         (are.0, omega (arith, below), are.2, are.3, left_out (time.made + 1) times more is (omega (arith, below)) are.4)
 
-    -- it is there, and the time is kept behind the others
+    -- control is at the instruction, and the time is kept behind the others
     pub kept_last : (m : ℕ) (times : List Time) (time : Time) → m ≤ done → time.made ≡ done → IsTime code i start time → AreTimes code i start m done times false
         → AreTimes code i start m (done + 1) (times ++ time ∷ []) false
     kept_last m [] time from made is away = (

@@ -1,4 +1,4 @@
--- Runs of code go together while the codes make the same steps.
+-- Two codes that differ in one instruction come to the same while they make the same steps there.
 use Rattle.std.proofs.Common.{arith, ◌≡◌, ◌≢◌, ◌<◌, ◌≤◌, ◌⊎◌, inl, inr, ◌+◌, ◌-◌, ℕ, zero, suc, Bool, true}
 use Rattle.std.proofs.Common.{false, List, [], ◌∷◌, ◌++◌, length, drop, take, map, ℤ, refl, sym, ap, ◌∙◌, subst, append_assoc}
 use Rattle.std.specs.Prelude.{Option, Some, None, slice_get}
@@ -101,7 +101,7 @@ module _ (code other : List Instruction) (i : ℕ) (start : Point) (n : ℕ) whe
         ∙ is.reaches in
         after_more other (time.made + 1) m start ∙ ap (code_after other m) (after_last other time.made start ∙ ap (one other) same)
 
--- the same times with more registers behind
+-- a time with more registers behind
 abbrev time_more : List ℤ → Time → Time
 time_more extra time = record { made = time.made; before = with_more time.before extra; after = with_more time.after extra }
 

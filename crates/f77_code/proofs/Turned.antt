@@ -276,7 +276,7 @@ module _ (statements : List Resolved) (plan twin : Plan) (registers others : Lis
             let y = item_at twice place below in
             absurd (cc (there, y.1))
 
--- what a register tells, as a number
+-- what a register stands for, as a number again
 told_value : (z : ℤ) → coded (told_by_register z) ≡ z
 told_value (negsuc n) = refl
 told_value (pos n) = by (n == 1099511627776) refl
@@ -285,7 +285,7 @@ told_value (pos n) = by (n == 1099511627776) refl
     by true t = ap pos (sym (eqb-true n 1099511627776 t))
     by false t = refl
 
--- registers that tell the same are the same
+-- registers that stand for the same are equal
 pub told_once : (xs ys : List ℤ) (k : ℕ) → k < length xs → k < length ys → register xs k ≡ register ys k → slice_get xs k ≡ slice_get ys k
 told_once xs ys k below there e =
     let z = item_at xs k below in

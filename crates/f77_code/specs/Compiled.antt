@@ -1,5 +1,5 @@
--- Instructions and code that stand for statements in
--- each plan that begins with a table of constants.
+-- Instructions and code that stand for statements in each plan that begins with a table of
+-- constants.
 use Rattle.std.specs.Prelude.{◌≡◌, ◌≢◌, ◌<◌, ◌+◌, ◌&&◌, ℕ, Bool, true, nat_lt, List, length, Some, slice_get}
 use Rattle.std.specs.List.{list_all}
 use Rattle.f77_actions.specs.declared.action.Action.{Action, Branch, Loop}
@@ -14,8 +14,8 @@ use Rattle.f77_code.specs.Holds.{Plan, loop_count, do_rank, is_loop_at}
 use Rattle.f77_code.specs.Moves.{is_loop}
 use Rattle.f77_code.specs.Typing.{HasAction}
 
--- The slots of an action are among so many, the statements where it
--- goes have numbers of 32 bits, and a DO ends among so many statements.
+-- The action can be compiled: its slots are among the first ones, it goes to statements whose
+-- numbers have 32 bits, and a DO ends at one of n statements.
 abbrev pub is_ready : ℕ → ℕ → Action → Bool
 is_ready slots n (Branch x otherwise) = condition_within slots x && is_of_32_bits otherwise
 is_ready slots n (Loop variable first last step t) =
@@ -23,24 +23,25 @@ is_ready slots n (Loop variable first last step t) =
     && (number_within slots last && (number_within slots step && nat_lt t n)))
 is_ready slots n action = can_compile slots action
 
+-- each of the statements can be compiled
 abbrev pub are_ready : ℕ → List Resolved → Bool
 are_ready slots statements = list_all (λ r. is_ready slots (length statements) r.action) statements
 
--- an instruction that stands for the statement i
+-- the instruction stands for statement i
 pub record IsInstruction (table : Constants) (statements : List Resolved) (i : ℕ)
     (instruction : Instruction) : Type 0 where
   pub stands : (plan : Plan) (r : Resolved)
       → BeginsPlan plan table → slice_get statements i ≡ Some r → HasAction plan r.action
       → StandsForStatement plan statements i r r.action instruction.operation instruction.next
 
--- an instruction that increments the DO d
+-- the instruction increments the DO d
 pub record IsIncrement (statements : List Resolved) (d : ℕ)
     (instruction : Instruction) : Type 0 where
   pub increments : (plan : Plan) (r : Resolved)
       → slice_get statements d ≡ Some r → HasAction plan r.action
       → StandsForIncrement plan statements d r.action instruction.operation instruction.next
 
--- the instructions of all statements, and behind them the incrementations of all DOs
+-- the code has the instructions of all statements, and behind them the incrementations of all DOs
 pub record AreCompiled (table : Constants) (statements : List Resolved)
     (code : List Instruction) : Type 0 where
   pub count : length code ≡ length statements + loop_count statements
@@ -50,7 +51,8 @@ pub record AreCompiled (table : Constants) (statements : List Resolved)
       → slice_get code (length statements + do_rank statements d) ≡ Some instruction
       → IsIncrement statements d instruction
 
--- the same statement behind, the same DOs that end there, and a DO where there is one
+-- the two have the same statement behind, the same DOs that end there, and both are DOs or neither
+-- is
 pub record HasOneFrame (r s : Resolved) : Type 0 where
   pub next : s.next ≡ r.next
   pub ends : s.ends.items ≡ r.ends.items

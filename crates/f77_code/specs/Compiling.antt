@@ -5,12 +5,12 @@ use Rattle.f77_actions.specs.declared.action.Action.{Action, AssignNumber, Assig
 use Rattle.f77_actions.specs.declared.action.Action.{ComputedGoto, ArithmeticIf, LogicalIf', Branch, Loop}
 use Rattle.f77_code.specs.Evaluation.{element_within, number_within, condition_within}
 
--- a number of 32 bits
+-- the number has at most 32 bits
 abbrev pub is_of_32_bits : ℕ → Bool
 is_of_32_bits n = nat_lt n 4294967296
 
--- The slots of an action are among so many, it goes to statements
--- whose numbers have 32 bits, and no DO, block IF or ELSE IF is in it.
+-- The action can be compiled by itself: its slots are among the first ones, it goes to statements
+-- whose numbers have 32 bits, and there is no DO, block IF or ELSE IF in it.
 abbrev pub can_compile : ℕ → Action → Bool
 can_compile slots (AssignNumber e x) = element_within slots e && number_within slots x
 can_compile slots (AssignTruth e x) = element_within slots e && condition_within slots x

@@ -3,7 +3,7 @@ use Rattle.std.specs.Prelude.{◌≡◌, ℕ, ℤ, Some, slice_get}
 use Rattle.f77_code.specs.declared.constants.Constants.{Constants}
 use Rattle.f77_code.specs.Holds.{Plan}
 
--- the plan has these slots, and each of these constants in the same register
+-- the plan has the slots of the table, and each constant of the table in the same register
 pub record BeginsPlan (plan : Plan) (table : Constants) : Type 0 where
   pub slots : plan.slots ≡ table.slots
   pub values : (k : ℕ) (z : ℤ)

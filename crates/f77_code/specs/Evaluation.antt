@@ -20,7 +20,7 @@ use Rattle.f77_actions.specs.declared.value.Value.{Value}
 use Rattle.f77_actions.specs.Number.{in_range, quotient, modulus, power, negated, without_sign, is_below, is_same}
 use Rattle.f77_actions.specs.Value.{given, both, whole, logic, element, same_truth, pushed}
 
--- what a slot holds
+-- the value of a slot, if it has one
 abbrev pub held_in : List (Option Value) → ℕ → Option Value
 held_in cells k = option_and_then (λ cell. cell) (slice_get cells k)
 
@@ -35,6 +35,7 @@ calculated arithmetic.Modulus a b = modulus a b
 calculated arithmetic.Least a b = Ok (if is_below b a then b else a)
 calculated arithmetic.Greatest a b = Ok (if is_below a b then b else a)
 
+-- a relation of two numbers
 abbrev pub compared : Relation → ℤ → ℤ → Bool
 compared relation.Less a b = is_below a b
 compared relation.LessOrEqual a b = not (is_below b a)
@@ -43,6 +44,7 @@ compared relation.NotEqual a b = not (is_same a b)
 compared relation.GreaterOrEqual a b = not (is_below a b)
 compared relation.Greater a b = is_below b a
 
+-- a logical operator on two truth values
 abbrev pub joined : Connective → Bool → Bool → Bool
 joined connective.And a b = a && b
 joined connective.Or a b = a || b
@@ -50,7 +52,7 @@ joined connective.Equivalent a b = same_truth a b
 joined connective.NotEquivalent a b = not (same_truth a b)
 
 abbrev mutual
-  -- the slot of an element
+  -- the slot of a variable or an array element
   pub slot_in : List (Option Value) → Element → Result ℕ Fault
   slot_in cells (Variable slot) = Ok slot
   slot_in cells (Vector' first bound p x) =
@@ -59,7 +61,7 @@ abbrev mutual
       given (number_in cells x) (λ z. given (number_in cells y)
       (λ w. given (element (rows ∷ (columns ∷ [])) (z ∷ (w ∷ []))) (λ k. Ok (first + k))))
 
-  -- a number
+  -- the value of an INTEGER expression
   pub number_in : List (Option Value) → Number → Result ℤ Fault
   number_in cells (Constant z) = Ok z
   number_in cells TooLarge = Err Overflow
@@ -70,7 +72,7 @@ abbrev mutual
   number_in cells (Binary' op p x q y) =
       both (calculated op) (number_in cells x) (number_in cells y)
 
--- a truth value
+-- the value of a LOGICAL expression
 abbrev pub truth_in : List (Option Value) → Condition → Result Bool Fault
 truth_in cells (condition.Constant b) = Ok b
 truth_in cells (condition.Element e) = given (slot_in cells e) (λ k. logic (held_in cells k))
@@ -80,7 +82,7 @@ truth_in cells (Related op x y) =
 truth_in cells (Connected' op p x q y) =
     both (λ a b. Ok (joined op a b)) (truth_in cells x) (truth_in cells y)
 
--- the slots that an expression can name are among so many
+-- the slots that an expression may name are among the first n
 abbrev mutual
   pub element_within : ℕ → Element → Bool
   element_within n (Variable slot) = nat_lt slot n

@@ -9,12 +9,12 @@ use Rattle.f77_code.specs.declared.instruction.Instruction.{Instruction}
 use Rattle.f77_code.specs.Compiled.{AreCompiled, HasOneFrame}
 use Rattle.f77_code.specs.Places.{ArePlaces}
 
--- the instructions with that of the program in its place again
+-- the instructions with the program's own one back in its place
 abbrev pub put_back : List Instruction → Option OwnInstruction → List Instruction
 put_back instructions None = instructions
 put_back instructions (Some exchanged) = slice_set instructions exchanged.place exchanged.own
 
--- those of the program itself
+-- the instructions of the program itself
 abbrev pub own_instructions : ChangedCode → List Instruction
 own_instructions exchange = put_back exchange.code.instructions.items exchange.exchanged
 
@@ -23,8 +23,8 @@ pub record HasOwn (exchange : ChangedCode) (table : Constants) : Type 0 where
   pub slots : table.slots ≡ exchange.code.constants.slots
   pub values : table.values.items ≡ take exchange.own exchange.code.constants.values.items
 
--- the code is that of these statements, but for one instruction
--- and for constants behind, which may be those of another statement
+-- the code is that of these statements, apart from one instruction and from constants at the end of
+-- the table, which may be those of another statement
 pub record IsChangedCode (statements : List Resolved) (exchange : ChangedCode) : Type 0 where
   pub places : ArePlaces statements exchange.code.places
   pub compiled : (table : Constants)
@@ -32,12 +32,13 @@ pub record IsChangedCode (statements : List Resolved) (exchange : ChangedCode) :
   pub own : exchange.own ≤ length exchange.code.constants.values.items
   pub within : IfSome exchange.exchanged (λ it. it.place < length exchange.code.instructions.items)
 
--- nothing of another statement is there
+-- the code is the program's own: no instruction is exchanged, and no constant of another statement
+-- is there
 pub record IsAllOwn (exchange : ChangedCode) : Type 0 where
   pub instructions : exchange.exchanged ≡ None
   pub constants : length exchange.code.constants.values.items ≡ exchange.own
 
--- both are code of one program
+-- the two are code of one program
 pub record HaveOneOwn (before after : ChangedCode) : Type 0 where
   pub instructions : own_instructions after ≡ own_instructions before
   pub count : after.own ≡ before.own
@@ -46,13 +47,13 @@ pub record HaveOneOwn (before after : ChangedCode) : Type 0 where
       ≡ take before.own before.code.constants.values.items
   pub places : after.code.places ≡ before.code.places
 
--- where both are DOs, they have the same variable and end at the same statement
+-- if both actions are DOs, they have the same variable and end at the same statement
 abbrev pub HaveOneDo : Action → Action → Type 0
 HaveOneDo (Loop variable first last step t) (Loop other from to by u) =
     (other ≡ variable) × (u ≡ t)
 HaveOneDo _ _ = ⊤
 
--- another statement can stand in the place of this one
+-- the statement s may be put in the place of r
 pub record MayReplace (r s : Resolved) : Type 0 where
   pub frame : HasOneFrame r s
   pub loop : HaveOneDo r.action s.action

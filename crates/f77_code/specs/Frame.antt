@@ -1,5 +1,5 @@
--- What instructions leave as it is: registers behind those that
--- they name stay, and make no difference to the others.
+-- Registers that instructions do not name: they keep their values, and make no difference to the
+-- others.
 use Rattle.std.specs.Prelude.{◌≡◌, ◌<◌, ◌+◌, ◌*◌, ◌++◌, ℕ, true, List, drop, length, Some, slice_get, ℤ}
 use Rattle.f77_actions.specs.declared.resolved.Resolved.{Resolved}
 use Rattle.f77_code.specs.declared.instruction.Instruction.{Instruction}
@@ -10,17 +10,17 @@ use Rattle.f77_code.specs.Holds.{Plan}
 use Rattle.f77_code.specs.Instructions.{AreCode}
 use Rattle.f77_code.specs.Operation.{Point, point}
 
--- the same with more registers behind the others
+-- the point with more registers behind its own
 abbrev pub with_more : Point → List ℤ → Point
 with_more p extra = point p.place (p.registers ++ extra) p.turns
 
--- Registers behind those that code names make no difference to what it does, and stay.
+-- registers behind those that code names make no difference to what it does, and keep their values
 abbrev pub MoreRegisters : Type 0
 MoreRegisters = (code : List Instruction) (loops n : ℕ) (p : Point) (extra : List ℤ)
     → code_within (length p.registers) loops code ≡ true
     → code_after code n (with_more p extra) ≡ with_more (code_after code n p) extra
 
--- the register k is among so many from the first one on
+-- the register k is among the first `count` of an array
 pub record IsInArray (first count k : ℕ) : Type 0 where
   pub place : ℕ
   pub below : place < count
@@ -50,12 +50,12 @@ abbrev pub AllWriteBelow : ℕ → List Instruction → Type 0
 AllWriteBelow n code = (j : ℕ) (instruction : Instruction)
     → slice_get code j ≡ Some instruction → WritesBelow n instruction.operation
 
--- Code leaves the registers behind those that it writes as they are: constants stay.
+-- code does not change the registers behind those that it writes: constants keep their values
 abbrev pub LeavesBehind : Type 0
 LeavesBehind = (code : List Instruction) (n steps : ℕ) (p : Point) → AllWriteBelow n code
     → drop n (code_after code steps p).registers ≡ drop n p.registers
 
--- The code of a program writes the registers of slots alone.
+-- the code of a program writes no registers but those of slots
 abbrev pub WritesSlots : Type 0
 WritesSlots = (plan : Plan) (statements : List Resolved) (code : List Instruction)
     → AreCode plan statements code → AllWriteBelow plan.slots code

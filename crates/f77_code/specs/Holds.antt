@@ -1,5 +1,5 @@
--- What registers hold of a machine over slots: first each slot, and
--- behind them the constants. DOs have counters beside the registers.
+-- How registers hold the state of the machine over slots: first a register for each slot, then the
+-- constants. DOs have counters beside the registers.
 use Rattle.std.specs.Prelude.{◌≡◌, ◌<◌, ◌≤◌, ◌+◌, ℕ, Bool, true, false, List, length}
 use Rattle.std.specs.Prelude.{take, count_by, Option, Some, slice_get, ℤ, Result, Ok}
 use Rattle.std.specs.Option.{option_map_or}
@@ -15,17 +15,18 @@ use Rattle.f77_code.specs.Registers.{register, are_held}
 use Rattle.f77_actions.specs.Told.{of_truth}
 use Rattle.f77_actions.specs.Value.{whole, logic}
 
--- so many slots, their kinds, and the constants in the registers behind them
+-- a plan of registers: the number of slots, their kinds, and the constants in the registers behind
+-- them
 pub record Plan : Type 0 where
   pub slots : ℕ
   pub kind : ℕ → Kind
   pub constants : List ℤ
 
--- there is such a slot, of this kind
+-- there is a slot k, and it is of this kind
 abbrev pub IsSlot : Plan → Kind → ℕ → Type 0
 IsSlot plan kind k = (k < plan.slots) × (plan.kind k ≡ kind)
 
--- there are so many from the first one on
+-- there are `count` slots of this kind, from the first one on
 abbrev pub AreSlots : Plan → Kind → ℕ → ℕ → Type 0
 AreSlots plan kind first count = (k : ℕ) → k < count → IsSlot plan kind (first + k)
 
@@ -35,12 +36,12 @@ pub record IsConstant (plan : Plan) (r : ℕ) (z : ℤ) : Type 0 where
   pub behind : r ≡ plan.slots + place
   pub value : slice_get plan.constants place ≡ Some z
 
--- what is read from a slot of this kind, a truth value as 0 or 1
+-- the value that is read from a slot of this kind, a truth value as 0 or 1
 abbrev pub read_as : Kind → Option Value → Result ℤ Fault
 read_as Integer value = whole value
 read_as Logical value = of_truth (logic value)
 
--- Each register tells what is read from its slot, or its constant.
+-- each register stands for the value of its slot, or for its constant
 pub record HoldsRegisters (plan : Plan) (registers : List ℤ) (cells : Cells) : Type 0 where
   pub slots : (k : ℕ)
       → k < plan.slots → register registers k ≡ read_as (plan.kind k) (held_in cells k)
@@ -50,26 +51,27 @@ pub record HoldsRegisters (plan : Plan) (registers : List ℤ) (cells : Cells) :
   pub count : length cells ≡ plan.slots
   pub room : plan.slots ≤ length registers
 
--- how many DOs there are
+-- the number of DOs
 abbrev pub loop_count : List Resolved → ℕ
 loop_count statements = count_by (λ r. is_loop r.action) statements
 
--- how many stand before a statement
+-- the number of DOs before statement d
 abbrev pub do_rank : List Resolved → ℕ → ℕ
 do_rank statements d = loop_count (take d statements)
 
+-- statement d is a DO
 abbrev pub is_loop_at : List Resolved → ℕ → Bool
 is_loop_at statements d = option_map_or (λ r. is_loop r.action) (slice_get statements d) false
 
--- d is a DO, and its counter holds what it has left
+-- d is a DO, and its counter has this turn
 pub record IsCounted (statements : List Resolved) (counters : List Turn) (d : ℕ)
     (turn : Turn) : Type 0 where
   pub loop : is_loop_at statements d ≡ true
   pub counter : slice_get counters (do_rank statements d) ≡ Some turn
   pub left : 0 < turn.passes
 
--- The counters hold what the active DOs have left. Of the others
--- nothing is said, so a jump out of a DO changes no counter.
+-- The counters hold the turns of the active DOs. Of the other counters nothing is said, so a jump
+-- out of a DO changes no counter.
 pub record HoldsCounters (statements : List Resolved) (counters : List Turn)
     (turns : TurnList) : Type 0 where
   pub active : (d : ℕ) (turn : Turn)

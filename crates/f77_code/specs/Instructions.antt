@@ -1,5 +1,5 @@
--- The code of a program: an instruction for each statement,
--- and behind them one for the incrementation of each DO.
+-- The code of a program: an instruction for each statement, and behind them one for the
+-- incrementation of each DO.
 use Rattle.std.specs.Prelude.{◌≡◌, ◌<◌, ◌^◌, ◌+◌, ◌*◌, ◌==◌, if◌then◌else◌, ℕ, List, []}
 use Rattle.std.specs.Prelude.{◌∷◌, length, map, Option, Some, None, MatchOption, slice_get}
 use Rattle.f77_tree.specs.declared.tree.Kind.{Kind}
@@ -24,27 +24,28 @@ use Rattle.f77_code.specs.declared.term.Term as term
 use Rattle.f77_code.specs.Holds.{Plan, IsSlot, AreSlots, loop_count, do_rank}
 use Rattle.f77_code.specs.Standing.{IsTerm, IsTest}
 
--- the number of a place: statements come first, then the incrementations of DOs
+-- the number of a place: those of statements come first, then those of incrementations
 abbrev pub place_at : List Resolved → Place → ℕ
 place_at statements (Execute i) = i
 place_at statements (Increment d) = length statements + do_rank statements d
 
--- where control goes on behind a statement that ends these DOs, which are
--- active, the innermost first: to its incrementation, or to what follows
+-- the place behind a statement that ends these active DOs, the innermost first: the incrementation
+-- of the innermost, or the statement `next` where there is none
 abbrev pub onward : List Resolved → List ℕ → ℕ → ℕ
 onward statements [] next = next
 onward statements (d ∷ ds) next = place_at statements (Increment d)
 
--- of DOs that end together, the innermost first, those round d
+-- of DOs that end together, the innermost first, those that are outside of d
 abbrev pub round : ℕ → List ℕ → List ℕ
 round d [] = []
 round d (e ∷ es) = if d == e then es else round d es
 
--- an operation that gives a register the value of a term
+-- an operation gives a register the value of a term
 pub record Giving : Type 0 where
   pub to : ℕ
   pub term : Term
 
+-- the register and the term of an operation that gives one the value of the other
 abbrev pub giving : Operation → Option Giving
 giving (Set to term) = Some (record { to = to; term = term.value })
 giving (Move to from) = Some (record { to = to; term = term.Register from })
@@ -55,7 +56,7 @@ giving (Load to first bound subscript) =
     Some (record { to = to; term = term.Element first bound subscript })
 giving _ = None
 
--- an operation that begins a DO
+-- an operation begins a DO
 pub record Beginning : Type 0 where
   pub variable : ℕ
   pub counter : ℕ
@@ -66,6 +67,7 @@ abbrev pub registers_for : ℕ → ℕ → ℕ → Parameters
 registers_for first last step =
     record { first = term.Register first; last = term.Register last; step = term.Register step }
 
+-- the parts of an operation that begins a DO
 abbrev pub beginning : Operation → Option Beginning
 beginning (Do variable counter body parameters) = Some
     (record { variable = variable; counter = counter; body = body; parameters = parameters.value })
@@ -77,13 +79,14 @@ beginning (Count variable counter body first last step) = Some (record {
 })
 beginning _ = None
 
--- an operation that goes to a place where a relation holds
+-- an operation goes to a place if a relation holds
 pub record Comparing : Type 0 where
   pub relation : Relation
   pub left : Term
   pub right : Term
   pub there : ℕ
 
+-- the parts of an operation that goes to a place if a relation holds
 abbrev pub comparing : Operation → Option Comparing
 comparing (IfRelated op there pair) =
     Some (record { relation = op; left = pair.value.left; right = pair.value.right; there = there })
@@ -95,7 +98,7 @@ comparing (IfCompared op left right there) = Some (record {
 })
 comparing _ = None
 
--- An operation stands for an assignment to an element of this kind, of what a term stands for.
+-- the operation stands for an assignment, to an element of this kind, of what a term stands for
 abbrev pub StandsForAssignment : Plan → Kind → (Term → Type 0) → Element → Operation → Type 0
 StandsForAssignment plan kind stands (Variable k) operation =
     MatchOption (giving operation) ⊥ (λ g. (g.to ≡ k) × IsSlot plan kind k × stands g.term)
@@ -116,7 +119,7 @@ StandsForAssignment plan kind stands (Matrix' first rows columns p x q y)
     × stands term.value
 StandsForAssignment plan kind stands _ _ = ⊥
 
--- An operation goes to this place where the condition is true.
+-- the operation goes to this place if the condition is true
 abbrev pub Tests : Plan → Condition → ℕ → Operation → Type 0
 Tests plan x there (IfTrue place term) = (place ≡ there) × IsTest plan x term.value
 Tests plan (Related op x y) there operation =
@@ -124,7 +127,7 @@ Tests plan (Related op x y) there operation =
     (λ c. (c.there ≡ there) × (op ≡ c.relation) × IsTerm plan x c.left × IsTerm plan y c.right)
 Tests plan x there _ = ⊥
 
--- which operation stands for which action, where control goes on from both to the same place
+-- the operation stands for the action, where both go on to the same place
 abbrev pub IsOperation : Plan → Action → Operation → Type 0
 IsOperation plan Declaration Continue = Unit {0}
 IsOperation plan (AssignNumber e x) operation =
@@ -145,21 +148,21 @@ IsOperation plan action.Stop Stop = Unit {0}
 IsOperation plan action.Trap Trap = Unit {0}
 IsOperation plan _ _ = ⊥
 
--- where control goes on from the DO d, which ends at the statement t, when its passes are made
+-- `next` is the place behind the DO d, which ends at statement t, when it has no pass left
 abbrev pub IsLeftDone : List Resolved → ℕ → ℕ → ℕ → Type 0
 IsLeftDone statements d t next =
     (end : Resolved) → slice_get statements t ≡ Some end
     → next ≡ onward statements (round d end.ends.items) end.next
 
--- the parameters of a DO
+-- the terms stand for the parameters of a DO
 pub record AreParameters (plan : Plan) (from to by : Number)
     (parameters : Parameters) : Type 0 where
   pub first : IsTerm plan from parameters.first
   pub last : IsTerm plan to parameters.last
   pub step : IsTerm plan by parameters.step
 
--- An operation begins the DO i, whose variable has the slot k, whose parameters are these,
--- and which ends at the statement t; and control goes on at `next` when its passes are made.
+-- The operation begins the DO i, whose variable is slot k, with these parameters and the terminal
+-- statement t; it goes on at `next` when no pass is left.
 pub record BeginsDo (plan : Plan) (statements : List Resolved) (i k : ℕ) (from to by : Number)
     (t next : ℕ) (begun : Beginning) : Type 0 where
   pub variable : begun.variable ≡ k
@@ -169,7 +172,7 @@ pub record BeginsDo (plan : Plan) (statements : List Resolved) (i k : ℕ) (from
   pub parameters : AreParameters plan from to by begun.parameters
   pub left : IsLeftDone statements i t next
 
--- which operation stands for the statement i, and where control goes on from it
+-- the operation stands for statement i, and control goes on from it to this place
 abbrev pub StandsForStatement : Plan
     → List Resolved → ℕ → Resolved → Action → Operation → ℕ → Type 0
 StandsForStatement plan statements i r (Branch x otherwise) operation next =
@@ -179,7 +182,7 @@ StandsForStatement plan statements i r (Loop slot first last step t) operation n
 StandsForStatement plan statements i r act operation next =
     IsOperation plan act operation × (next ≡ onward statements r.ends.items r.next)
 
--- which operation increments the DO d, and where control goes on from it
+-- the operation increments the DO d, and control goes on from it to this place
 abbrev pub StandsForIncrement : Plan → List Resolved → ℕ → Action → Operation → ℕ → Type 0
 StandsForIncrement plan statements d (Loop slot first last step t)
     (Next variable counter body) next =
@@ -188,6 +191,7 @@ StandsForIncrement plan statements d (Loop slot first last step t)
 StandsForIncrement plan statements d (Loop slot first last step t) _ next = ⊥
 StandsForIncrement plan statements d _ operation next = Unit {0}
 
+-- the instructions are the code of the statements: one for each, then one for each DO
 pub record AreCode (plan : Plan) (statements : List Resolved)
     (code : List Instruction) : Type 0 where
   pub count : length code ≡ length statements + loop_count statements

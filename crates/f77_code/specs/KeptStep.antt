@@ -4,6 +4,7 @@ use Rattle.f77_code.specs.declared.kept_step.KeptStep.{KeptStep}
 use Rattle.f77_code.specs.Frame.{AllWriteBelow}
 use Rattle.f77_code.specs.Together.{AreTimes, KeptTime, MayPart, TwoRuns, time_of}
 
+-- the time of which a step is kept
 abbrev pub kept_time : KeptStep → KeptTime
 kept_time kept = record {
   made = kept.made;
@@ -19,9 +20,9 @@ pub record PartedRuns : Type 0 where
   pub runs : TwoRuns
   pub behind : List ℤ
 
--- the first time at which control was at the changed instruction is kept,
--- and whether it was there once more, and the registers behind those of slots
--- are those of the program, and behind them more
+-- what is kept of the first time at which control was at the changed instruction is true of the
+-- run, `more` says whether control was there again, and the registers behind the slots are those of
+-- the program with more behind them
 pub record IsKept (parted : PartedRuns) (kept : KeptStep) (more : Bool) (steps : ℕ)
     (registers : List ℤ) : Type 0 where
   pub may : MayPart parted.runs

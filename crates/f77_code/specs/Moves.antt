@@ -1,5 +1,5 @@
--- One step of a machine over slots: what it does to its place, its
--- slots and its active DOs. Statements are numbered from 0 here.
+-- One step of the machine over slots: how it changes the place, the slots and the active DOs.
+-- Statements are numbered from 0 here.
 use Rattle.std.specs.Prelude.{◌+◌, ◌-◌, ◌∷◌, ◌+ℤ◌, if◌then◌else◌, nat_lt}
 use Rattle.std.specs.Prelude.{ℕ, zero, suc, List, [], Option, Some, None, is_some, slice_get, slice_set}
 use Rattle.std.specs.Prelude.{ℤ, pos, negsuc, Bool, true, false, option_map, Result, Ok, Err}
@@ -24,12 +24,15 @@ use Rattle.f77_code.specs.Evaluation.{held_in, slot_in, number_in, truth_in}
 use Rattle.f77_actions.specs.Number.{in_range, trip_count}
 use Rattle.f77_actions.specs.Value.{whole}
 
+-- the values of the slots, in order
 abbrev pub Cells : Type 0
 Cells = List (Option Value)
 
+-- for each statement its turn, if it is an active DO
 abbrev pub TurnList : Type 0
 TurnList = List (Option Turn)
 
+-- a state of the machine over slots
 pub record State : Type 0 where
   pub place : Place
   pub cells : Cells
@@ -38,17 +41,17 @@ pub record State : Type 0 where
 abbrev pub state : Place → Cells → TurnList → State
 state place cells turns = record { place = place; cells = cells; turns = turns }
 
--- what a step leads to: another state, or an end with what the slots hold then
+-- the result of a step: another state, or an end with the values of the slots
 pub data Move : Type 0 where
   Goes : State → Move
   Ends : Finish → Cells → Move
 
--- a result is used, or its fault ends the run
+-- a function of a result, unless that is a fault, which ends the run
 abbrev pub used : {A : Type 0} → Result A Fault → Cells → (A → Move) → Move
 used (Ok x) cells f = f x
 used (Err fault) cells f = Ends (Failed fault) cells
 
--- what an active DO has left
+-- the turn of the DO d, if it is active
 abbrev pub turn_at : TurnList → ℕ → Option Turn
 turn_at turns d = option_and_then (λ turn. turn) (slice_get turns d)
 
@@ -56,35 +59,37 @@ turn_at turns d = option_and_then (λ turn. turn) (slice_get turns d)
 abbrev pub innermost : TurnList → List ℕ → Option ℕ
 innermost turns ends = find (λ d. is_some (turn_at turns d)) ends
 
--- where control goes on from a statement that did not jump
+-- the place behind a statement that did not jump
 abbrev pub place_behind : Resolved → TurnList → Place
 place_behind r turns = option_map_or Increment (innermost turns r.ends.items) (Execute r.next)
 
+-- control goes on from a statement that did not jump
 abbrev pub go_on : Resolved → Cells → TurnList → Move
 go_on r cells turns = Goes (state (place_behind r turns) cells turns)
 
--- none of these DOs is active any more
+-- the turns after these DOs have become inactive
 abbrev pub without : TurnList → List ℕ → TurnList
 without turns [] = turns
 without turns (d ∷ ds) = without (slice_set turns d None) ds
 
+-- a jump
 abbrev pub jump_to : Jump → Cells → TurnList → Move
 jump_to jump cells turns =
     Goes (state (Execute jump.target) cells (without turns jump.leaves.items))
 
--- the DO d, which ends at this statement, has so many passes to make
+-- the DO d, which ends at statement `end`, has so many passes left
 abbrev pub passing : Resolved → ℕ → ℕ → ℤ → Cells → TurnList → Move
 passing end d zero step cells turns = go_on end cells (slice_set turns d None)
 passing end d (suc k) step cells turns = Goes (state (Execute (d + 1)) cells
     (slice_set turns d (Some (record { passes = suc k; step = step }))))
 
--- the same where the statement has this number, if there is one
+-- the DO d, which ends at statement t if there is one, has so many passes left
 abbrev pub passing_at : List Resolved → ℕ → ℕ → ℕ → ℤ → Cells → TurnList → Move
 passing_at statements t d passes step cells turns =
     option_map_or (λ end. passing end d passes step cells turns) (slice_get statements t)
     (Goes (state (Execute t) cells turns))
 
--- the DO d begins with these parameters
+-- the DO d begins, with these parameters
 abbrev pub begun : List Resolved → ℕ → ℕ → ℕ → ℤ → ℤ → ℤ → Cells → TurnList → Move
 begun statements d variable t first last (pos zero) cells turns = Ends (Failed ZeroStep) cells
 begun statements d variable t first last (pos (suc m)) cells turns =
@@ -98,7 +103,7 @@ abbrev pub jump_chosen : {A : Type 0} → Bool → A → A → A
 jump_chosen true a b = a
 jump_chosen false a b = b
 
--- the statement i does this
+-- statement i is executed, with this action
 abbrev pub acted : List Resolved → ℕ → Resolved → Action → Cells → TurnList → Move
 acted statements i r Declaration cells turns = Goes (state (Execute i) cells turns)
 acted statements i r (AssignNumber e x) cells turns =
@@ -129,7 +134,7 @@ acted statements i r Return cells turns = Ends Returned cells
 acted statements i r Stop cells turns = Ends Stopped cells
 acted statements i r Trap cells turns = Ends (Failed Trapped) cells
 
--- the DO d, which does this and has this left, is incremented
+-- the DO d, with this action and this turn, is incremented
 abbrev pub incremented : List Resolved → ℕ → Action → Turn → Cells → TurnList → Move
 incremented statements d (Loop variable first last step t) turn cells turns =
     used (whole (held_in cells variable)) cells
@@ -138,17 +143,18 @@ incremented statements d (Loop variable first last step t) turn cells turns =
     (slice_set cells variable (Some (held.Number next))) turns))
 incremented statements d _ turn cells turns = Goes (state (Increment d) cells turns)
 
--- it is executed at all, and so is the statement in a logical IF
+-- the action is that of an executable statement, also inside a logical IF
 abbrev pub is_executed : Action → Bool
 is_executed Declaration = false
 is_executed (LogicalIf' x p action) = is_executed action
 is_executed _ = true
 
+-- the action is a DO
 abbrev pub is_loop : Action → Bool
 is_loop (Loop variable first last step t) = true
 is_loop _ = false
 
--- one step, where control is at a statement that is executed, or at an active DO
+-- one step, from a statement that is executed or from an active DO that is incremented
 abbrev pub moved : List Resolved → State → Option Move
 moved statements s = at s.place
   where
@@ -163,6 +169,6 @@ moved statements s = at s.place
         s.cells s.turns) (turn_at s.turns d) else None)
         (slice_get statements d)
 
--- each of these numbers is below that one
+-- each of the numbers is below n
 abbrev pub are_below : ℕ → List ℕ → Bool
 are_below n numbers = list_all (λ k. nat_lt k n) numbers

@@ -1,5 +1,5 @@
--- What an operation does: the place where control is then,
--- or how the run ended, the registers and the counters.
+-- The execution of operations: the next place, or how the run ended, and the registers and counters
+-- after it.
 use Rattle.std.specs.Prelude.{◌+◌, ◌*◌, ◌+ℤ◌, ◌&&◌, if◌then◌else◌, not, nat_lt, ℕ, zero, suc, Bool, true}
 use Rattle.std.specs.Prelude.{List, slice_get, slice_set, unwrap_or, ℤ, pos, negsuc, Result, Ok, Err}
 use Rattle.std.specs.Option.{option_map_or}
@@ -20,7 +20,8 @@ use Rattle.f77_actions.specs.Number.{in_range, is_same, trip_count}
 use Rattle.f77_actions.specs.Told.{fault_number}
 use Rattle.f77_actions.specs.Value.{given, both}
 
--- where control is, or how the run ended, the registers, and the counters of the DOs
+-- the state of a run of code: where control is or how the run ended, the registers, and the
+-- counters
 pub record Point : Type 0 where
   pub place : ℕ
   pub registers : List ℤ
@@ -29,41 +30,41 @@ pub record Point : Type 0 where
 abbrev pub point : ℕ → List ℤ → List Turn → Point
 point place registers turns = record { place = place; registers = registers; turns = turns }
 
--- the place that tells how a run ended: from 2 ^ 32 on, beyond those of all instructions
+-- the place that says how a run ended: from 2 ^ 32 on, beyond those of all instructions
 abbrev pub ended_point : Finish → ℕ
 ended_point (Failed fault) = 4294967296 + fault_number fault
 ended_point Returned = 4294967312
 ended_point Stopped = 4294967313
 ended_point StepLimit = 4294967314
 
--- a result is used, or its fault ends the run
+-- a function of a result, unless that is a fault, which ends the run
 abbrev pub used_in_code : {A : Type 0} → Result A Fault → List ℤ → List Turn → (A → Point) → Point
 used_in_code (Ok x) registers turns f = f x
 used_in_code (Err fault) registers turns f = point (ended_point (Failed fault)) registers turns
 
--- a register is given what is told
+-- a register is given a result, unless that is a fault
 abbrev pub put_in_register : ℕ → Result ℤ Fault → ℕ → List ℤ → List Turn → Point
 put_in_register to told next registers turns =
     used_in_code told registers turns (λ z. point next (slice_set registers to z) turns)
 
--- the element at a place of an array is given what is told
+-- the element at a place of an array is given a result, unless one of them is a fault
 abbrev pub put_at : ℕ → Result ℕ Fault → Result ℤ Fault → ℕ → List ℤ → List Turn → Point
 put_at first place told next registers turns =
     used_in_code place registers turns (λ k. put_in_register (first + k) told next registers turns)
 
--- a truth value tells where control goes
+-- a truth value decides where control goes
 abbrev pub branch : Result ℤ Fault → ℕ → ℕ → List ℤ → List Turn → Point
 branch told there next registers turns = used_in_code told registers turns
     (λ z. point (if is_same z (pos 0) then next else there) registers turns)
 
--- so many passes of a DO are to be made
+-- a DO has so many passes left
 abbrev pub passed : ℕ → ℕ → ℕ → ℕ → ℤ → List ℤ → List Turn → Point
 passed counter body next zero step registers turns =
     point next registers (slice_set turns counter (record { passes = zero; step = step }))
 passed counter body next (suc k) step registers turns =
     point body registers (slice_set turns counter (record { passes = suc k; step = step }))
 
--- a DO begins with these parameters
+-- a DO begins, with these values of its parameters
 abbrev pub begun_in_code : ℕ → ℕ → ℕ → ℕ → ℤ → ℤ → ℤ → List ℤ → List Turn → Point
 begun_in_code variable counter body next first last (pos zero) registers turns =
     point (ended_point (Failed ZeroStep)) registers turns
@@ -74,7 +75,7 @@ begun_in_code variable counter body next first last (negsuc m) registers turns =
     passed counter body next (trip_count first last (negsuc m)) (negsuc m)
     (slice_set registers variable first) turns
 
--- a DO begins, of whose parameters this is told
+-- a DO begins, with these results of its parameters
 abbrev pub begun_with : ℕ → ℕ → ℕ → ℕ → Result ℤ Fault → Result ℤ Fault → Result ℤ Fault
     → List ℤ → List Turn → Point
 begun_with variable counter body next first last step registers turns =
@@ -83,12 +84,12 @@ begun_with variable counter body next first last step registers turns =
     (λ b. used_in_code step registers turns
     (λ c. begun_in_code variable counter body next a b c registers turns)))
 
--- one pass less: a number of 64 bits, which no active DO has at 0
+-- one pass less, in 64 bits; no active DO has 0 passes left
 abbrev pub one_less : ℕ → ℕ
 one_less zero = 18446744073709551615
 one_less (suc k) = k
 
--- a DO that has this left is incremented
+-- a DO with this turn is incremented
 abbrev pub incremented_in_code : ℕ → ℕ → ℕ → ℕ → Turn → List ℤ → List Turn → Point
 incremented_in_code variable counter body next turn registers turns =
     used_in_code
@@ -96,6 +97,7 @@ incremented_in_code variable counter body next turn registers turns =
     (λ z. passed counter body next (one_less turn.passes) turn.step
     (slice_set registers variable z) turns)
 
+-- the point after an operation, from which control goes on to `next`
 abbrev pub ran : Operation → ℕ → List ℤ → List Turn → Point
 ran (Set to term) next registers turns =
     put_in_register to (term_value registers term.value) next registers turns
@@ -157,11 +159,11 @@ ran (Load to first bound subscript) next registers turns =
     to (element_at registers first (vector_place bound (register registers subscript)))
     next registers turns
 
--- the registers from the first one on, so many, are among n
+-- `count` registers from the first one on are among the first n
 abbrev pub array_within : ℕ → ℕ → ℕ → Bool
 array_within n first count = not (nat_lt n (first + count))
 
--- the registers and the counters that an operation names are among so many
+-- the registers and counters that an operation names are among the first n and the first `loops`
 abbrev pub operation_within : ℕ → ℕ → Operation → Bool
 operation_within n loops (Set to term) = nat_lt to n && term_within n term.value
 operation_within n loops (SetElement first bound pair) =

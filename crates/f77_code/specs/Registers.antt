@@ -1,5 +1,5 @@
--- What registers hold: the value of a variable, an array element
--- or a constant, a LOGICAL one as 0 or 1, or that there is none.
+-- What registers stand for: the value of a variable, an array element or a constant, where a
+-- LOGICAL one is 0 or 1, or that there is no value.
 use Rattle.std.specs.Prelude.{◌||◌, ◌==◌, ◌+◌, ◌∷◌, if◌then◌else◌, ℕ, Bool, List, [], Option, Some, None, slice_get}
 use Rattle.std.specs.Prelude.{ℤ, pos, negsuc, Result, Ok, Err}
 use Rattle.std.specs.List.{list_all}
@@ -8,16 +8,17 @@ use Rattle.f77_actions.specs.declared.finish.Fault.TheVariants.{Undefined}
 use Rattle.f77_actions.specs.Number.{fits}
 use Rattle.f77_actions.specs.Value.{given, both, element}
 
--- what a number in a register tells
+-- what a number in a register stands for: a value, or that there is none
 abbrev pub told_by_register : ℤ → Result ℤ Fault
 told_by_register (pos n) = if n == 1099511627776 then Err Undefined else Ok (pos n)
 told_by_register (negsuc n) = Ok (negsuc n)
 
--- a value, or that there is none
+-- the number stands for a value, or for none
 abbrev pub is_held : ℤ → Bool
 is_held (pos n) = fits (pos n) || (n == 1099511627776)
 is_held (negsuc n) = fits (negsuc n)
 
+-- each of the numbers stands for a value, or for none
 abbrev pub are_held : List ℤ → Bool
 are_held registers = list_all is_held registers
 
@@ -25,18 +26,19 @@ abbrev pub told_at : Option ℤ → Result ℤ Fault
 told_at (Some z) = told_by_register z
 told_at None = Err Undefined
 
--- what a register tells
+-- what register r stands for
 abbrev pub register : List ℤ → ℕ → Result ℤ Fault
 register registers r = told_at (slice_get registers r)
 
--- the place of an element in its array, from 0, by what its subscripts tell
+-- the place of an element in its array, from 0, by the results of its subscripts
 abbrev pub vector_place : ℕ → Result ℤ Fault → Result ℕ Fault
 vector_place bound subscript = given subscript (λ z. element (bound ∷ []) (z ∷ []))
 
+-- the place of an element in an array of two dimensions, by the results of its subscripts
 abbrev pub matrix_place : ℕ → ℕ → Result ℤ Fault → Result ℤ Fault → Result ℕ Fault
 matrix_place rows columns row column =
     both (λ z w. element (rows ∷ (columns ∷ [])) (z ∷ (w ∷ []))) row column
 
--- what the element at this place tells, where the array begins in the register first
+-- what the element at this place stands for, where the array begins in the register `first`
 abbrev pub element_at : List ℤ → ℕ → Result ℕ Fault → Result ℤ Fault
 element_at registers first place = given place (λ k. register registers (first + k))

@@ -13,13 +13,13 @@ use Rattle.f77_code.specs.Holds.{Plan, HoldsRegisters, HoldsCounters}
 use Rattle.f77_code.specs.Moves.{TurnList, State, Move, Goes, Ends, turn_at, moved}
 use Rattle.f77_code.specs.Operation.{Point, ended_point}
 
--- the code stands where the machine over slots does
+-- the code is in the state that the machine over slots is in
 pub record IsAt (plan : Plan) (statements : List Resolved) (p : Point) (s : State) : Type 0 where
   pub place : p.place ≡ place_at statements s.place
   pub holds : HoldsRegisters plan p.registers s.cells
   pub counts : HoldsCounters statements p.turns s.turns
 
--- the code did what the machine does
+-- the code has come to what the machine comes to
 abbrev pub IsMove : Plan → List Resolved → Point → Move → Type 0
 IsMove plan statements p (Goes s) = IsAt plan statements p s
 IsMove plan statements p (Ends finish cells) =
@@ -29,22 +29,23 @@ IsMove plan statements p (Ends finish cells) =
 abbrev pub are_active : TurnList → List ℕ → Bool
 are_active turns ds = list_all (λ d. is_some (turn_at turns d)) ds
 
--- of DOs that end together, the innermost first, those round d are active, and those in it are not
+-- of DOs that end together, the innermost first, those outside of d are active, and those inside
+-- are not
 abbrev pub only_round : TurnList → ℕ → List ℕ → Bool
 only_round turns d [] = true
 only_round turns d (e ∷ es) =
     if d == e then are_active turns es else not (is_some (turn_at turns e)) && only_round turns d es
 
--- where the DO d, which does this, may be left: the statement that it ends
--- at is there, and once it is not active any more, those round it are
+-- the DO d, with this action, may be left: its terminal statement is there, and once d is not
+-- active any more, the DOs outside of it are
 abbrev pub MayLeave : List Resolved → ℕ → Action → TurnList → Type 0
 MayLeave statements d (Loop variable first last step t) turns =
     MatchOption (slice_get statements t) ⊥
     (λ end. only_round (slice_set turns d None) d end.ends.items ≡ true)
 MayLeave statements d _ turns = Unit {0}
 
--- Each DO that ends where control may go on is active,
--- and one in another that begins or goes on is not.
+-- In this state the DOs are nested: each DO that ends where control may go on is active, and one
+-- inside of another that begins or goes on is not.
 abbrev pub IsNested : List Resolved → State → Type 0
 IsNested statements s = at s.place
   where
@@ -54,7 +55,7 @@ IsNested statements s = at s.place
     at (Increment d) =
         (r : Resolved) → slice_get statements d ≡ Some r → MayLeave statements d r.action s.turns
 
--- Where the machine makes a move, the code makes the same one.
+-- where the machine makes a step, the code makes the same one
 abbrev pub MovesAlike : Type 0
 MovesAlike = (plan : Plan) (statements : List Resolved) (code : List Instruction) (p : Point)
     (s : State) (move : Move)

@@ -1,4 +1,4 @@
--- Which term stands for which expression: by cases on both.
+-- Which term stands for which expression, by cases on both.
 use Rattle.std.specs.Prelude.{◌≡◌, ◌*◌}
 use Rattle.f77_tree.specs.declared.tree.Kind.{Kind}
 use Rattle.f77_tree.specs.declared.tree.Kind.TheVariants.{Integer, Logical}
@@ -17,7 +17,7 @@ use Rattle.f77_code.specs.Holds.{Plan, IsSlot, AreSlots, IsConstant}
 use Rattle.f77_actions.specs.Told.{truth_number}
 
 abbrev mutual
-  -- a variable or an array element of this kind
+  -- the term stands for a variable or an array element of this kind
   pub ReadsElement : Plan → Kind → slots.Element → Term → Type 0
   ReadsElement plan kind (Variable k) (Register r) = (r ≡ k) × IsSlot plan kind k
   ReadsElement plan kind (slots.Vector' first bound p x) (Element start count subscript) =
@@ -43,7 +43,7 @@ abbrev mutual
       × IsTerm plan y column
   ReadsElement plan kind _ _ = ⊥
 
-  -- an INTEGER expression
+  -- the term stands for an INTEGER expression
   pub IsTerm : Plan → Number → Term → Type 0
   IsTerm plan (Constant z) (Register r) = IsConstant plan r z
   IsTerm plan number.TooLarge TooLarge = Unit {0}
@@ -67,7 +67,7 @@ abbrev mutual
       (op ≡ operation) × IsTerm plan x left × IsTerm plan y right
   IsTerm plan _ _ = ⊥
 
--- a LOGICAL expression
+-- the term stands for a LOGICAL expression
 abbrev pub IsTest : Plan → Condition → Term → Type 0
 IsTest plan (condition.Constant b) (Register r) = IsConstant plan r (truth_number b)
 IsTest plan (condition.Element e) term = ReadsElement plan Logical e term

@@ -16,17 +16,18 @@ use Rattle.f77_actions.specs.Number.{in_range, negated, without_sign}
 use Rattle.f77_actions.specs.Told.{truth_number, conjunction, disjunction, equivalence, exclusion, negation}
 use Rattle.f77_actions.specs.Value.{given, both, pushed}
 
--- a relation of numbers, as a number
+-- the result of a relation of numbers, as a number
 abbrev pub related_number : Relation → ℤ → ℤ → Result ℤ Fault
 related_number relation a b = Ok (truth_number (compared relation a b))
 
--- a logical operator on truth values as numbers
+-- the result of a logical operator on truth values, as numbers
 abbrev pub connected_number : Connective → ℤ → ℤ → Result ℤ Fault
 connected_number connective.And a b = Ok (conjunction a b)
 connected_number connective.Or a b = Ok (disjunction a b)
 connected_number connective.Equivalent a b = Ok (equivalence a b)
 connected_number connective.NotEquivalent a b = Ok (exclusion a b)
 
+-- the value of a term over these registers
 abbrev pub term_value : List ℤ → Term → Result ℤ Fault
 term_value registers (Register r) = register registers r
 term_value registers (Element first bound subscript) =
@@ -67,7 +68,7 @@ term_value registers (Connected' connective p left right) =
     both (connected_number connective) (term_value registers left) (term_value registers right)
 term_value registers (Not' p operand) = given (term_value registers operand) (λ z. Ok (negation z))
 
--- the registers that a term names are among so many
+-- the registers that a term names are among the first n
 abbrev pub term_within : ℕ → Term → Bool
 term_within n (Register r) = nat_lt r n
 term_within n (Element first bound subscript) = not (nat_lt n (first + bound)) && nat_lt subscript n

@@ -1,4 +1,4 @@
--- Two codes of one program, which may have constants in other registers, do the same.
+-- Two codes of one program, which may have constants in other registers: both do the same.
 use Rattle.std.specs.Prelude.{◌≡◌, ◌<◌, ◌≤◌, ℕ, Bool, List, length, map, drop, Some, slice_get, ℤ}
 use Rattle.f77_actions.specs.declared.resolved.Resolved.{Resolved}
 use Rattle.f77_code.specs.declared.instruction.Instruction.{Instruction}
@@ -11,13 +11,13 @@ use Rattle.f77_code.specs.Sequences.{AreStatesNested, moved_by}
 use Rattle.f77_code.specs.Simulation.{IsAt}
 use Rattle.f77_code.specs.Together.{AreTimes, KeptTime, time_of}
 
--- the same place, the same registers of n slots, and the same counters
+-- the two points have the same place, the same registers of n slots and the same counters
 pub record SameSlots (n : ℕ) (p q : Point) : Type 0 where
   pub place : q.place ≡ p.place
   pub slots : (k : ℕ) → k < n → slice_get q.registers k ≡ slice_get p.registers k
   pub turns : q.turns ≡ p.turns
 
--- two codes of one program, with the plans of their registers, and where both start
+-- two codes of one program, the plans of their registers, and the points at which they start
 pub record Twins : Type 0 where
   pub statements : List Resolved
   pub plan : Plan
@@ -28,6 +28,7 @@ pub record Twins : Type 0 where
   pub start_of_other : Point
   pub state : State
 
+-- both are code of these statements, and both start in the same state
 pub record AreTwins (twins : Twins) : Type 0 where
   pub slots : twins.plan_of_other.slots ≡ twins.plan.slots
   pub kind : twins.plan_of_other.kind ≡ twins.plan.kind
@@ -37,7 +38,7 @@ pub record AreTwins (twins : Twins) : Type 0 where
   pub at_other : IsAt twins.plan_of_other twins.statements twins.start_of_other twins.state
   pub turns : twins.start_of_other.turns ≡ twins.start.turns
 
--- Behind so many steps of both, slots and counters have the same.
+-- after n steps of both, slots and counters are the same
 abbrev pub TwinsAlike : Type 0
 TwinsAlike = (twins : Twins) (n : ℕ) (move : Move) → AreTwins twins
     → AreStatesNested twins.statements n twins.state
@@ -45,12 +46,12 @@ TwinsAlike = (twins : Twins) (n : ℕ) (move : Move) → AreTwins twins
     → SameSlots twins.plan.slots (code_after twins.code n twins.start)
     (code_after twins.other n twins.start_of_other)
 
--- each of these has as many registers of slots
+-- each of these has n registers of slots
 abbrev pub HaveSlots : ℕ → List KeptTime → Type 0
 HaveSlots n kept = (j : ℕ) (one : KeptTime) → slice_get kept j ≡ Some one
     → (length one.slots ≡ n) × (length one.slots_after ≡ n)
 
--- So what is kept of the times of a run serves for either code.
+-- what is kept of the times of a run of one code is also true of the other
 abbrev pub TimesOfTwins : Type 0
 TimesOfTwins = (twins : Twins) (behind behind_other : List ℤ) (i n : ℕ) (kept : List KeptTime)
     (more : Bool) → AreTwins twins

@@ -1,4 +1,4 @@
--- Expressions and actions whose slots are there, and of their kinds.
+-- Expressions and actions whose slots exist and have the right kinds.
 use Rattle.std.specs.Prelude.{◌*◌}
 use Rattle.f77_tree.specs.declared.tree.Kind.{Kind}
 use Rattle.f77_tree.specs.declared.tree.Kind.TheVariants.{Integer, Logical}
@@ -12,7 +12,7 @@ use Rattle.f77_actions.specs.declared.expression.Condition.{Condition, Not', Rel
 use Rattle.f77_actions.specs.declared.expression.Condition as condition
 use Rattle.f77_code.specs.Holds.{Plan, IsSlot, AreSlots}
 
--- the slots of an expression are there, and of its kind
+-- the slots of the expression exist and have the right kinds
 abbrev mutual
   pub HasSlots : Plan → Kind → Element → Type 0
   HasSlots plan kind (Variable k) = IsSlot plan kind k
@@ -29,6 +29,7 @@ abbrev mutual
   HasNumbers plan (ZeroPush' p x) = HasNumbers plan x
   HasNumbers plan (Binary' op p x q y) = HasNumbers plan x × HasNumbers plan y
 
+-- the slots of a LOGICAL expression exist and have the right kinds
 abbrev pub HasTruths : Plan → Condition → Type 0
 HasTruths plan (condition.Constant b) = Unit {0}
 HasTruths plan (condition.Element e) = HasSlots plan Logical e
@@ -36,6 +37,7 @@ HasTruths plan (Not' p x) = HasTruths plan x
 HasTruths plan (Related op x y) = HasNumbers plan x × HasNumbers plan y
 HasTruths plan (Connected' op p x q y) = HasTruths plan x × HasTruths plan y
 
+-- the slots of an action exist and have the right kinds
 abbrev pub HasAction : Plan → Action → Type 0
 HasAction plan (AssignNumber e x) = HasSlots plan Integer e × HasNumbers plan x
 HasAction plan (AssignTruth e x) = HasSlots plan Logical e × HasTruths plan x

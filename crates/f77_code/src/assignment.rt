@@ -1,4 +1,4 @@
-//! Assignments (ANSI X3.9-1978, 10.1 and 10.2).
+//! The execution of assignments (ANSI X3.9-1978, 10.1 and 10.2). Each function gives the next place.
 
 ghost use Rattle.std.specs.Prelude.{◌≡◌, ◌≤◌, ◌<◌, ◌+◌, ◌*◌, true, length, slice_set, List, ℤ, Result};
 ghost use Rattle.f77_actions.specs.declared.finish.Fault.{Fault};
@@ -24,7 +24,7 @@ pub(crate) fn write(registers: &mut [i64], to: usize, x: i64)
     registers[to] = x;
 }
 
-/// A register is given what a number tells.
+/// Writes a number into a register and goes on; or ends the run, where the number stands for a fault.
 #[inline(always)]
 #[tactic(auto, using(crate::proofs::Points::least_from))]
 fn put(to: usize, x: i64, next: u32, registers: &mut [i64]) -> usize

@@ -1,4 +1,4 @@
-//! Instructions one after another.
+//! The inner loop: instructions are executed one after another.
 
 ghost use Rattle.std.specs.Prelude.{◌≡◌, ◌≤◌, ◌<◌, true, length, ℕ};
 ghost use Rattle.f77_code.specs.Block.{code_after, code_within};
@@ -9,16 +9,16 @@ use crate::control::Turn;
 use crate::instruction::Instruction;
 use crate::operation::perform;
 
-/// Where so many instructions lead.
+/// Where a run stands after some instructions.
 #[derive(Clone, Copy)]
 pub struct Stand {
-    /// The place where control is then, or how the run ended.
+    /// The place where control is, or from 2^32 on how the run ended.
     pub place: usize,
-    /// How many were made: fewer than were asked for where the run ended before.
+    /// The number of instructions that were executed. It is lower than asked for where the run ended before.
     pub made: u32,
 }
 
-/// So many instructions at most.
+/// Executes instructions from the place `start` on, at most `steps` of them.
 #[inline(never)]
 pub fn block(
     code: &[Instruction],
@@ -49,7 +49,7 @@ pub fn block(
     Stand { place, made: steps }
 }
 
-/// One instruction.
+/// Executes one instruction, and gives the next place.
 #[inline(always)]
 pub(crate) fn step(instruction: &Instruction, registers: &mut [i64], turns: &mut [Turn]) -> usize
     requires held { are_held registers.old ≡ true }

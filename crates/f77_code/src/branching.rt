@@ -1,4 +1,4 @@
-//! Where control goes by a value (ANSI X3.9-1978, 11.2 to 11.7).
+//! The execution of branches: a value decides where control goes (ANSI X3.9-1978, 11.2 to 11.7).
 
 ghost use Rattle.std.specs.Prelude.{◌≡◌, ◌<◌, ◌+◌, ◌≤ℤ◌, pos, true, length, unwrap_or, List, ℤ, Result};
 ghost use Rattle.f77_actions.specs.declared.finish.Fault.{Fault};
@@ -19,7 +19,7 @@ use crate::term::{Pair, Term};
 use f77_actions::Relation;
 use f77_actions::told::UNDEFINED;
 
-/// A truth value tells where control goes.
+/// The place to which a truth value leads: `there` for true, `next` for false.
 #[inline(always)]
 #[tactic(auto, using(crate::proofs::Points::least_from))]
 fn branch(x: i64, there: u32, next: u32) -> usize
@@ -67,7 +67,7 @@ pub(crate) fn if_related(
     branch(compared(relation, x, y), there, next)
 }
 
-/// Two registers are compared.
+/// The place to which a comparison of two registers leads.
 #[inline(always)]
 pub(crate) fn compare(
     relation: Relation,
@@ -87,7 +87,7 @@ pub(crate) fn compare(
     branch(compared_at(registers, relation, left, right), there, next)
 }
 
-/// One of three places by the sign of a value.
+/// One of three places, by the sign of a value.
 #[inline(always)]
 fn by_sign(x: i64, negative: u32, zero: u32, positive: u32) -> usize
     ensures { result ≡ choice.by_sign x negative zero positive }
@@ -117,7 +117,7 @@ pub(crate) fn sign(negative: u32, zero: u32, positive: u32, term: &Term, registe
     by_sign(x, negative, zero, positive)
 }
 
-/// The number before this one, which is above 0.
+/// The number minus 1, for a number above 0.
 #[inline(always)]
 fn before(number: i64) -> usize
     requires { pos 1 ≤ℤ number }
@@ -126,7 +126,7 @@ fn before(number: i64) -> usize
     (number - 1) as usize
 }
 
-/// The place of this number, counted from 1, if there is one.
+/// The place with this number, counted from 1, or `next` if there is none.
 #[inline(always)]
 fn numbered(places: &[u32], number: i64, next: u32) -> usize
     ensures { result ≡ unwrap_or (choice.item_chosen places.now number) next }

@@ -1,4 +1,4 @@
-//! The code of programs.
+//! The code of a program, and its making.
 
 ghost use Rattle.std.specs.Prelude.{◌≡◌, ◌<◌, ◌+◌, List, length, true, Some, slice_get, IfOk};
 ghost use Rattle.f77_code.specs.Compiled.{is_ready, are_ready};
@@ -20,8 +20,8 @@ use f77_actions::{Action, Resolved};
 use f77_tree::Shared;
 use std::alloc::Global;
 
-/// The code of a program: an instruction for each statement, behind them one for the
-/// incrementation of each DO, and the constants that they name.
+/// The code of a program: an instruction for each statement, behind these one for the incrementation of each DO, and
+/// the constants that they name.
 #[derive(Drop)]
 pub struct Code {
     pub(crate) instructions: Vec<Instruction>,
@@ -29,7 +29,7 @@ pub struct Code {
     pub(crate) constants: Constants,
 }
 
-/// The instructions of all statements, in order.
+/// The instructions of all statements, in order. Their constants are added to the table.
 fn executed(
     alloc: Global,
     places: &Places,
@@ -52,7 +52,7 @@ fn executed(
     Ok(list)
 }
 
-/// The incrementation of the statement `d` is added, where it is a DO.
+/// Adds the incrementation of statement `d`, if that is a DO.
 fn add_increment(
     alloc: Global,
     slots: u32,
@@ -87,7 +87,8 @@ fn add_increment(
     }
 }
 
-/// The code of a program of so many slots.
+/// The code of a program with this number of slots. Memory is also reported where registers have more numbers than 32
+/// bits hold.
 pub fn compiled(
     alloc: Global,
     slots: u32,
@@ -121,22 +122,23 @@ pub fn compiled(
 }
 
 impl Code {
-    /// The instructions: those of the statements in order, and behind them the incrementations of the DOs in order.
+    /// The instructions: first those of the statements, then the incrementations of the DOs, both in the order of the
+    /// statements.
     pub fn instructions(&self) -> &[Instruction]
         ensures { result.now ≡ self.now.instructions.items }
     {
         &self.instructions
     }
 
-    /// The constants, in the registers behind those of the slots.
+    /// The constants. They are in the registers behind those of the slots.
     pub fn constants(&self) -> &Constants
         ensures { result.now ≡ self.now.constants }
     {
         &self.constants
     }
 
-    /// The number of a place: that of its statement, or behind those
-    /// of all statements that of the incrementation of its DO.
+    /// The number of a place: that of its statement, or, behind those of all statements, that of the incrementation of
+    /// its DO.
     pub fn place(&self, place: Place) -> usize
         requires { is_place_among (length self.now.places.increments.items) place ≡ true }
         ensures { (statements : List Resolved)

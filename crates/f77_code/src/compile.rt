@@ -1,4 +1,4 @@
-//! Expressions are compiled: their slots and constants become registers.
+//! Compiling expressions: their slots and constants become registers.
 
 ghost use Rattle.std.specs.Prelude.{◌≡◌, ◌≤◌, true, IfOk, IfSome};
 ghost use Rattle.f77_code.specs.code.Compile.{IsReadTerm, IsNumberTerm, IsTestTerm};
@@ -13,7 +13,7 @@ use crate::term::{Pair, Term};
 use f77_actions::{Arithmetic, Condition, Element, Number, Relation};
 use std::alloc::Global;
 
-/// A truth value as a number.
+/// A truth value as a number: 1 or 0.
 fn truth(value: bool) -> i32
     ensures { result ≡ meaning.truth_number value }
 {
@@ -29,7 +29,7 @@ pub(crate) fn register_of(slot: usize, slots: u32) -> u32
     slot as u32
 }
 
-/// Two terms in one box.
+/// Puts two terms in one box.
 pub(crate) fn paired(alloc: Global, left: Term, right: Term) -> Result<Box<Pair>, CodeFault>
     ensures left { IfOk result (λ pair. pair.value.left ≡ left) }
     ensures right { IfOk result (λ pair. pair.value.right ≡ right) }
@@ -37,7 +37,7 @@ pub(crate) fn paired(alloc: Global, left: Term, right: Term) -> Result<Box<Pair>
     Ok(Box::new(alloc, Pair { left, right })?)
 }
 
-/// An element of an array of one dimension, without a box where its subscript is a register.
+/// An element of an array of one dimension. It needs no box where its subscript is a register.
 fn vector(alloc: Global, first: u32, bound: u32, subscript: Term) -> Result<Term, CodeFault>
     ensures { IfOk result (λ term. IsVectorOf first bound subscript term) }
 {
@@ -55,7 +55,7 @@ fn vector(alloc: Global, first: u32, bound: u32, subscript: Term) -> Result<Term
     }
 }
 
-/// An element of an array of two dimensions, without a box where its row and its column are registers.
+/// An element of an array of two dimensions. It needs no box where its row and its column are registers.
 fn matrix(
     alloc: Global,
     first: u32,
@@ -83,7 +83,7 @@ fn matrix(
     }
 }
 
-/// An operation on two registers, where it has a form of its own.
+/// An operation on two registers, if there is a form for it.
 fn calculated_at(operation: Arithmetic, left: u32, right: u32) -> Option<Term>
     ensures { IfSome result (λ term. IsCalculationOf operation (Term.Register left) (Term.Register right) term) }
 {
@@ -132,7 +132,7 @@ fn calculated(
     Ok(calculated_of(operation, paired(alloc, left, right)?))
 }
 
-/// A relation of two numbers, without a call where both are in registers.
+/// A relation of two numbers. It has a form without operands to evaluate where both are registers.
 fn related(alloc: Global, relation: Relation, left: Term, right: Term) -> Result<Term, CodeFault>
     ensures { IfOk result (λ term. IsRelationOf relation left right term) }
 {
@@ -150,7 +150,7 @@ fn related(alloc: Global, relation: Relation, left: Term, right: Term) -> Result
 }
 
 impl Constants {
-    /// A variable or an array element.
+    /// The term of a variable or an array element.
     #[cycle(numbers)]
     pub(crate) fn element(&mut self, alloc: Global, element: &Element) -> Result<Term, CodeFault>
         requires { element_within self.old.slots element.now ≡ true }
@@ -183,7 +183,7 @@ impl Constants {
         }
     }
 
-    /// An INTEGER expression.
+    /// The term of an INTEGER expression.
     #[cycle(numbers)]
     pub(crate) fn number(&mut self, alloc: Global, number: &Number) -> Result<Term, CodeFault>
         requires { number_within self.old.slots number.now ≡ true }
@@ -205,7 +205,7 @@ impl Constants {
         }
     }
 
-    /// The same on the heap.
+    /// The term of an INTEGER expression, on the heap.
     #[cycle(numbers)]
     pub(crate) fn boxed(&mut self, alloc: Global, number: &Number) -> Result<Box<Term>, CodeFault>
         requires { number_within self.old.slots number.now ≡ true }
@@ -215,7 +215,7 @@ impl Constants {
         Ok(Box::new(alloc, self.number(alloc, number)?)?)
     }
 
-    /// A LOGICAL expression, whose value is 0 or 1.
+    /// The term of a LOGICAL expression. Its value is 0 or 1.
     #[cycle(conditions)]
     pub(crate) fn condition(
         &mut self,
@@ -246,7 +246,7 @@ impl Constants {
         }
     }
 
-    /// The same on the heap.
+    /// The term of a LOGICAL expression, on the heap.
     #[cycle(conditions)]
     pub(crate) fn boxed_condition(
         &mut self,

@@ -1,4 +1,4 @@
-//! Actions are compiled: where their operands are registers, to operations that need no call.
+//! Compiling actions. Where their operands are registers, they become operations that need no call.
 
 ghost use Rattle.std.specs.Prelude.{◌≡◌, ◌<◌, true, IfOk, map};
 ghost use Rattle.std.specs.List.{list_all};
@@ -15,7 +15,7 @@ use crate::term::Term;
 use f77_actions::{Action, Condition, Element, Jump};
 use std::alloc::Global;
 
-/// The place of a statement.
+/// The place of a statement: its number.
 #[inline]
 pub(crate) fn place_of(statement: usize) -> u32
     requires { is_of_32_bits statement ≡ true }
@@ -24,7 +24,7 @@ pub(crate) fn place_of(statement: usize) -> u32
     statement as u32
 }
 
-/// A register is given the value of a term.
+/// The operation that gives a register the value of a term.
 fn given(alloc: Global, to: u32, term: Term) -> Result<Operation, CodeFault>
     ensures { IfOk result (λ operation. IsGiving to term operation) }
 {
@@ -62,7 +62,7 @@ fn given(alloc: Global, to: u32, term: Term) -> Result<Operation, CodeFault>
     }
 }
 
-/// Control goes to a place where a term is true.
+/// The operation that goes to the place `then` if a term is true.
 pub(crate) fn tested(alloc: Global, then: u32, term: Term) -> Result<Operation, CodeFault>
     ensures { IfOk result (λ operation. IsTesting then term operation) }
 {
@@ -89,7 +89,7 @@ pub(crate) fn tested(alloc: Global, then: u32, term: Term) -> Result<Operation, 
     }
 }
 
-/// The places where jumps go, in order.
+/// The places to which jumps go, in order.
 fn targets(alloc: Global, jumps: &[Jump]) -> Result<Vec<u32>, CodeFault>
     requires { list_all (λ jump. is_of_32_bits jump.target) jumps.now ≡ true }
     ensures { IfOk result (λ places. places.items ≡ map (λ jump. jump.target) jumps.now) }
@@ -102,7 +102,7 @@ fn targets(alloc: Global, jumps: &[Jump]) -> Result<Vec<u32>, CodeFault>
 }
 
 impl Constants {
-    /// An assignment of a term to a variable or an array element.
+    /// The operation that assigns a term to a variable or an array element.
     fn assignment(
         &mut self,
         alloc: Global,
@@ -149,7 +149,7 @@ impl Constants {
         }
     }
 
-    /// A logical IF with an action (11.5).
+    /// The operation of a logical IF (11.5). If its action is a GO TO, it is a test of the condition.
     #[cycle(operations)]
     fn logical(
         &mut self,
@@ -173,7 +173,7 @@ impl Constants {
         })
     }
 
-    /// What an action does that is no DO, block IF or ELSE IF.
+    /// The operation of an action that is no DO, block IF or ELSE IF.
     #[cycle(operations)]
     pub(crate) fn operation(
         &mut self,

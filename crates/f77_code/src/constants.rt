@@ -1,18 +1,22 @@
 //! The constants that code names, in the registers behind those of slots.
+//!
+//! Constants are registers, so that an operand has one form. New constants of a changed statement stand behind those of
+//! the program, and go when the statement does; `law::more_registers` says that they make no difference.
 
 ghost use Rattle.std.specs.Prelude.{◌≡◌, ◌≤◌, ◌<◌, [], length, take, Some, IfOk, slice_get};
 
 use crate::fault::CodeFault;
 use std::alloc::Global;
 
-/// How many slots stand in the first registers, and the constants in those behind them.
+/// A table of constants: the number of slots, which have the first registers, and the constants in the registers behind
+/// them.
 #[derive(Drop)]
 pub struct Constants {
     slots: u32,
     values: Vec<i32>,
 }
 
-/// The place of a constant among these, how many there are where it is none of them.
+/// The place of a constant in this list, or the length of the list if it is not there.
 fn place(values: &[i32], value: i32) -> usize
     ensures within { result ≤ length values.now }
     ensures found { result < length values.now → slice_get values.now result ≡ Some value }
@@ -29,7 +33,7 @@ impl Constants {
     ghost use Rattle.f77_code.specs.code.Constants.{HasRegister};
     ghost use Rattle.f77_code.specs.code.Constants.{GrowsPlan};
 
-    /// No constants behind so many slots.
+    /// A table without constants, for this number of slots.
     pub fn new(alloc: Global, slots: u32) -> Constants
         ensures slots { result.slots ≡ slots }
         ensures values { result.values.items ≡ [] }
@@ -40,7 +44,7 @@ impl Constants {
         }
     }
 
-    /// How many slots stand before them.
+    /// The number of slots, and so of registers before the constants.
     #[inline]
     pub fn slots(&self) -> u32
         ensures { result ≡ self.now.slots }
@@ -55,7 +59,7 @@ impl Constants {
         &self.values
     }
 
-    /// The same constants in the same registers.
+    /// A copy: the same constants in the same registers.
     pub(crate) fn copied(&self, alloc: Global) -> Result<Constants, CodeFault>
         ensures slots { IfOk result (λ copy. copy.slots ≡ self.now.slots) }
         ensures values { IfOk result (λ copy. copy.values.items ≡ self.now.values.items) }
@@ -66,7 +70,7 @@ impl Constants {
         })
     }
 
-    /// The first ones alone, so many, are there.
+    /// Keeps the first `count` constants alone.
     pub(crate) fn forget(&mut self, count: usize)
         ensures slots { self.new.slots ≡ self.old.slots }
         ensures values { self.new.values.items ≡ take count self.old.values.items }
@@ -74,7 +78,7 @@ impl Constants {
         self.values.truncate(count);
     }
 
-    /// The register of a constant, which is a new one where no register has it.
+    /// The register of a constant. If it has none, it gets a new one.
     pub(crate) fn register(&mut self, value: i32) -> Result<u32, CodeFault>
         ensures kept { IfOk result (λ r. HasRegister self.new r value) }
         ensures grown { GrowsPlan self.old self.new }

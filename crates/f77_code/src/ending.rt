@@ -1,4 +1,4 @@
-//! How runs end, as places: beyond those of all instructions.
+//! How runs end, as numbers of places beyond those of all instructions.
 
 ghost use Rattle.std.specs.Prelude.{◌≡◌, ◌<◌, ◌≤ℤ◌, pos, ℕ, ℤ, Result, Err};
 ghost use Rattle.f77_actions.specs.declared.finish.Fault.{Fault};
@@ -11,16 +11,16 @@ ghost use Rattle.f77_actions.specs.Told.{TellsResult, IsValueOrFault, fault_numb
 use f77_actions::told::{BAD_SUBSCRIPT, UNDEFINED};
 use f77_actions::{Fault, Finish};
 
-/// Places from here on tell how a run ended, this one and those behind it by which fault.
+/// From this place on, a place says how the run ended. The first seven are for faults.
 pub const ENDS: usize = 4_294_967_296;
 /// RETURN, or END (11.14, 15.8).
 pub const RETURNED: usize = 4_294_967_312;
 /// STOP (11.12).
 pub const STOPPED: usize = 4_294_967_313;
-/// The trap of a mutant.
+/// TRAP was executed, or ZPUSH had a 0.
 pub const TRAPPED: usize = 4_294_967_300;
 
-/// The end by the fault that a number tells.
+/// The place of an end by the fault that a number stands for.
 #[cold]
 #[inline(never)]
 pub(crate) fn failed(x: i64) -> usize
@@ -31,7 +31,7 @@ pub(crate) fn failed(x: i64) -> usize
     ENDS + (x - UNDEFINED) as usize
 }
 
-/// The end where a subscript is that of no element: by its own fault, or by that.
+/// The place of an end by a subscript that names no element: by the fault of the subscript, or else by BadSubscript.
 #[cold]
 #[inline(never)]
 #[tactic(auto, using(crate::proofs::Points::bad_told, crate::proofs::Points::least_from))]
@@ -47,7 +47,7 @@ pub(crate) fn off_vector(subscript: i64) -> usize
     failed(BAD_SUBSCRIPT)
 }
 
-/// The same where an element has two subscripts: the fault of its row comes first.
+/// The place of an end by two subscripts that name no element. The fault of the row comes first.
 #[cold]
 #[inline(never)]
 #[tactic(auto, using(crate::proofs::Points::least_from))]
@@ -63,7 +63,7 @@ pub(crate) fn off_matrix(row: i64, column: i64) -> usize
     off_vector(column)
 }
 
-/// The fault of this number.
+/// The fault with this number, from 0.
 fn fault_of(number: usize) -> Fault
     ensures { (fault : Fault) → number ≡ fault_number fault → result ≡ fault }
 {
@@ -78,7 +78,7 @@ fn fault_of(number: usize) -> Fault
     }
 }
 
-/// How a run ended, by the place where control is then: at its limit where that is the place of an instruction.
+/// How a run ended, from the place where it stands: StepLimit where that is the place of an instruction.
 pub fn finish_at(place: usize) -> Finish
     ensures ended { (finish : Finish) → place ≡ meaning.ended_point finish → result ≡ finish }
     ensures limit { place < 4294967296 → result ≡ StepLimit }

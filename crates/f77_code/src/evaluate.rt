@@ -1,4 +1,4 @@
-//! The values of expressions over registers (ANSI X3.9-1978, section 6).
+//! The values of terms over registers (ANSI X3.9-1978, section 6). Each number stands for a value or a fault.
 
 ghost use Rattle.std.specs.Prelude.{◌≡◌, ◌≤◌, ◌<◌, ◌+◌, ◌*◌, true, length, Ok};
 ghost use Rattle.f77_actions.specs.declared.expression.Arithmetic.TheVariants as arithmetic;
@@ -85,7 +85,7 @@ pub(crate) fn compared_at(registers: &[i64], relation: Relation, left: u32, righ
     compared(relation, read(registers, left), read(registers, right))
 }
 
-/// The value of a term, or what tells its fault. A node with terms below it is left to a function of its own.
+/// The value of a term. A node with terms below it has a function of its own.
 #[cycle(values)]
 #[inline(never)]
 #[tactic(auto, using(crate::proofs::Reading::overflow_told))]
@@ -141,7 +141,7 @@ pub(crate) fn evaluated(term: &Term, registers: &[i64]) -> i64
     }
 }
 
-/// The same, without a call where it is a register, or an element by a subscript in a register.
+/// The value of a term. It needs no call for a register, or for an element whose subscript is in a register.
 #[cycle(values)]
 #[inline(always)]
 pub(crate) fn operand(term: &Term, registers: &[i64]) -> i64
@@ -160,7 +160,7 @@ pub(crate) fn operand(term: &Term, registers: &[i64]) -> i64
     }
 }
 
-/// The same of a condition, without a call where it compares two registers.
+/// The value of a condition. It needs no call for a comparison of two registers.
 #[inline(always)]
 pub(crate) fn condition(term: &Term, registers: &[i64]) -> i64
     requires held { are_held registers.now ≡ true }

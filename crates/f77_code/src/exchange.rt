@@ -1,4 +1,4 @@
-//! The code of a program in which one instruction is exchanged, one exchange after another.
+//! The code of a program in which one instruction at a time is exchanged.
 
 ghost use Rattle.std.specs.Prelude.{◌≡◌, ◌≤◌, ◌<◌, List, true, length, IfSome, OnErr, OnOk, slice_get, slice_set};
 ghost use Rattle.f77_actions.specs.declared.resolved.Resolved.{Resolved as Statement};
@@ -16,24 +16,24 @@ use f77_tree::Shared;
 use std::alloc::Global;
 use std::mem;
 
-/// An instruction of the program, in whose place stands another one.
+/// An instruction of the program, while another one stands in its place.
 #[derive(Drop)]
 pub struct OwnInstruction {
     place: usize,
     own: Instruction,
 }
 
-/// The code of a program, in which the instruction of one statement may be that of another one.
+/// The code of a program. The instruction of one statement may be that of another statement.
 #[derive(Drop)]
 pub struct ChangedCode {
     code: Code,
-    /// How many of the constants are the program's own.
+    /// The number of constants that are the program's own.
     own: usize,
     exchanged: Option<OwnInstruction>,
 }
 
 impl ChangedCode {
-    /// The code of a program, in which no instruction is exchanged. It takes no memory.
+    /// The code of a program, with no instruction exchanged. It takes no memory.
     pub fn of(code: Code) -> ChangedCode
         ensures code { result.code ≡ code }
         ensures own { IsAllOwn result }
@@ -47,7 +47,7 @@ impl ChangedCode {
         }
     }
 
-    /// The code, with the instruction that stands in the place of another.
+    /// The code as it is now, with the exchanged instruction if there is one.
     #[inline]
     pub fn code(&self) -> &Code
         ensures { result.now ≡ self.now.code }
@@ -55,7 +55,7 @@ impl ChangedCode {
         &self.code
     }
 
-    /// Every instruction is the program's own again, and no constant is there but its own. It takes no memory.
+    /// Puts the program's own instruction back, and drops the constants that are not its own. It takes no memory.
     pub fn restore(&mut self)
         requires within { IfSome self.old.exchanged (λ it. it.place < length self.old.code.instructions.items) }
         requires own { self.old.own ≤ length self.old.code.constants.values.items }
@@ -68,8 +68,8 @@ impl ChangedCode {
         self.code.constants.forget(self.own);
     }
 
-    /// The instruction of another statement stands in the place `i`. Where there is no memory, the code is the
-    /// program's own, but for constants.
+    /// Puts the instruction of another statement in the place `i`. If memory runs out, all instructions are the
+    /// program's own, and there may be constants that are not.
     fn put(
         &mut self,
         alloc: Global,
@@ -101,8 +101,8 @@ impl ChangedCode {
         Ok(())
     }
 
-    /// The instruction of another statement stands in the place `i`, and each other one is the program's own. Where
-    /// there is no memory, none is exchanged.
+    /// Puts the instruction of another statement in the place `i`; each other instruction is the program's own. If
+    /// memory runs out, none is exchanged.
     pub fn exchange(
         &mut self,
         alloc: Global,

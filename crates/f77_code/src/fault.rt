@@ -6,7 +6,7 @@ use thiserror::Error;
 /// Why statements are not compiled.
 #[derive(Debug, PartialEq, Eq, Drop, Error)]
 pub enum CodeFault {
-    /// Memory ran out, or the numbers of registers.
+    /// Memory ran out, or a register would need a number of more than 32 bits.
     #[error("memory ran out")]
     Memory,
 }

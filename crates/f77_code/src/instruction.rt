@@ -1,24 +1,24 @@
-//! Statements over registers.
+//! Instructions over registers. A place is the number of an instruction: those of statements come first, then one for
+//! the incrementation of each DO.
 
 use crate::term::{Pair, Term};
 use f77_actions::Relation;
 
-/// What an instruction does. Places are numbers: those of statements
-/// come first, then one for the incrementation of each DO.
+/// What an instruction does.
 #[derive(Drop)]
 pub enum Operation {
-    /// A register is given the value of a term (10.1, 10.2).
+    /// Gives a register the value of a term (10.1, 10.2).
     Set {
         to: u32,
         term: Box<Term>,
     },
-    /// An element of an array of one dimension is given a value: the pair is of its subscript and the value.
+    /// Gives a value to an element of an array of one dimension. The pair is its subscript and the value.
     SetElement {
         first: u32,
         bound: u32,
         pair: Box<Pair>,
     },
-    /// An element of an array of two dimensions is given a value: the pair is of its row and its column.
+    /// Gives the value of `term` to an element of an array of two dimensions. The pair is its row and its column.
     SetMatrix {
         first: u32,
         rows: u32,
@@ -26,32 +26,33 @@ pub enum Operation {
         pair: Box<Pair>,
         term: Box<Term>,
     },
-    /// Control goes to `then` where the term is true (11.5 to 11.7).
+    /// Goes to `then` if the term is true (11.5 to 11.7).
     IfTrue {
         then: u32,
         term: Box<Term>,
     },
-    /// Control goes to `then` where the relation holds.
+    /// Goes to `then` if the relation holds.
     IfRelated {
         relation: Relation,
         then: u32,
         pair: Box<Pair>,
     },
-    /// `IfRelated`, where both terms are registers.
+    /// `IfRelated` of two registers.
     IfCompared {
         relation: Relation,
         left: u32,
         right: u32,
         then: u32,
     },
-    /// A DO begins: control goes to `body` where it has a pass to make (11.10.3).
+    /// Begins a DO: goes to `body` if the DO has a pass to make (11.10.3).
     Do {
         variable: u32,
         counter: u32,
         body: u32,
         parameters: Box<Parameters>,
     },
-    /// `Do`, where the parameters are registers.
+    /// `Do` with three registers as parameters. Mutants that count without end often come to a DO without a pass, so
+    /// this form is worth while.
     Count {
         variable: u32,
         counter: u32,
@@ -60,32 +61,32 @@ pub enum Operation {
         last: u32,
         step: u32,
     },
-    /// A DO is incremented: control goes to `body` where it has a pass to make (11.10.7).
+    /// Increments a DO: goes to `body` if the DO has another pass to make (11.10.7).
     Next {
         variable: u32,
         counter: u32,
         body: u32,
     },
-    /// Control goes to one of three places by the sign of a number (11.4).
+    /// Goes to one of three places, by the sign of a number (11.4).
     Sign {
         negative: u32,
         zero: u32,
         positive: u32,
         term: Box<Term>,
     },
-    /// Control goes to the place of this number, counted from 1, if there is one (11.2).
+    /// Goes to the place with this number, counted from 1, if there is one (11.2).
     Select {
         term: Box<Term>,
         places: Vec<u32>,
     },
-    /// Another operation, where the term is true (11.5).
+    /// Does another operation if the term is true (11.5).
     When {
         term: Box<Term>,
         inner: Box<Operation>,
     },
-    /// Control goes on.
+    /// Goes on.
     Continue,
-    /// Control goes to `then` (11.1).
+    /// Goes to `then` (11.1).
     Goto {
         then: u32,
     },
@@ -93,32 +94,32 @@ pub enum Operation {
     Return,
     /// STOP (11.12).
     Stop,
-    /// What a mutant has in place of a statement, to be told when it is executed.
+    /// TRAP, which only mutants have in place of a statement: the run is Trapped.
     Trap,
-    /// `Set`, where the term is a register.
+    /// `Set` with a register.
     Move {
         to: u32,
         from: u32,
     },
-    /// `Set`, where the term is a sum of registers.
+    /// `Set` with a sum of registers.
     Add {
         to: u32,
         left: u32,
         right: u32,
     },
-    /// `Set`, where the term is a difference of registers.
+    /// `Set` with a difference of registers.
     Subtract {
         to: u32,
         left: u32,
         right: u32,
     },
-    /// `Set`, where the term is a product of registers.
+    /// `Set` with a product of registers.
     Multiply {
         to: u32,
         left: u32,
         right: u32,
     },
-    /// `Set`, where the term is an element by a subscript in a register.
+    /// `Set` with an element whose subscript is in a register.
     Load {
         to: u32,
         first: u32,
@@ -135,7 +136,7 @@ pub struct Parameters {
     pub step: Term,
 }
 
-/// An instruction, and the place where control goes on from it.
+/// An instruction, and the place to which control goes on from it.
 #[derive(Drop)]
 pub struct Instruction {
     pub operation: Operation,

@@ -1,4 +1,4 @@
-//! Statements are compiled to instructions.
+//! Compiling statements to instructions.
 
 ghost use Rattle.std.specs.Prelude.{◌≡◌, ◌<◌, ◌+◌, List, length, true, Some, slice_get, IfOk};
 ghost use Rattle.f77_actions.specs.declared.resolved.Resolved.{Resolved};
@@ -20,7 +20,7 @@ use f77_actions::{Action, Number, Resolved};
 use f77_tree::Shared;
 use std::alloc::Global;
 
-/// The incrementation of the DO `d`, which has this variable and ends at the statement `terminal` (11.10.7).
+/// The incrementation of the DO `d`, with this variable and this terminal statement (11.10.7).
 pub(crate) fn increment(
     places: &Places,
     statements: &[Shared<Resolved>],
@@ -45,7 +45,7 @@ pub(crate) fn increment(
     }
 }
 
-/// The operation that begins a DO, without a box where its parameters are registers.
+/// The operation that begins a DO. It needs no box where its parameters are registers.
 fn beginning_operation(
     alloc: Global,
     variable: u32,
@@ -77,7 +77,7 @@ fn beginning_operation(
 }
 
 impl Constants {
-    /// The parameters of a DO (11.10.3).
+    /// The terms of the parameters of a DO (11.10.3).
     fn parameters(
         &mut self,
         alloc: Global,
@@ -98,8 +98,8 @@ impl Constants {
         Ok(Parameters { first, last, step })
     }
 
-    /// The instruction of a statement with the number `i`, in each program of the same
-    /// frame that has this statement there.
+    /// The instruction of the statement `resolved` as number `i`. It serves in each program of the same frame that has
+    /// this statement there.
     pub(crate) fn instruction(
         &mut self,
         alloc: Global,

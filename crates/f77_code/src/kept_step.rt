@@ -1,4 +1,4 @@
-//! The run of changed code, begun where it may part from that of the program.
+//! The start of a changed run: it begins where it may part from the run of the program.
 
 ghost use Rattle.std.specs.Prelude.{◌≡◌, ◌≤◌, ◌+◌, ◌++◌, ℕ, drop, length, take, true, IfNone, IfSome};
 ghost use Rattle.f77_code.specs.Block.{code_after, code_within};
@@ -11,11 +11,11 @@ use crate::blocks::block;
 use crate::control::Turn;
 use crate::instruction::Instruction;
 
-/// What is kept of the first time at which control was at an instruction: the registers of the slots and the counters
-/// before its step, and where that led.
+/// The first time at which control was at an instruction: the registers of the slots and the counters before its step
+/// and behind it, and the place to which it led.
 #[derive(Drop)]
 pub struct KeptStep {
-    /// How many steps were made before.
+    /// The number of steps that were made before.
     pub made: u32,
     pub slots: Vec<i64>,
     pub turns: Vec<Turn>,
@@ -25,7 +25,7 @@ pub struct KeptStep {
 }
 
 impl KeptStep {
-    /// The registers of the slots, and the counters, have what they had before the step.
+    /// Gives the registers of the slots, and the counters, the values that they had before the step.
     fn load(&self, registers: &mut [i64], turns: &mut [Turn])
         requires slots { length self.now.slots.items ≤ length registers.old }
         requires turns { length self.now.turns.items ≡ length turns.old }
@@ -36,7 +36,7 @@ impl KeptStep {
         turns.copy_from_slice(&self.turns);
     }
 
-    /// Whether a step led where the step led.
+    /// Whether a step has led to the kept place, slots and counters.
     fn is_met(&self, place: usize, registers: &[i64], turns: &[Turn]) -> bool
         requires { length self.now.slots_after.items ≤ length registers.now }
         ensures place { result ≡ true → place ≡ self.now.place }
@@ -57,8 +57,10 @@ impl KeptStep {
     }
 }
 
-/// One step of changed code from where that of the program came the first time to the changed instruction: where it
-/// leads; or nothing, where the changed code is known by it to come to what the code of the program comes to.
+/// Makes the first step that changed code may make otherwise than the code of the program, from the first time at which
+/// control was at the changed instruction. `more` says whether control was there again. Gives the place to which the
+/// step leads. None if the changed code is known to come to what the program comes to: the step leads to the same
+/// state, and control was there no other time.
 pub fn first_step(
     code: &[Instruction],
     place: usize,

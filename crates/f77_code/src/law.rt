@@ -1,4 +1,4 @@
-//! What holds of the code of every program.
+//! Laws of the code of every program.
 
 ghost use Rattle.f77_code.specs.Frame.{LeavesBehind, MoreRegisters, WritesSlots};
 ghost use Rattle.f77_code.specs.Sequences.{BlocksAlike, CodeComesBack};
@@ -6,28 +6,28 @@ ghost use Rattle.f77_code.specs.Simulation.{MovesAlike};
 ghost use Rattle.f77_code.specs.Together.{Alongside, MakesStep, NeverPart, PartAt};
 ghost use Rattle.f77_code.specs.Twins.{TimesOfTwins, TwinsAlike};
 
-/// Where the machine over slots makes a move, the code makes the same
-/// one, and where it makes many, so many instructions lead to the same.
+/// A step of the code is a step of the machine over slots, and many steps of the code are as many of the machine.
 #[tactic(auto, using(crate::proofs::Simulation::moves_alike, crate::proofs::Sequences::blocks_alike))]
 pub fn moves_alike()
     ensures moves { MovesAlike }
     ensures blocks { BlocksAlike }
 {}
 
-/// Code that comes back to where it stood never ends.
+/// Code that comes back to a state in which it was never ends.
 pub fn comes_back()
     ensures { CodeComesBack }
 {}
 
-/// Registers behind those that code names make no difference to what it does, and what it does not write stays.
+/// Registers behind those that code names make no difference to what it does, and registers that it does not write keep
+/// their values.
 pub fn more_registers()
     ensures more { MoreRegisters }
     ensures behind { LeavesBehind }
     ensures slots { WritesSlots }
 {}
 
-/// Code with another instruction in one place goes together with the code of a program while it makes the same
-/// step there, and where it makes another, its run may begin with that.
+/// Code with one instruction exchanged comes to what the code of the program comes to, as long as it makes the same
+/// step there. Where it makes another step, its run may begin with that step.
 pub fn codes_go_together()
     ensures alongside { Alongside }
     ensures never { NeverPart }
@@ -35,7 +35,7 @@ pub fn codes_go_together()
     ensures step { MakesStep }
 {}
 
-/// Two codes of one program do the same, wherever they have their constants.
+/// Two codes of one program do the same, even with constants in other registers.
 pub fn twins_do_the_same()
     ensures alike { TwinsAlike }
     ensures times { TimesOfTwins }

@@ -1,4 +1,4 @@
-//! DOs (ANSI X3.9-1978, 11.10).
+//! The execution of DOs (ANSI X3.9-1978, 11.10).
 
 ghost use Rattle.std.specs.Prelude.{◌≡◌, ◌≢◌, ◌<◌, ◌+ℤ◌, pos, true, length, List, ℤ, Result};
 ghost use Rattle.f77_actions.specs.declared.finish.Fault.{Fault};
@@ -21,7 +21,7 @@ use crate::registers::read;
 use f77_actions::number::trip_count;
 use f77_actions::told::{UNDEFINED, ZERO_STEP, sum};
 
-/// A DO has these passes to make.
+/// Sets the counter of a DO, and goes to its body if it has a pass to make.
 #[inline(always)]
 #[tactic(auto, using(crate::proofs::Points::pass_none, crate::proofs::Points::pass_some))]
 fn pass(counter: u32, body: u32, next: u32, passes: u64, step: i32, turns: &mut [Turn]) -> usize
@@ -36,7 +36,7 @@ fn pass(counter: u32, body: u32, next: u32, passes: u64, step: i32, turns: &mut 
     body as usize
 }
 
-/// A number that tells no fault, in 32 bits.
+/// A number that stands for a value, in 32 bits.
 #[inline(always)]
 fn value(x: i64) -> i32
     requires told { IsValueOrFault x }
@@ -46,7 +46,7 @@ fn value(x: i64) -> i32
     x as i32
 }
 
-/// The number of passes of a DO whose parameters have these values.
+/// The trip count of a DO with these parameters.
 #[inline(always)]
 fn passes_within(first: i64, last: i64, step: i64) -> u64
     requires first { IsValueOrFault first }
@@ -64,7 +64,7 @@ fn passes_within(first: i64, last: i64, step: i64) -> u64
     trip_count(from, to, by)
 }
 
-/// A DO begins, of whose parameters this is told.
+/// Begins a DO with these parameters, or ends the run by the first of them that stands for a fault.
 #[inline(always)]
 #[tactic(auto, using(crate::proofs::Points::zero_told, crate::proofs::Points::least_from))]
 fn begun(
@@ -136,7 +136,8 @@ pub(crate) fn begin(
     )
 }
 
-/// The same, where the parameters are registers.
+/// Begins a DO whose parameters are registers. This is a form of its own: mutants that count without end often come to
+/// a DO without a pass.
 #[inline(always)]
 pub(crate) fn count(
     variable: u32,
@@ -168,7 +169,7 @@ pub(crate) fn count(
     )
 }
 
-/// One pass less. No active DO has 0 left.
+/// One pass less. No active DO has 0 passes left, so nothing wraps.
 #[inline(always)]
 #[tactic(auto, using(crate::proofs::Points::less_wrapped))]
 fn one_less(passes: u64) -> u64
@@ -177,7 +178,7 @@ fn one_less(passes: u64) -> u64
     passes.wrapping_sub(1)
 }
 
-/// The next value of the variable of a DO.
+/// The next value of a DO variable.
 #[inline(always)]
 #[tactic(auto, using(crate::proofs::Points::narrow_told))]
 fn advanced(value: i64, step: i32) -> i64

@@ -1,4 +1,4 @@
-//! What instructions do.
+//! The execution of an operation.
 
 ghost use Rattle.std.specs.Prelude.{◌≡◌, ◌==◌, true, length, if◌then◌else◌, pos};
 ghost use Rattle.f77_code.specs.Operation as meaning;
@@ -17,8 +17,8 @@ use crate::looping::{begin, count, increment};
 use crate::term::Term;
 use f77_actions::told::UNDEFINED;
 
-/// An operation, from which control goes on to `next`. It is in place where instructions follow one another, which the
-/// compiler allows up to a size: so some long operations have code of their own.
+/// Executes an operation from which control goes on to `next`, and gives the next place. It is inlined in the inner
+/// loop, which the compiler does up to a size, so some long operations have functions of their own.
 #[cycle(operations)]
 #[inline(always)]
 pub(crate) fn perform(
@@ -105,7 +105,7 @@ pub(crate) fn perform(
     }
 }
 
-/// A logical IF.
+/// Executes a logical IF.
 #[cycle(operations)]
 #[inline(always)]
 #[tactic(auto, using(crate::proofs::Points::least_from))]
@@ -134,8 +134,8 @@ fn when(
     perform_inner(inner, next, registers, turns)
 }
 
-/// An operation in a logical IF. It has code of its own, so that the
-/// other operations are in place where instructions follow one another.
+/// Executes the operation in a logical IF. This is a function of its own, so that the other operations are inlined in
+/// the inner loop.
 #[cycle(operations)]
 #[inline(never)]
 fn perform_inner(

@@ -1,4 +1,4 @@
-//! Operators on numbers that tell values or faults (ANSI X3.9-1978, 6.1, 6.3 and 6.4).
+//! Operators on numbers that stand for values or faults (ANSI X3.9-1978, 6.1, 6.3 and 6.4).
 
 ghost use Rattle.std.specs.Prelude.{◌≡◌, ℤ, Result, Ok};
 ghost use Rattle.f77_actions.specs.declared.finish.Fault.{Fault};
@@ -62,7 +62,7 @@ fn joined(connective: Connective, x: i64, y: i64) -> i64
     }
 }
 
-/// A logical operator on truth values as numbers.
+/// A logical operator on truth values, as numbers.
 #[inline(always)]
 pub(crate) fn connected(connective: Connective, x: i64, y: i64) -> i64
     requires x { IsValueOrFault x }

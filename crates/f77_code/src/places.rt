@@ -1,4 +1,4 @@
-//! The numbers of places: statements come first, and behind them the incrementations of DOs.
+//! The numbers of places: those of the statements come first, then those of the incrementations of DOs.
 
 ghost use Rattle.std.specs.Prelude.{◌≡◌, ◌<◌, ◌+◌, if◌then◌else◌, List, length, true, IfOk};
 ghost use Rattle.f77_actions.specs.declared.resolved.Resolved.{Resolved};
@@ -15,15 +15,15 @@ use f77_actions::{Action, Resolved};
 use f77_tree::Shared;
 use std::alloc::Global;
 
-/// Where the incrementations of DOs stand, by the numbers of the statements:
-/// how many statements stand before the first one, and the place of each.
+/// The places of the incrementations of DOs: the number of statements, and for each statement the place of its
+/// incrementation, or the next one where it is no DO.
 #[derive(Drop)]
 pub struct Places {
     first: u32,
     increments: Vec<u32>,
 }
 
-/// The place behind that of a statement's incrementation, where it is a DO; else the same place.
+/// The place behind the incrementation of this action if it is a DO, and else the same place.
 fn behind(place: u32, action: &Action) -> u32
     requires { place < 4294967295 }
     ensures { result ≡ (if moves.is_loop action.now then place + 1 else place) }
@@ -34,7 +34,8 @@ fn behind(place: u32, action: &Action) -> u32
     }
 }
 
-/// Of DOs that end together, the innermost first, those round the DO `d`.
+/// Those of the DOs `ends` that are outside of the DO `d`. All of them end together, and stand with the innermost
+/// first.
 fn round(ends: &[usize], d: usize) -> &[usize]
     ensures { result.now ≡ meaning.round d ends.now }
 {
@@ -49,7 +50,7 @@ fn round(ends: &[usize], d: usize) -> &[usize]
 impl Places {
     ghost use Rattle.f77_code.specs.Places.{ArePlaces, have_places};
 
-    /// The places behind these statements.
+    /// The places of the incrementations of these statements.
     pub(crate) fn new(alloc: Global, statements: &[Shared<Resolved>]) -> Result<Places, CodeFault>
         requires { length statements.now < 2147483648 }
         ensures { IfOk result (λ places. ArePlaces statements.now places) }
@@ -73,7 +74,7 @@ impl Places {
         self.increments[d]
     }
 
-    /// The number of the counter of the DO `d`.
+    /// The number of the counter of the DO `d`, from 0.
     pub(crate) fn counter(&self, d: usize) -> u32
         requires { d < length self.now.increments.items }
         ensures { (statements : List Resolved) → ArePlaces statements self.now → result ≡ counts.do_rank statements d }
@@ -81,8 +82,8 @@ impl Places {
         self.increments[d].saturating_sub(self.first)
     }
 
-    /// Where control goes on behind a statement that ends these DOs,
-    /// the innermost first: to its incrementation, or to what follows.
+    /// The place behind a statement that ends these DOs, the innermost first: the incrementation of the innermost, or
+    /// the statement `next` where there is none.
     pub(crate) fn onward(&self, ends: &[usize], next: usize) -> u32
         requires ends { are_below (length self.now.increments.items) ends.now ≡ true }
         requires next { is_of_32_bits next ≡ true }
@@ -95,8 +96,7 @@ impl Places {
         }
     }
 
-    /// Where control goes on from the DO `d`, which ends at the
-    /// statement `terminal`, when its passes are made (11.10.7).
+    /// The place behind the DO `d`, which ends at the statement `terminal`, when it has no pass left (11.10.7).
     pub(crate) fn left(&self, statements: &[Shared<Resolved>], d: usize, terminal: usize) -> u32
         requires places { ArePlaces statements.now self.now }
         requires have { have_places statements.now ≡ true }

@@ -1,4 +1,4 @@
-//! Registers, and arrays in them.
+//! Reading registers, and the elements of arrays in them.
 
 ghost use Rattle.std.specs.Prelude.{◌≡◌, ◌≤◌, ◌<◌, ◌+◌, ◌*◌, true, length, ℤ, Result};
 ghost use Rattle.f77_actions.specs.declared.finish.Fault.{Fault};
@@ -29,7 +29,8 @@ fn read_at(registers: &[i64], first: u32, place: usize) -> i64
     registers[first as usize + place]
 }
 
-/// How far a subscript is from the first element: beyond all bounds where it is that of no element, or tells a fault.
+/// How far a subscript is from the first element. It is beyond all bounds where the subscript is below 1 or stands for
+/// a fault.
 #[inline(always)]
 #[tactic(auto, using(crate::proofs::Reading::offset_is))]
 pub(crate) fn offset(subscript: i64) -> u64
@@ -39,7 +40,7 @@ pub(crate) fn offset(subscript: i64) -> u64
     (subscript - 1).cast_unsigned()
 }
 
-/// An element by its subscript.
+/// The value of an element of an array of one dimension.
 #[inline(always)]
 pub(crate) fn element(registers: &[i64], first: u32, bound: u32, subscript: i64) -> i64
     requires held { are_held registers.now ≡ true }
@@ -58,7 +59,7 @@ pub(crate) fn element(registers: &[i64], first: u32, bound: u32, subscript: i64)
     subscript
 }
 
-/// The place of an element in an array of two dimensions, from 0.
+/// The place of an element in an array of two dimensions, from 0. Columns follow one another.
 #[inline(always)]
 #[tactic(auto, using(crate::proofs::Reading::in_matrix))]
 pub(crate) fn matrix_offset(rows: u32, columns: u32, row: u64, column: u64) -> usize
@@ -70,7 +71,7 @@ pub(crate) fn matrix_offset(rows: u32, columns: u32, row: u64, column: u64) -> u
     row as usize + rows as usize * column as usize
 }
 
-/// The fault of a reference to an element that is not there.
+/// The fault of two subscripts that name no element: that of the row, else that of the column, else BadSubscript.
 #[cold]
 #[inline(never)]
 #[tactic(auto, using(crate::proofs::Reading::bad_row, crate::proofs::Reading::bad_column, crate::proofs::Reading::bad_neither))]
@@ -87,7 +88,7 @@ pub(crate) fn misplaced(row: i64, column: i64) -> i64
     BAD_SUBSCRIPT
 }
 
-/// An element by its row and its column.
+/// The value of an element of an array of two dimensions.
 #[inline(always)]
 pub(crate) fn matrix_element(
     registers: &[i64],

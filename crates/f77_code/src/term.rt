@@ -2,20 +2,19 @@
 
 use f77_actions::{Arithmetic, Connective, Relation};
 
-/// An expression whose variables, constants and arrays are registers. One of LOGICAL has the value 0 or 1.
+/// An expression whose variables, constants and arrays are registers. The value of a LOGICAL expression is 0 or 1.
 #[cycle(terms)]
 #[derive(Drop)]
 pub enum Term {
     /// A variable or a constant, in this register.
     Register(u32),
-    /// An element of an array of one dimension, whose first element
-    /// is in the register `first`, by the subscript in a register.
+    /// An element of an array of one dimension, which begins in the register `first`. The subscript is in a register.
     Element {
         first: u32,
         bound: u32,
         subscript: u32,
     },
-    /// An element of an array of two dimensions, by the row and the column in two registers.
+    /// An element of an array of two dimensions. The row and the column are in registers.
     MatrixAt {
         first: u32,
         rows: u32,
@@ -44,15 +43,15 @@ pub enum Term {
         left: u32,
         right: u32,
     },
-    /// A constant above 2147483647.
+    /// A constant above 2147483647: its value is Overflow.
     TooLarge,
-    /// An element of an array of one dimension, by any subscript.
+    /// An element of an array of one dimension with any subscript.
     Vector {
         first: u32,
         bound: u32,
         subscript: Box<Term>,
     },
-    /// An element of an array of two dimensions, by any row and column.
+    /// An element of an array of two dimensions with any row and column.
     Matrix {
         first: u32,
         rows: u32,
@@ -74,7 +73,7 @@ pub enum Term {
     Negated(Box<Term>),
     /// IABS.
     Absolute(Box<Term>),
-    /// What a mutant has in place of an expression, to be told where it is zero.
+    /// ZPUSH(e), which only mutants have: the value of e, but Trapped where that is 0.
     ZeroPush(Box<Term>),
     /// A relation of two numbers.
     Related {
@@ -90,12 +89,12 @@ pub enum Term {
     Not(Box<Term>),
 }
 
-/// Two operands, the left one evaluated first.
+/// Two operands. The left one is evaluated first.
 #[cycle(terms)]
 #[derive(Drop)]
 pub struct Pair {
     /// The first operand, or a row, or a subscript.
     pub left: Term,
-    /// The second operand, or a column, or what is assigned.
+    /// The second operand, or a column, or the value that is assigned.
     pub right: Term,
 }

@@ -1,4 +1,4 @@
-//! Instructions one after another, up to a place.
+//! Instructions executed one after another, up to a place.
 
 ghost use Rattle.std.specs.Prelude.{◌≡◌, ◌≤◌, ◌<◌, true, length, ℕ};
 ghost use Rattle.f77_code.specs.Block.{code_after, code_within};
@@ -9,7 +9,8 @@ use crate::blocks::{Stand, step};
 use crate::control::Turn;
 use crate::instruction::Instruction;
 
-/// So many instructions at most, up to the next time that control comes to the place `watched`.
+/// Executes instructions from the place `start` on, at most `steps` of them, until control next comes to the place
+/// `watched`.
 #[inline(never)]
 pub fn block_to(
     code: &[Instruction],

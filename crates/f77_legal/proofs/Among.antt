@@ -26,7 +26,7 @@ module _ (P : Symbol → Type 0) where
       All-cons P x names (each x (ap (λ b. b || is_name_among names x) (symbol_refl x)))
       (all_by_among names (λ name h. each name (ap (λ b. bytes_eq name x || b) h ∙ or-true (bytes_eq name x))))
 
-  -- of each name, and of each once
+  -- what holds of each name holds of each name once
   pub all_once : (names : List Symbol) → All P names → All P (names_once names)
   all_once names all = all_by_among (names_once names) (λ name h. among_holds names all name (sym (any_once name names) ∙ h))
 
@@ -36,11 +36,11 @@ module _ (P : Symbol → Type 0) where
 pub among_itself : (names : List Symbol) → All (λ name. is_name_among names name ≡ true) names
 among_itself names = all_by_among (λ name. is_name_among names name ≡ true) names (λ name h. h)
 
--- among a filter of a list
+-- a name that passes a test is among a filtered list exactly where it is among the list
 pub among_passing : (test : Symbol → Bool) (names : List Symbol) (name : Symbol) → test name ≡ true → is_name_among (filter test names) name ≡ is_name_among names name
 among_passing test names name pass = any-filter_same (bytes_eq name) test true (λ other same. ap test (sym (same_symbol name other same)) ∙ pass) names
 
--- each name stands once, where none stands twice
+-- where no name stands twice, each stands once
 none_found : (name : Symbol) (names : List Symbol) → is_name_among names name ≡ false → length (filter (bytes_eq name) names) ≡ 0
 none_found name [] none = refl
 none_found name (x ∷ names) none =
@@ -62,7 +62,7 @@ one_found (x ∷ names) apart name h = by (bytes_eq name x) refl (one_found name
 pub each_counted : (names : List Symbol) → Apart names → All (λ name. length (filter (bytes_eq name) names) ≡ 1) names
 each_counted names apart = all_by_among (λ name. length (filter (bytes_eq name) names) ≡ 1) names (one_found names apart)
 
--- how much names weigh
+-- the sum of the weights of names
 module _ (weight : Symbol → ℕ) where
   sum_filter_le : (test : Symbol → Bool) (names : List Symbol) → sum_by weight (filter test names) ≤ sum_by weight names
   sum_filter_le test [] = omega arith

@@ -42,7 +42,7 @@ count_more test p i j s h is = by (slice_get p j) refl is
 count_none : (test : Statement → Bool) (p : List LineFields) (i : ℕ) → count_between test p i (i + 1) ≡ 0
 count_none test p i = let e : (i + 1) - suc i ≡ 0 = omega arith in ap (λ m. length (filter (λ line. test line.stmt) (take m (drop (suc i) p)))) e
 
--- before j no end was found, and so many blocks are open that began behind i
+-- before j no end was found, and `depth` blocks are open that began behind i
 pub record Scanning (p : List LineFields) (extent : Extent) (i j depth : ℕ) : Type 0 where
   pub behind : i < j
   pub level : depth + count_between is_end_if p i j ≡ count_between is_block_if p i j
@@ -63,7 +63,7 @@ scan_start p extent i = record {
 has_here : (test : Statement → Bool) (p : List LineFields) (j : ℕ) (s : Statement) → nth_statement p j ≡ Some s → has_at test p j ≡ test s
 has_here test p j s is = ap (λ o. option_map_or test o false) is
 
--- the statement j ends it just where no block is open
+-- the statement j is level with i exactly where no block is open
 level_here : (p : List LineFields) (i j depth : ℕ) → i < j → depth + count_between is_end_if p i j ≡ count_between is_block_if p i j → is_level p i j ≡ (depth == 0)
 level_here p i j depth h e = rw (lt-ltb i j h) (either (eqb_tells depth 0))
   where

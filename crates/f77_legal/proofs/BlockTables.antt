@@ -17,14 +17,14 @@ use Rattle.f77_legal.specs.code.BlockTable.{else_end_at, is_end_among, is_before
 use Rattle.f77_legal.specs.declared.blocks.Blocks.{Blocks}
 use Rattle.f77_legal.proofs.FirstNumbers.{length-table, get_or-table, table_same, take-table, any_same, any_below, any_end, or_false}
 
--- the marks of the ends of block IFs
+-- which statements end a block IF, as the table has it
 pub closing_table : (p : List LineFields) (ends : List (Option ℕ)) (marks : List Bool) → ends ≡ map (block_end_at p) (statement_numbers p)
     → marks ≡ map (is_end_among ends) (first_numbers (length ends)) → marks ≡ map (is_end_of_block p) (statement_numbers p)
 closing_table p ends marks e h =
     h ∙ (ap (λ n. map (is_end_among ends) (first_numbers n)) (ap length e ∙ length-table (block_end_at p) (length p))
     ∙ table_same (is_end_among ends) (is_end_of_block p) (length p) (λ k b. ap (λ es. is_end_among es k) e ∙ any_end (λ e. e == k) (has_at is_block_if p) (block_end p) (statement_numbers p)))
 
--- the marks of the ends of branches that an ELSE begins
+-- which statements end a branch that an ELSE begins, as the table has it
 pub after_else_table : (p : List LineFields) (ends : List (Option ℕ)) (marks : List Bool) → ends ≡ map (else_end_at p) (statement_numbers p)
     → marks ≡ map (is_end_among ends) (first_numbers (length ends)) → marks ≡ map (ends_else p) (statement_numbers p)
 after_else_table p ends marks e h =

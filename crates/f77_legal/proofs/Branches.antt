@@ -165,7 +165,7 @@ both_true true true h = (refl, refl)
 both_true true false h = absurd (cc (h))
 both_true false b h = absurd (cc (h))
 
--- as many blocks begin as end between a block IF and a branch of it, or more, since none before was its END IF
+-- between a block IF and a branch of it at least as many blocks begin as end, since no statement before was its END IF
 not_fewer : (p : List LineFields) (b i : ℕ) → b < i → i < length p
     → ((k : ℕ) → k < i → (has_at is_end_if p k && is_level p b k) ≡ false)
     → count_between is_end_if p b i ≤ count_between is_block_if p b i

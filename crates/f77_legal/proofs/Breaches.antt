@@ -111,7 +111,7 @@ breach_more broken p i x at =
     ∙ one_more (λ c. lines_where (broken c) (take i p)) (λ c. broken c i x.stmt) x.line 0 clauses
     (refl, (refl, (refl, (refl, (refl, (refl, (refl, (refl, tt))))))))
 
--- the faults of clauses are told of their breaches
+-- the faults of clauses follow from their breaches
 abbrev fault_of : Clause × ℕ → CheckFault
 fault_of found = clause_fault found.0 found.1
 
@@ -176,7 +176,7 @@ module _ (p : List LineFields) where
         by [] e = absurd (cc (e))
         by (x ∷ all) e = let same : x ≡ found = cc (e) in ap (λ (f : Clause × ℕ). Some (fault_of f)) same
 
-  -- nothing is told where no clause is broken
+  -- there is no fault where no clause is broken
   module _ (none : None ≡ first_breach p) where
     nothing_broken : own expression_clauses ++ own control_clauses ≡ []
     nothing_broken = sym in_two ∙ empty_from (own clauses) (sym none)

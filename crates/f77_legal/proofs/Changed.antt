@@ -1,4 +1,4 @@
--- What is told of a legal program with one statement changed: the first clause that this statement breaks.
+-- The fault of a legal program with one statement changed: that of the first clause that this statement breaks.
 use Rattle.std.proofs.Common.{◌≡◌, ◌≢◌, ◌⊎◌, inl, inr, ◌∙◌, ◌+◌, ℕ, zero, suc, List, [], ◌∷◌, ◌++◌, Bool, true, false, cond, not}
 use Rattle.std.proofs.Common.{Option, Some, None, refl, sym, ap, subst, arith, map, filter, length, append_assoc, append-nil}
 use Rattle.std.specs.Prelude.{◌≤◌, nat_lt, option_map}
@@ -60,7 +60,7 @@ told_if : {X Y : Type 0} (f : X → Y) (b : Bool) (x : X) → map f (cond b (x �
 told_if f true x = refl
 told_if f false x = refl
 
--- where the statement of each other line fails, at most this line is told
+-- where the statements of all other lines fail the test, only this line can be found
 one_line : (test : ℕ → Statement → Bool) (p : List LineFields) (i : ℕ) (line : LineFields) → slice_get p i ≡ Some line
     → ((j : ℕ) (t : Statement) → i ≢ j → nth_statement p j ≡ Some t → test j t ≡ false)
     → lines_where test p ≡ cond (test i line.stmt) (line.line ∷ []) []
@@ -88,7 +88,7 @@ one_line test p i line at fail =
             let same : (j, l) ≡ n = same_Some (j, l) n (sym (here j l some) ∙ is) in
             sym (ap passes same) ∙ fail j l.stmt apart (ap (option_map (λ x. x.stmt)) some)
 
--- the first of what each clause tells of one line is the first of the clauses that tell of it
+-- the first fault of one line is that of the first clause that has one there
 one_each : (tells : Clause → Bool) (fault : Clause → CheckFault) (cs : List Clause)
     → slice_get (flat_map (λ c. cond (tells c) (fault c ∷ []) []) cs) 0 ≡ option_map fault (find tells cs)
 one_each tells fault [] = refl
@@ -99,7 +99,7 @@ one_each tells fault (c ∷ cs) = by (tells c) (one_each tells fault cs)
     by true later = refl
     by false later = later
 
--- what holds of the clause on terminal statements and of each other one
+-- what holds of the clause on terminal statements, and of each other clause, holds of all clauses
 of_each : (P : Clause → Type 0) → P Terminals → ((c : Clause) → c ≢ Terminals → P c) → (c : Clause) → P c
 of_each P ends others Kinds = others Kinds (λ e. absurd (cc (e)))
 of_each P ends others Bounds = others Bounds (λ e. absurd (cc (e)))
@@ -164,7 +164,7 @@ module _ (p q : List LineFields) (i : ℕ) (line : LineFields) (s : Statement) (
       of_each (λ c. breaks c q j t ≡ false) (ends_kept j t is)
       (λ c apart. same_breaks q p same c apart j t ∙ (keeps_every_rule p legal).statements c j t (elsewhere_in_p j t other is)) c
 
-  -- a clause tells of the changed statement alone
+  -- a clause finds a fault in the changed statement alone
   told : (c : Clause) → faults_of c q ≡ cond (breaks c q i s) (clause_fault c line.line ∷ []) []
   told c =
       ap (map (clause_fault c)) (one_line (breaks c q) q i (record (line) { stmt = s }) here (others c))
@@ -182,7 +182,7 @@ module _ (p q : List LineFields) (i : ℕ) (line : LineFields) (s : Statement) (
       groups : groups_of s ≡ groups_of line.stmt
       groups = sym (groups_of-framed s) ∙ ap groups_of kept ∙ groups_of-framed line.stmt
 
-  -- the names and the sizes kept, too, what is told is what the statement breaks first
+  -- where the names and the sizes are still right, the first fault is that of the first clause that the statement breaks
   told_by_itself : name_faults q ≡ [] → too_large_faults q ≡ [] → first_fault q ≡ option_map (λ c. clause_fault c line.line) (first_clause q i s)
   told_by_itself names sizes =
       ap (λ all. slice_get all 0)

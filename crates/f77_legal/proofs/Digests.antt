@@ -1,4 +1,4 @@
--- The facts of a name, from the mentions of it in order.
+-- What is said of a name, from the mentions of it in order.
 use Rattle.std.proofs.Common.{◌≡◌, List, [], ◌∷◌, ◌++◌, ℕ, true, false, refl, ap, ◌∙◌}
 use Rattle.std.specs.Prelude.{filter, map, filter_map}
 use Rattle.std.specs.List.{cons_option, list_any}
@@ -76,7 +76,7 @@ module _ (ms : List Mention) (m : Mention) (q : Symbol) where
   mentions_push : mentions_with (ms ++ m ∷ []) q ≡ mentions_with ms q ++ mentions_with (m ∷ []) q
   mentions_push = filter-append (λ x. bytes_eq q (name_in x)) ms (m ∷ [])
 
-  -- one more mention adds to the facts of its own name, and to no other's
+  -- one more mention adds to what is said of its own name, and of no other
   pub facts_hit : bytes_eq (name_in m) q ≡ true → facts_of (ms ++ m ∷ []) q ≡ with_fact (facts_of ms q) m
   facts_hit e =
       let f : bytes_eq q (name_in m) ≡ true = symbol_symm q (name_in m) ∙ e in
@@ -89,7 +89,7 @@ module _ (ms : List Mention) (m : Mention) (q : Symbol) where
       let same : mentions_with (m ∷ []) q ≡ [] = rw f refl in
       ap digest (mentions_push ∙ ap (λ z. mentions_with ms q ++ z) same ∙ append-nil (mentions_with ms q))
 
--- of a name that no mention has, nothing is said
+-- of a name without a mention nothing is said
 none_with : (ms : List Mention) (q : Symbol) → list_any (bytes_eq q) (map name_in ms) ≡ false → mentions_with ms q ≡ []
 none_with [] q h = refl
 none_with (m ∷ ms) q h =

@@ -14,7 +14,7 @@ flipped a b = nat_eq_equiv.symm a b
 abbrev others : ℕ → List ℕ → List ℕ
 others x = filter (λ other. not (nat_eq x other))
 
--- One label more.
+-- the labels of a list, each once, with one more label behind
 distinct_by : (x label : ℕ) (rest : List ℕ) (b here : Bool) → nat_eq label x ≡ b
     → x ∷ others x (rest ++ cond here [] (label ∷ []))
     ≡ (x ∷ others x rest) ++ cond (b || here) [] (label ∷ [])
@@ -33,7 +33,7 @@ distinct-push (x ∷ all) label =
     ap (λ l. x ∷ others x l) (distinct-push all label)
     ∙ distinct_by x label (distinct all) (nat_eq label x) (list_any (nat_eq label) all) refl
 
--- The first that passes.
+-- the first that passes a test, in a filtered list
 find-filter : (p q : ℕ → Bool) (xs : List ℕ) → ((x : ℕ) → p x ≡ true → q x ≡ true) → find p (filter q xs) ≡ find p xs
 find-filter p q [] kept = refl
 find-filter p q (x ∷ xs) kept = by (p x) (q x) refl refl (find-filter p q xs kept)

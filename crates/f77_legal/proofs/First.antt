@@ -1,4 +1,4 @@
--- The first of what is told, searched from the front.
+-- The first fault of several lists, searched from the front.
 use Rattle.std.proofs.Common.{◌≡◌, ◌<◌, ℕ, List, [], ◌∷◌, ◌++◌, length, get_or, map, Some, None, refl, ◌∙◌, ap}
 use Rattle.std.proofs.lemmas.Option.{slice_get-map, slice_get_read}
 use Rattle.std.specs.Prelude.{slice_get, option_map}
@@ -17,7 +17,7 @@ first_of f (y ∷ xs) ys x h = cc (h)
 pub line_here : (lines : List Line) (i : ℕ) (x : Line) → x ≡ get_or lines i x → i < length lines → slice_get (map line_of lines) i ≡ Some (line_of x)
 line_here lines i x at lt = slice_get-map line_of lines i ∙ ap (option_map line_of) (slice_get_read lines (length lines) i x refl lt at)
 
--- what is told of two lists, one behind the other
+-- the first fault of two lists, where the first list has none
 pub second_told : {X A : Type 0} (f g : X → A) (xs ys : List X) (y : X) → slice_get xs 0 ≡ None → slice_get ys 0 ≡ Some y
     → slice_get (map f xs ++ map g ys) 0 ≡ Some (g y)
 second_told f g xs ys y none some = rw (empty_from xs none) (slice_get-map g ys 0 ∙ ap (option_map g) some)
@@ -25,7 +25,7 @@ second_told f g xs ys y none some = rw (empty_from xs none) (slice_get-map g ys 
 pub nothing_told : {X A : Type 0} (f g : X → A) (xs ys : List X) → slice_get xs 0 ≡ None → slice_get ys 0 ≡ None → map f xs ++ map g ys ≡ []
 nothing_told f g xs ys none no_more = rw (empty_from xs none, empty_from ys no_more) refl
 
--- what is told behind lists that tell nothing
+-- the first fault behind lists that have none
 pub told_behind : {X : Type 0} (xs ys : List X) (x : X) → xs ≡ [] → slice_get ys 0 ≡ Some x → slice_get (xs ++ ys) 0 ≡ Some x
 told_behind xs ys x none told = rw none told
 

@@ -1,4 +1,4 @@
--- The first line that presets badly.
+-- The first line whose DATA statement breaks the clause.
 use Rattle.std.proofs.Common.{arith, ◌≡◌, ℕ, zero, suc, ◌+◌, ◌<◌, ◌≤◌, List, [], ◌∷◌, ◌++◌, length, map, Bool, true, false, cond}
 use Rattle.std.proofs.Common.{refl, sym, ap, ◌∙◌, append_assoc, append-nil, take, drop, get_or, drop-cons, add-one, length-append}
 use Rattle.std.specs.Prelude.{◌||◌, not, nat_le, filter, Option, Some, None, if◌then◌else◌}
@@ -19,7 +19,7 @@ use Rattle.f77_legal.specs.Presets.{presets_badly, groups_of, names_preset, is_d
 use Rattle.f77_legal.specs.code.Runs.{breaks_data, names_of_groups}
 use Rattle.f77_legal.specs.declared.names.Names.{Names}
 
--- the line of the first statement that presets badly, behind these names of DATA
+-- the line of the first statement that breaks the clause on DATA, behind these names of DATA
 abbrev pub first_bad : (Symbol → List ℕ) → (Symbol → Kind) → (Symbol → Bool) → List Symbol → List LineFields → Option ℕ
 first_bad bounds kinds dummy before [] = None
 first_bad bounds kinds dummy before (line ∷ rest) =
@@ -71,7 +71,7 @@ first_is names p told =
     (λ j. first_bad (same_bounds names p told j) (same_kinds names p told j) (λ name. same_dummy_at names p told name j) [] p)
     ∙ first_from p [] p 0 refl refl
 
--- at a line
+-- the first such line from line i on, by line i and those behind it
 first_at : (bounds : Symbol → List ℕ) (kinds : Symbol → Kind) (dummy : Symbol → Bool) (before : List Symbol) (lines : List Line) (i : ℕ) (line : Line)
     → i < length lines → line ≡ get_or lines i line
     → first_bad bounds kinds dummy before (map line_of (drop i lines))
@@ -81,7 +81,7 @@ first_at bounds kinds dummy before lines i line p e =
     let s : drop i lines ≡ line ∷ drop (i + 1) lines = rw add-one (drop-cons lines i line p ∙ ap (λ x. x ∷ drop (suc i) lines) (sym e)) in
     ap (λ xs. first_bad bounds kinds dummy before (map line_of xs)) s
 
--- at a line that presets badly, and behind the last
+-- line i breaks the clause, or there is no line any more
 module _ (bounds : Symbol → List ℕ) (kinds : Symbol → Kind) (dummy : Symbol → Bool) (before : List Symbol) (lines : List Line) (i : ℕ) where
   pub bad_here : (line : Line) (b : Bool) → i < length lines → line ≡ get_or lines i line → b ≡ breaks_data bounds kinds dummy before (statement_of line.stmt) → b ≡ true
       → first_bad bounds kinds dummy before (map line_of (drop i lines)) ≡ Some line.line

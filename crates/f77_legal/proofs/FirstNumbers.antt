@@ -75,7 +75,7 @@ pub or_false : (b : Bool) → (b || false) ≡ b
 or_false true = refl
 or_false false = refl
 
--- numbers that fail can be left out
+-- numbers that fail a test can be left out
 pub any_below : (p : ℕ → Bool) (k n : ℕ) → k ≤ n → ((b : ℕ) → k ≤ b → p b ≡ false) → list_any p (first_numbers n) ≡ list_any p (first_numbers k)
 any_below p k zero h fails = let e : k ≡ 0 = omega arith in rw e refl
 any_below p k (suc n) h fails = either (λ below. any_below p k n below fails) (cases_lt n k)

@@ -84,7 +84,7 @@ module _ (names : Names) where
   abbrev pub AddsStatement : Flaws → Flaws → Statement → Type 0
   AddsStatement f g s = Adds f g (names_pass (has_name names) s) (kinds_agree (kind_at names) s) (dimensions_fit (array_bounds names) s)
 
-  -- as many are told as there are
+  -- the number of items is the length of the list
   counted : (items : List Expr) (count : ℕ) → count ≡ length items → (n : ℕ) → (count == n) ≡ (tree_count (trees (map tree_of items)) == n)
   counted items count is n = ap (λ k. k == n) (is ∙ sym (count_trees items))
 

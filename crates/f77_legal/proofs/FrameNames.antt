@@ -1,4 +1,4 @@
--- What a program says of its names is told from its frame: no statement that can be executed says anything of a name.
+-- What a program says of its names follows from its frame: no executable statement says anything of a name.
 use Rattle.std.proofs.Common.{◌≡◌, ◌∙◌, ◌==◌, ◌&&◌, ◌||◌, ℕ, suc, List, [], ◌∷◌, ◌++◌, Bool, true, false, not, Option, None, refl, sym, ap, filter, length, take, replicate}
 use Rattle.std.specs.Prelude.{is_some, nat_le}
 use Rattle.std.specs.List.{flat_map, cons_option, filter_map, list_any}
@@ -22,7 +22,7 @@ use Rattle.f77_legal.specs.Names.{unit_name, is_twice}
 use Rattle.f77_legal.specs.Presets.{product, element_count, is_dummy_name, names_preset, is_preset_twice, groups_of, given_kinds, wanted_kinds, presets_badly}
 use Rattle.f77_legal.proofs.Frames.{declares, declared_in-framed, groups_of-framed, dummies_of-framed, unit_name_of-framed}
 
--- what the frame gives is alike for programs of one frame
+-- what follows from the frame is the same for two programs of one frame
 pub by_frame : {X : Type 0} (f : List LineFields → X) → ((p : List LineFields) → f (frame p) ≡ f p) → (p q : List LineFields) → HaveOneFrame p q
     → f p ≡ f q
 by_frame f kept p q same = sym (kept p) ∙ ap f same ∙ kept q
@@ -38,7 +38,7 @@ declared-frame (line ∷ lines) =
     ∙ (λ k. declared_in-framed line.stmt k ++ declared-frame lines k)
     ∙ sym (filter-append declares (mentions_of line.stmt) (mentions lines))
 
--- of two tests either may come first
+-- two tests may be done in either order
 either_first : {X : Type 0} (a b : X → Bool) (xs : List X) → filter a (filter b xs) ≡ filter b (filter a xs)
 either_first a b [] = refl
 either_first a b (x ∷ xs) = by (a x) (b x) refl refl (either_first a b xs)

@@ -26,7 +26,7 @@ use Rattle.f77_legal.proofs.Positions.{first_with, position-push, position_some,
 abbrev at : ℕ → Bool → Place
 at first again = record { first = first; again = again }
 
--- a label is among those of the program where a statement bears it
+-- a label is among those of the program if a statement has it
 borne_by : (own : Option ℕ) (label : ℕ) (rest : List ℕ) (b : Bool) → b ≡ list_any (nat_eq label) rest
     → (option_map_or (λ o. o == label) own false || b) ≡ list_any (nat_eq label) (cons_option own rest)
 borne_by None label rest b h = h
@@ -57,7 +57,7 @@ place_push program line q =
     ∙ ap (λ b. option_map (λ first. at first b) (first_with (label_place program q) (length program) (bears q line))) (twice-push (bears q) program line)
     ∙ place_by (is_double program q) (bears q line) (label_place program q) (length program) (twice_none (bears q) program)
 
--- A statement with no label leaves the table.
+-- a statement without a label leaves the table as it was
 pub unlabelled : (table : Labels) (program : List LineFields) (line : LineFields) → line.label ≡ None → IsLabelTable table program → IsLabelTable table (program ++ line ∷ [])
 unlabelled table program line none is =
     record {
@@ -69,7 +69,7 @@ unlabelled table program line none is =
           ∙ ap distinct (sym (filter_map-append (λ l. l.label) program (line ∷ []) ∙ ap (λ own. labels program ++ cons_option own []) none ∙ append-nil (labels program)));
     }
 
--- A label goes in, or is noted as double.
+-- a label is put into the table, or is noted as double
 here_by : (label q n : ℕ) (b : Bool) (program : List LineFields) (old : Option Place) → nat_eq label q ≡ b → old ≡ place_in program label
     → cond b (Some (noted old n)) (place_in program q) ≡ cond b (Some (noted (place_in program q) n)) (place_in program q)
 here_by label q n true program old same is = ap (λ o. Some (noted o n)) (is ∙ ap (place_in program) (eqb-true label q same))
@@ -111,7 +111,7 @@ labelled old new program line i label place has is long placed_at updates entrie
           ∙ ap distinct (sym (filter_map-append (λ l. l.label) program (line ∷ []) ∙ ap (λ x. labels program ++ cons_option x []) has));
     }
 
--- The first double label, as the entries tell it.
+-- the first double label, found in the entries
 again_by : (o : Option ℕ) (double : Bool) (place : Place) → option_map (λ first. at first double) o ≡ Some place → place.again ≡ double
 again_by None double place e = cc
 again_by (Some j) double place e = ap (λ p. p.again) (sym (same_Some (at j double) place e))

@@ -13,11 +13,11 @@ use Rattle.f77_legal.specs.code.NameTable.{with_mention, with_mentions}
 pub one_more : {X : Type 0} (xs : List X) (i : ℕ) (x : X) → i < length xs → x ≡ get_or xs i x → take (i + 1) xs ≡ take i xs ++ x ∷ []
 one_more xs i x here is = take_more xs i x here ∙ ap (λ z. take i xs ++ z ∷ []) (sym is)
 
--- with the names that the nodes bear, each as a plain mention
+-- the table with the names of these nodes, each as a plain mention
 abbrev pub with_names : Entries → List NodeOf → Entries
 with_names es nodes = with_mentions es (map Mention.Plain (filter_map node_name nodes))
 
--- with the name, where there is one
+-- the table with this name, if there is one
 abbrev pub with_name : Entries → Option Symbol → Entries
 with_name es None = es
 with_name es (Some name) = with_mention es (Mention.Plain name)

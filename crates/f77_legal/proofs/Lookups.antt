@@ -1,4 +1,4 @@
--- What the table tells of each name, in it or not, and the first of its names that passes a test.
+-- What the table has of each name, in it or not, and the first of its names that passes a test.
 use Rattle.std.proofs.Common.{arith, ◌≡◌, List, [], ◌∷◌, ◌||◌, ◌&&◌, Bool, true, false, not, refl, ap, sym, ◌∙◌, ◌==◌, nat_le, length, Option, Some, None, slice_get}
 use Rattle.std.specs.Prelude.{map, filter, option_map, is_some}
 use Rattle.std.specs.List.{find, list_any}
@@ -36,7 +36,7 @@ module _ {X : Type 0} where
   more_two (x ∷ []) = refl
   more_two (x ∷ (y ∷ xs)) = grind (arith, nat_tests)
 
--- what entries tell of a name, nothing of one that is not there
+-- what the entries have of a name; of one that is not there, nothing is said
 abbrev facts_at : Entries → Symbol → FactsFields
 facts_at es q = option_map_or (λ f. f) (lookup (bytes_eq q) es) no_facts
 
@@ -80,7 +80,7 @@ module _ (names : Names) (program : List LineFields) (is : IsNameTable names pro
       ∙ ap (λ o. look (option_map_or (λ f. f) o no_facts)) found
       ∙ ap look looked
 
-  -- its kind, its bounds, and whether it is a dummy argument
+  -- the kind of the name, its bounds, and whether it is a dummy argument
   pub same_kind_at : kind_at names q ≡ kind_of program q
   same_kind_at = told (λ f. f.kind)
 
@@ -90,7 +90,7 @@ module _ (names : Names) (program : List LineFields) (is : IsNameTable names pro
   pub same_dummy_at : dummy_at names q ≡ is_dummy_name program q
   same_dummy_at = told (λ f. not (is_never f.dummy)) ∙ said_some _
 
--- as functions of the name
+-- kinds, bounds and dummy arguments as functions of the name
 pub same_kinds : (names : Names) (program : List LineFields) → IsNameTable names program → kind_at names ≡ kind_of program
 same_kinds names program is = λ i. λ q. same_kind_at names program is q i
 

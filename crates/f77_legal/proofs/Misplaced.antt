@@ -54,7 +54,7 @@ or_assoc : (a b c : Bool) → ((a || b) || c) ≡ (a || (b || c))
 or_assoc true b c = refl
 or_assoc false b c = refl
 
--- another test that tells the same
+-- another test with the same answer
 other_test : (d x y r : Bool) → (y ≡ true → x ≡ true) → (y ≡ false → x ≡ true → r ≡ true) → ((d || x) || r) ≡ ((d || y) || r)
 other_test true x y r f g = refl
 other_test false true true r f g = refl
@@ -117,7 +117,7 @@ not_not b false e = rw e refl
 pub was_held : (name : Symbol) (keys : List (Bor (List ℕ))) (b : Bool) → b ≡ not (list_any (λ key. bytes_eq name key.now) keys) → not b ≡ list_any (bytes_eq name) (names_held keys)
 was_held name keys b e = not_not b _ e ∙ held_any name keys
 
--- at an item of a list
+-- the items of a list from number i on: item i, and those behind it
 module _ (dummy : Symbol → Bool) (before items : List Symbol) (i : ℕ) (x : Symbol) (below : i < length items) (is : x ≡ get_or items i x) where
   rest_is : drop i items ≡ x ∷ drop (i + 1) items
   rest_is = rw add-one (drop-cons items i x below ∙ ap (λ y. y ∷ drop (suc i) items) (sym is))
@@ -132,7 +132,7 @@ module _ (dummy : Symbol → Bool) (before items : List Symbol) (i : ℕ) (x : S
   pub item_held : before ++ drop i items ≡ (before ++ x ∷ []) ++ drop (i + 1) items
   item_held = rw rest_is (sym (append_assoc before (x ∷ []) (drop (i + 1) items)))
 
--- at a group of a list
+-- the groups of a list from number i on: group i, and those behind it
 module _ (dummy : Symbol → Bool) (before : List Symbol) (groups : List DataGroup) (i : ℕ) (g : DataGroup) (below : i < length groups) (is : g ≡ get_or groups i g) where
   groups_are : names_of_groups (map data_group_of (drop i groups)) ≡ g.names.items ++ names_of_groups (map data_group_of (drop (i + 1) groups))
   groups_are = rw add-one (ap (λ gs. names_of_groups (map data_group_of gs)) (drop-cons groups i g below ∙ ap (λ y. y ∷ drop (suc i) groups) (sym is)))

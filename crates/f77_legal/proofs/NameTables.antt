@@ -19,7 +19,7 @@ use Rattle.f77_legal.proofs.Symbols.{or_false, same_symbol, symbol_refl, Apart, 
 abbrev pub rows : (Symbol → FactsFields) → List Symbol → Entries
 rows f xs = map (λ q. (q, f q)) xs
 
--- one more mention, of which the facts of its own name are told
+-- one more mention, where it is known what it adds to its own name
 module _ (m : Mention) (f g : Symbol → FactsFields)
     (hit : (q : Symbol) → bytes_eq (name_in m) q ≡ true → g q ≡ with_fact (f q) m)
     (miss : (q : Symbol) → bytes_eq (name_in m) q ≡ false → g q ≡ f q) where

@@ -39,7 +39,7 @@ held_before terminals ends d i k lt le h =
 backwards_more : (n : ℕ) → reverse (first_numbers (suc n)) ≡ n ∷ reverse (first_numbers n)
 backwards_more n = reverse-append (first_numbers n) (n ∷ [])
 
--- first is a number, and i or behind it
+-- there is a first number, and it is i or behind i
 abbrev Reaches : Option ℕ → ℕ → Type 0
 Reaches first i = (m : ℕ) × (first ≡ Some m) × (i ≤ m)
 
@@ -95,7 +95,7 @@ kept parents p (suc n) first links low bound reach =
         let low : IsBelow first n = fresh first bound e in
         passed low ∙ sym (ap (λ b. cond b (n ∷ filter p rest) (filter p rest)) (fails first low (p n) refl (reach n (omega arith))))
 
--- the same of what holds k, from the parents of the statements up to k
+-- what holds k, found from the parents of the statements up to k
 held_kept : (terminals ends : List (Option ℕ)) (m k n : ℕ) (first : Option ℕ) → n ≤ m → n ≤ k
     → IsBelow first n → ((i : ℕ) → i < n → holds terminals ends k i ≡ true → Reaches first i)
     → filter (holds terminals ends k) (ancestors_below (parents_of terminals ends m) n first) ≡ filter (holds terminals ends k) (reverse (first_numbers n))

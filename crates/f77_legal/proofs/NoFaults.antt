@@ -13,7 +13,7 @@ use Rattle.f77_legal.specs.Presets.{element_count}
 use Rattle.f77_legal.proofs.LegalGives.{kept_by, map_none}
 use Rattle.f77_legal.proofs.Symbols.{or_false}
 
--- no number is told with a line that fails
+-- where no line fails the test, all pass it
 all_pass : (test : LineFields → Bool) (k : ℕ) (lines : List LineFields) → filter (λ numbered. not (test numbered.1)) (enumerate_from k lines) ≡ [] → list_all test lines ≡ true
 all_pass test k [] e = refl
 all_pass test k (line ∷ lines) e = by (test line) refl e (all_pass test (k + 1) lines)

@@ -16,7 +16,7 @@ pub bounds_given : (f : FactsFields) (bounds : List ℕ) → length bounds ≢ 0
 bounds_given f [] some = absurd (some refl)
 bounds_given f (b ∷ bounds) some = refl
 
--- an entry that is there, and one that is added
+-- an entry that is there already, and one that is added
 module _ (m : Mention) (w : Facts) where
   there : (e : Symbol × Facts) (es : List (Symbol × Facts)) (v : Facts) (b : Bool) → bytes_eq (name_in m) e.0 ≡ b → lookup (bytes_eq (name_in m)) (e ∷ es) ≡ Some v
       → facts_fields w ≡ with_fact (facts_fields v) m

@@ -48,7 +48,7 @@ module _ (test : Mention → Bool) where
       let rest = replaced_pass program n s both.1 new in
       apart line (replaced program n s) ∙ (λ i. both.0 i && rest i)
 
--- names among others, told of each mention
+-- names among others, said of each mention
 module _ (names : List Symbol) where
   abbrev mention_among : Mention → Bool
   mention_among mention = is_name_among names (name_in mention)
@@ -71,7 +71,7 @@ module _ (names : List Symbol) where
 pub among_keys : (names : Names) (name : Symbol) → is_name_among (keys names.facts) name ≡ is_some (get bytes_eq names.facts name)
 among_keys names name = sym (is_some-lookup (bytes_eq name) names.facts.entries)
 
--- It can be executed, and so can what it holds.
+-- the statement is executable, and so is what it has inside
 abbrev pub is_executed : Statement → Bool
 is_executed (Statement.Subroutine name names) = false
 is_executed (Statement.Declare kind declarations) = false
@@ -100,7 +100,7 @@ group_executed _ h e = refl
 pub executed : (s : Statement) → IsFormed s → group_of s ≡ Executable → is_executed s ≡ true
 executed s h = group_executed s (is_formed s h)
 
--- the names that nodes bear pass where those of the trees do
+-- the names of the nodes pass where those of the trees do
 module _ (test : Symbol → Bool) where
   abbrev nodes_pass : List NodeOf → Bool
   nodes_pass nodes = list_all test (filter_map node_name nodes)
@@ -130,7 +130,7 @@ module _ (test : Symbol → Bool) where
   step_is None = refl
   step_is (Some t) = tree_is t
 
-  -- labels bear no name
+  -- labels have no name
   labels_pass : (labels : List ℕ) (nodes : List NodeOf) → nodes_pass (map NodeOf.Labelled labels ++ nodes) ≡ nodes_pass nodes
   labels_pass [] nodes = refl
   labels_pass (label ∷ labels) nodes = labels_pass labels nodes
@@ -164,7 +164,7 @@ module _ (test : Symbol → Bool) where
   names_tested (Statement.Dimension declarations) h = absurd (cc (h))
   names_tested s h = plain_is (names_of s) ∙ statement_is s h
 
--- the walk tells whether the names are among others
+-- the walk finds whether the names are among others
 pub among_tested : (names : List Symbol) (s : Statement) → is_executed s ≡ true → names_pass (is_name_among names) s ≡ true → NamesAmong names s
 among_tested names s h pass = sym (list_all-map (is_name_among names) name_in (mentions_of s)) ∙ names_tested (is_name_among names) s h ∙ pass
 

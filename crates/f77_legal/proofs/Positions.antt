@@ -61,7 +61,7 @@ module _ {X : Type 0} (p : X → Bool) where
   twice_by true n y = grind (arith, nat_tests)
   twice_by false n y = grind (arith, nat_tests)
 
-  -- it passes twice with one more element, where it did or that one is the second
+  -- with one more element two pass the test, where two did before or this one is the second
   pub twice-push : (xs : List X) (y : X) → nat_le 2 (length (filter p (xs ++ y ∷ []))) ≡ (nat_le 2 (length (filter p xs)) || (p y && is_some (position p xs)))
   twice-push xs y =
       ap (λ l. nat_le 2 (length l)) (filter-append p xs (y ∷ []))
@@ -69,7 +69,7 @@ module _ {X : Type 0} (p : X → Bool) where
       ∙ twice_by (p y) (length (filter p xs)) y
       ∙ ap (λ b. nat_le 2 (length (filter p xs)) || (p y && b)) (sym (position_some xs ∙ any_counted xs))
 
-  -- and not where it never did
+  -- where no element passes, no two do
   pub twice_none : (xs : List X) → position p xs ≡ None → nat_le 2 (length (filter p xs)) ≡ false
   twice_none xs e =
       let none : nat_le 1 (length (filter p xs)) ≡ false = sym (position_some xs ∙ any_counted xs) ∙ ap is_some e in
@@ -88,7 +88,7 @@ module _ {X : Type 0} (p : X → Bool) where
   pub found_there : (xs : List X) → list_any p xs ≡ true → position p xs ≡ Some (position_or_len p xs)
   found_there xs h = ap (λ b. cond b (Some (position_or_len p xs)) None) (lt-ltb _ _ (place_there xs h))
 
-  -- of what a list is made to
+  -- the position in a list that is mapped
   pub position-map : {A : Type 0} (f : A → X) (xs : List A) → position p (map f xs) ≡ position (λ a. p (f a)) xs
   position-map f [] = refl
   position-map f (x ∷ xs) =

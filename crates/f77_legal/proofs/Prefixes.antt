@@ -63,7 +63,7 @@ are_below zero k le = All-nil (λ x. x < k)
 are_below (suc n) k le =
     All-append (λ x. x < k) (first_numbers n) (n ∷ []) (are_below n k (omega arith)) (All-cons (λ x. x < k) n [] (omega arith) (All-nil (λ x. x < k)))
 
--- of the first numbers and n
+-- filtering the first numbers and n
 kept_more : (p : ℕ → Bool) (n : ℕ) (b : Bool) → p n ≡ b → filter p (first_numbers n ++ n ∷ []) ≡ filter p (first_numbers n) ++ cond b (n ∷ []) []
 kept_more p n b e = filter-append p (first_numbers n) (n ∷ []) ∙ ap (λ c. filter p (first_numbers n) ++ cond c (n ∷ []) []) e
 

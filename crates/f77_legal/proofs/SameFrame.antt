@@ -23,7 +23,7 @@ use Rattle.f77_legal.specs.Names.{Symbol}
 use Rattle.f77_legal.proofs.FrameNames.{by_frame, kind_of_same, bounds_of_same}
 use Rattle.f77_legal.proofs.Frames.{is_block_if-framed, is_end_if-framed, is_else-framed, is_alternative-framed, is_target-framed, terminal_label-framed, variable_of-framed}
 
--- what is told from a statement's frame is told from its program's frame
+-- what follows from the frame of a statement follows from the frame of its program
 at-frame : {X : Type 0} (f : Option Statement → X) → ((s : Statement) → f (Some (framed s)) ≡ f (Some s)) → (p : List LineFields) (i : ℕ)
     → f (nth_statement (frame p) i) ≡ f (nth_statement p i)
 at-frame f kept [] i = refl
@@ -34,7 +34,7 @@ labels-frame : (p : List LineFields) → labels (frame p) ≡ labels p
 labels-frame [] = refl
 labels-frame (line ∷ lines) = ap (cons_option line.label) (labels-frame lines)
 
--- a test that is told from the frame of a line passes as many lines of the frame
+-- as many lines of the frame pass a test that follows from the frame of a line
 count_more : {X : Type 0} (b : Bool) (x y : X) (xs ys : List X) → length xs ≡ length ys → length (cond b (x ∷ xs) xs) ≡ length (cond b (y ∷ ys) ys)
 count_more true x y xs ys long = ap suc long
 count_more false x y xs ys long = long
@@ -49,7 +49,7 @@ count-frame test kept (line ∷ lines) =
 length-frame : (p : List LineFields) → length (frame p) ≡ length p
 length-frame p = length-map p framed_line
 
--- the labels are told from the frame
+-- the labels follow from the frame
 unlabelled-frame : (label : ℕ) (p : List LineFields) → prefix_len (λ line. not (bears label line)) (frame p) ≡ prefix_len (λ line. not (bears label line)) p
 unlabelled-frame label [] = refl
 unlabelled-frame label (line ∷ lines) = ap (λ n. cond (not (bears label line)) (1 + n) 0) (unlabelled-frame label lines)

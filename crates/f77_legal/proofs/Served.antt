@@ -27,7 +27,7 @@ own_tables_serve tables program are = record {
   ranges = are.ranges;
 }
 
--- what serves a program serves each of the same frame
+-- tables that serve a program serve each program of the same frame
 module _ (p q : List LineFields) (same : HaveOneFrame p q) where
   labels_serve : (table : Labels) → IsLabelTable table p → IsLabelTable table q
   labels_serve table is = record {

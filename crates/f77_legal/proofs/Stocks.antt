@@ -1,4 +1,4 @@
--- Names that a program may have: those of a legal program are such, and what they give to a program with these names.
+-- Stocks of names: those of a legal program are one, and what a stock gives to a program with these names.
 use Rattle.std.proofs.Common.{arith, ◌≡◌, ◌≤◌, true, false, length, map, filter, List, ◌∙◌}
 use Rattle.std.specs.Prelude.{nat_lt, ◌||◌}
 use Rattle.std.specs.List.{All, sum}
@@ -48,7 +48,7 @@ module _ (names : List Symbol) (program : List LineFields) (stock : IsStock name
       let elements_within : nat_lt 10000 (sum (map (element_count program) (filter (is_array program) (symbols program)))) ≡ false = grind (arith, nat_tests) in
       λ i. lines i || (symbols_within i || elements_within i)
 
-  -- another program, of which each name is told the same
+  -- the names are a stock for another program too, if they are the same there
   pub stock_kept : (other : List LineFields) → ((name : Symbol) → is_real other name ≡ is_real program name)
       → ((name : Symbol) → is_twice other name ≡ is_twice program name) → ((name : Symbol) → element_count other name ≡ element_count program name)
       → ((name : Symbol) → is_array other name ≡ is_array program name) → All (λ name. is_name_among names name ≡ true) (symbols other) → IsStock names other

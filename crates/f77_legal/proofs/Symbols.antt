@@ -36,7 +36,7 @@ any_without_other q x xs apart = any-filter_same (bytes_eq q) (λ other. not (by
 none_without : (x : Symbol) (xs : List Symbol) → list_any (bytes_eq x) (without x xs) ≡ false
 none_without x xs = any-filter_same (bytes_eq x) (λ other. not (bytes_eq x other)) false (λ k e. ap not e) xs
 
--- each name once are the same names
+-- the names, each once, are the same names
 pub any_once : (q : Symbol) (xs : List Symbol) → list_any (bytes_eq q) (names_once xs) ≡ list_any (bytes_eq q) xs
 any_once q [] = refl
 any_once q (x ∷ xs) = by (bytes_eq q x) refl (any_once q xs)
@@ -46,7 +46,7 @@ any_once q (x ∷ xs) = by (bytes_eq q x) refl (any_once q xs)
     by true e rest = rw e refl
     by false e rest = rw e (any_without_other q x (names_once xs) e ∙ rest)
 
--- one more name: it goes last, where it is not there
+-- a list of names, each once, with one more name: it goes last, if it is not there yet
 abbrev with_new : List Symbol → Symbol → List Symbol
 with_new xs x = if list_any (bytes_eq x) xs then names_once xs else names_once xs ++ x ∷ []
 

@@ -16,7 +16,7 @@ none_below parents (suc n) = none_below parents n
 lower : (i n : ℕ) → i < suc n → (i == n) ≡ false → i < n
 lower i n lt e = grind (arith, nat_tests)
 
--- below more than the first of them are all
+-- the ancestors below a number above the first are all ancestors
 pub below_is : (parents : List (Option ℕ)) (n : ℕ) (first : Option ℕ) → IsBelow first n → ancestors_below parents n first ≡ ancestors parents first
 below_is parents n None low = none_below parents n
 below_is parents zero (Some i) low = let l : i < zero = low i refl in absurd (omega arith)

@@ -1,4 +1,4 @@
--- When a changed program is judged by the changed statement alone.
+-- When a changed program can be judged by the changed statement alone.
 use Rattle.std.specs.Prelude.{◌≡◌, ℕ, true, List, Some}
 use Rattle.std.specs.List.{list_all, slice_get}
 use Rattle.f77_program.specs.Program.{LineFields}
@@ -9,7 +9,7 @@ use Rattle.f77_legal.specs.Loops.{terminal}
 use Rattle.f77_legal.specs.Names.{Symbol, mentions_of, name_in}
 use Rattle.f77_legal.specs.Patches.{is_name_among}
 
--- where the statement i ends a DO, this one may, too
+-- if a DO ends at statement i, the new statement may be a terminal statement
 abbrev pub MayStandAt : List LineFields → ℕ → Statement → Type 0
 MayStandAt program i statement =
     (d : ℕ) → terminal program d ≡ Some i → is_terminal statement ≡ true
@@ -19,8 +19,8 @@ abbrev pub NamesAmong : List Symbol → Statement → Type 0
 NamesAmong names statement =
     list_all (λ mention. is_name_among names (name_in mention)) (mentions_of statement) ≡ true
 
--- The change of the statement i is judged by that statement alone: the frame stays,
--- the new one may end the DOs that end there, and its names are among these.
+-- The change of statement i can be judged by the new statement alone: the frame stays, the new
+-- statement may end the DOs that end there, and its names are among these.
 pub record StandsAlone (names : List Symbol) (program : List LineFields) (i : ℕ)
     (statement : Statement) : Type 0 where
   pub line : LineFields

@@ -1,4 +1,4 @@
--- What a table of blocks is of a program.
+-- What the table of blocks has of a program.
 use Rattle.std.specs.Prelude.{◌≡◌, if◌then◌else◌}
 use Rattle.std.specs.Prelude.{ℕ, List, map, Option, None}
 use Rattle.f77_program.specs.Program.{LineFields}
@@ -6,18 +6,19 @@ use Rattle.f77_legal.specs.Blocks.{is_block_if, statement_numbers, has_at}
 use Rattle.f77_legal.specs.Blocks.{block_end, branch_end, is_in_block, is_end_of_block, ends_else, begins_branch}
 use Rattle.f77_legal.specs.declared.blocks.Blocks.{Blocks}
 
--- what the table holds of each statement: of a block IF its END IF
+-- the END IF of statement i, if that is a block IF
 abbrev pub block_end_at : List LineFields → ℕ → Option ℕ
 block_end_at program i = if has_at is_block_if program i then block_end program i else None
 
--- what it holds of what begins a branch: the end of that branch
+-- the end of the branch that statement i begins, if it begins one
 abbrev pub branch_end_at : List LineFields → ℕ → Option ℕ
 branch_end_at program i = if begins_branch program i then branch_end program i else None
 
--- what is so of each statement, in order
+-- a value for each statement, in order
 abbrev pub tabled : {X : Type 0} → (List LineFields → ℕ → X) → List LineFields → List X
 tabled value program = map (value program) (statement_numbers program)
 
+-- the table has of each statement what the program says of its block and its branch
 pub record IsBlockTable (table : Blocks) (program : List LineFields) : Type 0 where
   pub ends : table.ends.items ≡ tabled block_end_at program
   pub branch_ends : table.branch_ends.items ≡ tabled branch_end_at program

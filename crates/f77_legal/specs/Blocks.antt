@@ -30,35 +30,37 @@ abbrev pub first_numbers : ℕ → List ℕ
 first_numbers zero = []
 first_numbers (suc n) = first_numbers n ++ (n ∷ [])
 
+-- the numbers of the statements of a program, from 0
 abbrev pub statement_numbers : List LineFields → List ℕ
 statement_numbers program = first_numbers (length program)
 
+-- there is a statement i, and it passes the test
 abbrev pub has_at : (Statement → Bool) → List LineFields → ℕ → Bool
 has_at test program i = option_map_or test (nth_statement program i) false
 
--- how many statements that pass the test stand between two
+-- the number of statements between i and j that pass the test
 abbrev pub count_between : (Statement → Bool) → List LineFields → ℕ → ℕ → ℕ
 count_between test program i j =
     length (filter (λ line. test line.stmt) (take (j - suc i) (drop (suc i) program)))
 
--- j stands behind i, and between them each block that opens is closed
+-- j stands behind i, and each block that opens between them is closed there
 abbrev pub is_level : List LineFields → ℕ → ℕ → Bool
 is_level program i j =
     nat_lt i j && (count_between is_block_if program i j == count_between is_end_if program i j)
 
--- the END IF of the block that i opens, or has a branch of
+-- the END IF of the block that i opens or has a branch of
 abbrev pub block_end : List LineFields → ℕ → Option ℕ
 block_end program i =
     find (λ j. has_at is_end_if program j && is_level program i j) (statement_numbers program)
 
--- the statement that ends the branch that i begins: the next ELSE IF, ELSE or END IF of the block
+-- the end of the branch that i begins: the next ELSE IF, ELSE or END IF of the block
 abbrev pub branch_end : List LineFields → ℕ → Option ℕ
 branch_end program i = find
     (λ j. (has_at is_end_if program j || has_at is_alternative program j) && is_level program i j)
     (statement_numbers program)
 
--- the statement behind i: the next one, or the END IF
--- of the block where the next begins another branch
+-- the statement behind i: the next one, or the END IF of the block where the next is an ELSE IF or
+-- ELSE
 abbrev pub statement_behind : List LineFields → ℕ → Option ℕ
 statement_behind program i =
     if has_at is_alternative program (i + 1) then block_end program (i + 1) else Some (i + 1)
@@ -96,8 +98,8 @@ abbrev pub branch_holds : List LineFields → ℕ → ℕ → Bool
 branch_holds program i k =
     begins_branch program i && (nat_lt i k && option_map_or (nat_lt k) (branch_end program i) false)
 
--- a block IF without its END IF, an END IF without its block IF,
--- an ELSE IF or ELSE in no block or behind an ELSE of its block
+-- the statement is a block IF without END IF, an END IF without block IF, or an ELSE IF or ELSE
+-- that stands in no block or behind the ELSE of its block
 abbrev pub breaks_block : List LineFields → ℕ → Bool
 breaks_block program i =
     (has_at is_block_if program i && not (is_some (block_end program i)))

@@ -1,4 +1,4 @@
--- What is told of a statement by itself.
+-- What is found of a statement by itself.
 use Rattle.std.specs.Prelude.{Bool, true, false, Option, Some, None}
 use Rattle.f77_legal.specs.declared.broken.Broken.{Broken}
 use Rattle.f77_legal.specs.declared.broken.Broken.TheVariants.{First, UnknownName}
@@ -9,7 +9,7 @@ abbrev pub has_known_names : Broken → Bool
 has_known_names UnknownName = false
 has_known_names _ = true
 
--- the clause that the statement breaks, and none that is tested before it
+-- the first clause in the order of test that the statement breaks, if it breaks one
 abbrev pub clause_told : Broken → Option Clause
 clause_told (First clause) = Some clause
 clause_told _ = None

@@ -1,4 +1,5 @@
--- The clauses that single statements keep or break, and what is told of one that breaks it.
+-- The clauses that a single statement keeps or breaks, and the fault of a statement that breaks
+-- one.
 use Rattle.std.specs.Prelude.{ℕ, Bool, not, List, map, filter}
 use Rattle.std.specs.List.{enumerate_from}
 use Rattle.f77_program.specs.Program.{LineFields}
@@ -15,7 +16,7 @@ use Rattle.f77_legal.specs.Dimensions.{dimensions_fit}
 use Rattle.f77_legal.specs.Labels.{names_no_label, jumps_badly, ends_badly}
 use Rattle.f77_legal.specs.Loops.{breaks_nesting, jumps_in, sets_variable}
 
--- the statement, which has this number from 0, breaks the clause
+-- the statement, as number i from 0, breaks the clause
 abbrev pub breaks : Clause → List LineFields → ℕ → Statement → Bool
 breaks Kinds program i statement = not (kinds_agree (kind_of program) statement)
 breaks Bounds program i statement = not (dimensions_fit (bounds_of program) statement)
@@ -26,7 +27,7 @@ breaks Nests program i statement = breaks_nesting program i
 breaks Jumps program i statement = jumps_in program i statement
 breaks Variables program i statement = sets_variable program i statement
 
--- what is told of the line of a statement that breaks the clause: C4, C5, or C7 to C12
+-- the fault of a statement on this line that breaks the clause: C4, C5, or C7 to C12
 abbrev pub clause_fault : Clause → ℕ → CheckFault
 clause_fault Kinds line = TypeClash line
 clause_fault Bounds line = Dimensions line
@@ -37,7 +38,7 @@ clause_fault Nests line = Nesting line
 clause_fault Jumps line = IntoBlock line
 clause_fault Variables line = DoVariable line
 
--- the lines whose statement, which has this number from 0, passes the test
+-- the lines whose statement passes the test; the test gets its number, from 0, too
 abbrev pub lines_where : (ℕ → Statement → Bool) → List LineFields → List ℕ
 lines_where test program = map (λ numbered. numbered.1.line)
     (filter (λ numbered. test numbered.0 numbered.1.stmt) (enumerate_from 0 program))

@@ -11,14 +11,14 @@ abbrev pub tree_count : Trees → ℕ
 tree_count Trees.None = zero
 tree_count (Trees.Then tree trees) = suc (tree_count trees)
 
--- a function has so many arguments (15.10)
+-- the function takes so many arguments (15.10)
 abbrev pub takes : Intrinsic → ℕ → Bool
 takes Mod given = given == 2
 takes Iabs given = given == 1
 takes Min0 given = nat_le 2 given
 takes Max0 given = nat_le 2 given
 
--- an array stands with as many subscripts as bounds, a variable with none
+-- in the expression each array has as many subscripts as bounds, and each variable has none
 abbrev mutual
   pub fits_bounds : (Symbol → List ℕ) → Tree → Bool
   fits_bounds bounds (Tree.Number number) = true
@@ -37,17 +37,18 @@ abbrev mutual
   all_fit bounds Trees.None = true
   all_fit bounds (Trees.Then tree trees) = fits_bounds bounds tree && all_fit bounds trees
 
--- the expression, where there is one, fits (section 5 and 15.10)
+-- the subscripts of the expression fit, if there is one (section 5 and 15.10)
 abbrev pub value_fits : (Symbol → List ℕ) → Option Tree → Bool
 value_fits bounds None = true
 value_fits bounds (Some tree) = fits_bounds bounds tree
 
--- a declaration gives no bounds, or one or two, each at least 1 (section 5)
+-- the declaration gives no bounds, or one or two that are at least 1 (section 5)
 abbrev pub is_shape : DeclFields → Bool
 is_shape declaration =
     nat_le (length declaration.bounds) 2 && list_all (nat_le 1) declaration.bounds
 
--- the dimensions of a statement are in order; a DO variable is no array (section 5)
+-- the bounds, subscripts and arguments of a statement are right; a DO variable is no array (section
+-- 5)
 abbrev pub dimensions_fit : (Symbol → List ℕ) → Statement → Bool
 dimensions_fit bounds (Statement.Declare kind declarations) = list_all is_shape declarations
 dimensions_fit bounds (Statement.Dimension declarations) = list_all is_shape declarations

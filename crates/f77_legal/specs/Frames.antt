@@ -1,13 +1,13 @@
--- What a change of one statement leaves as it was: the frame of a program, in which every
--- statement that can be executed has lost its expressions, references and jumps.
--- Declarations and DATA, labels, blocks and the ranges of DOs are told from the frame alone.
+-- The frame of a program: what a change of one statement may leave as it was. In the frame every
+-- executable statement has lost its expressions, references and jumps. The frame alone decides
+-- declarations, DATA, labels, blocks and the ranges of DOs.
 use Rattle.std.specs.Prelude.{◌≡◌, false, List, map, None}
 use Rattle.f77_program.specs.Program.{LineFields}
 use Rattle.f77_tree.specs.Tree.{Tree}
 use Rattle.f77_tree.specs.Statement.{Statement}
 
--- a statement with no expression, reference or jump: an action
--- is CONTINUE, and a DO keeps its label and its variable
+-- the statement without its expressions, references and jumps: an action becomes CONTINUE, and a DO
+-- keeps its label and its variable
 abbrev pub framed : Statement → Statement
 framed (Statement.Subroutine name names) = Statement.Subroutine name names
 framed (Statement.Declare kind declarations) = Statement.Declare kind declarations
@@ -25,9 +25,10 @@ framed _ = Statement.Continue
 abbrev pub framed_line : LineFields → LineFields
 framed_line line = record (line) { stmt = framed line.stmt }
 
+-- the frame of a program, line by line
 abbrev pub frame : List LineFields → List LineFields
 frame program = map framed_line program
 
--- they differ in expressions, references, jumps and actions alone
+-- two programs differ in expressions, references, jumps and actions alone
 abbrev pub HaveOneFrame : List LineFields → List LineFields → Type 0
 HaveOneFrame program other = frame program ≡ frame other

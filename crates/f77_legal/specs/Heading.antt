@@ -6,6 +6,7 @@ use Rattle.f77_tree.specs.Statement.{Statement}
 use Rattle.f77_legal.specs.Labels.{nth_statement}
 use Rattle.f77_legal.specs.Names.{Symbol}
 
+-- the dummy arguments of a SUBROUTINE statement; other statements have none
 abbrev pub dummies_of : Statement → List Symbol
 dummies_of (Statement.Subroutine name names) = names
 dummies_of _ = []

@@ -10,7 +10,8 @@ use Rattle.f77_tree.specs.declared.tree.Kind.{Kind}
 use Rattle.f77_tree.specs.declared.tree.Kind.TheVariants.{Integer, Logical}
 use Rattle.f77_legal.specs.Names.{Symbol}
 
--- arithmetic is INTEGER, a relation and a logical operator are LOGICAL (section 6)
+-- the kind of the result: INTEGER for arithmetic, LOGICAL for relations and logical operators
+-- (section 6)
 abbrev pub result_kind : Operator → Kind
 result_kind Add = Integer
 result_kind Subtract = Integer
@@ -19,7 +20,8 @@ result_kind Divide = Integer
 result_kind Power = Integer
 result_kind _ = Logical
 
--- a logical operator has LOGICAL operands, arithmetic and a relation have INTEGER ones (section 6)
+-- the kind of the operands: LOGICAL for logical operators, INTEGER for arithmetic and relations
+-- (section 6)
 abbrev pub operand_kind : Operator → Kind
 operand_kind Equivalent = Logical
 operand_kind NotEquivalent = Logical
@@ -27,7 +29,7 @@ operand_kind Or = Logical
 operand_kind And = Logical
 operand_kind _ = Integer
 
--- the expression is of this kind, and so are its parts of theirs, where names are of these kinds
+-- the expression is of this kind and its parts are of theirs, where names have these kinds
 abbrev mutual
   pub is_of_kind : (Symbol → Kind) → Kind → Tree → Bool
   is_of_kind kinds kind (Tree.Number number) = same_kind Integer kind
@@ -50,13 +52,13 @@ abbrev mutual
   are_integer kinds (Trees.Then tree trees) =
       is_of_kind kinds Integer tree && are_integer kinds trees
 
--- the expression, where there is one, is of this kind (section 6)
+-- the expression is of this kind, if there is one (section 6)
 abbrev pub is_of_kind_if_given : (Symbol → Kind) → Kind → Option Tree → Bool
 is_of_kind_if_given kinds kind None = true
 is_of_kind_if_given kinds kind (Some tree) = is_of_kind kinds kind tree
 
--- the kinds of a statement agree: what is assigned has that of its target, a condition
--- is LOGICAL, other expressions and a DO variable are INTEGER (sections 10 and 11)
+-- the kinds of a statement agree: the value has the kind of its target, conditions are LOGICAL, and
+-- other expressions and DO variables are INTEGER (sections 10 and 11)
 abbrev pub kinds_agree : (Symbol → Kind) → Statement → Bool
 kinds_agree kinds (Statement.Assign name items tree) =
     are_integer kinds items && is_of_kind kinds (kinds name) tree

@@ -1,4 +1,4 @@
--- What a legal program keeps, in plain words, with no list of faults.
+-- What a legal program keeps, without a list of faults.
 use Rattle.std.specs.Prelude.{◌≡◌, ℕ, false, List, Some}
 use Rattle.std.specs.List.{All}
 use Rattle.f77_program.specs.Program.{LineFields}
@@ -10,13 +10,13 @@ use Rattle.f77_legal.specs.Legal.{is_too_large}
 use Rattle.f77_legal.specs.Names.{symbols, is_real, is_twice}
 use Rattle.f77_legal.specs.Presets.{presets_badly}
 
--- No statement breaks a clause, and the names, the
--- labels, the DATA statements and the sizes are right.
+-- The program keeps every rule: no statement breaks a clause, and its names, labels, DATA
+-- statements and sizes are right.
 pub record KeepsEveryRule (program : List LineFields) : Type 0 where
   -- no name is REAL by its first letter
   pub typed : All (λ name. is_real program name ≡ false) (symbols program)
-  -- no name is typed, given bounds or a dummy argument
-  -- twice, or names the unit or a function as well
+  -- no name is typed, given bounds or a dummy argument twice, or is also the name of the unit or of
+  -- a function
   pub once : All (λ name. is_twice program name ≡ false) (symbols program)
   -- no label stands on two statements
   pub distinct : All (λ label. is_double program label ≡ false) (labels program)
@@ -24,8 +24,8 @@ pub record KeepsEveryRule (program : List LineFields) : Type 0 where
   pub statements : (clause : Clause) (i : ℕ) (statement : Statement)
       → nth_statement program i ≡ Some statement
       → breaks clause program i statement ≡ false
-  -- no DATA statement gives a dummy argument or a name
-  -- a second time, or other values than its names want
+  -- no DATA statement has a dummy argument, or a name that stood in DATA before, or other values
+  -- than its names need
   pub presets : (i : ℕ) (statement : Statement)
       → nth_statement program i ≡ Some statement → presets_badly program i statement ≡ false
   -- at most 500 statements, 100 variables and arrays, and 10,000 elements over all arrays

@@ -1,4 +1,4 @@
--- What a table of loops and branches says of a program. Statements are numbered from 0 here.
+-- What the table of DOs and branches has of a program. Statements are numbered from 0 here.
 use Rattle.std.specs.Prelude.{◌≡◌, ℕ, List, length, Option}
 use Rattle.f77_program.specs.Program.{LineFields}
 use Rattle.f77_legal.specs.Blocks.{branch_holds}
@@ -10,10 +10,11 @@ use Rattle.f77_legal.specs.declared.holders.Ranges.{Ranges}
 abbrev pub IsTerminals : List (Option ℕ) → List LineFields → Type 0
 IsTerminals terminals program = (d : ℕ) → end_or_parent terminals d ≡ terminal program d
 
+-- the ends of branches hold the same statements as the branches of the program
 abbrev pub IsBranches : List (Option ℕ) → List LineFields → Type 0
 IsBranches ends program = (i k : ℕ) → in_branch ends i k ≡ branch_holds program i k
 
--- The table has an entry for each statement, and the ends are those of the program.
+-- the table has an entry for each statement, and its ends are those of the program
 pub record IsRangeTable (ranges : Ranges) (program : List LineFields) : Type 0 where
   pub entries : length ranges.terminals.items ≡ length program
   pub terminals : IsTerminals ranges.terminals.items program

@@ -1,5 +1,5 @@
--- The table of names: each name once, in order of
--- first appearance, with what the program says of it.
+-- The table of names: each name once, in order of first appearance, with what the program says of
+-- it.
 use Rattle.std.specs.Prelude.{◌≡◌, ℕ, Bool, List, [], ◌∷◌, map, is_some}
 use Rattle.std.specs.Option.{option_map_or}
 use Rattle.std.specs.Str.{bytes_eq}
@@ -18,14 +18,16 @@ use Rattle.f77_legal.specs.Names.{kinds_given, bounds_given, first_item_or}
 abbrev pub has_name : Names → Symbol → Bool
 has_name names name = is_some (get bytes_eq names.facts name)
 
+-- the kind that the table has for a name: INTEGER if the name is not in it
 abbrev pub kind_at : Names → Symbol → Kind
 kind_at names name = option_map_or (λ facts. facts.kind) (get bytes_eq names.facts name) Integer
 
+-- the bounds that the table has for a name: none if the name is not in it
 abbrev pub array_bounds : Names → Symbol → List ℕ
 array_bounds names name =
     option_map_or (λ facts. facts.bounds.items) (get bytes_eq names.facts name) []
 
--- what is said of a name
+-- what the program says of a name
 pub record FactsFields : Type 0 where
   pub dummy : Times
   pub typed : Times
@@ -33,6 +35,7 @@ pub record FactsFields : Type 0 where
   pub dimensioned : Times
   pub bounds : List ℕ
 
+-- the view of what is said of a name
 abbrev pub facts_fields : Facts → FactsFields
 facts_fields facts = record {
   dummy = facts.dummy;
@@ -42,6 +45,7 @@ facts_fields facts = record {
   bounds = facts.bounds.items;
 }
 
+-- how often something was said: never, once, or more often
 abbrev pub how_often : {X : Type 0} → List X → Times
 how_often [] = Never
 how_often (x ∷ []) = Once
@@ -63,12 +67,14 @@ Entries = List (Symbol × FactsFields)
 abbrev pub entry_of : Symbol × Facts → Symbol × FactsFields
 entry_of entry = (entry.0, facts_fields entry.1)
 
+-- the entries of a table of names, in order
 abbrev pub table_entries : Names → Entries
 table_entries names = map entry_of names.facts.entries
 
+-- the table that a list of mentions makes
 abbrev pub table : List Mention → Entries
 table all = map (λ name. (name, facts_of all name)) (names_once (map name_in all))
 
--- the table holds the names of the program with their facts
+-- the table has the names of the program, each with what the program says of it
 abbrev pub IsNameTable : Names → List LineFields → Type 0
 IsNameTable names program = table_entries names ≡ table (mentions program)

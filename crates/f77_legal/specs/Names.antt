@@ -25,23 +25,25 @@ pub data Mention : Type 0 where
   Dimensioned : DeclFields → Mention
   Plain : Symbol → Mention
 
+-- the name that is mentioned
 abbrev pub name_in : Mention → Symbol
 name_in (Dummy name) = name
 name_in (Typed kind declaration) = declaration.name
 name_in (Dimensioned declaration) = declaration.name
 name_in (Plain name) = name
 
--- the mentions of a statement in order; the unit's own name is none
+-- the mentions of names in a statement, in order; the unit's own name is none
 abbrev pub mentions_of : Statement → List Mention
 mentions_of (Statement.Subroutine name names) = map Dummy names
 mentions_of (Statement.Declare kind declarations) = map (Typed kind) declarations
 mentions_of (Statement.Dimension declarations) = map Dimensioned declarations
 mentions_of statement = map Plain (names_of statement)
 
+-- the mentions of names in a program, in order
 abbrev pub mentions : List LineFields → List Mention
 mentions program = flat_map (λ line. mentions_of line.stmt) program
 
--- each name once, where it comes first
+-- each name once, where it stands first
 abbrev pub names_once : List Symbol → List Symbol
 names_once [] = []
 names_once (name ∷ names) = name ∷ filter (λ other. not (bytes_eq name other)) (names_once names)
@@ -59,7 +61,7 @@ abbrev pub kind_in : Mention → Option Kind
 kind_in (Typed kind declaration) = Some kind
 kind_in _ = None
 
--- a list that is not empty
+-- a list, if it is not empty
 abbrev pub some_items : List ℕ → Option (List ℕ)
 some_items [] = None
 some_items (x ∷ xs) = Some (x ∷ xs)
@@ -70,15 +72,19 @@ bounds_in (Typed kind declaration) = some_items declaration.bounds
 bounds_in (Dimensioned declaration) = some_items declaration.bounds
 bounds_in _ = None
 
+-- the mentions of a name
 abbrev pub mentions_with : List Mention → Symbol → List Mention
 mentions_with all name = filter (λ mention. bytes_eq name (name_in mention)) all
 
+-- the mentions of a name as a dummy argument
 abbrev pub dummies_given : List Mention → Symbol → List Mention
 dummies_given all name = filter is_dummy (mentions_with all name)
 
+-- the kinds that type statements give a name
 abbrev pub kinds_given : List Mention → Symbol → List Kind
 kinds_given all name = filter_map kind_in (mentions_with all name)
 
+-- the bounds that declarations give a name
 abbrev pub bounds_given : List Mention → Symbol → List (List ℕ)
 bounds_given all name = filter_map bounds_in (mentions_with all name)
 
@@ -86,15 +92,15 @@ abbrev pub first_item_or : {X : Type 0} → X → List X → X
 first_item_or other [] = other
 first_item_or other (x ∷ xs) = x
 
--- the kind of a name, INTEGER where no type statement gives one (4.1.2 and 8.4)
+-- the kind of a name: INTEGER where no type statement gives one (4.1.2 and 8.4)
 abbrev pub kind_of : List LineFields → Symbol → Kind
 kind_of program name = first_item_or Integer (kinds_given (mentions program) name)
 
--- the bounds of a name, none for a variable (8.1 and 8.4)
+-- the bounds of a name: none for a variable (8.1 and 8.4)
 abbrev pub bounds_of : List LineFields → Symbol → List ℕ
 bounds_of program name = first_item_or [] (bounds_given (mentions program) name)
 
--- its first letter is I to N (4.1.2)
+-- the first letter of the name is I to N (4.1.2)
 abbrev pub is_integer_name : Symbol → Bool
 is_integer_name [] = false
 is_integer_name (letter ∷ rest) = nat_le 73 letter && nat_le letter 78
@@ -104,6 +110,7 @@ abbrev pub is_real : List LineFields → Symbol → Bool
 is_real program name =
     (length (kinds_given (mentions program) name) == 0) && not (is_integer_name name)
 
+-- the name of the unit, if the statement is a SUBROUTINE
 abbrev pub unit_name_of : Statement → Option Symbol
 unit_name_of (Statement.Subroutine name names) = Some name
 unit_name_of _ = None
@@ -112,11 +119,12 @@ unit_name_of _ = None
 abbrev pub unit_name : List LineFields → Option Symbol
 unit_name program = option_and_then (λ line. unit_name_of line.stmt) (slice_get program 0)
 
+-- the name is that of the unit
 abbrev pub names_unit : List LineFields → Symbol → Bool
 names_unit program name = option_map_or (bytes_eq name) (unit_name program) false
 
--- the name is typed twice, given bounds twice or a dummy
--- twice, or names the unit or a function as well (8.1 and 8.4)
+-- the name is typed, given bounds or a dummy argument twice, or is also the name of the unit or of
+-- a function (8.1 and 8.4)
 abbrev pub is_twice : List LineFields → Symbol → Bool
 is_twice program name =
     nat_le 2 (length (kinds_given (mentions program) name))

@@ -1,4 +1,4 @@
--- The names that a program may have, and tests of each name of an expression and of a statement.
+-- Stocks of names, and tests of each name of an expression and of a statement.
 use Rattle.std.specs.Prelude.{◌≡◌, ◌≤◌, ◌&&◌, Bool, true, false, List}
 use Rattle.std.specs.Prelude.{length, map, filter, Option, Some, None}
 use Rattle.std.specs.List.{All, list_any, sum}
@@ -14,8 +14,8 @@ use Rattle.f77_legal.specs.Presets.{element_count}
 abbrev pub is_name_among : List Symbol → Symbol → Bool
 is_name_among names name = list_any (bytes_eq name) names
 
--- Names that a program may have: its own are among them, each is there once,
--- none is REAL or declared twice, and all together are within the limits.
+-- A stock of names for a program: it has the names of the program, each once, none is REAL or
+-- declared twice, and all together are within the limits.
 pub record IsStock (names : List Symbol) (program : List LineFields) : Type 0 where
   pub covers : All (λ name. is_name_among names name ≡ true) (symbols program)
   pub once : All (λ name. length (filter (bytes_eq name) names) ≡ 1) names
@@ -41,12 +41,12 @@ abbrev mutual
   items_pass test Trees.None = true
   items_pass test (Trees.Then tree trees) = tree_passes test tree && items_pass test trees
 
--- the same of an expression, where there is one
+-- each name of the expression passes the test, if there is an expression
 abbrev pub value_passes : (Symbol → Bool) → Option Tree → Bool
 value_passes test None = true
 value_passes test (Some tree) = tree_passes test tree
 
--- each name of a statement that can be executed passes the test
+-- each name of an executable statement passes the test
 abbrev pub names_pass : (Symbol → Bool) → Statement → Bool
 names_pass test (Statement.Assign name items tree) =
     test name && (items_pass test items && tree_passes test tree)

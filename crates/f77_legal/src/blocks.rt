@@ -1,4 +1,7 @@
-//! The table of blocks: where each block IF and each branch ends, and what stands in a block.
+//! The table of blocks: where each block IF and each branch ends, and which statements stand in a block.
+//!
+//! An end is found by counting the block IFs and END IFs in between, not by a stack. A block IF without END IF begins
+//! no branch: the statements behind it are judged as if the block were not there, and its own line is reported first.
 
 ghost use Rattle.std.specs.Prelude.{◌≡◌, ◌+◌, ◌<◌, ◌^◌, ◌&&◌, ◌||◌, ◌==◌};
 ghost use Rattle.std.specs.Prelude.{ℕ, false, nat_lt, List, length, map, take, slice_index_or, Some, None, IfOk, IfErr};
@@ -19,25 +22,26 @@ use f77_program::Line;
 use f77_tree::{Form, Shared, Stmt};
 use std::alloc::Global;
 
-/// What a statement begins whose end is looked for: a whole block, or a branch of one.
+/// What begins at a statement and has an end that is looked for: a whole block, or a branch of one.
 #[derive(Clone, Copy)]
 enum Extent {
     Block,
     Branch,
 }
 
-/// The blocks and branches of a program, by its statements in order (ANSI X3.9-1978, 11.6 to 11.9).
+/// The blocks and branches of a program (ANSI X3.9-1978, 11.6 to 11.9). Each list has an entry for each statement, in
+/// order.
 #[derive(Drop)]
 pub struct Blocks {
-    /// Of a block IF its END IF.
+    /// For a block IF its END IF.
     pub(crate) ends: Vec<Option<usize>>,
-    /// Of a statement that begins a branch the one that ends it.
+    /// For a statement that begins a branch, the statement that ends the branch.
     pub(crate) branch_ends: Vec<Option<usize>>,
-    /// Whether it is the END IF of a block IF.
+    /// Whether the statement is the END IF of a block IF.
     pub(crate) closing: Vec<bool>,
-    /// Whether it stands in a block.
+    /// Whether the statement stands between a block IF and its END IF.
     pub(crate) inside: Vec<bool>,
-    /// Whether it ends a branch that an ELSE begins.
+    /// Whether the statement ends a branch that an ELSE begins.
     pub(crate) after_else: Vec<bool>,
 }
 
@@ -75,7 +79,7 @@ impl Extent {
         }
     }
 
-    /// Whether the statement ends it, where so many blocks are open within.
+    /// Whether the statement ends the block or the branch, where `depth` further blocks are open.
     fn ends(self, stmt: &Stmt, depth: usize) -> bool
         ensures { result ≡ ((depth == 0) && table_code.stops self (statement_of stmt.now)) }
     {
@@ -83,7 +87,7 @@ impl Extent {
     }
 }
 
-/// How many blocks are open behind the statement.
+/// The number of blocks that are open behind the statement.
 fn depth_behind(stmt: &Stmt, depth: usize) -> usize
     requires { depth + 1 < 2 ^ 64 }
     ensures { result ≡ table_code.depth_behind (statement_of stmt.now) depth }
@@ -97,7 +101,7 @@ fn depth_behind(stmt: &Stmt, depth: usize) -> usize
     depth
 }
 
-/// The statement of this number.
+/// The statement with this number, counted from 0.
 pub fn statement(lines: &[Shared<Line>], i: usize) -> &Stmt
     requires { i < length lines.now }
     ensures { nth_statement (map line_of lines.now) i ≡ Some (statement_of result.now) }
@@ -105,7 +109,7 @@ pub fn statement(lines: &[Shared<Line>], i: usize) -> &Stmt
     &lines[i].stmt
 }
 
-/// Where the block or the branch ends that this statement begins.
+/// The end of the block or of the branch that begins at the statement `start`.
 #[tactic(auto, using(crate::proofs::BlockScan::scan_start))]
 fn end_of(lines: &[Shared<Line>], extent: Extent, start: usize) -> Option<usize>
     requires { start < length lines.now }
@@ -122,7 +126,7 @@ fn end_of(lines: &[Shared<Line>], extent: Extent, start: usize) -> Option<usize>
     None
 }
 
-/// The END IF of a block IF.
+/// The END IF of a block IF. None for another statement.
 #[tactic(auto, using(crate::proofs::BlockScan::block_end_is))]
 fn block_end_at(lines: &[Shared<Line>], i: usize) -> Option<usize>
     requires { i < length lines.now }
@@ -134,7 +138,7 @@ fn block_end_at(lines: &[Shared<Line>], i: usize) -> Option<usize>
     end_of(lines, Extent::Block, i)
 }
 
-/// The end of a branch that an ELSE begins.
+/// The end of the branch that an ELSE begins. None for another statement.
 #[tactic(auto, using(crate::proofs::BlockScan::branch_end_is))]
 fn else_end_at(lines: &[Shared<Line>], i: usize) -> Option<usize>
     requires { i < length lines.now }
@@ -146,7 +150,8 @@ fn else_end_at(lines: &[Shared<Line>], i: usize) -> Option<usize>
     end_of(lines, Extent::Branch, i)
 }
 
-/// The end of the branch that a statement begins, which has this END IF or stands in a block.
+/// The end of the branch that the statement begins. `end` is its END IF if it is a block IF, and `inside` says whether
+/// it stands in a block.
 #[tactic(auto, using(crate::proofs::BlockScan::branch_end_is))]
 fn branch_end_at(
     lines: &[Shared<Line>],
@@ -165,8 +170,8 @@ fn branch_end_at(
     end_of(lines, Extent::Branch, i)
 }
 
-/// The statement behind this one: the next, or the END IF of the
-/// block where the next begins another branch (11.6 to 11.9).
+/// The statement behind this one: the next, or the END IF of the block where the next is an ELSE IF or ELSE (11.6 to
+/// 11.9).
 #[tactic(auto, using(crate::proofs::BlockScan::block_end_is))]
 pub fn next(lines: &[Shared<Line>], i: usize) -> Option<usize>
     requires { i < length lines.now }
@@ -202,21 +207,21 @@ fn else_ends(alloc: Global, lines: &[Shared<Line>]) -> Result<Vec<Option<usize>>
     Ok(ends)
 }
 
-/// The end at this place, none past the last.
+/// The end for the statement `i`. None past the last statement.
 fn end_in(ends: &[Option<usize>], i: usize) -> Option<usize>
     ensures { result ≡ slice_index_or ends.now i None }
 {
     ends.get(i).copied().flatten()
 }
 
-/// The mark at this place, false past the last.
+/// The entry for the statement `i`. False past the last statement.
 fn is_marked(marks: &[bool], i: usize) -> bool
     ensures { result ≡ slice_index_or marks.now i false }
 {
     marks.get(i).copied().unwrap_or(false)
 }
 
-/// Marks the statement that is an end.
+/// Sets the entry of the statement that is the end, if there is one.
 fn mark(marks: &mut [bool], end: Option<usize>)
     ensures marked { (k : ℕ) → k < length marks.old
         → slice_index_or marks.new k false
@@ -231,7 +236,7 @@ fn mark(marks: &mut [bool], end: Option<usize>)
     }
 }
 
-/// Of each statement whether it is one of the ends.
+/// For each statement, whether it is one of the ends.
 fn ends_marked(alloc: Global, ends: &[Option<usize>]) -> Result<Vec<bool>, CheckFault>
     ensures made { IfOk result (λ marks. marks.items ≡ map (is_end_among ends.now) (first_numbers (length ends.now))) }
     ensures memory { IfErr result (λ fault. fault ≡ Memory) }
@@ -243,7 +248,7 @@ fn ends_marked(alloc: Global, ends: &[Option<usize>]) -> Result<Vec<bool>, Check
     Ok(marks)
 }
 
-/// The end that stands behind the others, of those so far and this one.
+/// The last of the ends so far and this one, as a number; 0 where there is none.
 fn furthest(reach: usize, end: Option<usize>) -> usize
     ensures { (k : ℕ) → nat_lt k result ≡ (nat_lt k reach || option_map_or (nat_lt k) end false) }
 {
@@ -253,7 +258,7 @@ fn furthest(reach: usize, end: Option<usize>) -> usize
     }
 }
 
-/// Of each statement whether one of the ends before its place stands behind it.
+/// For each statement, whether a statement before it has its end behind it.
 #[tactic(auto, using(crate::proofs::FirstNumbers::table_more))]
 fn insides(alloc: Global, ends: &[Option<usize>]) -> Result<Vec<bool>, CheckFault>
     ensures made { IfOk result
@@ -288,7 +293,7 @@ fn branch_ends(
 }
 
 impl Blocks {
-    /// The table of these lines. Its time grows with the lines, and with those of each block and branch.
+    /// The table of these lines. Its time grows with the lines, and with those in each block and branch.
     pub(crate) fn of(alloc: Global, lines: &[Shared<Line>]) -> Result<Blocks, CheckFault>
         ensures made { IfOk result (λ blocks. IsBlockTable blocks (map line_of lines.now)) }
         ensures memory { IfErr result (λ fault. fault ≡ Memory) }
@@ -319,7 +324,7 @@ impl Blocks {
         is_alternative(stmt) && (!is_marked(&self.inside, i) || is_marked(&self.after_else, i))
     }
 
-    /// Whether the statement of this number is a block IF, ELSE IF, ELSE or END IF out of its place (11.6 to 11.9).
+    /// Whether the statement with this number is a block IF, ELSE IF, ELSE or END IF that is not nested (11.6 to 11.9).
     pub(crate) fn breaks(&self, lines: &[Shared<Line>], i: usize) -> bool
         ensures { IsBlockTable self.now (map line_of lines.now) → result ≡ breaks_block (map line_of lines.now) i }
     {
@@ -329,7 +334,7 @@ impl Blocks {
         self.is_misplaced(statement(lines, i), i)
     }
 
-    /// The statement that ends the branch which the statement of this number begins, None where it begins none.
+    /// The statement that ends the branch which this statement begins. None if it begins no branch.
     pub fn branch_end(&self, i: usize) -> Option<usize>
         ensures value { (program : List LineFields)
             → IsBlockTable self.now program → result ≡ table.branch_end_at program i }

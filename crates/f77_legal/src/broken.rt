@@ -1,4 +1,7 @@
-//! The first clause that a statement breaks, told in one walk over its expressions.
+//! The first clause that a statement breaks. One walk looks at names, kinds and bounds together, with one look-up for
+//! each name; then labels, nesting, jumps and the variable that is set are tested.
+//!
+//! The walk does not stop at the first flaw: a flaw of a clause that is tested earlier may follow.
 
 ghost use Rattle.std.specs.Prelude.{◌≡◌, ◌==◌, true, length, map, not, option_map};
 ghost use Rattle.std.specs.List.{find};
@@ -28,30 +31,30 @@ use crate::tables::Tables;
 use f77_program::Line;
 use f77_tree::{Expr, Kind, Name, Shared, Stmt};
 
-/// What is told of a statement by itself.
+/// What is found of a statement by itself.
 #[derive(Clone, Copy, Debug, PartialEq, Eq)]
 pub enum Broken {
     /// It breaks no clause.
     Nothing,
     /// It breaks this clause, and none that is tested before it.
     First(Clause),
-    /// It has a name that the table has not: the whole program has to be judged.
+    /// The statement has a name that is not in the table. The whole program has to be judged.
     UnknownName,
 }
 
-/// What is wrong with what was seen of a statement.
+/// What is wrong with the part of a statement that was walked over.
 #[derive(Clone, Copy)]
 pub(crate) struct Flaws {
-    /// It has a name that the table has not.
+    /// A name is not in the table.
     names: bool,
-    /// Its kinds do not agree.
+    /// The kinds do not agree.
     kinds: bool,
-    /// Its bounds, subscripts or arguments are not in order.
+    /// Bounds, subscripts or arguments have a wrong number or size.
     bounds: bool,
 }
 
 impl Flaws {
-    /// A part of the kind `own` stands where one of the kind `wanted` has to.
+    /// A part of the kind `own` stands where one of the kind `wanted` is required.
     fn check_kind(&mut self, own: Kind, wanted: Kind)
         ensures { Adds self.old self.new true (comparing.same_kind own wanted) true }
     {
@@ -60,7 +63,7 @@ impl Flaws {
         }
     }
 
-    /// Whether so many subscripts or arguments, or such bounds, are in order.
+    /// Notes whether bounds, or numbers of subscripts or arguments, are right.
     fn check_bounds(&mut self, are_right: bool)
         ensures { Adds self.old self.new true true are_right }
     {
@@ -69,7 +72,7 @@ impl Flaws {
         }
     }
 
-    /// A name with so many subscripts: its kind, which is INTEGER where the table has it not.
+    /// Checks a name with so many subscripts, and gives its kind: INTEGER where the name is not in the table.
     fn check_name(&mut self, names: &Names, name: &Name, subscripts: usize) -> Kind
         ensures kind { result ≡ kind_at names.now name.now }
         ensures flaws { Adds self.old self.new (has_name names.now name.now) true
@@ -88,7 +91,7 @@ impl Flaws {
         }
     }
 
-    /// An expression that has to be of this kind.
+    /// Checks an expression that has to be of this kind.
     #[cycle(flaws)]
     #[tactic(auto, using(crate::proofs::Counts::count_trees))]
     fn check_tree(&mut self, names: &Names, kind: Kind, expr: &Expr)
@@ -126,7 +129,7 @@ impl Flaws {
         }
     }
 
-    /// Subscripts or arguments, each of which has to be INTEGER.
+    /// Checks subscripts or arguments. Each has to be INTEGER.
     #[cycle(flaws)]
     fn check_items(&mut self, names: &Names, items: &[Expr])
         ensures { Adds self.old self.new (items_pass (has_name names.now) (trees (map tree_of items.now)))
@@ -138,7 +141,7 @@ impl Flaws {
         }
     }
 
-    /// An expression, if any, that has to be INTEGER.
+    /// Checks an expression, if there is one, that has to be INTEGER.
     fn check_value(&mut self, names: &Names, value: Option<&Expr>)
         ensures { let tree = option_map (λ value. tree_of value.now) value.entry in
             Adds self.old self.new (value_passes (has_name names.now) tree)
@@ -149,8 +152,8 @@ impl Flaws {
         }
     }
 
-    /// A statement: what its own rule says of its expressions, and of its target
-    /// or DO variable (5.1, 5.4, 10.1, 10.2, 11.4 to 11.10, 15.10).
+    /// Checks the expressions of a statement, and its target or DO variable (5.1, 5.4, 10.1, 10.2, 11.4 to 11.10,
+    /// 15.10).
     #[tactic(auto, using(crate::proofs::Counts::count_trees))]
     fn check_statement(&mut self, names: &Names, stmt: &Stmt)
         ensures { Adds self.old self.new (names_pass (has_name names.now) (statement_of stmt.now))
@@ -209,7 +212,7 @@ impl Flaws {
     }
 }
 
-/// What was found first, or this clause on this line, where it is tested before that.
+/// The breach that was found first; or this clause on this line, if it is tested before that one.
 fn earlier(first: Option<(Clause, u32)>, clause: Option<Clause>, line: u32) -> Option<(Clause, u32)>
     ensures { result ≡ broken.earlier first clause line }
 {
@@ -252,7 +255,7 @@ impl Tables {
         None
     }
 
-    /// The first clause, in the order of test, that the statement with these flaws breaks.
+    /// The first clause, in the order of test, that the statement breaks. `flaws` is what was found of its expressions.
     fn first_clause(
         &self,
         flaws: Flaws,
@@ -274,8 +277,8 @@ impl Tables {
         self.first_of_control(lines, i, stmt)
     }
 
-    /// What is told of the statement `stmt` in the place of the statement `i`, from 0: the first clause,
-    /// in the order of test, that it breaks, where the table has its names. It takes no memory.
+    /// The first clause, in the order of test, that `stmt` breaks if it stands in the place of statement `i`, counted
+    /// from 0. UnknownName where a name of it is not in the table. It takes no memory.
     pub fn first_broken(&self, lines: &[Shared<Line>], i: usize, stmt: &Stmt) -> Broken
         ensures names { names_pass (has_name self.now.names) (statement_of stmt.now) ≡ has_known_names result }
         ensures first { let program = map line_of lines.now in Serve self.now program → has_known_names result ≡ true
@@ -291,7 +294,8 @@ impl Tables {
         }
     }
 
-    /// The first of all clauses, in the order of test, that a statement breaks, and the line of the first that does.
+    /// The first of all clauses, in the order of test, that some statement breaks, with the line of the first that
+    /// breaks it.
     #[tactic(auto, using(crate::proofs::Served::own_tables_serve))]
     pub(crate) fn first_of_all(&self, lines: &[Shared<Line>]) -> Option<(Clause, u32)>
         ensures { AreTables self.now (map line_of lines.now) → result ≡ first_breach (map line_of lines.now) }

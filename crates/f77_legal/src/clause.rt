@@ -1,4 +1,4 @@
-//! The clauses that single statements keep or break.
+//! The clauses that a single statement keeps or breaks.
 
 ghost use Rattle.std.specs.Prelude.{◌≡◌, nat_lt};
 ghost use Rattle.f77_legal.specs.Clause.{clause_fault};
@@ -6,29 +6,29 @@ ghost use Rattle.f77_legal.specs.code.Broken as broken;
 
 use crate::fault::CheckFault;
 
-/// What a statement owes, in the order of test.
+/// A clause that each statement has to keep. They stand in the order of test.
 #[derive(Clone, Copy, Debug, PartialEq, Eq)]
 pub enum Clause {
     /// The kinds of its expressions agree.
     Kinds,
-    /// Its bounds, subscripts and arguments are in order.
+    /// Its bounds, and its numbers of subscripts and arguments, are right.
     Bounds,
     /// Each label that it names stands on a statement.
     NamedLabels,
-    /// Control may go to each statement that it jumps to.
+    /// Control may go to each statement to which it jumps.
     Targets,
-    /// A DO names one that may be a terminal statement.
+    /// A DO names a statement that may be a terminal statement.
     Terminals,
-    /// It is nested.
+    /// Its block or its DO is nested.
     Nests,
-    /// No jump leads into a range or a branch.
+    /// No jump of it leads into a range or a branch.
     Jumps,
-    /// It sets no variable of a DO whose range holds it.
+    /// It does not set the variable of a DO whose range holds it.
     Variables,
 }
 
 impl Clause {
-    /// Its place in the order of test.
+    /// The place of the clause in the order of test, from 0.
     pub(crate) fn rank(self) -> u32
         ensures { result ≡ broken.rank self }
     {
@@ -44,14 +44,14 @@ impl Clause {
         }
     }
 
-    /// Whether it is tested before the labels of the program.
+    /// Whether the clause is tested before the labels of the program.
     pub(crate) fn is_on_expressions(self) -> bool
         ensures { result ≡ nat_lt (broken.rank self) 2 }
     {
         self.rank() <= Clause::Bounds.rank()
     }
 
-    /// What is told of a statement on this line that breaks it.
+    /// The fault of a statement on this line that breaks the clause.
     pub fn fault(self, line: u32) -> CheckFault
         ensures { result ≡ clause_fault self line }
     {

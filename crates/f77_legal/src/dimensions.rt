@@ -1,4 +1,4 @@
-//! Bounds that may be declared, and how many arguments functions take.
+//! Which bounds may be declared, and how many arguments a function takes.
 
 ghost use Rattle.std.specs.Prelude.{◌≡◌, map};
 ghost use Rattle.std.specs.List.{list_all};
@@ -18,14 +18,14 @@ pub(crate) fn takes(function: Intrinsic, count: usize) -> bool
     }
 }
 
-/// Whether a declaration gives no bounds, or one or two, each at least 1.
+/// Whether a declaration gives no bounds, or one or two that are at least 1.
 fn is_shape(item: &Decl) -> bool
     ensures { result ≡ dimensions.is_shape (decl_of item.now) }
 {
     item.bounds.len() <= 2 && item.bounds.iter().all(|bound| 1 <= *bound)
 }
 
-/// Whether each declaration gives such bounds (5.1).
+/// Whether each declaration gives no bounds, or one or two that are at least 1 (5.1).
 pub(crate) fn are_shapes(items: &[Decl]) -> bool
     ensures { result ≡ list_all dimensions.is_shape (map decl_of items.now) }
 {

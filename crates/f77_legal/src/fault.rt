@@ -7,8 +7,8 @@ use f77_tree::Name;
 use std::alloc::{AllocError, AllocFailed};
 use thiserror::Error;
 
-/// The first fault of a program (ANSI X3.9-1978), or want of memory.
-/// Each number of a line is the `line` of one of the program.
+/// The first fault of a program (ANSI X3.9-1978), or want of memory. The number of a line is the `line` of a line of
+/// the program.
 #[derive(Debug, PartialEq, Eq, Drop, Error)]
 pub enum CheckFault {
     /// C1: memory ran out.
@@ -17,7 +17,8 @@ pub enum CheckFault {
     /// C2: this name is REAL by its first letter (4.1.2).
     #[error("{0} is REAL by its first letter")]
     RealName(Name),
-    /// C3: this name is typed, given bounds or a dummy argument twice, or names the unit or a function as well.
+    /// C3: this name is typed, given bounds or a dummy argument twice, or is also the name of the unit or of a
+    /// function.
     #[error("{0} is declared twice, or names the unit or a function as well")]
     Twice(Name),
     /// C4: the kinds of the statement on this line do not agree.
@@ -47,7 +48,7 @@ pub enum CheckFault {
     /// C12: the statement on this line sets the variable of a DO whose range holds it (11.10.5).
     #[error("line {0} sets the variable of a DO whose range holds it")]
     DoVariable(u32),
-    /// C13: a name or a value of the DATA statement on this line (section 9).
+    /// C13: a name or a value of the DATA statement on this line may not stand there (section 9).
     #[error("the DATA statement on line {0} has a wrong name or value")]
     BadData(u32),
     /// C14: over 500 statements, 100 variables and arrays, or 10,000 elements over all arrays.

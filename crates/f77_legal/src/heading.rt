@@ -10,7 +10,7 @@ ghost use Rattle.f77_legal.specs.Heading.{dummies, dummies_of};
 use f77_program::Line;
 use f77_tree::{Name, Shared, Stmt};
 
-/// The names of the unit and of its dummy arguments, where this is a SUBROUTINE statement.
+/// The name of the unit and the dummy arguments, if this is a SUBROUTINE statement.
 #[tactic(auto, using(crate::proofs::Forms::no_unit_name, crate::proofs::Forms::no_dummies))]
 fn heading(stmt: &Stmt) -> Option<(&Name, &[Name])>
     ensures unit { option_map (λ x. x.0.now) result ≡ unit_name_of (statement_of stmt.now) }

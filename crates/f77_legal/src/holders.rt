@@ -1,4 +1,11 @@
-//! What holds each statement: the ranges of DOs and the branches around it, and where control may go from it.
+//! What holds each statement: the ranges of DOs and the branches around it. From these follows where control may go.
+//!
+//! Only the innermost holder of a statement, its parent, is kept: a list of all holders would take memory quadratic in
+//! the depth. The others are found by walking from parent to parent. The parent of a statement is the one before it, or
+//! the first on the walk from that one that holds the statement, so one pass finds all parents.
+//!
+//! In a program that is not legal ranges may overlap, and the parent of a parent need not hold the statement. All that
+//! hold it are among its ancestors, so each reader asks of an ancestor whether it does.
 
 ghost use Rattle.std.specs.Prelude.{◌≡◌, ◌&&◌, ◌==◌, false, not, List, length, IfOk, IfErr};
 ghost use Rattle.std.specs.Iterator.{YieldsFirst, item_count};
@@ -12,7 +19,7 @@ ghost use Rattle.f77_legal.specs.declared.fault.CheckFault.TheVariants as fault;
 use crate::fault::CheckFault;
 use std::alloc::Global;
 
-/// Where the loops and branches of a program end, and for each statement its parent: the innermost that holds it.
+/// The ends of DOs and of branches, and the parent of each statement: the innermost DO or branch that holds it.
 #[derive(Drop)]
 pub struct Ranges {
     pub(crate) terminals: Vec<Option<usize>>,
@@ -21,7 +28,7 @@ pub struct Ranges {
     ghost innermost: { parents.items ≡ holders.parents_of terminals.items branch_ends.items (length terminals.items) },
 }
 
-/// From a statement on, its parent, the parent of that, and so on.
+/// A walk from a statement to its parent, to the parent of that, and so on.
 #[derive(Drop)]
 pub(crate) struct Ancestors<'a> {
     parents: &'a [Option<usize>],
@@ -75,7 +82,7 @@ fn holds(terminals: &[Option<usize>], branch_ends: &[Option<usize>], k: usize, i
     in_range(terminals, i, k) || in_branch(branch_ends, i, k)
 }
 
-/// What holds `k` is the statement before it, or held that one too.
+/// The innermost holder of `k`: the statement before it, or a holder of that one.
 fn innermost(
     parents: &[Option<usize>],
     terminals: &[Option<usize>],
@@ -109,7 +116,7 @@ fn parents_of(
     Ok(parents)
 }
 
-/// Whether a DO has `i` in its range and not `k`.
+/// Whether the DO `d` has `i` in its range and not `k`.
 fn is_left(terminals: &[Option<usize>], d: usize, i: usize, k: usize) -> bool
     ensures { result ≡ (holders.is_in_do_range terminals.now d i && not (holders.is_in_do_range terminals.now d k)) }
 {
@@ -138,7 +145,7 @@ impl Ranges {
     ghost use Rattle.f77_legal.specs.code.LoopTable as table;
     ghost use Rattle.f77_legal.specs.LoopTable.{IsTerminals, IsBranches, IsRangeTable};
 
-    /// The table of a program from the terminal statements of its DOs and the ends of its branches.
+    /// The table of a program, made from the terminal statements of its DOs and the ends of its branches.
     pub(crate) fn of(
         alloc: Global,
         terminals: Vec<Option<usize>>,
@@ -157,7 +164,7 @@ impl Ranges {
         })
     }
 
-    /// The terminal statement of the DO of this number, None for another statement (11.10).
+    /// The terminal statement of the DO with this number (11.10). None if it is no DO.
     #[tactic(auto, using(crate::proofs::LoopTables::terminal_is))]
     pub fn terminal(&self, d: usize) -> Option<usize>
         ensures { (program : List LineFields) → IsRangeTable self.now program → result ≡ loops.terminal program d }
@@ -165,7 +172,8 @@ impl Ranges {
         self.terminals.get(d).copied().flatten()
     }
 
-    /// All that hold `k` are among these, the innermost first; where ranges overlap, others are too.
+    /// The ancestors of `k`, the innermost first. All holders of `k` are among them, and where ranges overlap, others
+    /// too.
     pub(crate) fn ancestors(&self, k: usize) -> Ancestors<'_>
         ensures { table.ancestors_left result ≡ table.ancestors_of self.now k }
     {
@@ -209,7 +217,7 @@ impl Ranges {
             || self.leaves_range(d, terminal)
     }
 
-    /// Whether a DO ends before it begins, in another branch, or outside of a range that holds it (11.10).
+    /// Whether the DO `d` ends before it begins, in another branch, or outside of a range that holds it (11.10).
     pub(crate) fn breaks_range(&self, d: usize) -> bool
         ensures { (program : List LineFields) → IsRangeTable self.now program → result ≡ loops.breaks_range program d }
     {
@@ -219,7 +227,7 @@ impl Ranges {
         }
     }
 
-    /// The DOs that a jump from `i` to `j` leaves, the outermost first (11.10.8).
+    /// The DOs that a jump from statement `i` to statement `j` leaves, the outermost first (11.10.8).
     pub fn left_by(&self, alloc: Global, i: usize, j: usize) -> Result<Vec<usize>, CheckFault>
         ensures left { IfOk result (λ left. (program : List LineFields)
             → IsRangeTable self.now program → left.items ≡ loops.left_by program i j) }
@@ -233,7 +241,7 @@ impl Ranges {
         Ok(left)
     }
 
-    /// The DOs whose terminal statement is `t`, the innermost first (11.10).
+    /// The DOs whose terminal statement is `t`, the innermost first (11.10). The DOs have to be nested.
     pub fn ending(&self, alloc: Global, t: usize) -> Result<Vec<usize>, CheckFault>
         ensures ends { IfOk result
             (λ ends. (program : List LineFields) → IsRangeTable self.now program → loops.AreNested program
@@ -247,7 +255,7 @@ impl Ranges {
         Ok(ends)
     }
 
-    /// What holds `j` and not `i`.
+    /// Whether something holds `j` and not `i`.
     fn enters(&self, i: usize, j: usize) -> bool
         ensures { result ≡ table.enters self.now i j }
     {
@@ -255,7 +263,7 @@ impl Ranges {
             .any(|d| self.holds(j, d) && !self.holds(i, d))
     }
 
-    /// What holds `i` and not `j`, and begins before something that holds `j`.
+    /// Whether something holds `i` and not `j`, and begins before the innermost that holds `j`.
     fn crosses(&self, i: usize, j: usize) -> bool
         ensures { result ≡ table.crosses self.now i j }
     {
@@ -263,8 +271,7 @@ impl Ranges {
         self.ancestors(i).any(|d| self.holds(i, d) && !self.holds(j, d) && precedes(d, innermost))
     }
 
-    /// Whether control goes into a range or a branch from outside
-    /// of it where it goes from `i` to `j` (11.10.8, 11.6 to 11.8).
+    /// Whether control enters a range or a branch from outside where it goes from `i` to `j` (11.10.8, 11.6 to 11.8).
     pub(crate) fn goes_in(&self, i: usize, j: usize) -> bool
         ensures { (program : List LineFields) → IsRangeTable self.now program → result ≡ loops.goes_in program i j }
     {

@@ -1,4 +1,5 @@
-//! The kinds that operators give and take.
+//! The kinds of the operands and results of operators. A place wants one kind, so kinds are asked from the top of an
+//! expression, and nothing is inferred.
 
 ghost use Rattle.std.specs.Prelude.{◌≡◌};
 ghost use Rattle.f77_tree.specs.Comparing as comparing;
@@ -15,7 +16,7 @@ pub(crate) fn same_kind(left: Kind, right: Kind) -> bool
     }
 }
 
-/// The kind that an operator gives (ANSI X3.9-1978, 6.1, 6.3 and 6.4).
+/// The kind of the result of an operator (ANSI X3.9-1978, 6.1, 6.3 and 6.4).
 pub fn result_kind(operator: Operator) -> Kind
     ensures { result ≡ kinds.result_kind operator }
 {
@@ -38,7 +39,7 @@ pub fn result_kind(operator: Operator) -> Kind
     }
 }
 
-/// The kind that an operator takes.
+/// The kind of the operands of an operator.
 pub(crate) fn operand_kind(operator: Operator) -> Kind
     ensures { result ≡ kinds.operand_kind operator }
 {

@@ -1,4 +1,7 @@
 //! The labels of a program: where they stand, and which statements name them.
+//!
+//! A label counts where it stands first. Whether it stands twice is a clause of its own (C6), which is tested before
+//! the clauses that look a label up.
 
 ghost use Rattle.std.specs.Prelude.{◌≡◌, ◌++◌, ◌∷◌};
 ghost use Rattle.std.specs.Prelude.{List, [], Option, None, false, filter, length, map};
@@ -20,16 +23,16 @@ use f77_tree::{Form, Shared, Stmt};
 use indexmap::IndexMap;
 use std::alloc::Global;
 
-/// Where a label stands.
+/// Where a label stands. Statements are numbered from 0.
 #[derive(Clone, Copy, Debug)]
 pub struct Place {
-    /// The first statement that bears it.
+    /// The first statement with this label.
     pub(crate) first: usize,
-    /// Whether a later one bears it too.
+    /// Whether a later statement has it too.
     pub(crate) again: bool,
 }
 
-/// The labels of a program in order of first appearance.
+/// The labels of a program, in order of first appearance.
 #[derive(Drop)]
 pub struct Labels {
     pub(crate) places: IndexMap<u32, Place>,
@@ -50,7 +53,7 @@ impl Labels {
         Ok(labels)
     }
 
-    /// The place of the label, once the statement `i` bears it too.
+    /// The place of the label, once statement `i` has it too.
     fn place_with(&self, label: u32, i: usize) -> Place
         ensures { result ≡ noted (get nat_eq self.now.places label) i }
     {
@@ -66,7 +69,7 @@ impl Labels {
         }
     }
 
-    /// Puts the label of the statement `i` into the table of the statements before it.
+    /// Adds the label of statement `i`, if it has one. The table has those of the statements before it.
     fn note(&mut self, i: usize, line: &Line) -> Result<(), CheckFault>
         ensures table { OnOk result ((program : List LineFields) → IsLabelTable self.old program → length program ≡ i
             → IsLabelTable self.new (program ++ line_of line.now ∷ [])) }
@@ -80,7 +83,7 @@ impl Labels {
         Ok(())
     }
 
-    /// The first label that a later statement bears too.
+    /// The first label that a later statement has too.
     fn first_again(&self) -> Option<u32>
         ensures first { result ≡ option_map (λ e. e.0) (find (λ e. e.1.again) self.now.places.entries) }
         ensures unique { IsUnique nat_eq self.now.places }
@@ -98,7 +101,7 @@ impl Labels {
         self.first_again()
     }
 
-    /// The first statement that bears the label.
+    /// The number of the first statement with the label, from 0.
     pub fn place(&self, label: u32) -> Option<usize>
         ensures { (program : List LineFields) → IsLabelTable self.now program → result ≡ label_place program label }
     {
@@ -117,7 +120,7 @@ impl Labels {
         }
     }
 
-    /// The statement that bears the label, where there is one.
+    /// The first statement with the label, if there is one.
     fn statement_with<'a>(&self, lines: &'a [Shared<Line>], label: Option<u32>) -> Option<&'a Stmt>
         ensures { IsLabelTable self.now (map line_of lines.now)
             → option_map (λ stmt. statement_of stmt.now) result
@@ -140,7 +143,7 @@ pub(crate) fn terminal_label(stmt: &Stmt) -> Option<u32>
     }
 }
 
-/// Whether a jump of the statement names a label that stands on none.
+/// Whether a jump of the statement names a label that stands on no statement.
 fn jumps_nowhere(labels: &Labels, stmt: &Stmt) -> bool
     ensures { (program : List LineFields) → IsLabelTable labels.now program
         → result ≡ list_any (λ label. not (is_some (label_place program label))) (jumps_of (statement_of stmt.now)) }
@@ -153,7 +156,7 @@ fn jumps_nowhere(labels: &Labels, stmt: &Stmt) -> bool
     false
 }
 
-/// Whether the statement names a label that stands on none.
+/// Whether the statement names a label that stands on no statement.
 pub(crate) fn names_no_label(labels: &Labels, stmt: &Stmt) -> bool
     ensures { (program : List LineFields)
         → IsLabelTable labels.now program → result ≡ clause.names_no_label program (statement_of stmt.now) }
@@ -161,7 +164,8 @@ pub(crate) fn names_no_label(labels: &Labels, stmt: &Stmt) -> bool
     jumps_nowhere(labels, stmt) || labels.misses(terminal_label(stmt))
 }
 
-/// Whether control may go to the statement (11.1, 11.2, 11.4): it is executable, and no ELSE IF or ELSE (11.7, 11.8).
+/// Whether control may go to the statement (11.1, 11.2, 11.4): it has to be executable, and no ELSE IF or ELSE (11.7,
+/// 11.8).
 pub(crate) fn is_target(stmt: &Stmt) -> bool
     ensures { result ≡ clause.is_target (statement_of stmt.now) }
 {
@@ -189,7 +193,7 @@ fn leads_badly(labels: &Labels, lines: &[Shared<Line>], label: Option<u32>) -> b
     }
 }
 
-/// Whether a jump of the statement leads to one where control may not go.
+/// Whether a jump of the statement leads to a statement where control may not go.
 pub(crate) fn jumps_badly(labels: &Labels, lines: &[Shared<Line>], stmt: &Stmt) -> bool
     ensures { IsLabelTable labels.now (map line_of lines.now)
         → result ≡ clause.jumps_badly (map line_of lines.now) (statement_of stmt.now) }
@@ -225,7 +229,7 @@ pub fn is_terminal(stmt: &Stmt) -> bool
     )
 }
 
-/// Whether the statement is a DO that names one which may be no terminal statement.
+/// Whether the statement is a DO, and names a statement that may be no terminal statement.
 pub(crate) fn ends_badly(labels: &Labels, lines: &[Shared<Line>], stmt: &Stmt) -> bool
     ensures { IsLabelTable labels.now (map line_of lines.now)
         → result ≡ clause.ends_badly (map line_of lines.now) (statement_of stmt.now) }

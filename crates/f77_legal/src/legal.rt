@@ -1,4 +1,4 @@
-//! The clauses of legality, in the order of test.
+//! All clauses of legality, in the order of test.
 
 ghost use Rattle.std.specs.Prelude.{◌≡◌, ◌++◌, List, [], map, slice_get, Some, Err};
 ghost use Rattle.f77_program.specs.Program.{LineFields, line_of};
@@ -40,7 +40,7 @@ fn check_names(names: &Names, lines: &[Shared<Line>]) -> Result<(), CheckFault>
     Ok(())
 }
 
-/// What is told of the first clause that is broken, and of its line, where it is one on expressions.
+/// The fault of the first breach, if that is of a clause on expressions.
 fn check_expressions(first: Option<(Clause, u32)>) -> Result<(), CheckFault>
     ensures { (program : List LineFields) → first ≡ first_breach program
         → TellsFirst result (clause_faults expression_clauses program) }
@@ -54,7 +54,7 @@ fn check_expressions(first: Option<(Clause, u32)>) -> Result<(), CheckFault>
     Ok(())
 }
 
-/// What is told of it, where none on expressions is broken.
+/// The fault of the first breach, where no clause on expressions is broken.
 fn check_control(first: Option<(Clause, u32)>) -> Result<(), CheckFault>
     ensures { (program : List LineFields) → first ≡ first_breach program
         → clause_faults expression_clauses program ≡ [] → TellsFirst result (clause_faults control_clauses program) }
@@ -94,9 +94,10 @@ fn check_size(names: &Names, lines: &[Shared<Line>]) -> Result<(), CheckFault>
     Ok(())
 }
 
-/// The first fault of a program, given its tables, clause by clause, in the order of test; or want of memory.
+/// The first fault of a program, clause by clause in the order of test. The tables have to be those of the program.
 ///
-/// The first fault of a name, a statement or a label is told whatever memory there is.
+/// Memory is taken for the names in DATA alone. So a fault of a name, a statement or a label is reported however little
+/// memory there is.
 pub fn judge(alloc: Global, tables: &Tables, lines: &[Shared<Line>]) -> Result<(), CheckFault>
     ensures tells { AreTables tables.now (map line_of lines.now)
         → TellsFirstFault result (faults (map line_of lines.now)) }

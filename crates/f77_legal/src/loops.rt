@@ -1,4 +1,4 @@
-//! DO variables: which variable a statement sets, and those that it may not set.
+//! DO variables: which variable a statement sets, and which it may not set.
 
 ghost use Rattle.std.specs.Prelude.{◌≡◌, false, map, option_map};
 ghost use Rattle.std.specs.Option.{option_and_then, option_map_or};
@@ -14,7 +14,7 @@ use crate::holders::Ranges;
 use f77_program::Line;
 use f77_tree::{Name, Shared, Stmt};
 
-/// The variable that a statement sets by its own rule: the target of an assignment, a DO variable.
+/// The variable that the statement sets itself: the target of an assignment, or a DO variable.
 pub(crate) fn set_by(stmt: &Stmt) -> Option<&Name>
     ensures { option_map (λ name. name.now) result ≡ loops.set_by (statement_of stmt.now) }
 {
@@ -26,7 +26,7 @@ pub(crate) fn set_by(stmt: &Stmt) -> Option<&Name>
     }
 }
 
-/// The DO variable of a DO.
+/// The DO variable, if the statement is a DO.
 #[tactic(auto, using(crate::proofs::Forms::no_variable))]
 pub(crate) fn variable_of(stmt: &Stmt) -> Option<&Name>
     ensures { option_map (λ name. name.now) result ≡ loops.do_variable_of (statement_of stmt.now) }
@@ -63,7 +63,7 @@ fn is_held_with(ranges: &Ranges, lines: &[Shared<Line>], i: usize, name: &Name) 
     ranges.ancestors(i).any(|d| ranges.in_range(d, i) && is_variable_at(lines, name, d))
 }
 
-/// Whether the statement `stmt`, of the number `i`, sets the variable of a DO whose range holds it (11.10.5).
+/// Whether `stmt`, as statement `i`, sets the variable of a DO whose range holds it (11.10.5).
 #[tactic(auto, using(crate::proofs::LoopTables::held_with_is))]
 pub(crate) fn sets_variable(ranges: &Ranges, lines: &[Shared<Line>], i: usize, stmt: &Stmt) -> bool
     ensures { IsRangeTable ranges.now (map line_of lines.now)

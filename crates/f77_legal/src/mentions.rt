@@ -1,4 +1,4 @@
-//! What the statements of a program say of its names, put into the table of names.
+//! What the statements of a program say of its names, noted in the table of names.
 
 ghost use Rattle.std.specs.Prelude.{◌≡◌, List, ℕ, None, map, OnOk, IfErr};
 ghost use Rattle.std.specs.Str.{bytes_eq};
@@ -18,16 +18,16 @@ use crate::names::{Facts, Names, Times};
 use f77_tree::{Decl, Kind, Name, Stmt, nodes};
 use std::alloc::Global;
 
-/// What a statement says of a name that it mentions.
+/// What a statement says of a name.
 #[derive(Clone, Copy, Drop)]
 pub(crate) enum Said<'a> {
-    /// It is a dummy argument (15.9.1).
+    /// The name is a dummy argument (15.9.1).
     Dummy,
-    /// It has this kind, and these bounds where it is an array (8.4).
+    /// The name has this kind, and these bounds if it is an array (8.4).
     Typed(Kind, &'a [u32]),
-    /// It has these bounds (8.1).
+    /// The name has these bounds (8.1).
     Dimensioned(&'a [u32]),
-    /// Nothing.
+    /// The name occurs, and no more is said of it.
     Plain,
 }
 
@@ -42,7 +42,7 @@ impl Times {
         }
     }
 
-    /// The kind that was given first.
+    /// The kind that was given first: `new` is given now, `old` was given before.
     fn first_kind(self, new: Kind, old: Kind) -> Kind
         ensures { result ≡ first_said self new old }
     {
@@ -147,7 +147,7 @@ impl Names {
         }
     }
 
-    /// Notes the names of a statement, whatever it says of them.
+    /// Notes that the names of a statement occur.
     fn note_names(&mut self, alloc: Global, stmt: &Stmt) -> Result<(), CheckFault>
         ensures noted { OnOk result
             (table_entries self.new
@@ -195,7 +195,7 @@ impl Names {
         Ok(())
     }
 
-    /// Notes what a statement says of the names that it mentions.
+    /// Notes what a statement says of its names.
     #[tactic(auto, using(crate::proofs::Forms::plain_mentions))]
     pub(crate) fn note_statement(&mut self, alloc: Global, stmt: &Stmt) -> Result<(), CheckFault>
         ensures noted { OnOk result

@@ -1,4 +1,4 @@
-//! The table of names: each variable and array with what the declarations say of it.
+//! The table of names: each variable and array, with what the program says of it.
 
 ghost use Rattle.std.specs.Prelude.{◌≡◌, ◌-◌, ◌^◌, ◌||◌, List, nat_lt, map, filter, sum, min};
 ghost use Rattle.std.specs.Prelude.{slice_get, option_map, is_some, length, false, IfOk, IfErr};
@@ -25,7 +25,7 @@ use f77_tree::{Intrinsic, Kind, Name, Shared};
 use indexmap::IndexMap;
 use std::alloc::Global;
 
-/// Whether something was said of a name: never, once, or more often.
+/// How often something was said of a name. Clauses ask for none, one or more, so more is not counted.
 #[derive(Clone, Copy, Debug, PartialEq, Eq)]
 pub enum Times {
     Never,
@@ -43,7 +43,7 @@ pub struct Facts {
     pub(crate) bounds: Vec<u32>,
 }
 
-/// The names of a program in order of first appearance, each with its facts.
+/// The names of a program in order of first appearance, dummy arguments first, each with what is said of it.
 #[derive(Drop)]
 pub struct Names {
     pub facts: IndexMap<Name, Facts>,
@@ -71,7 +71,7 @@ impl Times {
     }
 }
 
-/// Whether the first letter is one of I to N (4.1.2).
+/// Whether the first letter of the name is I to N (4.1.2).
 fn is_integer_name(name: &Name) -> bool
     ensures { result ≡ named.is_integer_name name.now }
 {
@@ -103,7 +103,7 @@ fn tells_twice(name: &Name, facts: &Facts, unit: Option<&Name>) -> bool
         || is_taken(name, unit)
 }
 
-/// The product of the bounds, the largest `u64` for more than that.
+/// The product of the bounds, or the largest `u64` if it is larger.
 pub fn product(bounds: &[u32]) -> u64
     ensures { result ≡ min (presets.product bounds.now) (2 ^ 64 - 1) }
 {
@@ -114,7 +114,7 @@ pub fn product(bounds: &[u32]) -> u64
     size
 }
 
-/// The elements of an array, 0 for a variable.
+/// The number of elements of an array, and 0 for a variable.
 fn array_size(facts: &Facts) -> u64
     ensures { result ≡ min (table_code.array_size (facts_fields facts.now)) (2 ^ 64 - 1) }
 {
@@ -125,7 +125,8 @@ fn array_size(facts: &Facts) -> u64
 }
 
 impl Names {
-    /// The table of the names of these lines.
+    /// The table of the names of these lines. A changed program may keep the table of the program that it was made
+    /// from, which may have names that it no longer has; no statement reads their slots.
     pub fn of(alloc: Global, lines: &[Shared<Line>]) -> Result<Names, CheckFault>
         ensures table { IfOk result (λ names. IsNameTable names (map line_of lines.now)) }
         ensures memory { IfErr result (λ f. f ≡ fault.Memory) }
@@ -139,7 +140,7 @@ impl Names {
         Ok(names)
     }
 
-    /// The kind of a name, INTEGER where no type statement gives one.
+    /// The kind of a name: INTEGER where no type statement gives one.
     pub fn kind(&self, name: &Name) -> Kind
         ensures { result ≡ kind_at self.now name.now }
     {
@@ -149,7 +150,7 @@ impl Names {
         }
     }
 
-    /// The bounds of a name, none for a variable.
+    /// The bounds of a name: none for a variable.
     pub fn bounds(&self, name: &Name) -> &[u32]
         ensures { result.now ≡ array_bounds self.now name.now }
     {
@@ -169,7 +170,7 @@ impl Names {
         }
     }
 
-    /// How many names there are.
+    /// The number of names.
     pub(crate) fn len(&self) -> usize
         ensures { (program : List LineFields) → IsNameTable self.now program → result ≡ length (symbols program) }
     {
@@ -202,8 +203,8 @@ impl Names {
             .find(|(name, facts)| tells_twice(name, facts, unit))
     }
 
-    /// The first name that is typed, given bounds or a dummy
-    /// argument twice, or that names the unit or a function as well.
+    /// The first name that is typed, given bounds or a dummy argument twice, or that is also the name of the unit or of
+    /// a function.
     pub(crate) fn first_twice(&self, unit: Option<&Name>) -> Option<&Name>
         ensures { (program : List LineFields)
             → IsNameTable self.now program → option_map (λ n. n.now) unit.entry ≡ unit_name program
@@ -212,7 +213,7 @@ impl Names {
         self.find_twice(unit).map(|(name, _)| name)
     }
 
-    /// The elements of all arrays, the largest `u64` for more than that.
+    /// The number of elements of all arrays, or the largest `u64` if it is larger.
     fn elements(&self) -> u64
         ensures { result
             ≡ min (sum (map (λ f. table_code.array_size (facts_fields f)) (values self.now.facts))) (2 ^ 64 - 1) }
@@ -223,7 +224,7 @@ impl Names {
         )
     }
 
-    /// Whether all arrays have more elements than this.
+    /// Whether all arrays together have more elements than `limit`.
     pub(crate) fn has_over(&self, limit: u32) -> bool
         ensures { (program : List LineFields) → IsNameTable self.now program
             → result

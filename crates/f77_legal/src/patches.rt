@@ -1,4 +1,4 @@
-//! Which changes of a statement keep the frame of a program.
+//! Which changes of a statement keep the frame of a program: its declarations, DATA, labels, blocks and ranges of DOs.
 
 ghost use Rattle.std.specs.Prelude.{◌≡◌, true, None};
 ghost use Rattle.f77_tree.specs.Statement.{statement_of, Statement};
@@ -30,10 +30,11 @@ fn is_framed_out(form: Form) -> bool
     matches!(form, Form::LogicalIf) || form.acts()
 }
 
-/// Whether a program keeps its declarations, labels, blocks and ranges when the one statement takes the place of the
-/// other: both are actions or logical IFs, or both begin or end the same, and a DO keeps its label and its variable.
+/// Whether a program keeps its frame when the statement `new` takes the place of `old`. It does if both are actions or
+/// logical IFs; if both are block IFs, ELSE IFs, ELSEs, END IFs or ENDs; or if both are DOs with the same label and the
+/// same variable.
 ///
-/// Of two declarations it is not told.
+/// For two declarations the answer is false, even where the frame stays.
 #[tactic(auto, using(crate::proofs::Frames::framed_out))]
 pub fn keeps_frame(old: &Stmt, new: &Stmt) -> bool
     ensures { result ≡ true → framed (statement_of new.now) ≡ framed (statement_of old.now) }

@@ -1,4 +1,7 @@
-//! The names and the values of DATA.
+//! DATA: which names may stand there, and whether the values fit them.
+//!
+//! Values are taken in runs, and elements are counted with saturation: a limit on elements is tested last (C14), so
+//! arrays of any size come here.
 
 ghost use Rattle.std.specs.Prelude.{◌≡◌, ◌==◌, ◌||◌, ◌≤◌, ◌*◌, ◌++◌, false, not, [], ◌∷◌};
 ghost use Rattle.std.specs.Prelude.{length, map, min, option_map, slice_get, IfOk, IfErr};
@@ -34,7 +37,7 @@ fn constant_kind(constant: Constant) -> Kind
     }
 }
 
-/// How many elements the values fill.
+/// The number of elements that the values fill.
 fn count(values: &[Value]) -> u128
     ensures exact { result ≡ length (kinds_in values.now) }
     ensures bounded { result ≤ length values.now * 4294967295 }
@@ -46,7 +49,7 @@ fn count(values: &[Value]) -> u128
     count
 }
 
-/// How many elements a name with these bounds has, `most` for more than that.
+/// The number of elements of a name with these bounds, or `most` if there are more.
 fn elements(bounds: &[u32], most: u128) -> u128
     ensures { result ≡ min (product bounds.now) most }
 {
@@ -57,7 +60,7 @@ fn elements(bounds: &[u32], most: u128) -> u128
     product.min(most)
 }
 
-/// What is left of the values of a group: some of one kind, and behind them these.
+/// The values of a group that are still to be given: `times` of one kind, and behind them `values`.
 #[derive(Clone, Copy)]
 struct Remaining<'a> {
     times: u128,
@@ -65,14 +68,14 @@ struct Remaining<'a> {
     values: &'a [Value],
 }
 
-/// Whether what is left begins with none, or with some of this kind.
+/// Whether the run is empty, or is of this kind.
 fn may_give(rest: Remaining<'_>, kind: Kind) -> bool
     ensures { result ≡ (rest.entry.times == 0 || comparing.same_kind kind rest.entry.kind) }
 {
     rest.times == 0 || same_kind(kind, rest.kind)
 }
 
-/// What is left behind so many of this kind, None where others stand before.
+/// What is left behind `wanted` values of this kind. None if other values stand among them, or too few are there.
 fn take_run(mut rest: Remaining<'_>, mut wanted: u128, kind: Kind) -> Option<Remaining<'_>>
     ensures { option_map kinds_left result ≡ behind_kinds wanted kind (kinds_left rest.entry) }
 {
@@ -113,7 +116,7 @@ fn is_used_up(rest: Remaining<'_>) -> bool
     rest.times == 0 && are_none(rest.values)
 }
 
-/// Whether the values of the group are as many as the elements of its names, and each of the kind of its element.
+/// Whether the group has as many values as its names have elements, and each is of the kind of its element.
 fn is_filled(names: &Names, group: &DataGroup) -> bool
     ensures { result ≡ fills (array_bounds names.now) (kind_at names.now) (data_group_of group.now) }
 {
@@ -132,7 +135,7 @@ fn is_filled(names: &Names, group: &DataGroup) -> bool
     is_used_up(rest)
 }
 
-/// Notes a name of DATA; whether it was noted before.
+/// Notes a name of DATA, and says whether it was noted before.
 #[tactic(auto, using(crate::proofs::Misplaced::held_more))]
 fn note<'a>(seen: &mut IndexSet<&'a Name>, name: &'a Name) -> Result<bool, CheckFault>
     ensures before { IfOk result (λ before. before ≡ list_any (bytes_eq name.now) (names_held seen.old.keys)) }
@@ -144,7 +147,7 @@ fn note<'a>(seen: &mut IndexSet<&'a Name>, name: &'a Name) -> Result<bool, Check
     Ok(!is_new)
 }
 
-/// Notes a name of DATA; whether it is a dummy argument, or was noted before.
+/// Notes a name of DATA, and says whether it is a dummy argument or was noted before.
 fn is_misplaced<'a>(
     names: &Names,
     seen: &mut IndexSet<&'a Name>,
@@ -162,7 +165,7 @@ fn is_misplaced<'a>(
     note(seen, name)
 }
 
-/// Notes names of DATA in order, to the first that is misplaced; whether there is one.
+/// Notes names of DATA in order, up to the first that may not stand there. Says whether there is one.
 fn are_misplaced<'a>(
     names: &Names,
     seen: &mut IndexSet<&'a Name>,
@@ -181,7 +184,7 @@ fn are_misplaced<'a>(
     Ok(false)
 }
 
-/// Notes the names of groups in order, to the first that is misplaced; whether there is one.
+/// Notes the names of groups in order, up to the first that may not stand there. Says whether there is one.
 fn are_groups_misplaced<'a>(
     names: &Names,
     seen: &mut IndexSet<&'a Name>,
@@ -233,8 +236,8 @@ fn groups_break<'a>(
     Ok(is_one_unfilled(names, groups))
 }
 
-/// Whether the statement presets badly, behind statements whose
-/// names of DATA are noted; notes its own where it does not.
+/// Whether the statement breaks the clause on DATA, behind statements whose names of DATA are noted. Where it does not,
+/// its own names are noted.
 #[tactic(auto, using(crate::proofs::Misplaced::none_noted, crate::proofs::Forms::no_groups))]
 fn breaks_data<'a>(
     names: &Names,

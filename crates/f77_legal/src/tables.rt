@@ -1,4 +1,5 @@
-//! The tables that the clauses read.
+//! The tables that the clauses read. Their memory is linear in the program, however deep its nest is. They are made of
+//! programs that are not legal, too.
 
 ghost use Rattle.std.specs.Prelude.{◌≡◌, List, map, IfOk, IfErr, false};
 ghost use Rattle.std.specs.Option.{option_map_or};
@@ -22,7 +23,7 @@ use f77_program::Line;
 use f77_tree::{Shared, Stmt};
 use std::alloc::Global;
 
-/// What is looked up in a program: its names, its labels, its blocks and its ranges.
+/// The tables of a program: of its names, its labels, its blocks and its ranges.
 #[derive(Drop)]
 pub struct Tables {
     pub names: Names,
@@ -31,7 +32,7 @@ pub struct Tables {
     pub ranges: Ranges,
 }
 
-/// The terminal statement of a DO, None for another statement.
+/// The terminal statement of a DO. None for another statement.
 fn terminal(labels: &Labels, stmt: &Stmt) -> Option<usize>
     ensures { (program : List LineFields)
         → IsLabelTable labels.now program → result ≡ terminal_of program (statement_of stmt.now) }
@@ -55,7 +56,7 @@ fn terminals(
     Ok(ends)
 }
 
-/// For each statement the end of the branch that it begins.
+/// For each statement the end of the branch that it begins, if it begins one.
 fn branch_ends(
     alloc: Global,
     blocks: &Blocks,
@@ -73,7 +74,7 @@ fn branch_ends(
 }
 
 impl Tables {
-    /// The tables of a program, by its lines.
+    /// The tables of these lines.
     pub fn of(alloc: Global, lines: &[Shared<Line>]) -> Result<Tables, CheckFault>
         ensures tables { IfOk result (λ tables. AreTables tables (map line_of lines.now)) }
         ensures memory { IfErr result (λ fault. fault ≡ Memory) }
@@ -92,7 +93,7 @@ impl Tables {
         })
     }
 
-    /// Whether control goes into a range or a branch where it goes from the statement `i` to this label, if any.
+    /// Whether control enters a range or a branch from outside where it goes from statement `i` to this label.
     fn leads_in(&self, i: usize, label: Option<u32>) -> bool
         ensures { (program : List LineFields) → Serve self.now program
             → result
@@ -108,7 +109,7 @@ impl Tables {
         }
     }
 
-    /// Whether a jump of the statement `stmt`, of the number `i`, leads into a range or a branch.
+    /// Whether a jump of `stmt`, as statement `i`, leads into a range or a branch.
     pub(crate) fn jumps_in(&self, i: usize, stmt: &Stmt) -> bool
         ensures { (program : List LineFields)
             → Serve self.now program → result ≡ loops.jumps_in program i (statement_of stmt.now) }

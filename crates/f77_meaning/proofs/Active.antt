@@ -1,4 +1,4 @@
--- In a run of a legal program the DOs are active that the place of control tells.
+-- In a run of a legal program the place of control decides which DOs are active.
 use Rattle.std.proofs.Common.{◌≡◌, ◌⊎◌, ℕ, zero, suc, ◌-◌, ◌<◌, ◌==◌, ◌&&◌, ◌||◌, not, Bool, true, false, inl, inr, List, Option, Some, None, refl, sym, ◌∙◌, ap, subst, arith, ℤ, pos, negsuc}
 use Rattle.std.specs.Prelude.{Result, Ok, Err, MatchOption, IsSome, is_some, nat_lt, option_map, slice_get, if◌then◌else◌, ◌+ℤ◌}
 use Rattle.std.specs.Cmp.{both_ways}

@@ -225,7 +225,7 @@ module _ (p : List LineFields) (legal : IsLegal p) where
       by true alternative ends = to_end_if j (i + 1) j (omega arith) alternative ends d
       by false alternative same = let n : i + 1 ≡ j = cc (same) in ap (range_holds p d) n
 
-  -- the same of a branch that is skipped
+  -- a range holds the beginning of a skipped branch exactly where it holds the end of that branch
   pub ranges_skipped : (i j : ℕ) (t : Tree) → (nth_statement p i ≡ Some (Statement.BlockIf t)) ⊎ (nth_statement p i ≡ Some (Statement.ElseIf t))
       → branch_end p i ≡ Some j → (d : ℕ) → range_holds p d i ≡ range_holds p d j
   ranges_skipped i j t at ends d =

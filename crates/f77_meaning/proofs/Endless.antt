@@ -48,7 +48,7 @@ module _ (p : List LineFields) where
   limit_met zero c d here = (refl, ap (λ (x : Config). x.values) here)
   limit_met (suc n) c d on = inr (on.0, on.1, limit_met n on.0 d on.2)
 
-  -- as often as one likes
+  -- a run that comes back does so any number of times
   again : (n : ℕ) (c : Config) → Reaches p (suc n) c c → (times : ℕ) → (m : ℕ) × (times ≤ m) × Reaches p m c c
   again n c turn zero = (0, omega arith, refl)
   again n c turn (suc times) =

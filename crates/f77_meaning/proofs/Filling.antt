@@ -28,7 +28,7 @@ use Rattle.f77_meaning.proofs.Spans.{span_within, spans_apart}
 use Rattle.f77_meaning.proofs.Stored.{held_here, held_there, held_from, same_table}
 use Rattle.f77_meaning.proofs.Typing.{shaped, held_at, held_later}
 
--- as many slots as before
+-- filling slots leaves their number as it was
 pub filled_length : (cells : Cells) (first : ℕ) (vs : List Value) → length (filled cells first vs) ≡ length cells
 filled_length cells first [] = refl
 filled_length cells first (v ∷ vs) = filled_length (slice_set cells first (Some v)) (first + 1) vs ∙ length-set cells first (Some v)
@@ -171,7 +171,7 @@ pub arguments_filled : (p : List LineFields) (names : List Symbol) (cells : Cell
 arguments_filled p names cells slots arguments legal size starts fitting name =
     put_in p names (dummies p) slots arguments cells (dummies_apart p legal) size starts fitting name
 
--- and there is room for each
+-- there is room for each argument
 pub arguments_within : (p : List LineFields) (names : List Symbol) (cells : Cells) (slots : List ℕ) (arguments : List Arg)
     → length cells ≡ slot_count (bounds_of p) names → map (first_slot (bounds_of p) names) (dummies p) ≡ map (λ slot. Some slot) slots → AreFitting (shapes p) arguments
     → list_all (λ x. nat_le (x.0 + length (values_in x.1)) (length cells)) (zip slots arguments) ≡ true

@@ -12,7 +12,7 @@ use Rattle.f77_meaning.specs.Value.{Store}
 use Rattle.f77_meaning.proofs.Branching.{ranges_behind}
 use Rattle.f77_meaning.proofs.Nested.{in_range, range_of, range_holds_last, ends_behind, ends_within, last_is_no_loop}
 
--- what comes next is an end, or the DOs are active there that its place tells
+-- the step is an end, or the active DOs are those that the place of control says
 abbrev pub Keeps : List LineFields → Next → Type 0
 Keeps p (Goes c) = AreActive p c
 Keeps p (Ends o s) = Unit {0}
@@ -93,7 +93,7 @@ module _ (p : List LineFields) (legal : IsLegal p) where
 
   -- The DO d, behind which those are active whose range holds it, makes its passes.
   module _ (d : ℕ) (active : Turns) (round : (e : ℕ) → (d == e) ≡ false → is_some (active e) ≡ range_holds p e d) where
-    -- it has none left
+    -- the DO has no pass left
     module _ (t : ℕ) (ends : terminal p d ≡ Some t) where
       left : (e : ℕ) → (range_holds p e t && nat_lt e d) ≡ true → range_holds p e d ≡ true
       left e h =
@@ -122,7 +122,7 @@ module _ (p : List LineFields) (legal : IsLegal p) where
             omega (arith, same)
       ]
 
-    -- it has one more
+    -- the DO has a pass left
     with_more : (t : ℕ) → terminal p d ≡ Some t → (turn : Turn) (e : ℕ) → is_some (with_turn active d (Some turn) e) ≡ range_holds p e (d + 1)
     with_more t ends turn e = by (d == e) refl
       where

@@ -37,8 +37,8 @@ pub record IsRunningIn (at : RunSite) (statements : List Resolved) (s : State) :
   pub turns : length s.turns ≡ length at.program
   pub comes : Comes at.program at.given (stands_for at s)
 
--- The run from a configuration comes to this end within so many steps, and within those that were
--- made, with these values. Where it meets the limit, they are those behind the steps that were made.
+-- The run from a configuration comes to this end, with these values, within the limit on steps and within the steps that were made. Where it meets the limit, the values are those after the steps that
+-- were made.
 pub record ComesToEnd (p : List LineFields) (steps : ℕ) (c : Config) (made : ℕ) (finish : Finish)
     (values : Store) : Type 0 where
   pub within : made ≤ steps
@@ -51,7 +51,7 @@ pub record ComesToEnd (p : List LineFields) (steps : ℕ) (c : Config) (made : �
 abbrev pub AgreeOnDummies : List LineFields → Store → Store → Type 0
 AgreeOnDummies p s t = (name : Symbol) → list_any (bytes_eq name) (dummies p) ≡ true → s name ≡ t name
 
--- The same, where slots hold what the dummy arguments hold then.
+-- The run comes to this end, and in it the dummy arguments have the values that these slots give them.
 pub record ComesToCells (at : RunSite) (steps : ℕ) (c : Config) (made : ℕ) (finish : Finish)
     (cells : Cells) : Type 0 where
   pub values : Store

@@ -15,7 +15,7 @@ use Rattle.f77_legal.proofs.Prefixes.{begins_is}
 use Rattle.f77_meaning.proofs.Nested.{in_range, begins_no_branch, none_left_out}
 use Rattle.f77_meaning.proofs.Stepping.{within}
 
--- it is in each range that holds where it goes
+-- a jump comes from inside of each range that holds its target
 pub jump_from : (p : List LineFields) → IsLegal p → (i : ℕ) (s : Statement) (label j : ℕ) → nth_statement p i ≡ Some s
     → list_any (λ l. l == label) (jumps_of s) ≡ true → label_place p label ≡ Some j → (d : ℕ) → range_holds p d j ≡ true → range_holds p d i ≡ true
 jump_from p legal i s label j at among found d holds =

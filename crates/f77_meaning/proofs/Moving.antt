@@ -48,7 +48,7 @@ ComesIn at statements n c (Goes t) = Reaches at.program n c (stands_for at t) ×
 ComesIn at statements n c (Ends finish cells) =
     IsOutcome at.program n c finish (values_at at cells) × (length cells ≡ slot_count (bounds_of at.program) at.names)
 
--- a move leads to so many slots, and so many places for what DOs have left; or it ends, with so many slots, and not at a limit on steps
+-- a move keeps the number of slots and of counters; or it ends with that number of slots, and not at a limit on steps
 abbrev IsSized : ℕ → ℕ → Move → Type 0
 IsSized slots n (Goes t) = (length t.cells ≡ slots) × (length t.turns ≡ n)
 IsSized slots n (Ends finish cells) = (finish ≢ StepLimit) × (length cells ≡ slots)
@@ -67,7 +67,7 @@ module _ (slots n : ℕ) where
       let turn : Turn = record { passes = suc k; step = step } in
       (long, length-set turns d (Some turn) ∙ many)
 
-  -- the same where it ends at the statement of this number
+  -- a DO makes its next pass or has none left, where it ends at the statement with this number
   passing_at_sized : (statements : List Resolved) (t d passes : ℕ) (step : ℤ) (cells : Cells) (turns : TurnList) → length cells ≡ slots → length turns ≡ n
       → IsSized slots n (passing_at statements t d passes step cells turns)
   passing_at_sized statements t d passes step cells turns long many = by (slice_get statements t)
@@ -276,7 +276,7 @@ module _ (at : RunSite) (statements : List Resolved) where
   with_first n s t (Goes u) step comes = ((stands_for at t, step, comes.0), comes.1)
   with_first n s t (Ends finish cells) step comes = (inr (stands_for at t, step, comes.0), comes.1)
 
-  -- From a state in a run so many moves can be made, or fewer up to an end, and the run comes to the same.
+  -- From a state in a run n moves can be made, or fewer up to an end, and the run comes to the same.
   pub moves_by : (n : ℕ) (s : State) → IsRunningIn at statements s
       → (move : Move) × (moved_by statements n s ≡ Some move) × ComesIn at statements n (stands_for at s) move
   moves_by zero s is = (Goes s, refl, (refl, is))
@@ -293,7 +293,7 @@ module _ (at : RunSite) (statements : List Resolved) where
       by (Some (Ends finish cells)) e some rest =
           (Ends finish cells, refl, (inl (step_in s (Ends finish cells) is e), end_keeps statements s finish cells e ∙ is.cells))
 
-  -- what so many moves lead to, the run comes to
+  -- what n moves lead to, the run comes to
   pub comes_by : (n : ℕ) (s : State) (move : Move) → IsRunningIn at statements s → moved_by statements n s ≡ Some move
       → ComesIn at statements n (stands_for at s) move
   comes_by n s move is e =
@@ -308,7 +308,7 @@ module _ (at : RunSite) (statements : List Resolved) where
       let came : ComesIn at statements k (stands_for at s) (Goes t) = comes_by k s (Goes t) is e in
       nested_in t came.1
 
-  -- where so many moves end, more moves end too
+  -- where n moves end, more moves end too
   pub ends_later : (made steps : ℕ) (s : State) (finish : Finish) (cells : Cells) → made ≤ steps → moved_by statements made s ≡ Some (Ends finish cells)
       → moved_by statements steps s ≡ Some (Ends finish cells)
   ends_later zero steps s finish cells within e = let same : Goes s ≡ Ends finish cells = cc (e) in absurd (cc (same))

@@ -62,7 +62,7 @@ one_argument shape (Ints xs) b is also same = absurd (one_kind shape.kind (and_p
 one_argument shape (Truth x) b is also same = absurd (one_kind shape.kind (and_parts _ _ also).0 (and_parts _ _ is).0)
 one_argument shape (Truths xs) b is also same = absurd (one_kind shape.kind (and_parts _ _ also).0 (and_parts _ _ is).0)
 
--- and so are arguments
+-- arguments are determined by their shapes and their values
 one_list : (list : List Shape) (xs ys : List Arg) → AreFitting list xs → AreFitting list ys → map held_by xs ≡ map held_by ys → xs ≡ ys
 one_list [] [] [] fits also same = refl
 one_list [] (x ∷ xs) ys fits also same = absurd fits

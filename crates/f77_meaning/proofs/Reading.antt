@@ -23,7 +23,7 @@ use Rattle.f77_meaning.proofs.Dummies.{or_later}
 use Rattle.f77_meaning.proofs.Spans.{span_within}
 use Rattle.f77_meaning.proofs.Stored.{held_from}
 
--- as many elements as its bounds give a name, and 1 without bounds
+-- a name has as many elements as its bounds say, and one without bounds
 size_by : (kind : Kind) (bounds : List ℕ) → size_of (record { kind = kind; elements = if is_some (some_items bounds) then Some (product bounds) else None }) ≡ product bounds
 size_by kind [] = refl
 size_by kind (bound ∷ bounds) = refl

@@ -34,7 +34,7 @@ use Rattle.f77_meaning.proofs.Nested.{range_of, ends_behind}
 use Rattle.f77_meaning.proofs.Simulation.{statement_of}
 use Rattle.f77_meaning.proofs.Stepping.{within}
 
--- those of the first numbers that pass a test, the last first
+-- the first numbers that pass a test, the last of them first
 module _ (q : ℕ → Bool) where
   abbrev backwards : ℕ → List ℕ
   backwards n = reverse (filter q (first_numbers n))
@@ -55,7 +55,7 @@ module _ (q : ℕ → Bool) where
         by true is rest = and_from (is_some (turn_at turns n)) (are_active turns (backwards n)) (each n (omega arith) is) rest
         by false is rest = rest
 
-    -- those round d are active, and those in it are not
+    -- the DOs outside of d are active, and those inside are not
     module _ (d : ℕ) (among : q d ≡ true) (round : (e : ℕ) → e < d → q e ≡ true → is_some (turn_at turns e) ≡ true)
         (inner : (e : ℕ) → d < e → q e ≡ true → is_some (turn_at turns e) ≡ false) where
       from_d : (n : ℕ) → d < n → only_round turns d (backwards n) ≡ true

@@ -147,7 +147,7 @@ module _ (p q : List LineFields) (same : HaveOneFrame p q) where
       subst (λ o. MatchOption o ⊥ (λ stmt. MatchOption (active d) ⊥ (λ turn. Increments q d stmt turn s active n))) (sym here)
       (option_same (nth_statement p d) _ _ (λ stmt. option_same (active d) _ _ (λ turn. increments_same d stmt turn s active n)) f)
 
-  -- and where they differ in one statement, until control is there
+  -- programs that differ in one statement go the same way, until control is there
   module _ (i : ℕ) (others : AreSameBut i p q) where
     pub step_same : (c : Config) (n : Next) → statement_number c.place ≢ i → Step p c n → Step q c n
     step_same c n apart f = step_at_same c.place c.values c.active n (others (statement_number c.place) apart) f

@@ -7,17 +7,17 @@ use Rattle.f77_meaning.specs.Control.{Comes}
 use Rattle.f77_meaning.specs.Step.{Config, Place, Execute, Increment}
 use Rattle.f77_actions.specs.declared.value.Value.{Value}
 
--- The DO d is active at this place: its range holds the statement that is to be
--- executed, or it is the DO that is to be incremented, or its range holds that one.
+-- The DO d is active at this place: its range holds the statement that is to be executed; or it is
+-- the DO that is to be incremented, or its range holds that one.
 abbrev pub is_active_at : List LineFields → Place → ℕ → Bool
 is_active_at p (Execute i) d = range_holds p d i
 is_active_at p (Increment e) d = e == d || range_holds p d e
 
--- the DOs that are active at the place where control is, and no others
+-- the active DOs are those that are active at the place of control
 abbrev pub AreActive : List LineFields → Config → Type 0
 AreActive p c = (d : ℕ) → is_some (c.active d) ≡ is_active_at p c.place d
 
--- wherever a run of a legal program comes to
+-- this holds of each configuration that a run of a legal program comes to
 abbrev pub ActiveByPlace : Type 0
 ActiveByPlace = (p : List LineFields) (given : List (List Value)) (c : Config)
     → IsProgram None p → IsLegal p → Comes p given c → AreActive p c

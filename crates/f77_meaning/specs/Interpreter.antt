@@ -1,4 +1,4 @@
--- What is answered for a checked program, values of its dummy arguments and a limit on steps.
+-- The outcome of a checked program, for values of its dummy arguments and a limit on steps.
 use Rattle.std.specs.Prelude.{◌≡◌, ◌+◌, ◌==◌, ◌&&◌, ◌∷◌, if◌then◌else◌, ℕ, Bool, true, false, not}
 use Rattle.std.specs.Prelude.{List, [], length, map, Option, Some, None, option_map, position}
 use Rattle.std.specs.List.{AllZip, zip}
@@ -24,17 +24,19 @@ use Rattle.f77_meaning.specs.Start.{IsStart, argument_values}
 use Rattle.f77_meaning.specs.Step.{Config}
 use Rattle.f77_meaning.specs.Value.{Store}
 
--- the elements of an argument
+-- the values of an argument, element by element
 abbrev pub values_in : Arg → List Value
 values_in (Int z) = held.Number z ∷ []
 values_in (Truth b) = held.Truth b ∷ []
 values_in (Ints zs) = map (λ z. held.Number z) zs
 values_in (Truths bs) = map (λ b. held.Truth b) bs
 
+-- an array has n elements
 abbrev pub is_count : Option ℕ → ℕ → Bool
 is_count None n = false
 is_count (Some m) n = m == n
 
+-- the shape is that of a variable
 abbrev pub is_single : Option ℕ → Bool
 is_single None = true
 is_single (Some m) = false
@@ -46,32 +48,32 @@ has_shape shape (Truth b) = same_kind shape.kind Logical && is_single shape.elem
 has_shape shape (Ints zs) = same_kind shape.kind Integer && is_count shape.elements (length zs)
 has_shape shape (Truths bs) = same_kind shape.kind Logical && is_count shape.elements (length bs)
 
--- as many arguments as shapes, each of its shape
+-- there are as many arguments as shapes, and each argument has its shape
 abbrev pub AreFitting : List Shape → List Arg → Type 0
 AreFitting list arguments =
     AllZip (λ shape argument. has_shape shape argument ≡ true) list arguments
 
--- the first argument, from 0, that has not its shape
+-- the number, from 0, of the first argument that does not have its shape
 abbrev pub first_misfit : List Shape → List Arg → Option ℕ
 first_misfit shapes arguments =
     position (λ pair. not (has_shape pair.0 pair.1)) (zip shapes arguments)
 
--- what is told of arguments that do not fit, their
--- number before their shapes, which are numbered from 1
+-- the fault of arguments that do not fit: their number is tested before their shapes, which are
+-- numbered from 1
 abbrev pub refusal : List Shape → List Arg → Option RunFault
 refusal shapes arguments =
     if length arguments == length shapes
     then option_map (λ i. fault_of.ArgumentShape (i + 1)) (first_misfit shapes arguments)
     else Some fault_of.ArgumentCount
 
--- the arguments are what the dummy arguments hold, and have their shapes
+-- the arguments have their shapes, and are the values that the dummy arguments have in this store
 pub record AreArguments (program : List LineFields) (store : Store)
     (arguments : List Arg) : Type 0 where
   pub fitting : AreFitting (shapes program) arguments
   pub values : argument_values program store
       ≡ map (λ argument. map (λ v. Some v) (values_in argument)) arguments
 
--- the fault by which a run failed
+-- the outcome of a run that failed
 abbrev pub told_outcome : Fault → Outcome
 told_outcome fault.Overflow = outcome.Overflow
 told_outcome fault.DivideByZero = outcome.DivideByZero
@@ -81,7 +83,7 @@ told_outcome fault.ZeroStep = outcome.ZeroStep
 told_outcome fault.Undefined = outcome.Undefined
 told_outcome fault.Trapped = outcome.Trapped
 
--- what is told of an end with what the names hold then
+-- the outcome reports this end, with the values that the dummy arguments have then
 abbrev pub Tells : List LineFields → Finish → Store → Outcome → Type 0
 Tells program finish.Returned store (outcome.Returned arguments) =
     AreArguments program store arguments
@@ -91,7 +93,7 @@ Tells program (finish.Failed fault) store answer = answer ≡ told_outcome fault
 Tells program finish.StepLimit store answer = answer ≡ outcome.StepLimit
 Tells program _ store _ = ⊥
 
--- the outcome of the run with these arguments within so many steps
+-- `answer` is the outcome of the run with these arguments within this limit on steps
 pub record IsOutcomeOf (program : List LineFields) (arguments : List Arg) (steps : ℕ)
     (answer : Outcome) : Type 0 where
   pub start : Config
@@ -101,7 +103,7 @@ pub record IsOutcomeOf (program : List LineFields) (arguments : List Arg) (steps
   pub ends : IsOutcome program steps start finish values
   pub tells : Tells program finish values answer
 
--- a run with these arguments has one outcome at most
+-- a run with given arguments has at most one outcome
 abbrev pub OneAnswer : Type 0
 OneAnswer = (program : List LineFields) (arguments : List Arg) (steps : ℕ) (answer other : Outcome)
     → IsOutcomeOf program arguments steps answer

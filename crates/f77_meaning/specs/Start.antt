@@ -1,5 +1,5 @@
--- Where a run starts: the dummy arguments have the values given, the names
--- of DATA theirs, the others none (ANSI X3.9-1978, section 9 and 15.9).
+-- Where a run starts: dummy arguments have the values of the arguments, the names of DATA have
+-- theirs, and all others have none (ANSI X3.9-1978, section 9 and 15.9).
 use Rattle.std.specs.Prelude.{◌≡◌, ℕ, List, [], map, Option, Some, None, option_map, position, slice_get}
 use Rattle.std.specs.Option.{option_map_or}
 use Rattle.std.specs.Str.{bytes_eq}
@@ -16,12 +16,13 @@ use Rattle.f77_meaning.specs.Step.{Config, config, Execute}
 use Rattle.f77_actions.specs.declared.value.Value.{Value}
 use Rattle.f77_actions.specs.declared.value.Value.TheVariants as held
 
+-- the value of a constant of DATA
 abbrev pub constant_value : Constant → Value
 constant_value (Number z) = held.Number z
 constant_value (Truth b) = held.Truth b
 
--- what a name holds at the start, where these are the elements
--- of the dummy arguments in order (section 9 and 15.9)
+-- the values of a name at the start, where `given` has the elements of the dummy arguments in order
+-- (section 9 and 15.9)
 abbrev pub start_values : List LineFields → List (List Value) → Store
 start_values p given name =
     option_map_or (λ i. option_map_or (map (λ v. Some v)) (slice_get given i) [])
@@ -29,13 +30,13 @@ start_values p given name =
     (map (λ k. option_map constant_value (preset_value p name k))
     (first_numbers (element_count p name)))
 
--- control is at the first executable statement, which is END where there
--- is no other; names have the values of the start, and no DO is active
+-- control is at the first executable statement, or at END if there is no other; names have the
+-- values of the start, and no DO is active
 abbrev pub IsStart : List LineFields → List (List Value) → Config → Type 0
 IsStart p given c =
     (i : ℕ) × (position (λ line. is_executable_statement line.stmt) p ≡ Some i)
     × (c ≡ config (Execute i) (start_values p given) (λ d. None))
 
--- what the dummy arguments hold, in order
+-- the values of the dummy arguments, in order
 abbrev pub argument_values : List LineFields → Store → List (List (Option Value))
 argument_values p s = map s (dummies p)

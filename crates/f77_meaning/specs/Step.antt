@@ -18,23 +18,25 @@ use Rattle.f77_actions.specs.Number.{in_range, trip_count}
 use Rattle.f77_meaning.specs.Value.{Store, store_with, number, truth, value, place}
 use Rattle.f77_actions.specs.declared.value.Value.TheVariants as held
 
--- where control is: at a statement that is to be executed, or at a DO that is to be incremented
+-- the place of control: a statement that is to be executed, or a DO that is to be incremented
 pub data Place : Type 0 where
   Execute : ℕ → Place
   Increment : ℕ → Place
 
--- what an active DO has left: its passes, and its incrementation parameter
+-- the turn of an active DO: the passes that it still has to make, and its incrementation parameter
 pub record Turn : Type 0 where
   pub passes : ℕ
   pub step : ℤ
 
--- the active DOs
+-- the active DOs, each with its turn
 abbrev pub Turns : Type 0
 Turns = ℕ → Option Turn
 
+-- the active DOs, after the DO d has become active with this turn, or inactive
 abbrev pub with_turn : Turns → ℕ → Option Turn → Turns
 with_turn active d turn = λ e. if d == e then turn else active e
 
+-- a configuration of a run: the place of control, the values of the names, and the active DOs
 pub record Config : Type 0 where
   pub place : Place
   pub values : Store
@@ -43,7 +45,7 @@ pub record Config : Type 0 where
 abbrev pub config : Place → Store → Turns → Config
 config at store active = record { place = at; values = store; active = active }
 
--- what a step leads to: another configuration, or an end with what the names hold then
+-- the result of a step: another configuration, or an end with the values of the names
 pub data Next : Type 0 where
   Goes : Config → Next
   Ends : Finish → Store → Next
@@ -54,8 +56,8 @@ pub record IsInnermost (program : List LineFields) (active : Turns) (t d : ℕ) 
   pub turns : IsSome (active d)
   pub inner : (e : ℕ) → d < e → terminal program e ≡ Some t → active e ≡ None
 
--- Control goes on from the statement t, which did not jump: the innermost
--- active DO that ends there is incremented, where there is one (11.10).
+-- Control goes on from statement t, which did not jump: the innermost active DO that ends there, if
+-- there is one, is incremented next; otherwise the statement behind is executed (11.10).
 abbrev pub GoesOn : List LineFields → ℕ → Store → Turns → Next → Type 0
 GoesOn program t store active next =
     ((d : ℕ) × IsInnermost program active t d × (next ≡ Goes (config (Increment d) store active)))
@@ -63,17 +65,18 @@ GoesOn program t store active next =
     × (j : ℕ)
     × (statement_behind program t ≡ Some j) × (next ≡ Goes (config (Execute j) store active)))
 
--- the DOs that stay active: a jump from i to j leaves those whose range holds i and not j (11.10)
+-- the DOs that are active after a jump from i to j: those whose range holds i and not j are no
+-- longer (11.10)
 abbrev pub left_behind : List LineFields → ℕ → ℕ → Turns → Turns
 left_behind program i j active = λ d. if is_left program i j d then None else active d
 
--- a jump from the statement i to the one that bears the label (11.1 to 11.4)
+-- a jump from statement i to the statement with the label (11.1 to 11.4)
 abbrev pub Jumps : List LineFields → ℕ → ℕ → Store → Turns → Next → Type 0
 Jumps program i label store active next = (j : ℕ)
     × (label_place program label ≡ Some j)
     × (next ≡ Goes (config (Execute j) store (left_behind program i j active)))
 
--- the DO d has this many passes to make (11.10)
+-- the DO d has so many passes left (11.10)
 abbrev pub Passes : List LineFields → ℕ → ℕ → ℤ → Store → Turns → Next → Type 0
 Passes program d zero step store active next =
     (t : ℕ) × (terminal program d ≡ Some t) × GoesOn program t store (with_turn active d None) next
@@ -91,26 +94,27 @@ Begins program d name first last (negsuc m) store active next =
     Passes program d (trip_count first last (negsuc m)) (negsuc m)
     (store_with store name 0 (held.Number first)) active next
 
--- a result is used, or its fault ends the run
+-- what follows for a result, unless that is a fault, which ends the run
 abbrev pub With : {A : Type 0} → Result A Fault → Store → Next → (A → Type 0) → Type 0
 With r store next P = MatchResult r P (λ f. next ≡ Ends (Failed f) store)
 
--- the first where the condition is true, and else the second
+-- the first if the condition is true, otherwise the second
 abbrev pub Either : Bool → Type 0 → Type 0 → Type 0
 Either true P Q = P
 Either false P Q = Q
 
--- control goes from the beginning of a branch to the next ELSE IF,
--- ELSE or END IF of its block, which is executed then (11.6 and 11.7)
+-- control goes from the beginning of a branch to the next ELSE IF, ELSE or END IF of its block,
+-- which is executed next (11.6 and 11.7)
 abbrev pub Skips : List LineFields → ℕ → Store → Turns → Next → Type 0
 Skips program i store active next =
     (j : ℕ) × (branch_end program i ≡ Some j) × (next ≡ Goes (config (Execute j) store active))
 
+-- the value of the third parameter of a DO: 1 where none is written
 abbrev pub step_number : (Symbol → List ℕ) → Store → Option Tree → Result ℤ Fault
 step_number bounds store None = Ok (pos 1)
 step_number bounds store (Some t) = number bounds store t
 
--- the statement i is executed (sections 10 and 11)
+-- statement i is executed (sections 10 and 11)
 abbrev pub Executes : List LineFields → ℕ → Statement → Store → Turns → Next → Type 0
 Executes program i (Statement.Assign name items t) store active next =
     With (place (bounds_of program) store name items) store next
@@ -157,13 +161,13 @@ Increments program d (Statement.Loop label name a b c) turn store active next =
     (store_with store name 0 (held.Number sum)) active next))
 Increments program d _ turn store active next = ⊥
 
--- a step at this place: its statement is executed, or its DO is incremented (sections 10 and 11)
+-- a step at this place: a statement is executed, or a DO is incremented (sections 10 and 11)
 abbrev pub StepAt : List LineFields → Place → Store → Turns → Next → Type 0
 StepAt program (Execute i) store active next =
     MatchOption (nth_statement program i) ⊥ (λ stmt. Executes program i stmt store active next)
 StepAt program (Increment d) store active next = MatchOption (nth_statement program d) ⊥
     (λ stmt. MatchOption (active d) ⊥ (λ turn. Increments program d stmt turn store active next))
 
--- the program leads from a configuration to what comes next
+-- a step leads from configuration c to what comes next
 abbrev pub Step : List LineFields → Config → Next → Type 0
 Step program c next = StepAt program c.place c.values c.active next

@@ -1,4 +1,4 @@
--- What variables and arrays hold, and the values of expressions (ANSI X3.9-1978, sections 5 and 6).
+-- The values of variables, arrays and expressions (ANSI X3.9-1978, sections 5 and 6).
 use Rattle.std.specs.Prelude.{◌&&◌, ◌||◌, if◌then◌else◌, ◌∷◌, ◌+ℤ◌, ◌-ℤ◌, ◌*ℤ◌, ℕ, Bool, false}
 use Rattle.std.specs.Prelude.{not, List, [], Option, Some, slice_get, slice_set, ℤ, pos, Result, Ok, Err}
 use Rattle.std.specs.Option.{option_and_then}
@@ -19,17 +19,18 @@ use Rattle.f77_actions.specs.Value.{given, both, whole, logic, element, same_tru
 use Rattle.f77_actions.specs.declared.value.Value.TheVariants as held
 use Rattle.f77_actions.specs.declared.value.Value.{Value}
 
--- the elements of each name, with a value or without: a
--- variable has one, an array's first subscript varies fastest
+-- the elements of each name, each with a value or without: a variable has one element, and in an
+-- array the first subscript varies fastest
 abbrev pub Store : Type 0
 Store = Symbol → List (Option Value)
 
+-- the store after element k of a name has got this value
 abbrev pub store_with : Store → Symbol → ℕ → Value → Store
 store_with store name k v =
     λ other. if bytes_eq name other then slice_set (store other) k (Some v) else store other
 
--- An operator on numbers, a relation, and a logical
--- operator. No legal program has another one there.
+-- An arithmetic operator, a relation and a logical operator on values. No legal program has another
+-- operator in their places.
 abbrev pub arithmetic : Operator → ℤ → ℤ → Result ℤ Fault
 arithmetic Add a b = in_range (a +ℤ b)
 arithmetic Subtract a b = in_range (a -ℤ b)
@@ -54,8 +55,8 @@ connected Equivalent a b = same_truth a b
 connected NotEquivalent a b = not (same_truth a b)
 connected _ a b = false
 
--- The value of an INTEGER expression where names have these bounds. No legal program asks
--- it of a LOGICAL one, and only a program made of parts has a constant beyond the range.
+-- The value of an INTEGER expression, where names have these bounds. No legal program asks for that
+-- of a LOGICAL one, and only a program that was made of lines has a constant beyond the range.
 abbrev mutual
   pub number : (Symbol → List ℕ) → Store → Tree → Result ℤ Fault
   number bounds store (Tree.Number n) = in_range (pos n)
@@ -75,7 +76,7 @@ abbrev mutual
   numbers bounds store (Trees.Then t ts) =
       given (number bounds store t) (λ z. given (numbers bounds store ts) (λ zs. Ok (z ∷ zs)))
 
--- the place of the element that a reference names (section 5)
+-- the place, in its array, of the element that a reference names (section 5)
 abbrev pub place : (Symbol → List ℕ) → Store → Symbol → Trees → Result ℕ Fault
 place bounds store name items = given (numbers bounds store items) (element (bounds name))
 

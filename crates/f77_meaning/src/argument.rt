@@ -2,15 +2,15 @@
 
 use crate::values::Values;
 
-/// The value of a dummy argument: a variable's, or the elements of an array.
+/// The value of a dummy argument: that of a variable, or the elements of an array.
 #[derive(Debug, PartialEq, Eq, Drop)]
 pub enum Arg {
-    /// Of an INTEGER variable.
+    /// The value of an INTEGER variable.
     Int(i32),
-    /// Of a LOGICAL variable.
+    /// The value of a LOGICAL variable.
     Truth(bool),
-    /// Of an INTEGER array.
+    /// The elements of an INTEGER array.
     Ints(Values<i32>),
-    /// Of a LOGICAL array.
+    /// The elements of a LOGICAL array.
     Truths(Values<bool>),
 }

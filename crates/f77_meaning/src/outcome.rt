@@ -1,4 +1,4 @@
-//! What comes of a run.
+//! Outcomes: how runs end.
 
 ghost use Rattle.std.specs.Prelude.{◌≡◌};
 ghost use Rattle.f77_meaning.specs.declared.outcome.RunFault.TheVariants as fault;
@@ -9,7 +9,7 @@ use f77_code::CodeFault;
 use std::alloc::{AllocError, AllocFailed};
 use thiserror::Error;
 
-/// What comes of a run within its limit on steps. The values are those of all dummy arguments, in order.
+/// The outcome of a run within its limit on steps. The values are those of all dummy arguments, in order.
 #[derive(Debug, PartialEq, Eq, Drop)]
 pub enum Outcome {
     /// RETURN or END was executed (15.8, 11.14).
@@ -18,7 +18,7 @@ pub enum Outcome {
     Stopped(Values<Arg>),
     /// A result is outside the range of INTEGER (4.3).
     Overflow,
-    /// A division or MOD by zero (6.1.5, 15.10).
+    /// A division by zero, or MOD by zero (6.1.5, 15.10).
     DivideByZero,
     /// Zero to a power of zero or less (6.1.5).
     ZeroPower,
@@ -28,13 +28,13 @@ pub enum Outcome {
     ZeroStep,
     /// A variable or an array element that has no value (2.11).
     Undefined,
-    /// The trap of a mutant was reached.
+    /// TRAP was executed, or ZPUSH had a 0.
     Trapped,
-    /// The limit on steps was reached.
+    /// The run did not end within the limit on steps.
     StepLimit,
 }
 
-/// Why a program is not run.
+/// Why a program can not be run.
 #[derive(Clone, Copy, Debug, PartialEq, Eq, Error)]
 pub enum RunFault {
     /// N1: memory ran out.
@@ -43,7 +43,8 @@ pub enum RunFault {
     /// N2: there are more or fewer values than dummy arguments.
     #[error("there are more or fewer values than dummy arguments")]
     ArgumentCount,
-    /// N3: the value of this number, from 1, has another kind or another number of elements than its dummy argument.
+    /// N3: the value with this number, counted from 1, has another kind or another number of elements than its dummy
+    /// argument.
     #[error("value {0} has another kind or another number of elements than its dummy argument")]
     ArgumentShape(usize),
 }

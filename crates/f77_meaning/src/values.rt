@@ -5,8 +5,8 @@ ghost use Rattle.std.specs.Cmp.Lexicographic.{pointwise, lists_equiv, lists_per}
 
 use std::marker::Model;
 
-/// Values in order: the elements of an array, the first subscript
-/// varying fastest (5.2.4), or one value for each dummy argument.
+/// Values in order: the elements of an array, the first subscript varying fastest (5.2.4); or a value for each dummy
+/// argument.
 #[derive(Debug, Drop)]
 pub struct Values<T> {
     items: Vec<T>,
@@ -21,7 +21,7 @@ impl<T> Model for Values<T> {
 }
 
 impl<T> Values<T> {
-    /// These values. It takes no memory.
+    /// A list of these values. It takes no memory.
     pub fn new(items: Vec<T>) -> Values<T>
         ensures { result ≡ items.items }
     {
@@ -35,7 +35,7 @@ impl<T> Values<T> {
         &self.items
     }
 
-    /// The values in order, given back. It takes no memory.
+    /// The values in order, as the list that they were made from. It takes no memory.
     pub fn into_vec(self) -> Vec<T>
         ensures { result.items ≡ self }
     {

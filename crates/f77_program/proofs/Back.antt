@@ -40,7 +40,7 @@ one_more (d ∷ ds) c p h = digits_more (d ∷ ds) c p h
 pub decimal_number : (n : ℕ) → n < 2 ^ 64 → (is_number (decimal n) ≡ true) × (digits_value 10 (decimal n) ≡ n)
 decimal_number n h = (decimal_by_steps (λ m ds. is_number ds ≡ true) one_digit (λ m ds k p. one_more ds (48 + m % 10) p (digit_is (m % 10) (mod_lt m))) n h, (decimal_is_IsNumeral n h).1)
 
--- in parentheses, or of a level that may stand there
+-- an operand: in parentheses, or of a level that may stand there
 pub as_operand : (w own : ℕ) (text : List ℕ) (t : Tree) → ((v : ℕ) → v ≤ own → Spells v text t) → 1 ≤ own → Spells w (operand w own text) t
 as_operand w own text t p h = step (nat_lt own w) refl
   where

@@ -37,7 +37,7 @@ with_commas : {text : List ℕ} {gs : List GroupFields} → Joined SpellsGroup t
 with_commas (Joined.last p) = SpellsGroups.last p
 with_commas (Joined.more p q) = SpellsGroups.more_by_comma p (with_commas q)
 
--- Some text spells them exactly where they are formed.
+-- initial values: some text spells them exactly where they are formed
 name_formed : (text name : List ℕ) → SpellsName text name → is_name name ≡ true
 name_formed text name (SpellsName.named h) = h
 
@@ -79,7 +79,7 @@ group_for g h =
 pub data_spelled : (gs : List GroupFields) → data_formed is_name gs ≡ true → (text : List ℕ) × SpellsGroups text gs
 data_spelled gs h = let (text, p) = joined_text (is_group is_name) group_for gs h in (text, with_commas p)
 
--- The canonical text spells them.
+-- initial values: the canonical text spells them
 constant_back : (c : Constant) → small_constant c ≡ true → SpellsConstant (constant_text c) c
 constant_back (Number (pos n)) h = unsigned_spelled (number_back n h)
 constant_back (Number (negsuc n)) h = minus_spelled (decimal (suc n)) (suc n) (number_back (suc n) h)
@@ -129,7 +129,7 @@ pub data_back : (gs : List GroupFields) → data_formed is_name gs ≡ true → 
 data_back [] h k = cc
 data_back (g ∷ gs) h k = with_commas (joined_back is_written group_text group_back g gs (are_written (g ∷ gs) h k))
 
--- The characters of their texts.
+-- the characters of these texts
 plain_constant : (c : Constant) → IsPlain (constant_text c)
 plain_constant (Number (pos n)) = plain_decimal n
 plain_constant (Number (negsuc n)) = plain_decimal (suc n)

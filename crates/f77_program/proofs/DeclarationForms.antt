@@ -16,7 +16,7 @@ use Rattle.f77_program.proofs.Forming.{numeral}
 use Rattle.f77_program.proofs.Plain.{IsPlain, both, plain_name, plain_decimal}
 use Rattle.f77_program.proofs.JoinedForms.{joined_all, joined_text, joined_back, plain_separated}
 
--- Some text spells them exactly where they are formed.
+-- declared names: some text spells them exactly where they are formed
 decl_formed : (text : List ℕ) (d : DeclFields) → SpellsDecl text d → is_decl is_name d ≡ true
 decl_formed text d (SpellsDecl.scalar n) = n
 decl_formed text d (SpellsDecl.array n p) = n
@@ -45,7 +45,7 @@ decl_for d h = by_bounds d.bounds
 pub declaration_spelled : (ds : List DeclFields) → declaration_formed is_name ds ≡ true → (text : List ℕ) × SpellsDecls text ds
 declaration_spelled ds h = joined_text (is_decl is_name) decl_for ds h
 
--- The canonical text spells them.
+-- declared names: the canonical text spells them
 pub number_back : (n : ℕ) → small_bound n ≡ true → SpellsNumber (decimal n) n
 number_back n h = let d = decimal_number n (small n h) in subst (SpellsNumber (decimal n)) d.1 (SpellsNumber.numeral d.0)
 
@@ -72,7 +72,7 @@ pub declaration_back : (ds : List DeclFields) → declaration_formed is_name ds 
 declaration_back [] h k = cc
 declaration_back (d ∷ ds) h k = joined_back is_written decl_text decl_back d ds (are_written (d ∷ ds) h k)
 
--- The characters of their texts.
+-- the characters of these texts
 plain_bounds : (bounds : List ℕ) → IsPlain (bounds_text bounds)
 plain_bounds [] = refl
 plain_bounds (b ∷ bs) =

@@ -52,7 +52,7 @@ mutual
   items_formed (SpellsAll.last p) = rw (tree_formed p) refl
   items_formed (SpellsAll.more p q) = rw (tree_formed p, items_formed q) refl
 
--- what stands for a tree in a text is formed where it is
+-- what stands for a tree in a text is formed exactly where the tree is
 pub call_in_text : (name : List ℕ) (items : Trees) → is_call name (trees_in_text items) ≡ is_call name items
 call_in_text name Trees.None = refl
 call_in_text name (Trees.Then t ts) = refl

@@ -9,7 +9,7 @@ use Rattle.f77_tree.specs.code.Joined.{some_all}
 use Rattle.f77_tree.proofs.Tests.{and_true}
 use Rattle.f77_program.proofs.Plain.{IsPlain, both}
 
--- What holds of each item holds of them all.
+-- what holds of each item holds of all of them
 joined_each : {A : Type 0} {SpellsItem : List ℕ → A → Type 0} (p : A → Bool) → ((text : List ℕ) (x : A) → SpellsItem text x → p x ≡ true)
     → {text : List ℕ} {xs : List A} → Joined SpellsItem text xs → list_all p xs ≡ true
 joined_each p each (Joined.last h) = rw (each _ _ h) refl
@@ -20,7 +20,7 @@ pub joined_all : {A : Type 0} {SpellsItem : List ℕ → A → Type 0} (p : A �
 joined_all p each (Joined.last h) = rw (each _ _ h) refl
 joined_all p each (Joined.more h k) = rw (each _ _ h) (joined_each p each k)
 
--- some text for each item gives one for them all
+-- a text for each item gives a text for all of them
 pub joined_text : {A : Type 0} {SpellsItem : List ℕ → A → Type 0} (p : A → Bool) → ((x : A) → p x ≡ true → (text : List ℕ) × SpellsItem text x)
     → (xs : List A) → some_all p xs ≡ true → (text : List ℕ) × Joined SpellsItem text xs
 joined_text p each [] h = cc

@@ -17,7 +17,7 @@ use Rattle.f77_program.specs.Patching.{replaced, Fits, patched}
 use Rattle.f77_tree.specs.StatementGrammar.{IsFormed}
 use Rattle.f77_tree.specs.Statement.{Statement}
 
--- to write over an item is to change its line
+-- writing over an item changes its line
 pub set_replaced : (lines : List Line) (i : ℕ) (old changed : Line) (s : Statement) → i < length lines
     → line_of changed ≡ record (line_of (get_or lines i old)) { stmt = s } → map line_of (set lines i changed) ≡ replaced (map line_of lines) i s
 set_replaced [] i old changed s below is = absurd (omega arith)
@@ -75,7 +75,7 @@ module _ (p : List Line) (s : Statement) where
       let before : suc k - 1 ≡ k = omega arith in
       none-some fits.line (sym (ap (option_map line_of) none) ∙ sym (slice_get-map line_of p k) ∙ sym (ap (slice_get (map line_of p)) before) ∙ fits.at)
 
--- two groups that the code finds equal are one
+-- two groups that the code finds equal are equal
 pub one_group : (a b : Group) → sameb the_type a b ≡ true → a ≡ b
 one_group Subroutine Subroutine e = refl
 one_group Declaration Declaration e = refl

@@ -27,7 +27,7 @@ use Rattle.f77_program.specs.code.Formed.{formed, all_formed}
 use Rattle.f77_tree.proofs.Tests.{and_true}
 use Rattle.f77_program.proofs.Back.{reference_formed, no_call, call_formed}
 
--- no blank and no lower-case letter, but printable
+-- a printable character that is no blank and no lower-case letter
 abbrev pub is_plain : ℕ → Bool
 is_plain c = nat_le 33 c && nat_le c 96
 

@@ -189,7 +189,7 @@ action_for Statement.End i f = cc
 as_statement : (s : Statement) → IsAction s → (text : List ℕ) × SpellsStatement text s
 as_statement s p = (p.0, SpellsStatement.action p.1)
 
--- some text spells it, names of any length allowed
+-- some text spells the statement, where names may have any length
 abbrev IsSpelled : Statement → Type 0
 IsSpelled s = (text : List ℕ) × SpellsStatement text (in_text s)
 
@@ -249,7 +249,7 @@ formed_spelled s f =
     let (named, short) = and_true (statement_formed is_name s) (statement_names s) (sym (symbolic_statement s).is ∙ f) in
     let (text, spells) = named_spelled s named in (text, spells, short)
 
--- names of any length
+-- a statement that some text spells is formed, where names may have any length
 pub is_formed : (s : Statement) → IsFormed s → statement_formed is_name s ≡ true
 is_formed s f = sym (in_text_formed s) ∙ spelled_formed f.1
 

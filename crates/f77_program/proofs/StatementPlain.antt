@@ -31,7 +31,7 @@ use Rattle.f77_program.proofs.JoinedForms.{plain_separated}
 use Rattle.f77_program.proofs.DeclarationForms.{any_size, any_sizes, plain_declaration}
 use Rattle.f77_program.proofs.DataForms.{plain_data}
 
--- behind the keyword SUBROUTINE
+-- what stands behind the keyword SUBROUTINE
 abbrev pub behind : List ℕ → List (List ℕ) → List ℕ
 behind name [] = name
 behind name (n ∷ names) = name ++ (separated name_text (codes "(") (n ∷ names) ++ 41 ∷ [])
@@ -49,7 +49,7 @@ plain_assign name items t f =
     let (all, value) = and_true (all_formed is_name items) (formed is_name t) rest in
     both (name ++ list_text items) (61 ∷ text_of t) (both name (list_text items) (plain_name name is) (plain_list items all)) (plain_text t value)
 
--- behind the keyword of a computed GO TO
+-- what stands behind the keyword of a computed GO TO
 abbrev selection : List ℕ → Tree → List ℕ
 selection labels t = separated decimal (codes "(") labels ++ (codes ")," ++ text_of t)
 

@@ -15,7 +15,7 @@ use Rattle.f77_program.specs.code.Data.{any_value, is_group}
 use Rattle.f77_program.specs.code.Declaration.{is_decl, declaration_formed}
 use Rattle.f77_program.specs.code.Formed.{is_some_list, is_reference, formed, all_formed, value_formed, statement_formed}
 
--- a test is two tests, of what is joined by AND too
+-- a test is the conjunction of two tests, also over what is joined by AND
 pub record Twice (both one other : Bool) : Type 0 where
   pub is : both ≡ (one && other)
 

@@ -1,4 +1,4 @@
--- What keeps a program from being printed: a line's fault is what is told of its card's.
+-- A line can not be printed exactly where its card can not be written.
 use Rattle.std.proofs.Common.{◌≡◌, ◌⊎◌, inl, inr, List, [], ◌∷◌, Bool, true, false, cond, refl, ap, sym, ◌∙◌, Option, Some, None}
 use Rattle.std.specs.Prelude.{map, IsSome, nat_lt, option_map}
 use Rattle.std.specs.List.{slice_get, cons_option}
@@ -26,7 +26,7 @@ pub program_formed : {before : Option Group} {lines : List LineFields} → IsPro
 program_formed IsProgram.finished = tt
 program_formed (IsProgram.next {line = line} may rest) = (is_formed line.stmt may.1, program_formed rest)
 
--- a line's fault is what is told of its card's
+-- the fault of a line is the one that belongs to the fault of its card
 line_told : (line : LineFields) → statement_formed is_name line.stmt ≡ true → option_map told_fault (card_fault (card_of line)) ≡ option_map Some (print_fault line)
 unfolding card_fault print_fault
 line_told line f = rw (printable_statement line.stmt f) (step (is_bad_label line.label) (nat_lt 19 (continuation_count (statement_text line.stmt))))
@@ -64,14 +64,14 @@ no_told (fault ∷ faults) e = cc
 pub written_whole : (lines : List LineFields) → AreFormed lines → print_faults lines ≡ [] → card_faults (map card_of lines) ≡ []
 written_whole lines f none = no_told (card_faults (map card_of lines)) (faults_told lines f ∙ ap (map Some) none)
 
--- what is told of the first of the faults is the first of those that are told
+-- the first of the faults gives the first of the faults that belong to them
 first_told : (faults : List FormFault) (others : List SyntaxFault) (fault : FormFault) → map told_fault faults ≡ map Some others
     → slice_get faults 0 ≡ Some fault → (said : SyntaxFault) × (slice_get others 0 ≡ Some said) × (told_fault fault ≡ Some said)
 first_told [] others fault e h = cc
 first_told (f ∷ faults) [] fault e h = cc
 first_told (f ∷ faults) (said ∷ others) fault e h = (said, refl, (cc))
 
--- what the writer tells of these cards
+-- the fault with which the writer refuses these cards
 abbrev pub IsRefusal : List LineFields → FormFault → Type 0
 IsRefusal lines fault = (slice_get (card_faults (map card_of lines)) 0 ≡ Some fault) ⊎ (fault ≡ FormFault.Memory)
 

@@ -11,7 +11,7 @@ use Rattle.f77_tree.specs.StatementGrammar.{kind_keyword}
 use Rattle.f77_tree.specs.Tree.{Tree, Trees}
 use Rattle.f77_tree.specs.Statement.{Statement}
 
--- the level of a tree's own form
+-- the level of an expression's own form
 abbrev pub own_level : Tree → ℕ
 own_level (Tree.Number n) = 9
 own_level (Tree.Truth b) = 9
@@ -22,7 +22,7 @@ own_level (Tree.Not t) = 4
 own_level (Tree.Binary op a b) = level op
 own_level (Tree.ZeroPush t) = 9
 
--- an operand, in parentheses exactly where its level is below the wanted one
+-- an operand as text, in parentheses exactly where its level is below the wanted one
 abbrev pub operand : ℕ → ℕ → List ℕ → List ℕ
 operand wanted own text = if nat_lt own wanted then 40 ∷ (text ++ 41 ∷ []) else text
 
@@ -39,22 +39,22 @@ abbrev mutual
       ++ (symbol op ++ operand (right_level op) (own_level b) (text_of b))
   text_of (Tree.ZeroPush t) = codes "ZPUSH(" ++ (text_of t ++ 41 ∷ [])
 
-  -- a list in parentheses, and nothing where there is none
+  -- expressions in parentheses, and nothing where there are none
   pub list_text : Trees → List ℕ
   list_text Trees.None = []
   list_text (Trees.Then t ts) = 40 ∷ ((text_of t ++ rest_text 44 ts) ++ 41 ∷ [])
 
-  -- this character before the first, and a comma before each other
+  -- expressions as text: the character c before the first, a comma before each other
   pub rest_text : ℕ → Trees → List ℕ
   rest_text c Trees.None = []
   rest_text c (Trees.Then t ts) = c ∷ (text_of t ++ rest_text 44 ts)
 
--- a comma and the text, where there is one
+-- the third parameter of a DO as text, behind a comma, if there is one
 abbrev pub step_text : Option Tree → List ℕ
 step_text None = []
 step_text (Some t) = 44 ∷ text_of t
 
--- The canonical text of a statement, with one blank behind a keyword that something follows.
+-- the canonical text of a statement, with one blank behind a keyword that something follows
 abbrev pub statement_text : Statement → List ℕ
 statement_text (Statement.Subroutine name []) = codes "SUBROUTINE " ++ name
 statement_text (Statement.Subroutine name (n ∷ names)) =

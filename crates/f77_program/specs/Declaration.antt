@@ -4,14 +4,15 @@ use Rattle.std.specs.Fmt.{decimal}
 use Rattle.f77_tree.specs.Joined.{separated}
 use Rattle.f77_tree.specs.Tree.{DeclFields}
 
--- bounds joined by commas, in parentheses, and nothing where there are none
+-- bounds as text, joined by commas and in parentheses; nothing where there are none
 abbrev pub bounds_text : List ℕ → List ℕ
 bounds_text [] = []
 bounds_text (b ∷ bs) = separated decimal (codes "(") (b ∷ bs) ++ codes ")"
 
+-- a declared name as text, with its bounds
 abbrev pub decl_text : DeclFields → List ℕ
 decl_text d = d.name ++ bounds_text d.bounds
 
--- declared names joined by commas, as M(2,3),N
+-- declared names as text, joined by commas, such as M(2,3),N
 abbrev pub declarations_text : List DeclFields → List ℕ
 declarations_text ds = separated decl_text [] ds

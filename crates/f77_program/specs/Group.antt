@@ -6,7 +6,7 @@ use Rattle.f77_program.specs.declared.group.Group.TheVariants.{Subroutine, Decla
 use Rattle.f77_tree.specs.Statement.{form_of, Statement}
 use Rattle.f77_tree.specs.declared.form.Form.{Form}
 
--- the group that statements of a form belong to
+-- the group to which statements of a form belong
 abbrev pub form_group : Form → Group
 form_group Form.Subroutine = Subroutine
 form_group Form.Declare = Declaration
@@ -15,11 +15,11 @@ form_group Form.Preset = Data
 form_group Form.End = End
 form_group _ = Executable
 
--- the group that a statement belongs to, by which its place in a subroutine is told (3.5)
+-- the group to which a statement belongs; it decides where the statement may stand (3.5)
 abbrev pub group_of : Statement → Group
 group_of statement = form_group (form_of statement)
 
--- the rank of a group in a subroutine
+-- the rank of a group in a subroutine, from 0
 abbrev pub group_rank : Group → ℕ
 group_rank Subroutine = 0
 group_rank Declaration = 1
@@ -27,17 +27,19 @@ group_rank Data = 2
 group_rank Executable = 3
 group_rank End = 4
 
--- the rank of what comes behind a group of this rank, which is not the last
+-- rank n may come behind the rank `before`: it is not lower, it is not that of SUBROUTINE, and
+-- `before` is not that of END
 abbrev pub comes_later : ℕ → ℕ → Bool
 comes_later before n = nat_lt 0 n && (nat_le before n && nat_lt before 4)
 
--- A statement of the second group may stand behind one of the first, or first: SUBROUTINE
--- once and first, then declarations, DATA and what is executed, and END once and last (3.5).
+-- A statement of the second group may stand behind one of the first, or first of all. SUBROUTINE
+-- stands once and first, then declarations, DATA and executable statements, and END once and last
+-- (3.5).
 abbrev pub may_stand : Option Group → Group → Bool
 may_stand None group = group_rank group == 0
 may_stand (Some before) group = comes_later (group_rank before) (group_rank group)
 
--- declarations, DATA and executable statements, so many of each, and END
+-- this many declarations, DATA and executable statements, and then END
 abbrev pub behind_heading : ℕ → ℕ → ℕ → List Group
 behind_heading declarations presets executables =
     replicate declarations Declaration

@@ -6,19 +6,18 @@ use Rattle.f77_program.specs.Program.{LineFields}
 use Rattle.f77_tree.specs.StatementGrammar.{IsFormed}
 use Rattle.f77_tree.specs.Statement.{Statement}
 
--- the lines with this statement in the place of the line
--- i, counted from 0: its label and its line number stay
+-- the lines with another statement in line i, counted from 0; its label and its line number stay
 abbrev pub replaced : List LineFields → ℕ → Statement → List LineFields
 replaced [] i statement = []
 replaced (line ∷ lines) zero statement = record (line) { stmt = statement } ∷ lines
 replaced (line ∷ lines) (suc i) statement = line ∷ replaced lines i statement
 
--- the program with this statement in the place of the one of this number, counted from 1
+-- the program with another statement in the place of the one with this number, counted from 1
 abbrev pub patched : List LineFields → ℕ → Statement → List LineFields
 patched program number statement = replaced program (number - 1) statement
 
--- It may stand there: the number, from 1, is that of a statement of the same group,
--- and some text spells the new one, with names of six characters at most.
+-- The statement may be put there: the number, from 1, is that of a statement of the same group, and
+-- some text spells the new one, with names of at most six characters.
 pub record Fits (program : List LineFields) (number : ℕ) (statement : Statement) : Type 0 where
   pub line : LineFields
   pub counted : 1 ≤ number

@@ -9,7 +9,7 @@ use Rattle.f77_program.specs.Program.{LineFields}
 use Rattle.f77_program.specs.declared.fault.SyntaxFault.{SyntaxFault}
 use Rattle.f77_program.specs.declared.fault.SyntaxFault.TheVariants.{BadConstant, TooLong}
 
--- the card with the canonical text of the line's statement
+-- the card of a line, with the canonical text of its statement
 abbrev pub card_of : LineFields → CardFields
 card_of line = record { label = line.label; text = statement_text line.stmt; line = line.line }
 
@@ -17,20 +17,21 @@ card_of line = record { label = line.label; text = statement_text line.stmt; lin
 abbrev pub printed : List LineFields → List ℕ
 printed program = written (map card_of program)
 
--- what keeps a line from being printed: its label, or a statement that needs over 20 lines
+-- the fault for which a line can not be printed: its label, or a statement that needs over 20 lines
 unfoldable pub print_fault : LineFields → Option SyntaxFault
 print_fault line =
     if is_bad_label line.label then Some (BadConstant line.line)
     else (if nat_lt 19 (continuation_count (statement_text line.stmt)) then Some (TooLong line.line)
     else None)
 
--- what keeps the lines from being printed, the first line's fault first
+-- the faults for which the lines can not be printed, in the order of the lines
 abbrev pub print_faults : List LineFields → List SyntaxFault
 print_faults program = filter_map print_fault program
 
+-- a line without its line number
 abbrev pub unnumbered : LineFields → Option ℕ × Statement
 unnumbered line = (line.label, line.stmt)
 
--- equal apart from line numbers
+-- two programs are equal apart from line numbers
 abbrev pub AreAlike : List LineFields → List LineFields → Type 0
 AreAlike program other = map unnumbered program ≡ map unnumbered other

@@ -14,23 +14,24 @@ pub record LineFields : Type 0 where
   pub stmt : Statement
   pub line : ℕ
 
--- a line of the program
+-- the view of a line
 abbrev pub line_of : Line → LineFields
 line_of l = record { label = l.label; stmt = statement_of l.stmt; line = l.line }
 
--- The line may stand behind a statement of this group, or first; some
--- text spells its statement, with names of six characters at most.
+-- The line may stand behind a statement of this group, or first of all, and some text spells its
+-- statement, with names of at most six characters.
 abbrev pub MayFollow : Option Group → LineFields → Type 0
 MayFollow before line = (may_stand before (group_of line.stmt) ≡ true) × IsFormed line.stmt
 
--- Formed statements in order, behind a statement of this group or from the start on, to the end.
+-- the lines are formed statements in order, behind a statement of this group or from the start on,
+-- up to the end
 pub data IsProgram : Option Group → List LineFields → Type 0 where
   finished : IsProgram (Some End) []
   next : {before : Option Group} {line : LineFields} {lines : List LineFields}
       → MayFollow before line
       → IsProgram (Some (group_of line.stmt)) lines → IsProgram before (line ∷ lines)
 
--- lines are numbered from 1
+-- the line with this number, counted from 1
 abbrev pub line_at : List Line → ℕ → Option Line
 line_at lines zero = None
 line_at lines (suc n) = slice_get lines n

@@ -1,4 +1,4 @@
--- Lines are the same exactly where they are equal.
+-- The tests of two lines and of two programs hold exactly where they are equal.
 use Rattle.std.specs.Prelude.{◌≡◌, ℕ, nat_eq, List, Option, true, refl}
 use Rattle.std.specs.Bool.{Decides}
 use Rattle.std.specs.Cmp.{IsEquivalence, decided, unsigned_Decides, first_so, second_so}

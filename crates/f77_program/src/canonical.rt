@@ -1,4 +1,4 @@
-//! Canonical texts of statements.
+//! The canonical texts of statements. Trees have no parentheses: they are put where the levels of operands need them.
 
 ghost use Rattle.std.specs.Prelude.{◌≡◌, ◌<◌, ◌++◌, true, OnOk, IfOk, IfErr, map, option_map, string_bytes};
 ghost use Rattle.f77_source.specs.Law.{squeezed};
@@ -15,7 +15,7 @@ use crate::joined::{print_names, print_numbers};
 use f77_tree::{Expr, Name, Stmt};
 use std::alloc::{AllocError, Global};
 
-/// The level of an expression's own form.
+/// The level of an expression's own form, from 1 to 9.
 fn own_level(expr: &Expr) -> u8
     ensures { result ≡ canonical.own_level (tree_of expr.now) }
 {
@@ -31,7 +31,7 @@ fn own_level(expr: &Expr) -> u8
     }
 }
 
-/// Writes an operand, in parentheses where its level is below the wanted one.
+/// Writes an operand, in parentheses where its level is below `wanted`.
 #[cycle(printer)]
 fn operand(out: &mut String, wanted: u8, expr: &Expr) -> Result<(), AllocError>
     ensures { OnOk result (string_bytes out.new ≡ string_bytes out.old
@@ -47,6 +47,7 @@ fn operand(out: &mut String, wanted: u8, expr: &Expr) -> Result<(), AllocError>
     }
 }
 
+/// Writes an expression, without parentheses around it.
 #[cycle(printer)]
 fn form(out: &mut String, expr: &Expr) -> Result<(), AllocError>
     ensures { OnOk result (string_bytes out.new ≡ string_bytes out.old ++ canonical.text_of (tree_of expr.now)) }
@@ -84,7 +85,7 @@ fn form(out: &mut String, expr: &Expr) -> Result<(), AllocError>
     }
 }
 
-/// Writes expressions in parentheses, joined by commas, and nothing where there are none.
+/// Writes expressions in parentheses, joined by commas. Writes nothing where there are none.
 #[cycle(printer)]
 fn list(out: &mut String, items: &[Expr]) -> Result<(), AllocError>
     ensures { OnOk result
@@ -98,7 +99,7 @@ fn list(out: &mut String, items: &[Expr]) -> Result<(), AllocError>
     Ok(())
 }
 
-/// Writes expressions, this character before the first and a comma before each other.
+/// Writes expressions: the character `opening` before the first, and a comma before each other.
 #[cycle(printer)]
 fn separated(out: &mut String, opening: u8, items: &[Expr]) -> Result<(), AllocError>
     requires { opening < 128 }
@@ -129,7 +130,7 @@ fn subroutine(out: &mut String, name: &Name, arguments: &[Name]) -> Result<(), A
     Ok(())
 }
 
-/// Writes the third parameter of a DO, where there is one.
+/// Writes the third parameter of a DO, if it has one.
 fn third(out: &mut String, step: &Option<Expr>) -> Result<(), AllocError>
     ensures { OnOk result
         (string_bytes out.new ≡ string_bytes out.old ++ canonical.step_text (option_map tree_of step.now)) }
@@ -177,7 +178,8 @@ fn do_statement(
     Ok(())
 }
 
-/// Writes a keyword, a condition in parentheses, and what follows.
+/// Writes a keyword, a condition in parentheses, and what follows it. The parentheses are parts of `keyword` and
+/// `rest`.
 fn condition(
     out: &mut String,
     keyword: &str,
@@ -254,11 +256,12 @@ fn statement(out: &mut String, stmt: &Stmt) -> Result<(), AllocError>
     }
 }
 
-/// The canonical text of a statement: one blank behind a keyword that something follows, no other
-/// blank, and parentheses exactly where the levels of operands ask for them (ANSI X3.9-1978, 6.5).
+/// The canonical text of a statement. It has one blank behind each keyword that something follows and behind the
+/// parenthesis of an IF, no other blank, and parentheses exactly where the levels of operands ask for them (ANSI
+/// X3.9-1978, 6.5).
 pub fn print_stmt(alloc: Global, stmt: &Stmt) -> Result<String, SyntaxFault>
     ensures text { IfOk result (λ text. string_bytes text ≡ canonical.statement_text (statement_of stmt.now)) }
-    // Without its blanks it spells the statement.
+    // The text without its blanks spells the statement.
     ensures back { IfOk result (λ text. IsFormed (statement_of stmt.now) → IsUnmutated (statement_of stmt.now)
         → statement_constants (statement_of stmt.now) ≡ true
         → SpellsStatement (squeezed (string_bytes text)) (statement_of stmt.now)) }

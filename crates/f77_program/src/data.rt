@@ -1,4 +1,4 @@
-//! Initial values: whether some text spells them, and how they are written.
+//! Groups of initial values: whether some text spells them, and how they are written.
 
 ghost use Rattle.std.specs.Prelude.{◌≡◌, ◌++◌, true, map, codes, OnOk, string_bytes};
 ghost use Rattle.std.specs.List.{list_all};
@@ -44,8 +44,8 @@ fn are_groups(groups: &[DataGroup]) -> bool
     true
 }
 
-/// Whether some text spells the groups, repeats and constants of any size allowed, with names of six characters at
-/// most.
+/// Whether some text spells the groups, where repeats and constants may have any size, and each name has at most six
+/// characters.
 #[tactic(auto, using(crate::proofs::JoinedForms::some_seen, crate::proofs::JoinedForms::none_seen))]
 pub(crate) fn data_formed(groups: &[DataGroup]) -> bool
     ensures { result ≡ initial_code.data_formed is_symbolic (map data_group_of groups.now) }
@@ -63,7 +63,7 @@ fn print_constant(out: &mut String, constant: Constant) -> Result<(), AllocError
     }
 }
 
-/// Writes a value, its repeat where that is not 1.
+/// Writes a value, with its repeat where that is not 1.
 fn print_value(out: &mut String, value: &Value) -> Result<(), AllocError>
     ensures { OnOk result (string_bytes out.new ≡ string_bytes out.old ++ initial.value_text value.now) }
 {
@@ -74,7 +74,7 @@ fn print_value(out: &mut String, value: &Value) -> Result<(), AllocError>
     print_constant(out, value.constant)
 }
 
-/// Writes values, a slash before the first and a comma before each other.
+/// Writes values: a slash before the first, and a comma before each other.
 fn print_values(out: &mut String, values: &[Value]) -> Result<(), AllocError>
     ensures { OnOk result
         (string_bytes out.new ≡ string_bytes out.old ++ separated initial.value_text (codes "/") values.now) }
@@ -91,7 +91,7 @@ fn print_group(out: &mut String, group: &DataGroup) -> Result<(), AllocError>
     out.push_str("/")
 }
 
-/// Writes names with their values, joined by commas, without blanks.
+/// Writes groups of names and values, joined by commas, without blanks.
 pub(crate) fn print_groups(out: &mut String, groups: &[DataGroup]) -> Result<(), AllocError>
     ensures { OnOk result
         (string_bytes out.new ≡ string_bytes out.old ++ initial.groups_text (map data_group_of groups.now)) }

@@ -11,7 +11,7 @@ use crate::joined::{print_joined, print_numbers};
 use f77_tree::Decl;
 use std::alloc::AllocError;
 
-/// Whether each declared name has six characters at most.
+/// Whether each declared name has at most six characters.
 fn are_symbolic(items: &[Decl]) -> bool
     ensures { result ≡ list_all (declared_code.is_decl is_symbolic) (map decl_of items.now) }
 {
@@ -23,7 +23,8 @@ fn are_symbolic(items: &[Decl]) -> bool
     true
 }
 
-/// Whether some text spells the declared names, bounds of any size allowed, and they have six characters at most.
+/// Whether some text spells the declared names, where bounds may have any size, and each name has at most six
+/// characters.
 #[tactic(auto, using(crate::proofs::JoinedForms::some_seen, crate::proofs::JoinedForms::none_seen))]
 pub(crate) fn declaration_formed(items: &[Decl]) -> bool
     ensures { result ≡ declared_code.declaration_formed is_symbolic (map decl_of items.now) }

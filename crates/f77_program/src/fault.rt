@@ -1,4 +1,4 @@
-//! Why cards are no program, and why a program is not printed.
+//! Why cards are no program, and why a program can not be printed.
 
 ghost use Rattle.std.specs.Prelude.{◌≡◌};
 ghost use Rattle.f77_program.specs.declared.fault.SyntaxFault.TheVariants as fault;
@@ -6,7 +6,7 @@ ghost use Rattle.f77_program.specs.declared.fault.SyntaxFault.TheVariants as fau
 use std::alloc::{AllocError, AllocFailed};
 use thiserror::Error;
 
-/// Why cards are no program. Each number is the `line` of a card.
+/// Why cards are no program, or why a program can not be printed. Each number is the `line` of a card.
 #[derive(Clone, Copy, Debug, PartialEq, Eq, Error)]
 pub enum SyntaxFault {
     /// S1: memory ran out.
@@ -22,7 +22,7 @@ pub enum SyntaxFault {
     /// 0, or a label that is not 1 to 99999 or has more than five digits.
     #[error("line {0} holds a constant or a label out of range")]
     BadConstant(u32),
-    /// S5: parentheses more than 40 deep.
+    /// S5: more than 40 parentheses are open at once.
     #[error("line {0} opens parentheses more than 40 deep")]
     TooDeep(u32),
     /// S6: more than 1,320 characters, or more than 200 nodes; where a program is printed, more than 20 lines.

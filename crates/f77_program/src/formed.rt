@@ -1,4 +1,5 @@
-//! Statements that some text spells, with names of six characters at most.
+//! Which statements some text spells, decided from their trees alone. The operators rest on this, since they make trees
+//! and never texts.
 
 ghost use Rattle.std.specs.Prelude.{◌≡◌, true, false, map, option_map};
 ghost use Rattle.f77_tree.specs.Grammar as grammar;
@@ -20,7 +21,7 @@ fn is_some_list(items: &[Expr]) -> bool
     !items.is_empty()
 }
 
-/// Whether a name with this list behind it is a call in an expression.
+/// Whether a name with this list behind it would be read as a call.
 #[tactic(auto, using(crate::proofs::Forming::called, crate::proofs::Forming::not_called))]
 fn is_call(name: &Name, items: &[Expr]) -> bool
     ensures { result ≡ grammar.is_call name.now (trees (map tree_of items.now)) }
@@ -28,6 +29,7 @@ fn is_call(name: &Name, items: &[Expr]) -> bool
     is_some_list(items) && Intrinsic::named(name.as_str().as_bytes()).is_some()
 }
 
+/// Whether the reference is one that some text spells: its name is short enough, and it is not read as a call.
 #[tactic(auto, unfolding(crate::specs::code::Formed::is_reference))]
 fn is_reference(name: &Name, items: &[Expr]) -> bool
     ensures { result ≡ forms_code.is_reference is_symbolic name.now (trees (map tree_of items.now)) }
@@ -35,6 +37,7 @@ fn is_reference(name: &Name, items: &[Expr]) -> bool
     name.is_short() && !is_call(name, items)
 }
 
+/// Whether some text spells the expression.
 #[cycle(formed)]
 fn formed(expr: &Expr) -> bool
     ensures { result ≡ forms_code.formed is_symbolic (tree_of expr.now) }
@@ -61,6 +64,7 @@ fn all_formed(items: &[Expr]) -> bool
     true
 }
 
+/// Whether some text spells the expression, where there is one.
 fn value_formed(value: Option<&Expr>) -> bool
     ensures { result ≡ forms_code.value_formed is_symbolic (option_map (λ value. tree_of value.now) value.entry) }
 {
@@ -96,14 +100,16 @@ fn statement_formed(stmt: &Stmt) -> bool
     }
 }
 
-/// Whether it may stand in a logical IF (11.5): it is no declaration, no DO, and no block IF or logical IF, nor END.
+/// Whether the statement may stand in a logical IF (11.5): it is executable, and no DO, no logical IF, no END and no
+/// statement of a block IF.
 pub fn is_action(stmt: &Stmt) -> bool
     ensures { result ≡ forms.is_action (statement_of stmt.now) }
 {
     stmt.form().acts()
 }
 
-/// Whether some text spells the statement, constants of any size allowed, and its names have six characters at most.
+/// Whether some text spells the statement, where constants may have any size, and its names have at most six
+/// characters.
 #[tactic(auto, using(crate::proofs::StatementForming::formed_spelled, crate::proofs::StatementForming::not_formed))]
 pub fn is_formed(stmt: &Stmt) -> bool
     ensures formed { result ≡ true → IsFormed (statement_of stmt.now) }

@@ -1,4 +1,4 @@
-//! The groups of statements, and where each may stand.
+//! The groups of statements, and in which order they may stand.
 
 ghost use Rattle.std.specs.Prelude.{◌≡◌, ◌≢◌, true, false, Some};
 ghost use Rattle.f77_program.specs.Group as groups;
@@ -17,13 +17,13 @@ pub enum Group {
     Declaration,
     /// DATA.
     Data,
-    /// What is executed.
+    /// Executable statements but END.
     Executable,
     /// END.
     End,
 }
 
-/// The group that the statement belongs to.
+/// The group to which the statement belongs.
 pub fn group_of(stmt: &Stmt) -> Group
     ensures { result ≡ group_of (statement_of stmt.now) }
 {
@@ -37,7 +37,7 @@ pub fn group_of(stmt: &Stmt) -> Group
 }
 
 impl Group {
-    /// Its rank in a subroutine, from 0.
+    /// The rank of the group in a subroutine, from 0.
     fn rank(self) -> u8
         ensures { result ≡ groups.group_rank self }
     {
@@ -50,7 +50,7 @@ impl Group {
         }
     }
 
-    /// Whether a statement of this group may stand behind one of that group, or first where there is none.
+    /// Whether a statement of this group may follow one of the group `before`, or be the first where that is None.
     pub fn may_stand(self, before: Option<Group>) -> bool
         ensures { result ≡ may_stand before self }
     {
@@ -62,7 +62,7 @@ impl Group {
     }
 }
 
-/// Whether END was the last.
+/// Whether the last statement was an END.
 pub fn is_end(before: Option<Group>) -> bool
     ensures yes { result ≡ true → before ≡ Some Group.End }
     ensures no { result ≡ false → before ≢ Some Group.End }

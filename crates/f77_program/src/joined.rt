@@ -9,7 +9,7 @@ ghost use Rattle.f77_program.specs.code.Joined.{Writes};
 use f77_tree::Name;
 use std::alloc::AllocError;
 
-/// Writes items, each by this function, this text before the first and a comma before each other.
+/// Writes items by a function for one item: the text `opening` before the first, and a comma before each other.
 pub(crate) fn print_joined<T, F: Fn(&mut String, &T) -> Result<(), AllocError>>(
     out: &mut String,
     opening: &str,
@@ -35,7 +35,7 @@ fn print_name(out: &mut String, name: &Name) -> Result<(), AllocError>
     out.push_str(name.as_str())
 }
 
-/// Writes names, this text before the first and a comma before each other.
+/// Writes names: the text `opening` before the first, and a comma before each other.
 pub(crate) fn print_names(out: &mut String, opening: &str, names: &[Name]) -> Result<(), AllocError>
     ensures { OnOk result
         (string_bytes out.new ≡ string_bytes out.old ++ separated name_text opening.now names.now) }
@@ -49,7 +49,7 @@ fn print_number(out: &mut String, number: &u32) -> Result<(), AllocError>
     write!(out, "{number}")
 }
 
-/// Writes numbers, a parenthesis before the first and a comma before each other.
+/// Writes numbers: a parenthesis before the first, and a comma before each other.
 pub(crate) fn print_numbers(out: &mut String, numbers: &[u32]) -> Result<(), AllocError>
     ensures { OnOk result (string_bytes out.new ≡ string_bytes out.old ++ separated decimal (codes "(") numbers.now) }
 {

@@ -1,10 +1,10 @@
-//! What holds of equality itself.
+//! Laws of lines and programs.
 
 ghost use Rattle.std.specs.Prelude.{◌≡◌, ◌↔◌, true, List};
 ghost use Rattle.f77_program.specs.Comparing.{same_line, same_lines};
 ghost use Rattle.f77_program.specs.Program.{LineFields};
 
-/// Programs and their lines are equal by `==` exactly where they are one.
+/// Two programs, or two lines, are equal by `==` exactly where their views are equal.
 #[tactic(auto, using(crate::specs::SameLines::line_decides, crate::specs::SameLines::lines_decide))]
 pub fn equal_programs_are_one()
     ensures lines { (l m : LineFields) → (same_line l m ≡ true) ↔ (l ≡ m) }

@@ -1,4 +1,4 @@
-//! Programs with one statement changed.
+//! Programs with one statement changed. All other lines are shared with the old program.
 
 ghost use Rattle.std.specs.Prelude.{◌≡◌, true, false, map, IfOk};
 ghost use Rattle.f77_program.specs.Program.{line_of};
@@ -11,7 +11,7 @@ use crate::program::{Line, Program};
 use f77_tree::{Shared, Stmt};
 use std::alloc::AllocError;
 
-/// The line with this statement in the place of its own.
+/// The line with another statement. Its label and its line number stay.
 fn with_stmt(line: &Line, stmt: &Stmt) -> Result<Line, AllocError>
     ensures { IfOk result (λ changed. line_of changed ≡ record (line_of line.now) { stmt = statement_of stmt.now }) }
 {
@@ -23,8 +23,8 @@ fn with_stmt(line: &Line, stmt: &Stmt) -> Result<Line, AllocError>
 }
 
 impl Program {
-    /// Whether the statement may stand in the place of the one of this number, which is 1 for SUBROUTINE: it is of the
-    /// same group, some text spells it, and its names have six characters at most. It takes no memory.
+    /// Whether the statement may be put in the place of the statement with this number, counted from 1. It may if both
+    /// are of the same group, some text spells it, and its names have at most six characters. It takes no memory.
     pub fn fits(&self, number: usize, stmt: &Stmt) -> bool
         ensures yes { result ≡ true → Fits (map line_of self.now) number (statement_of stmt.now) }
         ensures no { result ≡ false → ¬ (Fits (map line_of self.now) number (statement_of stmt.now)) }
@@ -35,7 +35,7 @@ impl Program {
         }
     }
 
-    /// The program with this statement in the place of the one of this number.
+    /// The program with another statement in the place of the one with this number, counted from 1.
     pub fn with_statement(&self, number: usize, stmt: &Stmt) -> Result<Program, AllocError>
         requires { Fits (map line_of self.now) number (statement_of stmt.now) }
         ensures { IfOk result

@@ -14,7 +14,7 @@ use f77_source::{Card, FormFault, write_form};
 use f77_tree::Shared;
 use std::alloc::Global;
 
-/// What is told of a card that cannot be written. Canonical texts are printable, so that no other refusal comes.
+/// The fault of the program for a fault of a card. Canonical texts are printable, so no other faults come here.
 fn told(fault: FormFault) -> SyntaxFault
     requires { IsSome (told_fault fault) }
     ensures { told_fault fault ≡ Some result }
@@ -49,7 +49,9 @@ fn cards_of(alloc: Global, lines: &[Shared<Line>]) -> Result<Vec<Card>, SyntaxFa
 /// The program in fixed form: each line with its label and the canonical text of its statement, ended by LF (ANSI
 /// X3.9-1978, 3.2).
 ///
-/// Of several faults the first line's is told: its label (1 to 99999) before the length of its statement (20 lines).
+/// The first line with a fault is reported: BadConstant where its label is not 1 to 99999, or else TooLong where its
+/// statement needs more than 20 lines. Only labels and lengths are tested. A tree that is deeper or has more nodes than
+/// a card may have is printed too; the reader refuses that text.
 pub fn print(alloc: Global, program: &Program) -> Result<String, SyntaxFault>
     ensures text { IfOk result (λ text. string_bytes text ≡ printed (map line_of program.now)) }
     ensures accepted { IfOk result (λ _. print_faults (map line_of program.now) ≡ []) }

@@ -1,4 +1,4 @@
-//! Programs.
+//! Programs: none can be made that breaks `IsProgram`.
 
 ghost use Rattle.std.specs.Prelude.{◌≡◌, List, None, true, false, map, option_map, IfOk, IfErr, IfSome, IsSome, IsNone};
 ghost use Rattle.std.specs.Coded.{codes};
@@ -18,7 +18,7 @@ use f77_tree::{Shared, Stmt};
 use std::alloc::{AllocError, Global};
 use std::marker::Model;
 
-/// A statement with its label, where it has one, and the number of its initial line.
+/// A statement with its label, if it has one, and the number of its initial line.
 #[derive(Debug, Drop)]
 pub struct Line {
     pub label: Option<u32>,
@@ -52,8 +52,9 @@ impl Eq for Line {
     ghost laws = { on_equiv line_of line_equiv };
 }
 
-/// A subroutine: SUBROUTINE first, then declarations, then DATA, then what is executed, END last and only there (ANSI
-/// X3.9-1978, 3.5), each a statement that some text spells, with names of six characters at most.
+/// A subroutine: SUBROUTINE first, then declarations, then DATA, then executable statements, and END last (ANSI
+/// X3.9-1978, 3.5). Each is a statement that some text spells, with names of at most six characters. Copies share their
+/// lines.
 #[derive(Debug, Drop)]
 pub struct Program {
     lines: Vec<Shared<Line>>,
@@ -95,7 +96,7 @@ impl Eq for Program {
     ghost laws = { on_equiv (map line_of) lines_equiv };
 }
 
-/// Whether the line may follow a statement of this group, or be the first, and some text spells its statement.
+/// Whether the line may follow a statement of the group `before`, or be the first, and some text spells its statement.
 fn follows(before: Option<Group>, line: &Line) -> bool
     ensures yes { result ≡ true → MayFollow before (line_of line.now) }
     ensures no { result ≡ false → ¬ (MayFollow before (line_of line.now)) }
@@ -103,6 +104,7 @@ fn follows(before: Option<Group>, line: &Line) -> bool
     group_of(&line.stmt).may_stand(before) && is_formed(&line.stmt)
 }
 
+/// Whether the lines are a program.
 fn are_program(lines: &[Shared<Line>]) -> bool
     ensures yes { result ≡ true → IsProgram None (map line_of lines.now) }
     ensures no { result ≡ false → ¬ (IsProgram None (map line_of lines.now)) }
@@ -117,7 +119,7 @@ fn are_program(lines: &[Shared<Line>]) -> bool
     is_end(last)
 }
 
-/// These lines, each to be shared.
+/// The lines, each as a value that programs can share.
 fn shared_lines(alloc: Global, lines: Vec<Line>) -> Result<Vec<Shared<Line>>, AllocError>
     ensures { IfOk result (λ shared. shared.items ≡ lines.items) }
 {
@@ -129,7 +131,7 @@ fn shared_lines(alloc: Global, lines: Vec<Line>) -> Result<Vec<Shared<Line>>, Al
 }
 
 impl Program {
-    /// The program of lines that are one. It takes no memory.
+    /// The program of lines that are known to be one. It takes no memory.
     pub fn from_lines(lines: Vec<Shared<Line>>) -> Program
         requires { IsProgram None (map line_of lines.items) }
         ensures { result ≡ lines.items }
@@ -137,8 +139,8 @@ impl Program {
         Program { lines }
     }
 
-    /// The program of these lines, None where they are none: each statement in its
-    /// place, and one that some text spells, with names of six characters at most.
+    /// The program of these lines, or None where they are no program: each statement has to stand in its place, and has
+    /// to be one that some text spells, with names of at most six characters.
     pub fn of(alloc: Global, lines: Vec<Line>) -> Result<Option<Program>, SyntaxFault>
         ensures given { IfOk result (λ answer. IfSome answer (λ program. program ≡ lines.items)) }
         ensures program { IfOk result (λ answer. IsSome answer → IsProgram None (map line_of lines.items)) }
@@ -161,7 +163,7 @@ impl Program {
         &self.lines
     }
 
-    /// The line of this number, where there is one. SUBROUTINE is number 1. It takes no memory.
+    /// The line with this number, if there is one. SUBROUTINE is number 1. It takes no memory.
     pub fn line(&self, number: usize) -> Option<&Line>
         ensures { option_map (λ line. line.now) result ≡ line_at self.now number }
     {
@@ -174,7 +176,7 @@ impl Program {
         }
     }
 
-    /// What its lists take memory from.
+    /// The allocator from which the lists of the program take their memory.
     pub fn allocator(&self) -> Global {
         *Vec::allocator(&self.lines)
     }

@@ -7,7 +7,7 @@ use Rattle.f77_code.specs.Operation.{Point}
 use Rattle.f77_code.proofs.Frame.{length_after}
 use Rattle.f77_run.specs.code.Running.{CameBack, Leads}
 
--- so many instructions, and so many behind them
+-- a instructions and then b are a + b instructions
 pub after_more : (code : List Instruction) (a b : ℕ) (p : Point) → code_after code (a + b) p ≡ code_after code b (code_after code a p)
 after_more code zero b p = ap (λ n. code_after code n p) (zero-add b)
 after_more code (suc a) b p = let more : suc a + b ≡ suc (a + b) = omega arith in ap (λ n. code_after code n p) more ∙ after_more code a b (one code p)

@@ -46,7 +46,7 @@ use Rattle.f77_run.proofs.Loaded.{loaded_count, loaded_room}
 use Rattle.f77_run.proofs.Starting.{initial_cells, own_run as run_itself, own_compiled as compiled_itself, slots_counted}
 use Rattle.f77_run.proofs.Telling.{tells_one}
 
--- two runs of registers with the same of each slot show the same
+-- two runs whose registers have the same for each slot show the same values
 shown_alike : (kinds : List Kind) (xs ys : List ℤ) → length kinds ≤ length xs → ((k : ℕ) → k < length kinds → slice_get ys k ≡ slice_get xs k)
     → shown_cells kinds ys ≡ shown_cells kinds xs
 shown_alike [] xs ys room each = refl
@@ -57,7 +57,7 @@ shown_alike (kind ∷ kinds) (x ∷ xs) (y ∷ ys) room each =
     let rest = shown_alike kinds xs ys (omega (arith, room)) (λ k below. each (suc k) (omega (arith, below))) in
     λ i. shown_as kind (told_by_register (first i)) ∷ rest i
 
--- registers are as many as slots and constants
+-- there are as many registers as slots and constants
 loaded_length : (kinds : List Kind) (cells : Cells) (constants registers : List ℤ) → AreLoaded kinds cells constants registers
     → length registers ≡ length kinds + length constants
 loaded_length kinds cells constants registers are =
@@ -218,7 +218,7 @@ module _ (parting : Parting) (code : Code) (image : Registers) (is : IsParting p
       first is.passed_is))
       (λ j time none at. absurd (omega (arith, none))) (omega arith)
 
-  -- where its code stands behind all steps
+  -- where the changed code stands after all steps
   abbrev last : Point
   last = code_after is.own.instructions.items parting.steps is.start
 
@@ -246,14 +246,14 @@ module _ (parting : Parting) (code : Code) (image : Registers) (is : IsParting p
       parting.steps parting.steps last.place last.registers last.turns last_is (omega arith) (λ less. absurd (omega (arith, less)))
       finish (finish_told last.place) (finish_limit last.place)
 
-  -- the outcome of the program is told of it
+  -- the outcome of the program reports this end
   outcome_told : (outcome : Outcome) → IsOutcomeOf p run.arguments parting.steps outcome → Tells p finish (held checked (shown_by checked last.registers)) outcome
   outcome_told outcome given =
       let some = tells_one p finish (held checked (shown_by checked last.registers)) own_dummies.typed in
       subst (Tells p finish (held checked (shown_by checked last.registers)))
       (one_answer p run.arguments parting.steps some.0 outcome (own_tells some.0 some.1) given) some.1
 
-  -- so it is told of the run of the changed program, which stands there too
+  -- the outcome also reports the end of the run of the changed program, which stands there too
   module _ (together : StayTogether) where
     abbrev there : Point
     there = code_after changed parting.steps start
@@ -336,7 +336,7 @@ module _ (parting : Parting) (code : Code) (image : Registers) (is : IsParting p
     few_of_all : before + 1 + made ≤ parting.steps
     few_of_all = omega (arith, few, below, steps_are)
 
-    -- so how it has ended is told of the registers
+    -- the registers show how the run has ended
     pub shown : (length checked.start.kinds.items ≤ length registers) × HoldDummies checked (shown_by checked registers)
         × ((answer : Outcome) (same : Bool) → Decides same (TellsOf run finish registers answer)
         → (other : Outcome) × IsOutcomeOf run.program run.arguments steps other × Decides same (answer ≡ other))

@@ -143,7 +143,7 @@ module _ (checked : CheckedFields) (is : IsChecked checked) where
     counters = loads.counters;
   }
 
-  -- They do so too where constants were added behind those of code that is the program's own.
+  -- registers begin with the program's own also where constants were added to code that is the program's own
   pub grown_begins : (before after : ChangedCode) (image new : Registers) → IsAllOwn before → HaveOneOwn before after
       → IsImage checked before.code.constants.values.items image → take (length image.items.items) new.items.items ≡ image.items.items
       → new.counters.items ≡ image.counters.items → BeginsImage checked after new

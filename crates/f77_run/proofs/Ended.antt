@@ -1,4 +1,4 @@
--- What the code of a run, from its start on, tells of its end.
+-- What the code of a run, from its start on, says of its end.
 use Rattle.std.proofs.Common.{◌≡◌, ◌∙◌, ◌≤◌, ◌<◌, ◌⊎◌, ℕ, ℤ, true, List, length, sym, ap, subst}
 use Rattle.f77_check.specs.Checked.{CheckedFields}
 use Rattle.f77_actions.specs.declared.finish.Finish.{Finish}
@@ -40,7 +40,7 @@ module _ (checked : CheckedFields) (arguments : List Arg) (code : Code) (registe
     both : ◌≡◌ {A = List Instruction × Point} (instructions, start) (code.instructions.items, point run.checked.start.entry registers turns)
     both = λ i. (instructions_are i, start_is i)
 
-    -- where it stands behind so many instructions is the end of the run
+    -- where the code stands after `made` instructions is the end of the run
     pub ends_there : (steps made place : ℕ) (after_registers : List ℤ) (after_turns : List Turn)
         → point place after_registers after_turns ≡ code_after instructions made start → made ≤ steps
         → ((k : ℕ) → k < made → (code_after instructions k start).place < length instructions)

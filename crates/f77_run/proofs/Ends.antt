@@ -109,7 +109,7 @@ module _ (run : RunOf) (statements : List Resolved) (is : IsRun run statements) 
   begins_typed : IsTyped q (values_at (site_in run) begins.cells)
   begins_typed = typed_at 0 StepLimit _ (refl, refl)
 
-  -- what the slots hold, they hold in both, and what is told of it
+  -- slots give names the same values in both programs, and the same outcome
   same_held : (cells : Cells) → values_at (site_in run) cells ≡ held run.checked cells
   same_held cells = λ k. values_of (bounds k) run.checked.names cells
 
@@ -195,13 +195,13 @@ module _ (run : RunOf) (statements : List Resolved) (code : Code) (is : HasCode 
           (typed_alike program end.values (values_at (site_in run) (shown_cells slots_of after_registers)) end.dummies typed));
     }
 
-    -- what is told of the registers is told of the run
+    -- an outcome that reports the registers reports the end of the run
     told_of_run : (answer : Outcome) → TellsOf run finish after_registers answer → Tells program finish end.values answer
     told_of_run answer tells =
         tells_alike program finish (values_at (site_in run) (shown_cells slots_of after_registers)) end.values answer (λ name among. sym (end.dummies name among))
         (told_there run statements is.of (shown_cells slots_of after_registers) finish answer tells)
 
-    -- whether an outcome is told of them says whether it is that of the run
+    -- whether an outcome reports the registers says whether it is that of the run
     pub decides : (answer : Outcome) (same : Bool) → Decides same (TellsOf run finish after_registers answer)
         → (other : Outcome) × IsOutcomeOf run.program run.arguments steps other × Decides same (answer ≡ other)
     decides answer same decided =
@@ -230,7 +230,7 @@ module _ (run : RunOf) (statements : List Resolved) (code : Code) (is : HasCode 
       tells = told_of_run answer told_so;
     }
 
-  -- the same, where the code was at an instruction before
+  -- the end of the run, where the code was at an instruction before
   module _ (steps made place : ℕ) (after_registers : List ℤ) (after_turns : List Turn)
       (stands : point place after_registers after_turns ≡ code_after code.instructions.items made start) (few : made ≤ steps)
       (there : (k : ℕ) → k < made → (code_after code.instructions.items k start).place < length code.instructions.items)

@@ -49,7 +49,7 @@ module _ (kind : Kind) (cell : Option Value) where
   loaded_set (own ∷ kinds) (x ∷ cells) zero long at = ap (λ kind. coded (read_as kind cell) ∷ loaded kinds cells) (same_Some own kind at)
   loaded_set (own ∷ kinds) (x ∷ cells) (suc k) long at = ap (λ list. coded (read_as own x) ∷ list) (loaded_set kinds cells k (omega (arith, long)) at)
 
-  -- and its values are in the range of INTEGER
+  -- the values of the slots stay in the range of INTEGER
   fitting_set : (kinds : List Kind) (cells : Cells) (k : ℕ) → length cells ≡ length kinds → slice_get kinds k ≡ Some kind → is_fitting (read_as kind cell) ≡ true
       → values_fit kinds cells ≡ true → values_fit kinds (slice_set cells k cell) ≡ true
   fitting_set [] cells k long at fits all = absurd (cc (at))
@@ -77,16 +77,16 @@ module _ (kind : Kind) (cell : Option Value) where
         numbers = was.numbers;
       }
 
--- what is loaded in these registers is loaded in those, its slots changed so
+-- registers with these slots loaded become registers with the changed slots loaded
 abbrev pub IsChanged : List Kind → (Cells → Cells) → List ℤ → List ℤ → Type 0
 IsChanged kinds change old new = (cells : Cells) (constants : List ℤ) → AreLoaded kinds cells constants old → AreLoaded kinds (change cells) constants new
 
--- the whole change is made where the rest of it is made too
+-- the whole change is made if the rest of it, from here on, is made
 abbrev pub IsBegun : List Kind → (Cells → Cells) → (Cells → Cells) → List ℤ → List ℤ → Type 0
 IsBegun kinds whole rest old now = (last : List ℤ) → IsChanged kinds rest now last → IsChanged kinds whole old last
 
 module _ (kinds : List Kind) (whole rest : Cells → Cells) (old now : List ℤ) where
-  -- one change more is made
+  -- one more change is made
   more_changed : (one left : Cells → Cells) (new : List ℤ) → ((cells : Cells) → rest cells ≡ left (one cells)) → IsChanged kinds one now new
       → IsBegun kinds whole rest old now → IsBegun kinds whole left old new
   more_changed one left new same put begun last changed =
@@ -150,7 +150,7 @@ module _ (dummies : List ℕ) (arguments : List Arg) (kinds : List Kind) (old : 
   pub arguments_put : (i : ℕ) (now : List ℤ) → zip (drop i dummies) (drop i arguments) ≡ [] → ArePassed i now → IsChanged kinds with_arguments old now
   arguments_put i now none begun = all_changed kinds with_arguments (with_others i) old now (λ cells. ap (all_filled cells) none) begun
 
--- a slot that is shown holds what its register tells, by its kind
+-- a slot that is shown has the value that its register stands for, by its kind
 pub slot_shown : (kinds : List Kind) (registers : List ℤ) (k : ℕ) (d : Kind) (e : ℤ) → length kinds ≤ length registers → k < length kinds
     → held_in (shown_cells kinds registers) k ≡ shown_as (get_or kinds k d) (told_by_register (get_or registers k e))
 slot_shown kinds registers k d e room below =
@@ -158,15 +158,15 @@ slot_shown kinds registers k d e room below =
     shown_at kinds registers room k (get_or kinds k d) (slice_get-get_or kinds k d below) ∙ ap (λ told. shown_as (get_or kinds k d) (told_at told)) at
 
 module _ {A : Type 0} (f : A → Value) (xs : List A) (cells : Cells) (first : ℕ) where
-  -- the slots hold so many of the values
+  -- the slots have the first k of the values
   abbrev pub AreSame : ℕ → Type 0
   AreSame k = map (λ x. Some (f x)) (take k xs) ≡ span first k cells
 
-  -- the slots hold all of them
+  -- the slots have all of the values
   abbrev pub AllSame : Type 0
   AllSame = map (λ x. Some (f x)) xs ≡ span first (length xs) cells
 
-  -- they do not where one of them holds something else
+  -- the slots do not have all the values where one of them has another
   pub one_other : (k : ℕ) (d : A) → k < length xs → (Some (f (get_or xs k d)) ≡ held_in cells (first + k) → ⊥) → AllSame → ⊥
   one_other k d below other same =
       other (sym (get_or-map (λ x. Some (f x)) xs k d None below)

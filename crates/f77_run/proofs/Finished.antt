@@ -7,7 +7,7 @@ use Rattle.f77_actions.specs.declared.finish.Finish.{Finish}
 use Rattle.f77_actions.specs.declared.finish.Finish.TheVariants.{Returned, Stopped, Failed, StepLimit}
 use Rattle.f77_code.specs.Operation.{ended_point}
 
--- at its limit where that is no end
+-- how a run has ended, from its place: StepLimit where the place is no end
 abbrev pub finish_of : ℕ → Finish
 finish_of place =
     if place == ended_point Returned then Returned else if place == ended_point Stopped then Stopped

@@ -41,7 +41,7 @@ module _ (checked : CheckedFields) (is : IsChecked checked) (arguments : List Ar
   pub names_within : code_within (length registers) (length turns) instructions ≡ true
   names_within = ap (code_within (length registers) (length turns)) instructions_are ∙ ends.within run checked.statements code compiled registers turns begun
 
-  -- it writes the registers of slots alone
+  -- the code writes no registers but those of slots
   pub writes_below : (n : ℕ) → n ≡ checked.slots → AllWriteBelow n instructions
   writes_below n many =
       subst (λ list. AllWriteBelow n list) (sym instructions_are)
@@ -55,7 +55,7 @@ module _ (checked : CheckedFields) (is : IsChecked checked) (arguments : List Ar
       let count = slots_counted checked is n many in
       omega (arith, room, count)
 
-  -- and an instruction for each statement
+  -- the code has an instruction for each statement
   pub statements_within : (n : ℕ) → n ≡ length checked.program → n ≤ length instructions
   statements_within n many =
       let size = ap length instructions_are in
@@ -70,7 +70,7 @@ module _ (checked : CheckedFields) (is : IsChecked checked) (arguments : List Ar
     start_is : start ≡ point checked.start.entry registers turns
     start_is = ap (λ n. point n registers turns) entry_is
 
-    -- where it stands behind all steps
+    -- where the code stands after all steps
     module _ (steps place : ℕ) (after_registers : List ℤ) (after_turns : List Turn)
         (stands : point place after_registers after_turns ≡ code_after instructions steps start)
         (finish : Finish) (told : (f : Finish) → place ≡ ended_point f → finish ≡ f) (limit : place < 4294967296 → finish ≡ StepLimit) where

@@ -81,7 +81,7 @@ module _ (at : RunSite) (statements : List Resolved) (s : State) (is : IsRunning
       (subst (λ list. HaveActions (plan_of list code.constants) statements) (sym kinds_are)
       (have_actions at.program at.names statements code.constants is.legal is.resolved))
 
-  -- what is loaded stands for the state of the machine
+  -- the registers that are loaded stand for the state of the machine
   module _ (registers : List ℤ) (loads : registers ≡ loaded kinds s.cells ++ code.constants.values.items) (held : are_held registers ≡ true)
       (fit : values_fit kinds s.cells ≡ true) (constants_fit : list_all fits code.constants.values.items ≡ true) (counters : List Turn)
       (counts : counters ≡ counters_of statements s.turns) where
@@ -161,7 +161,7 @@ module _ (at : RunSite) (statements : List Resolved) (s : State) (is : IsRunning
         by (Goes t) e = let is_at = did n (Goes t) e in is_at.holds.room
         by (Ends o cells) e = let is_end = did n (Ends o cells) e in is_end.1.room
 
-    -- where the code stands behind so many instructions, the run stands, or ended there
+    -- where the code stands after `made` instructions, the run stands, or has ended
     module _ (typed : IsTyped at.program (values_at at s.cells)) (steps made place : ℕ) (after_registers : List ℤ) (after_counters : List Turn)
         (stands : point place after_registers after_counters ≡ code_after code.instructions.items made begin) (few : made ≤ steps)
         (rest : made < steps → (length code.instructions.items ≤ place) ⊎ CameBack code.instructions.items begin made)
@@ -200,7 +200,7 @@ module _ (at : RunSite) (statements : List Resolved) (s : State) (is : IsRunning
             dummies = agree cells is_end.1 (typed_then o cells comes.0);
           }
 
-      -- it goes on: all steps were made, or it comes back, and never ends
+      -- a run that goes on has made all steps, or comes back and never ends
       never_back : CameBack code.instructions.items begin made → (o : Finish) (cells : Cells) → moved_by statements steps s ≢ Some (Ends o cells)
       never_back b o cells = λ e.
           let sum = b.sum in
@@ -231,7 +231,7 @@ module _ (at : RunSite) (statements : List Resolved) (s : State) (is : IsRunning
               let one : Goes t ≡ Ends o cells = cc (twice, e, end) in
               absurd (cc (one))
 
-      -- so it meets its limit
+      -- a run that goes on meets its limit
       meets_limit : (t : State) → moved_by statements made s ≡ Some (Goes t) → ComesIn at statements made (stands_for at s) (Goes t)
           → IsMove plan statements (code_after code.instructions.items made begin) (Goes t)
           → ComesToCells at steps (stands_for at s) made finish (shown_cells kinds after_registers)

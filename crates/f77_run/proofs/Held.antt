@@ -1,4 +1,4 @@
--- Arguments that stand in the slots of their dummy arguments hold what these hold.
+-- Arguments that stand in the slots of their dummy arguments are the values of these.
 use Rattle.std.proofs.Common.{arith, ◌≡◌, ℕ, ◌+◌, ◌-◌, ◌≤◌, Bool, true, false, true≢false, List, [], ◌∷◌, length, map, Option, Some, None, refl, sym, ap, subst, ◌∙◌}
 use Rattle.std.specs.Bool.{Decides}
 use Rattle.std.specs.List.{zip}
@@ -15,7 +15,7 @@ use Rattle.f77_code.specs.Moves.{Cells}
 use Rattle.f77_meaning.specs.code.Spans.{span}
 use Rattle.f77_meaning.specs.Spans.{size_of}
 
--- what is decided of one fact is decided of another that holds where it does
+-- a test that decides one statement decides another that holds exactly where the first does
 pub decided_of : {P Q : Type 0} (r : Bool) → Decides r P → (P → Q) → (Q → P) → Decides r Q
 decided_of r decides to from = (λ e. to (decides.0 e), λ q. decides.1 (from q))
 

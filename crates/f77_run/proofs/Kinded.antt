@@ -43,7 +43,7 @@ use Rattle.f77_meaning.proofs.Simulation.{statement_of, legal_fits, no_bounds}
 use Rattle.f77_meaning.proofs.SlotKinds.{kinds_count, kind_read}
 use Rattle.f77_meaning.proofs.Spans.{span_within}
 
--- kinds that are compared as equal are one
+-- kinds that the test finds equal are equal
 kind_is : (kind other : Kind) → same_kind kind other ≡ true → kind ≡ other
 kind_is Integer Integer is = refl
 kind_is Integer Logical is = absurd (cc (is))
@@ -128,7 +128,7 @@ module _ (kinds : Symbol → Kind) (bounds : Symbol → List ℕ) (names : List 
     number_has (Tree.ZeroPush t) is (ZeroPush' p x) h = number_has t is x h
     number_has _ is _ h = absurd h
 
-    -- and so do subscripts and arguments
+    -- subscripts and arguments have their kinds, too
     all_have : (ts : Trees) → are_integer kinds ts ≡ true → AllHave ts
     all_have Trees.None is = tt
     all_have (Trees.Then t ts) is =

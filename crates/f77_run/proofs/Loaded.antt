@@ -1,4 +1,4 @@
--- Registers and counters that are loaded hold what a machine over slots holds, and what is shown of the registers is what its slots hold.
+-- Loaded registers and counters hold the state of the machine over slots, and what is shown of the registers is what its slots hold.
 use Rattle.std.proofs.Common.{arith, ◌≡◌, ◌<◌, ◌≤◌, ℕ, zero, suc, ◌+◌, ℤ, pos, Bool, true, false, List, [], ◌∷◌, ◌++◌, length, take}
 use Rattle.std.proofs.Common.{Option, Some, None, refl, sym, ap, ◌∙◌}
 use Rattle.std.specs.Prelude.{Ok, slice_get, unwrap_or, if◌then◌else◌}
@@ -32,7 +32,7 @@ loaded_count [] cells long = refl
 loaded_count (kind ∷ kinds) [] long = absurd (omega (arith, long))
 loaded_count (kind ∷ kinds) (cell ∷ cells) long = ap suc (loaded_count kinds cells (omega (arith, long)))
 
--- the number for what is read from a slot tells it, where that is a value of 32 bits or that there is none
+-- the number for what is read from a slot stands for it, where that is a value of 32 bits or that there is none
 read_told : (kind : Kind) (value : Option Value) → is_fitting (read_as kind value) ≡ true → told_by_register (coded (read_as kind value)) ≡ read_as kind value
 read_told Integer None e = refl
 read_told Integer (Some (held.Number z)) e = told_fits z e
@@ -42,7 +42,7 @@ read_told Logical (Some (held.Number z)) e = refl
 read_told Logical (Some (held.Truth true)) e = refl
 read_told Logical (Some (held.Truth false)) e = refl
 
--- the register of a slot tells what is read from the slot
+-- the register of a slot stands for what is read from the slot
 slot_told : (kinds : List Kind) (cells : Cells) (others : List ℤ) → length cells ≡ length kinds → values_fit kinds cells ≡ true → (k : ℕ) → k < length kinds
     → register (loaded kinds cells ++ others) k ≡ read_as (unwrap_or (slice_get kinds k) Integer) (held_in cells k)
 slot_told [] cells others long fit k below = absurd (omega (arith, below))
@@ -52,7 +52,7 @@ slot_told (kind ∷ kinds) (cell ∷ cells) others long fit zero below =
 slot_told (kind ∷ kinds) (cell ∷ cells) others long fit (suc k) below =
     slot_told kinds cells others (omega (arith, long)) (and_parts (is_fitting (read_as kind cell)) (values_fit kinds cells) fit).1 k (omega (arith, below))
 
--- the register behind those of the slots tells its constant
+-- the register behind those of the slots stands for its constant
 constant_told : (kinds : List Kind) (cells : Cells) (values : List ℤ) → length cells ≡ length kinds → list_all fits values ≡ true → (k : ℕ) (z : ℤ)
     → slice_get values k ≡ Some z → register (loaded kinds cells ++ values) (length kinds + k) ≡ Ok z
 constant_told kinds cells values long small k z at =
@@ -61,7 +61,7 @@ constant_told kinds cells values long small k z at =
     = ap (λ n. slice_get (loaded kinds cells ++ values) (n + k)) count ∙ get_behind (loaded kinds cells) values k ∙ at in
     ap told_at place ∙ told_fits z (all_at fits values k z small at)
 
--- The registers that are loaded hold the slots and, behind them, the constants. That they are held does not say that they tell values of 32 bits.
+-- Registers that are loaded hold the slots and, behind them, the constants. That they are held does not say that they stand for values of 32 bits.
 pub loaded_holds : (kinds : List Kind) (table : Constants) (cells : Cells) → length cells ≡ length kinds
     → are_held (loaded kinds cells ++ table.values.items) ≡ true → values_fit kinds cells ≡ true → list_all fits table.values.items ≡ true
     → HoldsRegisters (plan_of kinds table) (loaded kinds cells ++ table.values.items) cells
@@ -137,7 +137,7 @@ shown_count [] registers room = refl
 shown_count (kind ∷ kinds) [] room = absurd (omega (arith, room))
 shown_count (kind ∷ kinds) (x ∷ registers) room = ap suc (shown_count kinds registers (omega (arith, room)))
 
--- what is shown of a slot is what its register tells, by its kind
+-- the value that is shown of a slot is what its register stands for, by its kind
 pub shown_at : (kinds : List Kind) (registers : List ℤ) → length kinds ≤ length registers → (k : ℕ) (kind : Kind) → slice_get kinds k ≡ Some kind
     → held_in (shown_cells kinds registers) k ≡ shown_as kind (register registers k)
 shown_at [] registers room k kind at = absurd (cc (at))

@@ -51,7 +51,7 @@ no_misfit (shape ∷ list) (argument ∷ arguments) fits =
     ∙ ap (λ b. cond (not b) (Some 0) (option_map suc (first_misfit list arguments))) fits.0
     ∙ ap (option_map suc) (no_misfit list arguments fits.1)
 
--- where shapes are left out, and any arguments that fit those may be added, all fit once none is left out
+-- Arguments for the first n shapes fit all shapes, if they do with any arguments that fit the rest, and there is no rest.
 pub fit_whole : (list : List Shape) (n : ℕ) (arguments : List Arg) → length list ≤ n
     → ((more : List Arg) → AreFitting (drop n list) more → AreFitting list (arguments ++ more)) → AreFitting list arguments
 fit_whole list n arguments end joined =

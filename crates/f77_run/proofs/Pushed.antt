@@ -23,7 +23,7 @@ module _ {A B X : Type 0} (xs : List A) (ys : List B) where
       ∙ ap (λ ps. done ++ map f ps) (sym next)
       ∙ is
 
-  -- where no pair is left, that is all
+  -- where no pair is left, the list is whole
   pub mapped_all : (f : A × B → X) (i : ℕ) (done whole : List X) → i ≡ min (length xs) (length ys) → done ++ map f (pairs_left xs ys i) ≡ whole → done ≡ whole
   mapped_all f i done whole end is = sym (append-nil done) ∙ ap (λ ps. done ++ map f ps) (sym (none_left xs ys i end)) ∙ is
 
@@ -48,7 +48,7 @@ pub narrow_held : (z : ℤ) → FitsSigned w32 z → is_held z ≡ true
 narrow_held (pos n) narrow = ap (λ b. b || (n == 1099511627776)) (narrow_fits (pos n) narrow)
 narrow_held (negsuc n) narrow = narrow_fits (negsuc n) narrow
 
--- a test of a list whose first member passes is a test of the others
+-- where the first member passes a test, the list passes it exactly where the others do
 pub fitting_more : {X : Type 0} (test : X → Bool) (left : List X) (x : X) (more : List X) → left ≡ x ∷ more → test x ≡ true
     → list_all test left ≡ list_all test more
 fitting_more test left x more is fits = ap (list_all test) is ∙ ap (λ b. b && list_all test more) fits

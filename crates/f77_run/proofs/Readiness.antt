@@ -39,21 +39,21 @@ module _ (p : List LineFields) (legal : IsLegal p) where
   small : (k : ℕ) → k ≤ length p → is_of_32_bits k ≡ true
   small k h = let few = few_lines p legal in lt-ltb k 4294967296 (omega (arith, h, few))
 
-  -- so has that of the statement where a jump goes
+  -- the number of the statement to which a jump leads has 32 bits
   jump_small : (i label : ℕ) (jump : Jump) → IsJump p i label jump → is_of_32_bits jump.target ≡ true
   jump_small i label jump h = let below = place_within (bears label) p jump.target h.target in small jump.target (omega (arith, below))
 
-  -- of those where each of these jumps goes
+  -- the numbers of the statements to which these jumps lead have 32 bits
   jumps_small : (i : ℕ) (labels : List ℕ) (jumps : List Jump) → AreJumps p i labels jumps → list_all (λ jump. is_of_32_bits jump.target) jumps ≡ true
   jumps_small i [] [] h = refl
   jumps_small i (label ∷ labels) (jump ∷ jumps) h = and_from _ _ (jump_small i label jump h.0) (jumps_small i labels jumps h.1)
   jumps_small i _ _ h = absurd h
 
-  -- of the one that ends a branch
+  -- the number of the statement that ends a branch has 32 bits
   branch_small : (i otherwise : ℕ) → branch_end p i ≡ Some otherwise → is_of_32_bits otherwise ≡ true
   branch_small i otherwise ends = let below = (branch_ends p i otherwise ends).1 in small otherwise (omega (arith, below))
 
-  -- of the one behind a statement
+  -- the number of the statement behind another has 32 bits
   behind_small : (i next : ℕ) → i < length p → statement_behind p i ≡ Some next → is_of_32_bits next ≡ true
   behind_small i next below is = by (has_at is_alternative p (i + 1)) is
     where

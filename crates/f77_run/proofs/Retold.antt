@@ -1,4 +1,4 @@
--- What is told of an end, and the kinds of values, are the same for two stores where the dummy arguments hold the same.
+-- The outcome of an end, and the kinds of values, are the same for two stores in which the dummy arguments have the same values.
 use Rattle.std.proofs.Common.{◌≡◌, ◌||◌, ℕ, Bool, true, List, [], ◌∷◌, map, refl, sym, ap, subst, ◌∙◌}
 use Rattle.std.specs.Bool.{Decides}
 use Rattle.std.specs.List.{list_any}
@@ -31,11 +31,11 @@ same_values s t (x ∷ names) agree =
     let rest = same_values s t names (λ name among. agree name (or_later (bytes_eq name x) (list_any (bytes_eq name) names) among)) in
     λ i. first i ∷ rest i
 
--- the same arguments are what the dummy arguments hold
+-- the same arguments are the values of the dummy arguments in both stores
 arguments_alike : (p : List LineFields) (s t : Store) (arguments : List Arg) → AgreeOnDummies p s t → AreArguments p s arguments → AreArguments p t arguments
 arguments_alike p s t arguments agree are = record { fitting = are.fitting; values = sym (same_values s t (dummies p) agree) ∙ are.values }
 
--- the same outcome is told of the same end
+-- the same outcome reports an end with either store
 pub tells_alike : (p : List LineFields) (end : Finish) (s t : Store) (answer : Outcome) → AgreeOnDummies p s t → Tells p end s answer → Tells p end t answer
 tells_alike p finish.Returned s t (outcome.Returned arguments) agree tells = arguments_alike p s t arguments agree tells
 tells_alike p finish.Returned s t _ agree tells = absurd tells
@@ -48,7 +48,7 @@ tells_alike p finish.StepLimit s t answer agree tells = tells
 pub typed_alike : (p : List LineFields) (s t : Store) → AgreeOnDummies p s t → IsTyped p s → IsTyped p t
 typed_alike p s t agree typed name among = subst (HasValues (kind_of p name) (element_count p name)) (agree name among) (typed name among)
 
--- whether a store in which the dummy arguments hold the same tells an outcome says whether that is the outcome of the run
+-- whether an outcome reports the end with the other store says whether that is the outcome of the run
 pub same_shown : (p : List LineFields) (arguments : List Arg) (steps : ℕ) (start : Config) (made : ℕ) (end : Finish) (s t : Store) (given : Outcome)
     (same : Bool) → IsStart p (map values_in arguments) start → ComesToEnd p steps start made end s → IsTyped p s → AgreeOnDummies p s t
     → Decides same (Tells p end t given) → (other : Outcome) × IsOutcomeOf p arguments steps other × Decides same (given ≡ other)

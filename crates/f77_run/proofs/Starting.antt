@@ -47,13 +47,13 @@ module _ (checked : CheckedFields) (is : IsChecked checked) where
   abbrev pub initial_cells : Cells
   initial_cells = map (option_map constant_value) checked.start.initial.items
 
-  -- as many slots as kinds of slots
+  -- there are as many slots as kinds of slots
   pub slots_counted : (n : ℕ) → n ≡ checked.slots → n ≡ length checked.start.kinds.items
   slots_counted n same =
       let program = map line_of checked.program in
       same ∙ is.slots ∙ sym (ap length is.start.kinds ∙ kinds_count (kind_of program) (bounds_of program) checked.names)
 
-  -- and as many as DATA may give values
+  -- there are as many slots as DATA may give values
   pub initial_counted : length initial_cells ≡ length checked.start.kinds.items
   initial_counted = slots_counted (length initial_cells) (empty_size checked is ∙ sym is.slots)
 

@@ -1,4 +1,4 @@
--- Every end of a run tells an outcome, and whether it tells a given one says whether that is the outcome of the run.
+-- Every end of a run has an outcome that reports it; whether a given outcome reports it says whether that is the outcome of the run.
 use Rattle.std.proofs.Common.{arith, ◌≡◌, ◌||◌, ℕ, Bool, true, false, true≢false, List, [], ◌∷◌, length, map, Option, Some, None, refl, sym, ap, subst, ◌∙◌, ℤ}
 use Rattle.std.specs.Bool.{Decides}
 use Rattle.std.specs.List.{list_all, list_any, zip}
@@ -93,7 +93,7 @@ some_arguments p s (x ∷ list) typed =
     let rest = some_arguments p s list (λ name among. typed name (or_later (bytes_eq name x) (list_any (bytes_eq name) list) among)) in
     (first.0 ∷ rest.0, (first.1, rest.1), λ i. first.2 i ∷ rest.2 i)
 
--- where the dummy arguments have values, every end tells an outcome
+-- where the dummy arguments have values, some outcome reports every end
 pub tells_one : (p : List LineFields) (end : Finish) (s : Store) → IsTyped p s → (answer : Outcome) × Tells p end s answer
 tells_one p finish.Returned s typed =
     let arguments = some_arguments p s (dummies p) typed in
@@ -104,7 +104,7 @@ tells_one p finish.Stopped s typed =
 tells_one p (finish.Failed fault) s typed = (told_outcome fault, refl)
 tells_one p finish.StepLimit s typed = (outcome.StepLimit, refl)
 
--- what is told where steps end is told within the limit
+-- an outcome that reports where the steps end is that within the limit
 pub told_within : (p : List LineFields) (steps : ℕ) (c : Config) (made : ℕ) (end : Finish) (s : Store) (answer : Outcome) (is : ComesToEnd p steps c made end s)
     → Tells p end s answer → Tells p end is.held answer
 told_within p steps c made finish.Returned s answer is tells = subst (λ s. Tells p finish.Returned s answer) (sym (is.told (λ e. cc))) tells

@@ -160,7 +160,7 @@ module _ (checked : CheckedFields) (is : IsChecked checked) (arguments : List Ar
         let move = moves_by (site_in run) checked.statements n state running in
         twins_alike twins n move.0 are_twins (all_nested (site_in run) checked.statements n state running) move.1
 
-    -- what was noted in the run by the one serves for the other
+    -- what was noted in the run of one code is true of the other
     pub passed_alike : (i n loops : ℕ) (passed : Passed) → IfSome passed.first (HasSizes checked.slots loops)
         → IsPassed code.instructions.items start (drop checked.slots start.registers) n i passed
         → IsPassed other.instructions.items start_of_other (drop checked.slots start_of_other.registers) n i passed
@@ -170,7 +170,7 @@ module _ (checked : CheckedFields) (is : IsChecked checked) (arguments : List Ar
         (λ k few. same_behind k) (ap (λ n. drop n start_of_other.registers) (sym slots_are))
         (subst (λ n. HaveSlots n (first_time passed.first)) slots_are (have_slots checked.slots loops passed.first sizes)) is_passed
 
--- what all of these pass the first of them pass
+-- where all numbers of a list pass a test, the first of them do
 firsts_pass : (p : ℤ → Bool) (n : ℕ) (list : List ℤ) → list_all p list ≡ true → list_all p (take n list) ≡ true
 firsts_pass p n list all =
     (and_parts (list_all p (take n list)) (list_all p (drop n list)) (sym (list_all-append p (take n list) (drop n list)) ∙ ap (list_all p) (take-append-drop n list) ∙ all)).0
@@ -224,7 +224,7 @@ module _ (checked : CheckedFields) (change : Change) (code : ChangedCode) (image
     };
   }
 
-  -- so the run of the changed program may begin where it parts from that of the program
+  -- the run of the changed program may begin where it parts from that of the program
   pub is_parting : (passed : Passed) → slice_get visits.list.items change.place ≡ Some passed
       → IsParting (parting_of checked change arguments steps passed) checked code.code image
   is_parting passed at = record {

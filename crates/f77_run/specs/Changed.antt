@@ -1,5 +1,4 @@
--- A checked program with another statement in the
--- place of one. Statements are numbered from 0 here.
+-- A checked program with one statement changed. Statements are numbered from 0 here.
 use Rattle.std.specs.Prelude.{◌≡◌, ◌<◌, ℕ, List, length, map, Option, None, Some, IfSome, slice_set}
 use Rattle.std.specs.Option.{option_map_or}
 use Rattle.f77_program.specs.Patching.{replaced}
@@ -19,12 +18,14 @@ use Rattle.f77_run.specs.declared.changed.Change.{Change}
 use Rattle.f77_run.specs.declared.registers.Registers.{Registers}
 use Rattle.f77_run.specs.Registers.{IsImage}
 
--- the program, the number of a statement, and what stands in its place, if anything does
+-- the program, and the number of the changed statement with what stands in its place, if one is
+-- changed
 pub record ChangedFields : Type 0 where
   pub checked : CheckedFields
   pub place : ℕ
   pub stmt : Option Stmt
 
+-- the view of a program with one statement changed, or with none
 abbrev pub changed_fields : CheckedFields → Option Change → ChangedFields
 changed_fields checked None = record { checked = checked; place = 0; stmt = None }
 changed_fields checked (Some change) =
@@ -36,9 +37,9 @@ changed_program changed =
     let program = map line_of changed.checked.program in
     option_map_or (λ stmt. replaced program changed.place (statement_of stmt)) changed.stmt program
 
--- The changed program is legal and of the same frame, its statements resolved are those
--- of the program but for the changed one, and the code is that of these, in which the
--- instruction of that one alone is exchanged.
+-- The changed program is legal and of the same frame. Its resolved statements are those of the
+-- program, apart from the changed one. The code is that of the changed program, with the
+-- instruction of the changed statement exchanged.
 pub record IsChangeMade (changed : ChangedFields) (code : ChangedCode) : Type 0 where
   pub within : changed.place < length changed.checked.program
   pub formed : IsProgram None (changed_program changed)
@@ -50,8 +51,8 @@ pub record IsChangeMade (changed : ChangedFields) (code : ChangedCode) : Type 0 
   pub compiled : IsCode (slice_set changed.checked.statements changed.place statement) code.code
   pub others : AgreeButAt changed.place (own_instructions code) code.code.instructions.items
 
--- A checked program, its code, and the registers and counters at the start of
--- its runs; and where a statement is changed, the code is that of the changed program.
+-- A checked program, its code, and the registers and counters at the start of its runs. Where a
+-- statement is changed, the code is that of the changed program.
 pub record IsChanged (changed : ChangedFields) (code : ChangedCode)
     (image : Registers) : Type 0 where
   pub checked : IsChecked changed.checked

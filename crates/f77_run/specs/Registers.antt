@@ -1,4 +1,4 @@
--- What stands in the registers of the code of a program for a state of its slots, and in the counters for its DOs.
+-- The registers and counters of the code of a program, for a state of its slots and its DOs.
 use Rattle.std.specs.Prelude.{◌≡◌, ◌∷◌, ◌++◌, if◌then◌else◌, Bool, true, List, [], length, map, Option}
 use Rattle.std.specs.Prelude.{None, option_map, replicate, unwrap_or, ℤ, pos}
 use Rattle.std.specs.List.{flat_map, list_all, zip}
@@ -18,16 +18,16 @@ use Rattle.f77_code.specs.Registers.{are_held}
 use Rattle.f77_meaning.specs.Start.{constant_value}
 use Rattle.f77_run.specs.declared.registers.Registers.{Registers}
 
--- the registers of the slots: what is read from each, by its kind
+-- the registers of slots with these values, by their kinds
 abbrev pub loaded : List Kind → Cells → List ℤ
 loaded kinds cells = map (λ pair. coded (read_as pair.0 pair.1)) (zip kinds cells)
 
--- what is read from each slot is in the range of INTEGER, where it is a value
+-- the value that is read from each slot is in the range of INTEGER, if there is one
 abbrev pub values_fit : List Kind → Cells → Bool
 values_fit kinds cells = list_all (λ pair. is_fitting (read_as pair.0 pair.1)) (zip kinds cells)
 
--- These registers have what slots of these kinds hold, and constants behind it:
--- each is a number of 32 bits, or tells that there is no value.
+-- The registers have the values of slots of these kinds, and the constants behind them. Each number
+-- is a value, or stands for having none.
 pub record AreLoaded (kinds : List Kind) (cells : Cells)
     (constants registers : List ℤ) : Type 0 where
   pub count : length cells ≡ length kinds
@@ -36,15 +36,17 @@ pub record AreLoaded (kinds : List Kind) (cells : Cells)
   pub values : values_fit kinds cells ≡ true
   pub numbers : list_all fits constants ≡ true
 
--- the counters: what each DO has left, in order, and nothing where it is not active
+-- the counter of a DO: its turn, or nothing left where it is not active; no counter for other
+-- statements
 abbrev pub counter_of : Resolved → Option Turn → List Turn
 counter_of r turn =
     if is_loop r.action then unwrap_or turn (record { passes = 0; step = pos 0 }) ∷ [] else []
 
+-- the counters of all DOs, in order
 abbrev pub counters_of : List Resolved → TurnList → List Turn
 counters_of statements turns = flat_map (λ pair. counter_of pair.0 pair.1) (zip statements turns)
 
--- registers and counters at the start of the runs of a program, before the arguments are there
+-- the registers and counters at the start of the runs of a program, before the arguments are put in
 pub record IsImage (checked : CheckedFields) (constants : List ℤ) (image : Registers) : Type 0 where
   pub registers : AreLoaded checked.start.kinds.items
       (map (option_map constant_value) checked.start.initial.items) constants image.items.items

@@ -1,5 +1,5 @@
--- Where control was in a run of the code of a program: the first time that it came to each
--- statement, and the step that was made then. Statements are numbered from 0 here.
+-- The first visit of each statement in a run of the code of a program, with the step made then.
+-- Statements are numbered from 0 here.
 use Rattle.std.specs.Prelude.{◌≡◌, ℕ, List, None, drop, length, map, option_map, replicate, ℤ}
 use Rattle.std.specs.List.{zip}
 use Rattle.f77_check.specs.Checked.{CheckedFields}
@@ -16,21 +16,21 @@ use Rattle.f77_meaning.specs.Start.{constant_value}
 use Rattle.f77_run.specs.declared.visits.Visits.{Visits}
 use Rattle.f77_run.specs.Registers.{AreLoaded, counters_of}
 
--- what the slots hold at the start of a run with these
--- arguments: these, and what DATA gives the others
+-- the values of the slots at the start of a run: the arguments, and for the other slots those of
+-- DATA
 abbrev pub cells_at_start : CheckedFields → List Arg → Cells
 cells_at_start checked arguments =
     all_filled (map (option_map constant_value) checked.start.initial.items)
     (zip checked.start.dummies.items arguments)
 
--- the registers have that, and behind it the constants of code, and no DO is active
+-- the registers have these values and behind them the constants of code, and no DO is active
 pub record AreAtStart (checked : CheckedFields) (arguments : List Arg)
     (constants registers : List ℤ) (turns : List Turn) : Type 0 where
   pub loaded : AreLoaded checked.start.kinds.items (cells_at_start checked arguments)
       constants registers
   pub counters : turns ≡ counters_of checked.statements (replicate (length checked.program) None)
 
--- code of the program stands at the start of such a run
+-- the code of the program is at the start of the run with these arguments
 pub record IsAtStart (checked : CheckedFields) (arguments : List Arg) (code : Code)
     (start : Point) : Type 0 where
   pub compiled : IsCode checked.statements code
@@ -38,7 +38,7 @@ pub record IsAtStart (checked : CheckedFields) (arguments : List Arg) (code : Co
   pub place : start.place ≡ checked.start.entry
   pub begins : AreAtStart checked arguments code.constants.values.items start.registers start.turns
 
--- where control was in the run with these arguments within so many steps, by code of the program
+-- these are the visits of the run with these arguments within this limit on steps
 pub record IsFollowed (checked : CheckedFields) (arguments : List Arg) (steps : ℕ)
     (visits : Visits) : Type 0 where
   pub fitting : AreFitting checked.arguments arguments

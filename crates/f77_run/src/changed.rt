@@ -1,4 +1,4 @@
-//! Runs of a program with one statement changed, one change after another.
+//! Runs of a program with one statement changed. One change follows another, and all runs use the same memory.
 
 ghost use Rattle.std.specs.Prelude.{◌≡◌, ◌<◌, ◌-◌, length, map, slice_set, None, IfOk, IfErr, OnErr, OnOk};
 ghost use Rattle.std.specs.Bool.{Decides};
@@ -30,16 +30,16 @@ use std::alloc::Global;
 use std::marker::Model;
 use std::snapshot::Snapshot;
 
-/// The statement that is changed.
+/// A changed statement.
 #[derive(Drop)]
 pub(crate) struct Change {
-    /// Its number, from 0.
+    /// The number of the statement, from 0.
     pub(crate) place: usize,
-    /// What stands in its place: clauses alone read it.
+    /// The statement that stands in its place. Only clauses read it.
     pub(crate) stmt: Snapshot<Stmt>,
 }
 
-/// The runs of a program with one statement changed, one change after another, in memory that is taken once.
+/// Runs a program with one statement changed. One change follows another, and memory is taken once.
 #[derive(Drop)]
 pub struct ChangedRunner<'a> {
     alloc: Global,
@@ -77,7 +77,7 @@ impl<'a> Model for ChangedRunner<'a> {
         runner.code runner.space.image };
 }
 
-/// The code and the registers at the start of its runs are those of the program itself again.
+/// Makes the code, and the registers at the start of its runs, those of the program itself again.
 fn restore(checked: &Checked, code: &mut ChangedCode, image: &mut Registers)
     requires code { IsChangedCode checked.now.statements code.old }
     requires slots { code.old.code.constants.slots ≡ checked.now.slots }
@@ -92,8 +92,8 @@ fn restore(checked: &Checked, code: &mut ChangedCode, image: &mut Registers)
     image.items.truncate(checked.slots() + own);
 }
 
-/// The instruction of a statement stands in the place `place` of code that is the program's own. Where there is no
-/// memory, it is that still.
+/// Puts the instruction of a statement in the place `place` of code that is the program's own. If memory runs out, the
+/// code is still the program's own.
 fn put(
     alloc: Global,
     checked: &Checked,
@@ -126,8 +126,8 @@ fn put(
 }
 
 impl<'a> ChangedRunner<'a> {
-    /// The runs of this program, with no statement changed. All the memory that they need is taken here, but that of
-    /// registers, which the first run takes, and that in which a state of a long run is kept.
+    /// A runner for this program, with no statement changed. It takes all memory that its runs need, apart from that
+    /// for registers, which the first run takes, and that for a state that is kept in a long run.
     pub fn of(alloc: Global, checked: &'a Checked) -> Result<ChangedRunner<'a>, RunFault>
         ensures program { IfOk result (λ runner. runner.checked ≡ checked.now) }
         ensures unchanged { IfOk result (λ runner. runner.stmt ≡ None) }
@@ -144,9 +144,9 @@ impl<'a> ChangedRunner<'a> {
         })
     }
 
-    /// From now on the runs are those of the program with this statement in the place of the one of this number, from
-    /// 1, and every other one its own: the changed program is legal by that statement alone. For want of memory, N1,
-    /// they are those of the program itself.
+    /// Puts a statement in the place of the statement with this number, counted from 1. All others are the program's
+    /// own, and the changed program has to be legal by that statement alone. From now on runs are those of the changed
+    /// program. If memory runs out (N1), they are those of the program itself.
     pub fn change(&mut self, number: usize, stmt: &Stmt) -> Result<(), RunFault>
         requires fits { Fits (map line_of self.old.checked.program) number (statement_of stmt.now) }
         requires alone { StandsAlone self.old.checked.names (map line_of self.old.checked.program) (number - 1)
@@ -180,11 +180,11 @@ impl<'a> ChangedRunner<'a> {
         Ok(())
     }
 
-    /// Whether the run of the changed program with these values of the dummy arguments, in order, for so
-    /// many steps at most, has this outcome, which is that of the program itself: begun where the two may part,
-    /// by the first time at which control came to the changed statement, and not made where they do not part.
+    /// Whether the run of the changed program, with these values of the dummy arguments in order and this limit on
+    /// steps, has the outcome `outcome`, which is that of the program itself. The run begins where it may part from the
+    /// run of the program, at the first visit of the changed statement; it is not made if the two do not part.
     ///
-    /// Want of memory, N1, is told in place of any answer.
+    /// Memory (N1) may be reported in place of any answer.
     pub fn comes_to(
         &mut self,
         visits: &Visits,

@@ -1,4 +1,4 @@
-//! Whether an outcome is told of the end of a run.
+//! The outcome for an end of a run, and whether a given outcome is the one for an end.
 
 ghost use Rattle.std.specs.Prelude.{◌≡◌, ◌⊎◌, ◌≤◌, List, length, map, option_map, true, IfOk, IfErr, IfSome};
 ghost use Rattle.std.specs.Bool.{Decides};
@@ -21,7 +21,7 @@ use f77_check::Checked;
 use f77_meaning::{Arg, Outcome, RunFault, Values};
 use std::alloc::Global;
 
-/// Whether the registers have these values of the dummy arguments.
+/// Whether the registers of the dummy arguments have these values.
 fn have_dummies(checked: &Checked, registers: &[i64], arguments: &[Arg]) -> bool
     requires held { are_held registers.now ≡ true }
     requires room { length checked.now.start.kinds.items ≤ length registers.now }
@@ -36,7 +36,7 @@ fn have_dummies(checked: &Checked, registers: &[i64], arguments: &[Arg]) -> bool
     have_arguments(registers, &start.kinds, &start.dummies, arguments)
 }
 
-/// The values of the dummy arguments that the outcome tells.
+/// The values of the dummy arguments that the outcome has, if it has any.
 fn values_told(outcome: &Outcome) -> Option<&[Arg]>
     ensures { option_map (λ arguments. arguments.now) result ≡ code.values_told outcome.now }
 {
@@ -53,7 +53,7 @@ fn values_told(outcome: &Outcome) -> Option<&[Arg]>
     }
 }
 
-/// Whether this is the outcome of a run that failed.
+/// Whether this is the outcome of a run that failed with this fault.
 fn is_fault(fault: Fault, outcome: &Outcome) -> bool
     ensures { Decides result (outcome.now ≡ meaning.told_outcome fault) }
 {
@@ -69,7 +69,8 @@ fn is_fault(fault: Fault, outcome: &Outcome) -> bool
     }
 }
 
-/// Whether this is told of an end, where it is known whether the dummy arguments hold the values that it tells.
+/// Whether this is the outcome for an end. `held` says whether the dummy arguments have the values that the outcome
+/// has.
 fn is_told_where(held: bool, finish: Finish, outcome: &Outcome) -> bool
     ensures { (program : List LineFields) (store : Store)
         → IfSome (code.values_told outcome.now) (λ arguments. Decides held (AreArguments program store arguments))
@@ -83,7 +84,7 @@ fn is_told_where(held: bool, finish: Finish, outcome: &Outcome) -> bool
     }
 }
 
-/// Whether this is told of an end with these registers.
+/// Whether this is the outcome for an end with these registers. It takes no memory.
 pub(crate) fn is_told_by(
     checked: &Checked,
     finish: Finish,
@@ -103,7 +104,7 @@ pub(crate) fn is_told_by(
     is_told_where(held, finish, outcome)
 }
 
-/// The outcome of a run that failed.
+/// The outcome of a run that failed with this fault.
 fn told(fault: Fault) -> Outcome
     ensures { result ≡ meaning.told_outcome fault }
 {
@@ -118,7 +119,7 @@ fn told(fault: Fault) -> Outcome
     }
 }
 
-/// What the dummy arguments hold.
+/// The values of the dummy arguments, from the registers.
 fn dummies(alloc: Global, checked: &Checked, registers: &[i64]) -> Result<Values<Arg>, RunFault>
     requires held { are_held registers.now ≡ true }
     requires dummies { HoldDummies checked.now (shown_by checked.now registers.now) }
@@ -131,7 +132,7 @@ fn dummies(alloc: Global, checked: &Checked, registers: &[i64]) -> Result<Values
     held_arguments(alloc, checked.arguments(), &start.dummies, &cells)
 }
 
-/// What is told of an end with these registers.
+/// The outcome for an end with these registers. Only RETURNED and STOPPED take memory.
 pub(crate) fn answer(
     alloc: Global,
     checked: &Checked,

@@ -1,4 +1,4 @@
-//! Arguments in the registers of the slots of their dummy arguments.
+//! Putting arguments into the registers of their dummy arguments, and comparing them with these.
 
 ghost use Rattle.std.specs.Prelude.{◌≡◌, ◌+◌, ◌<◌, ◌≤◌, List, ℤ, length, map, slice_set, true, Some};
 ghost use Rattle.std.specs.Bool.{Decides};

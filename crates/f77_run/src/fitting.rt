@@ -1,4 +1,5 @@
-//! Which arguments fit dummy arguments.
+//! Which arguments fit the dummy arguments. They are tested before memory is taken, so N2 and N3 do not depend on
+//! memory.
 
 ghost use Rattle.std.specs.Prelude.{◌≡◌, ◌≢◌, ◌+◌, ◌==◌, Some, Err, IfOk, IfSome, IfErr};
 ghost use Rattle.std.specs.Bool.{Decides};
@@ -33,7 +34,7 @@ fn has_shape(shape: &Shape, argument: &Arg) -> bool
     }
 }
 
-/// The number from 0 of the first argument that has not its shape.
+/// The number, from 0, of the first argument that does not have its shape.
 pub(crate) fn misfit(shapes: &[Shape], arguments: &[Arg]) -> Option<usize>
     ensures { result ≡ first_misfit shapes.now arguments.now }
 {
@@ -43,7 +44,7 @@ pub(crate) fn misfit(shapes: &[Shape], arguments: &[Arg]) -> Option<usize>
         .position(|(shape, argument)| !has_shape(shape, argument))
 }
 
-/// Whether there are as many arguments as shapes, each of its shape. It takes no memory.
+/// Whether there are as many arguments as shapes, and each has its shape. It takes no memory.
 #[tactic(auto, using(crate::proofs::Misfits::all_fit, crate::proofs::Misfits::no_misfit, crate::proofs::Misfits::as_many_fit))]
 pub(crate) fn are_fitting(shapes: &[Shape], arguments: &[Arg]) -> bool
     ensures { Decides result (AreFitting shapes.now arguments.now) }
@@ -51,7 +52,7 @@ pub(crate) fn are_fitting(shapes: &[Shape], arguments: &[Arg]) -> bool
     arguments.len() == shapes.len() && misfit(shapes, arguments).is_none()
 }
 
-/// Tells arguments that do not fit: N2 before N3. It takes no memory.
+/// Whether the arguments fit, or why not: N2 is tested before N3. It takes no memory.
 #[tactic(auto, using(crate::proofs::Misfits::misfit_within, crate::proofs::Misfits::all_fit, crate::proofs::Misfits::not_refused))]
 pub fn fit(shapes: &[Shape], arguments: &[Arg]) -> Result<(), RunFault>
     ensures fitting { IfOk result (λ _. AreFitting shapes.now arguments.now) }

@@ -1,4 +1,4 @@
-//! Runs of checked programs.
+//! The interpreter: one run of a checked program. The program is compiled at each call; a `Runner` does so once.
 
 ghost use Rattle.std.specs.Prelude.{◌≡◌, ◌⊎◌, ◌≤◌, ◌<◌, ℕ, map, Some, Err, IfOk, IfErr, IfSome};
 ghost use Rattle.f77_program.specs.Program.{line_of};
@@ -13,10 +13,11 @@ use f77_check::Checked;
 use f77_meaning::{Arg, Outcome, RunFault};
 use std::alloc::Global;
 
-/// Runs a program with these values of its dummy arguments, in order, for so many steps at most: its outcome,
-/// and how many steps were made to know it. A run that comes back to where it was never ends, and is left there.
+/// Runs a program with these values of its dummy arguments, in order, and gives its outcome within the limit `steps`,
+/// with the number of steps after which the outcome was known. A run that comes back to a state never ends, and is left
+/// there.
 ///
-/// N2 and N3 are told before any step, and want of memory, N1, in place of any outcome.
+/// N2 and N3 are reported before any step. Memory (N1) may be reported in place of any outcome.
 pub fn counted_run(
     alloc: Global,
     checked: &Checked,
@@ -40,9 +41,9 @@ pub fn counted_run(
     }
 }
 
-/// Runs a program with these values of its dummy arguments, in order, for so many steps at most: its outcome.
+/// Runs a program with these values of its dummy arguments, in order, and gives its outcome within the limit `steps`.
 ///
-/// N2 and N3 are told before any step, and want of memory, N1, in place of any outcome.
+/// N2 and N3 are reported before any step. Memory (N1) may be reported in place of any outcome.
 pub fn run(
     alloc: Global,
     checked: &Checked,

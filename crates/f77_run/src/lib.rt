@@ -1,4 +1,9 @@
 //! The interpreter: runs of programs, and of programs with one statement changed, by their code.
+//!
+//!     // Outcome::Returned(values), .., Outcome::StepLimit; or a fault such as RunFault::ArgumentShape(2)
+//!     let outcome = run(alloc, &checked, &arguments, 1000)?;
+//!
+//! `run` and `counted_run` compile their program at each call. A `Runner` compiles it once.
 #![tactic(auto)]
 
 mod changed;

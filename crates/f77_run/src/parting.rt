@@ -1,4 +1,8 @@
-//! What the run of a changed program comes to, begun where it may part from that of the program.
+//! The outcome of a changed program, from a run that begins where it may part from the run of the program.
+//!
+//! If control never came to the changed statement, the run is that of the program and is not made. If its first visit
+//! is kept, the changed code makes that one step: if the step leads to the same state, and control came there once, the
+//! run is that of the program; otherwise it goes on from there. If no visit is kept, the run begins at the start.
 
 ghost use Rattle.std.specs.Prelude.{◌≡◌, Some, map, IfOk, IfErr};
 ghost use Rattle.std.specs.Bool.{Decides};
@@ -16,7 +20,7 @@ use f77_check::Checked;
 use f77_code::{Code, KeptStep, Passed, finish_at, first_step};
 use f77_meaning::{Arg, Outcome, RunFault};
 
-/// Whether the run of the changed program has this outcome, begun at its start.
+/// Whether the run of the changed program has this outcome. It begins at the start.
 fn comes_from_start(
     checked: &Checked,
     code: &Code,
@@ -38,7 +42,8 @@ fn comes_from_start(
     Ok(is_told_by(checked, end.finish, &space.registers.items, outcome))
 }
 
-/// The same, begun at the step of the changed statement that is kept: not made where that leads where it led.
+/// Whether the run of the changed program has this outcome. It begins at the kept step of the changed statement, and
+/// ends there where the step leads to the same state and control was there no other time.
 fn comes_from(
     checked: &Checked,
     code: &Code,
@@ -86,9 +91,8 @@ fn comes_from(
     Ok(is_told_by(checked, finish, &space.registers.items, outcome))
 }
 
-/// Whether the run of the changed program has the outcome of that of the program, by the first time at which control
-/// was at the changed statement: begun there, or at the start where that time is not kept, and not made where the two
-/// do not part.
+/// Whether the run of the changed program has the outcome of the program. `passed` has the first time at which control
+/// was at the changed statement.
 pub(crate) fn comes_alike(
     checked: &Checked,
     code: &Code,

@@ -1,4 +1,4 @@
-//! The values of dummy arguments, by what their slots hold.
+//! The values of dummy arguments, from those of their slots.
 
 ghost use Rattle.std.specs.Prelude.{◌≡◌, ◌+◌, ◌≤◌, true, length, map, Some, IfOk, IfErr};
 ghost use Rattle.std.specs.List.{list_all, zip};
@@ -60,7 +60,7 @@ fn truths(alloc: Global, cells: &[Option<Value>]) -> Result<Vec<bool>, RunFault>
     Ok(truths)
 }
 
-/// What a dummy argument of this shape holds.
+/// The value of a dummy argument of this shape, whose first slot is `first`.
 pub(crate) fn argument(
     alloc: Global,
     shape: &Shape,
@@ -88,7 +88,7 @@ pub(crate) fn argument(
     }
 }
 
-/// What all dummy arguments hold, in order.
+/// The values of all dummy arguments, in order.
 pub(crate) fn arguments(
     alloc: Global,
     shapes: &[Shape],

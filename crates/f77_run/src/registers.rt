@@ -1,4 +1,4 @@
-//! The registers and the counters that the code of a program works on.
+//! The registers and counters of a run.
 
 ghost use Rattle.std.specs.Prelude.{◌≡◌, ◌≢◌, ◌++◌, length, map, option_map, take, true};
 ghost use Rattle.std.specs.Prelude.{IfOk, IfErr, OnOk, IfNone, IfSome};
@@ -24,14 +24,14 @@ use f77_meaning::RunFault;
 use f77_tree::{Constant, Kind};
 use std::alloc::Global;
 
-/// A register for each slot and, behind them, each constant of the code, and a counter for each DO, in order.
+/// A register for each slot and behind them for each constant of the code, and a counter for each DO, all in order.
 #[derive(Drop)]
 pub(crate) struct Registers {
     pub(crate) items: Vec<i64>,
     pub(crate) counters: Vec<Turn>,
 }
 
-/// What a register has for a slot of this kind.
+/// The number in a register for this value of a slot.
 pub(crate) fn number(kind: Kind, cell: Option<Value>) -> i64
     ensures number { result ≡ coded (read_as kind cell) }
     ensures held { is_held result ≡ true }
@@ -45,7 +45,7 @@ pub(crate) fn number(kind: Kind, cell: Option<Value>) -> i64
     }
 }
 
-/// What a slot of this kind holds, by its register.
+/// The value of a slot of this kind, from the number in its register.
 pub(crate) fn value(kind: Kind, register: i64) -> Option<Value>
     requires { is_held register ≡ true }
     ensures { result ≡ meaning.shown_as kind (told_by_register register) }
@@ -64,7 +64,7 @@ pub(crate) fn value(kind: Kind, register: i64) -> Option<Value>
     }
 }
 
-/// What DATA gives a slot.
+/// The value that DATA gives a slot, if it gives one.
 fn initial(constant: Option<Constant>) -> Option<Value>
     ensures { result ≡ option_map constant_value constant }
 {
@@ -75,7 +75,7 @@ fn initial(constant: Option<Constant>) -> Option<Value>
     }
 }
 
-/// Adds a register for each slot, with what DATA gives it.
+/// Adds a register for each slot, with the value that DATA gives it.
 fn add_slots(
     registers: &mut Vec<i64>,
     kinds: &[Kind],
@@ -108,7 +108,7 @@ pub(crate) fn add_constants(registers: &mut Vec<i64>, constants: &[i32]) -> Resu
     Ok(())
 }
 
-/// What slots of these kinds hold, by their registers.
+/// The values of slots of these kinds, from their registers.
 pub(crate) fn shown(
     alloc: Global,
     kinds: &[Kind],
@@ -125,12 +125,12 @@ pub(crate) fn shown(
     Ok(cells)
 }
 
-/// The list becomes the other. It takes memory where it has another length.
+/// Makes a list equal to another. It takes memory if their lengths differ.
 fn copy_items<T: Copy>(list: &mut Vec<T>, other: &[T]) -> Result<(), RunFault>
     ensures items { OnOk result (list.new.items ≡ other.now) }
     ensures memory { IfErr result (λ e. e ≡ fault.Memory) }
 {
-    // Most programs have no DO: to copy nothing would take a call, too.
+    // Most programs have no DO, and copying nothing would still be a call.
     if other.is_empty() {
         list.clear();
         return Ok(());
@@ -167,7 +167,7 @@ impl Registers {
         }
     }
 
-    /// What they are at the start of each run of a program, before the arguments are there.
+    /// The registers at the start of each run of a program, before the arguments are put in.
     pub(crate) fn at_start(
         alloc: Global,
         checked: &Checked,
@@ -186,7 +186,7 @@ impl Registers {
         Ok(Registers { items, counters })
     }
 
-    /// They become what these are.
+    /// Makes these registers equal to others.
     pub(crate) fn copy_from(&mut self, other: &Registers) -> Result<(), RunFault>
         ensures items { OnOk result (self.new.items.items ≡ other.now.items.items) }
         ensures counters { OnOk result (self.new.counters.items ≡ other.now.counters.items) }
@@ -196,7 +196,8 @@ impl Registers {
         copy_items(&mut self.counters, &other.counters)
     }
 
-    /// Whether they are the same. Where they were others the last time is looked at first.
+    /// Whether two sets of registers are equal. The place where they differed the last time is compared first: in a
+    /// loop that counts they differ in the same place each time, so a pass costs one comparison, whatever its arrays.
     pub(crate) fn are(&self, other: &Registers, apart: &mut usize) -> bool
         requires { length self.now.items.items ≡ length other.now.items.items }
         ensures { Decides result (stands_at 0 self.now ≡ stands_at 0 other.now) }

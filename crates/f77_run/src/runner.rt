@@ -1,4 +1,4 @@
-//! Runs of one program, one after another.
+//! Runs of one program, one after another, in the same memory.
 
 ghost use Rattle.std.specs.Prelude.{◌≡◌, ◌⊎◌, ◌≤◌, ◌<◌, ◌+◌, ℕ, map, Some, Err, IfOk, IfErr, IfSome};
 ghost use Rattle.std.specs.Bool.{Decides};
@@ -22,16 +22,16 @@ use f77_meaning::{Arg, Outcome, RunFault};
 use std::alloc::Global;
 use std::marker::Model;
 
-/// The course of a run: what comes of it, and where control came to each statement.
+/// What is kept of the trace of a run: its outcome, and the first visit of each statement.
 #[derive(Drop)]
 pub struct Course {
-    /// What comes of the run.
+    /// The outcome of the run.
     pub outcome: Outcome,
-    /// The states in which control came to the statements, from which a run of a changed program may begin.
+    /// The states in which control first came to the statements. A run of a changed program may begin from these.
     pub visits: Visits,
 }
 
-/// The runs of one program, one after another, in memory that is taken once.
+/// Runs one program, again and again, in memory that is taken once.
 #[derive(Drop)]
 pub struct Runner<'a> {
     checked: &'a Checked,
@@ -72,7 +72,7 @@ impl<'a> Model for Runner<'a> {
         × IsImage runner.checked.now runner.code.constants.values.items runner.space.image };
 }
 
-/// The course of the run with arguments that fit.
+/// The trace of the run with arguments that fit.
 fn course_of(
     alloc: Global,
     checked: &Checked,
@@ -113,8 +113,8 @@ fn course_of(
 }
 
 impl<'a> Runner<'a> {
-    /// The runs of this program, which is compiled. All the memory that they need is taken here, but that of a
-    /// course, that of registers, which the first run takes, and that in which a state of a long run is kept.
+    /// A runner for this program, which is compiled here. It takes all memory that its runs need, apart from that for a
+    /// trace, that for registers, which the first run takes, and that for a state that is kept in a long run.
     pub fn of(alloc: Global, checked: &'a Checked) -> Result<Runner<'a>, RunFault>
         ensures program { IfOk result (λ runner. runner ≡ checked.now) }
         ensures memory { IfErr result (λ e. e ≡ fault.Memory) }
@@ -128,10 +128,10 @@ impl<'a> Runner<'a> {
         })
     }
 
-    /// The outcome of the run with these values of the dummy arguments, in order, for so many
-    /// steps at most, and how many steps were made to know it.
+    /// Runs the program with these values of the dummy arguments, in order, and gives its outcome within the limit
+    /// `steps`, with the number of steps after which the outcome was known.
     ///
-    /// N2 and N3 are told before any step, and want of memory, N1, in place of any answer.
+    /// N2 and N3 are reported before any step. Memory (N1) may be reported in place of any answer.
     pub(crate) fn run(
         &mut self,
         alloc: Global,
@@ -161,9 +161,9 @@ impl<'a> Runner<'a> {
         }
     }
 
-    /// Whether the run with these values of the dummy arguments, in order, for so many steps at most, has this outcome.
+    /// Whether the run with these values of the dummy arguments, in order, has this outcome within the limit `steps`.
     ///
-    /// N2 and N3 are told before any step, and want of memory, N1, in place of any answer.
+    /// N2 and N3 are reported before any step. Memory (N1) may be reported in place of any answer.
     pub fn comes_to(
         &mut self,
         arguments: &[Arg],
@@ -189,11 +189,12 @@ impl<'a> Runner<'a> {
         }
     }
 
-    /// The course of the run with these values of the dummy arguments, in order, for so many steps at most. The
-    /// program is run once. Its first step at each statement is kept while there is room for so many
-    /// numbers, which falls by those of each: for a step two for each slot and two for each DO.
+    /// Runs the program once with these values of the dummy arguments, in order, within the limit `steps`, and keeps
+    /// its trace: the first step at each statement, while there is room. `room` counts numbers, and falls by those that
+    /// are kept: for a step, two for each slot and two for each DO. This run does no cycle detection, so a program that
+    /// does not end makes all steps of the limit here, once.
     ///
-    /// N2 and N3 are told before any step, and want of memory, N1, in place of any answer.
+    /// N2 and N3 are reported before any step. Memory (N1) may be reported in place of any answer.
     pub fn course(
         &mut self,
         alloc: Global,

@@ -1,4 +1,4 @@
-//! Steps up to a limit.
+//! Steps up to a limit, with cycle detection (Brent's): a run that comes back to a state that was kept never ends.
 
 ghost use Rattle.std.specs.Prelude.{◌≡◌, ◌⊎◌, ◌≤◌, ◌<◌, ℕ, length, true, IfOk, IfErr, OnOk};
 ghost use Rattle.f77_code.specs.Block.{code_after};
@@ -10,17 +10,17 @@ use crate::registers::Registers;
 use f77_code::{Instruction, Stand, block, block_to};
 use f77_meaning::RunFault;
 
-/// How many steps are made at least before a state is kept: a run that ends before them pays nothing.
+/// The number of steps before a state is first kept. A run that ends within them pays nothing.
 const FIRST: u32 = 64;
 
-/// For how many steps at least a state is looked for: a run that comes back within them is known as soon as by a
-/// look at each step.
+/// A kept state is looked for during this many steps at least. A run that comes back within them is found as soon as if
+/// each step were looked at.
 const LEAST: u32 = 512;
 
-/// In a long run a state is looked for in one of so many steps, since a look takes half as long as a step.
+/// In a long run the kept state is looked for during one step in this many, since looking takes half as long as a step.
 const PART: u32 = 32;
 
-/// At most so many steps from a place on: where they lead.
+/// Makes at most `steps` steps from the place `start` on.
 fn steps_from(code: &[Instruction], registers: &mut Registers, start: usize, steps: u32) -> Stand
     requires held { are_held registers.old.items.items ≡ true }
     requires within { within_registers code.now registers.old ≡ true }
@@ -39,7 +39,7 @@ fn steps_from(code: &[Instruction], registers: &mut Registers, start: usize, ste
     )
 }
 
-/// The same, up to the next time that control comes to the place `watched`.
+/// Makes at most `steps` steps from the place `start` on, until control next comes to the place `watched`.
 fn steps_to(
     code: &[Instruction],
     registers: &mut Registers,
@@ -65,7 +65,8 @@ fn steps_to(
     )
 }
 
-/// The same, up to the next time that the code stands where it stands at first, which is kept: then it never ends.
+/// Makes at most `steps` steps from the place `start` on, until the code is again in the state in which it was at
+/// first, which is `kept`. Then it never ends.
 fn look_for(
     code: &[Instruction],
     registers: &mut Registers,
@@ -99,8 +100,8 @@ fn look_for(
     at
 }
 
-/// At most so many steps from a place on: where they lead. Where the code stands at first is kept, and looked for in
-/// some of them.
+/// Makes at most `steps` steps from the place `start` on. The first state is kept, and looked for during some of the
+/// steps.
 fn steps_with_looks(
     code: &[Instruction],
     registers: &mut Registers,
@@ -132,9 +133,12 @@ fn steps_with_looks(
     })
 }
 
-/// At most so many steps from a place on: where they lead. Where the code stands behind `first` steps or a few more,
-/// and then behind each time twice as many, is kept, and looked for in some steps behind that: a run that comes back
-/// there never ends, and is left.
+/// Makes at most `steps` steps from the place `start` on. A state is kept after `first` steps or a few more, and from
+/// then on each time that the number of steps has doubled. It is looked for during some of the steps behind it: a run
+/// that comes back to it never ends, and is left there.
+///
+/// The counters of DOs that are not active are compared, too. A run that differs in these alone is found a little
+/// later, and no outcome changes.
 pub(crate) fn advance(
     code: &[Instruction],
     registers: &mut Registers,

@@ -1,4 +1,4 @@
-//! Where control was in a run: the first time that it came to each statement, with the step made then.
+//! The first visit of each statement in a run, with the step made then.
 
 ghost use Rattle.std.specs.Prelude.{◌≡◌, length, IfOk, IfErr};
 ghost use Rattle.f77_code.specs.Follow.{AreNone};
@@ -8,16 +8,19 @@ use f77_code::Passed;
 use f77_meaning::RunFault;
 use std::alloc::Global;
 
-/// Where control was in a run: of each statement, in order, the first time that it was there, with the step made then.
+/// For each statement, in order, the first time at which control was there, with the step made then.
+///
+/// The visits are of the code of a `Runner` and serve that of a `ChangedRunner`, which may number its constants
+/// otherwise. So only the registers of slots are kept (`law::twins_do_the_same`).
 #[derive(Drop)]
 pub struct Visits {
     pub(crate) list: Vec<Passed>,
-    /// How many steps the run makes.
+    /// The number of steps that the run makes.
     pub(crate) made: u32,
 }
 
 impl Visits {
-    /// Nothing is noted of so many statements.
+    /// Visits of this many statements, with nothing noted.
     pub(crate) fn none(alloc: Global, count: usize) -> Result<Visits, RunFault>
         ensures count { IfOk result (λ visits. length visits.list.items ≡ count) }
         ensures none { IfOk result (λ visits. AreNone visits.list.items) }

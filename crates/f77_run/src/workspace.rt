@@ -1,4 +1,5 @@
-//! What runs need, in memory that is taken once.
+//! What runs need, in memory that is taken once. The registers at the start (the values of DATA, and the constants
+//! behind the slots) are filled once. A run begins as a copy of them, into which its arguments are put.
 
 ghost use Rattle.std.specs.Prelude.{◌≡◌, List, length, true, ℤ, IfOk, IfErr, OnOk};
 ghost use Rattle.f77_check.specs.Checked.{IsChecked};
@@ -21,15 +22,15 @@ use f77_code::{Code, compiled, finish_at};
 use f77_meaning::{Arg, RunFault};
 use std::alloc::Global;
 
-/// How a run ends, and how many steps were made to know it.
+/// How a run ends, and the number of steps after which that was known.
 #[derive(Clone, Copy)]
 pub(crate) struct End {
     pub(crate) finish: Finish,
     pub(crate) made: u32,
 }
 
-/// The registers and counters of code: those at the start of each run, before the arguments are there, those of a run,
-/// and those of a state of it that is kept.
+/// Registers and counters: those at the start of each run, before the arguments are put in; those of the run; and those
+/// of a state that is kept.
 #[derive(Drop)]
 pub(crate) struct Workspace {
     pub(crate) image: Registers,
@@ -48,7 +49,7 @@ pub(crate) fn code_of(alloc: Global, checked: &Checked) -> Result<Code, RunFault
 }
 
 impl Workspace {
-    /// What the runs of a program need. The registers of a run take memory when the first begins.
+    /// The workspace of a program. The registers of a run take memory when the first run begins.
     pub(crate) fn of(alloc: Global, checked: &Checked, code: &Code) -> Result<Workspace, RunFault>
         requires code { IsCode checked.now.statements code.now }
         ensures image { IfOk result (λ space. IsImage checked.now code.now.constants.values.items space.image) }
@@ -61,7 +62,7 @@ impl Workspace {
         })
     }
 
-    /// The registers are put at the start of a run with arguments that fit.
+    /// Puts the registers at the start of a run with arguments that fit.
     pub(crate) fn restart(&mut self, checked: &Checked, arguments: &[Arg]) -> Result<(), RunFault>
         requires image { (constants : List ℤ) × IsImage checked.now constants self.old.image }
         requires fitting { AreFitting checked.now.arguments arguments.now }
@@ -82,8 +83,8 @@ impl Workspace {
         Ok(())
     }
 
-    /// How the run with these arguments ends, for so many steps at most, by the code of its program. The first state by
-    /// which it may be known that it comes back is kept behind `patience` steps.
+    /// Runs code with these arguments within the limit `steps`, and gives how the run ends. The first state for cycle
+    /// detection is kept after `patience` steps.
     pub(crate) fn end_of(
         &mut self,
         checked: &Checked,

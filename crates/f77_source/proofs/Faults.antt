@@ -45,7 +45,7 @@ sound n line e h =
     let t = sound_by _ _ _ _ _ _ _ e (no_comment line h) in
     record { printable = t.0; no_tab = t.1; fits = t.2 }
 
--- and so it is well formed
+-- a line without a fault of its own is well formed
 pub well_formed : (n : ℕ) (line : List ℕ) → own_fault n line ≡ None → is_well_formed line ≡ true
 unfolding own_fault is_well_formed
 well_formed n line e = by_test (is_comment line) (has_foreign line) (has_tab line) (fits_label_field (kind line) line) e

@@ -164,7 +164,7 @@ ran_step before n line lines ih (Ok q) s = by_rest (run (n + 1) q lines) (ih q s
     by_rest (Ok q') h = none_more before n line lines s.0 h
     by_rest (Err fault) h = first_more before n line lines fault s.0 h
 
--- a run stops at the first fault, and else there is none
+-- a run stops at the first fault, and where there is none it reads all lines
 pub ran : (lines before : List (List ℕ)) (n : ℕ) (p : Progress) → Matches before p → Ran before n lines (run n p lines)
 ran [] before n p m = λ i h. absurd (omega arith)
 ran (line ∷ lines) before n p m =

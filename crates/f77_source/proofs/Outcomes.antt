@@ -44,7 +44,7 @@ line_fault_of_a_line before n line f e = by_own (own_fault n line) refl e
     by_own None is e = place_of_a_line n (is_continuation line) (not (list_any is_initial before)) (length (continuations (since_initial before)) == 19) f e
     by_own (Some g) is e = own_of_a_line n (is_comment line) (has_foreign line) (has_tab line) (fits_label_field (kind line) line) f (is ∙ e)
 
--- a call that answered this fault: memory ran out, or the run stops so
+-- a call that gave this fault: memory ran out, or the run stops so
 abbrev pub Stopped : List ℕ → FormFault → Type 0
 Stopped source fault = (fault ≡ Memory) ⊎ (run 1 nothing_read (lines source) ≡ Err fault)
 
@@ -95,7 +95,7 @@ read_no_fault source q fault e h =
     no_first_fault (lines source) fault
     (subst (λ r. Ran [] 1 (lines source) r) (e) (ran (lines source) [] 1 nothing_read record { begun = refl; count = tt })) h
 
--- what a step that failed says
+-- what follows where a step failed
 pub step_stops : (source : List ℕ) (fault : FormFault) (step : Result Progress FormFault) (new : Progress) → Steps (Err fault) step new
     → (step ≡ Err fault → run 1 nothing_read (lines source) ≡ Err fault) → Stopped source fault
 step_stops source Memory step new s h = inl refl

@@ -209,7 +209,7 @@ record Readable (card : CardFields) : Type 0 where
   written : Writable card
   seen : HasInitialLine card
 
--- its lines in the source
+-- the lines of a card in the source
 following_lines : (text rest : List ℕ) (ks : List ℕ) → list_all is_printable text ≡ true
     → lines (flat_map (continuation_line text) ks ++ rest) ≡ map (continuation_of text) ks ++ lines rest
 following_lines text rest [] h = refl
@@ -233,7 +233,7 @@ card_lines card rest r =
     by_parts : (a b c : List ℕ) → ((a ++ (32 ∷ (b ++ 10 ∷ []))) ++ c) ++ rest ≡ (a ++ (32 ∷ b)) ++ 10 ∷ (c ++ rest)
     by_parts a b c = simp append_assoc
 
--- its continuation lines, as lines of its statement
+-- the continuation lines of a card, as lines of its statement
 module _ (text : List ℕ) (printable : list_all is_printable text ≡ true) where
   kind_at : (k : ℕ) → kind (continuation_of text k) ≡ Continuation
   kind_at k = continuation_kind (piece text k) (piece_length text k) (piece_printable text k printable)

@@ -3,12 +3,12 @@ use Rattle.std.specs.Prelude.{ℕ, ◌==◌, nat_eq, List, Option, Bool, ◌&&�
 use Rattle.std.specs.Option.{option_eq}
 use Rattle.std.specs.Str.{bytes_eq}
 
--- the label where there is one, the text in codes of characters, and the number of the initial line
+-- a card: the label where there is one, the codes of its characters, the number of its initial line
 pub record CardFields : Type 0 where
   pub label : Option ℕ
   pub text : List ℕ
   pub line : ℕ
 
--- one label or none at both, one text and one line
+-- two cards have the same label or none, the same text and the same line
 abbrev pub same_card : CardFields → CardFields → Bool
 same_card a b = option_eq nat_eq a.label b.label && (bytes_eq a.text b.text && a.line == b.line)

@@ -1,4 +1,4 @@
--- Written cards are read again.
+-- Words for the laws of the source form: what it means that a source reads as these cards.
 use Rattle.std.specs.Prelude.{◌≡◌, ◌⊎◌, ℕ, not, ◌||◌, true, List, map, filter, is_some}
 use Rattle.std.specs.List.{list_all}
 use Rattle.std.specs.Char.{to_ascii_uppercase}
@@ -8,15 +8,15 @@ use Rattle.f77_source.specs.Read.{AreCards, IsFirstFormFault, lines}
 use Rattle.f77_source.specs.declared.fault.FormFault.{FormFault}
 use Rattle.f77_source.specs.Write.{piece}
 
--- a text as it is read: blanks left out, in upper case
+-- a text as it is read: without blanks, in upper case
 abbrev pub squeezed : List ℕ → List ℕ
 squeezed text = map to_ascii_uppercase (filter (λ c. not (is_blank c)) text)
 
--- the card stays apart from the comments: it has a label, or its first piece is not blank
+-- the card's first line is no comment: it has a label, or its first piece is not blank
 abbrev pub HasInitialLine : CardFields → Type 0
 HasInitialLine card = (is_some card.label || not (list_all is_blank (piece card.text 0))) ≡ true
 
--- the source is read as these cards, blanks, case and line numbers aside
+-- the source reads as these cards, if blanks, case and line numbers are left out of account
 pub record IsReadAs (source : List ℕ) (cards : List CardFields) : Type 0 where
   pub read : List CardFields
   pub are : AreCards 1 (lines source) read

@@ -26,44 +26,45 @@ label_field line = take 5 line
 abbrev pub statement_field : List ℕ → List ℕ
 statement_field line = drop 6 (counted line)
 
--- what stands in a column, a blank where the line is shorter
+-- the character in column n, from 1: a blank where the line is shorter
 abbrev pub column : List ℕ → ℕ → ℕ
 column line n = slice_index_or line (n - 1) 32
 
--- C, c or * in column 1, or only blanks in columns 1 to 72
+-- a comment line has C, c or * in column 1, or only blanks in columns 1 to 72
 unfoldable pub is_comment : List ℕ → Bool
 is_comment line = (column line 1 == 67)
     || (column line 1 == 99) || (column line 1 == 42) || list_all is_blank (counted line)
 
--- a line that is no comment has a continuation mark where column 6 holds neither a blank nor 0
+-- the kind of a line: if it is no comment, column 6 decides, where a blank or 0 makes it initial
 unfoldable pub kind : List ℕ → LineKind
 kind line =
     if is_comment line then Comment
     else (if is_blank (column line 6) || (column line 6 == 48) then Initial else Continuation)
 
--- the number of the digits, blanks left out
+-- the number that the digits of columns 1 to 5 make, blanks left out
 unfoldable pub field_number : List ℕ → ℕ
 field_number line = digits_value 10 (filter (λ c. not (is_blank c)) (label_field line))
 
--- the label of an initial line
+-- the label of an initial line, if it has one
 unfoldable pub label : List ℕ → Option ℕ
 label line = if list_all is_blank (label_field line) then None else Some (field_number line)
 
+-- a digit or a blank, as columns 1 to 5 may have
 abbrev pub is_label_character : ℕ → Bool
 is_label_character c = is_ascii_digit c || is_blank c
 
--- columns 1 to 5 of an initial line hold only digits and
--- blanks, and where there are digits one is not zero
+-- columns 1 to 5 of an initial line hold digits and blanks alone; if there are digits, they are not
+-- all zero
 unfoldable pub is_label_field : List ℕ → Bool
 is_label_field line =
     list_all is_label_character (label_field line)
     && (list_all is_blank (label_field line) || not (field_number line == 0))
 
--- what the line adds to its statement: columns 7 to 72, blanks left out, in upper case
+-- what a line adds to its statement: columns 7 to 72, without blanks, in upper case
 unfoldable pub line_part : List ℕ → List ℕ
 line_part line = map to_ascii_uppercase (filter (λ c. not (is_blank c)) (statement_field line))
 
--- a byte that only a comment or the columns from 73 on may hold, a tab aside
+-- a byte outside 32 to 126 that is no tab; a comment or the columns from 73 on may hold it
 abbrev pub is_foreign : ℕ → Bool
 is_foreign c = not (is_in_range 32 126 c || (c == 9))
 
@@ -75,18 +76,18 @@ has_foreign line = list_any is_foreign (counted line)
 abbrev pub has_tab : List ℕ → Bool
 has_tab line = list_any (λ c. c == 9) (counted line)
 
--- columns 1 to 5 hold a label or blanks in an initial line, and only blanks in a continuation line
+-- columns 1 to 5 are as the kind wants: a label or blanks if it is initial, blanks if it continues
 abbrev pub fits_label_field : LineKind → List ℕ → Bool
 fits_label_field Initial line = is_label_field line
 fits_label_field Continuation line = list_all is_blank (label_field line)
 fits_label_field Comment line = true
 
--- a comment is not looked at further
+-- a line by itself has no fault; of a comment nothing is asked
 unfoldable pub is_well_formed : List ℕ → Bool
 is_well_formed line = is_comment line
     || not (has_foreign line) && not (has_tab line) && fits_label_field (kind line) line
 
--- what is wrong with line number n by itself
+-- the fault of a line alone, which is line number n
 unfoldable pub own_fault : ℕ → List ℕ → Option FormFault
 own_fault n line =
     if is_comment line then None

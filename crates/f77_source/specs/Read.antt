@@ -13,10 +13,11 @@ use Rattle.f77_source.specs.declared.fault.FormFault.TheVariants.{TooManyContinu
 use Rattle.f77_source.specs.declared.line.LineKind.{LineKind}
 use Rattle.f77_source.specs.declared.line.LineKind.TheVariants.{Comment, Initial, Continuation}
 
+-- LF, which ends a line
 abbrev pub is_line_end : ℕ → Bool
 is_line_end c = c == 10
 
--- what stands behind the last LF is a line where it is not empty
+-- what stands behind the last LF is a line only if it is not empty
 abbrev pub terminated : List (List ℕ) → List (List ℕ)
 terminated [] = []
 terminated ([] ∷ []) = []
@@ -36,12 +37,15 @@ is_continuation_kind Initial = false
 is_continuation_kind Continuation = true
 is_continuation_kind Comment = false
 
+-- the line is an initial line
 abbrev pub is_initial : List ℕ → Bool
 is_initial line = is_initial_kind (kind line)
 
+-- the line is a continuation line
 abbrev pub is_continuation : List ℕ → Bool
 is_continuation line = is_continuation_kind (kind line)
 
+-- the continuation lines among these lines
 abbrev pub continuations : List (List ℕ) → List (List ℕ)
 continuations lines = filter is_continuation lines
 
@@ -49,8 +53,8 @@ continuations lines = filter is_continuation lines
 abbrev pub MayGoOn : List ℕ → Type 0
 MayGoOn line = (is_initial line ≡ false) × (is_well_formed line ≡ true)
 
--- the card of the statement whose initial line is
--- number n, with the lines that follow that line in it
+-- the card of a statement: its initial line has number n, and these lines follow it in the
+-- statement
 abbrev pub statement_card : ℕ → List ℕ → List (List ℕ) → CardFields
 statement_card n initial following = record {
   label = label initial;
@@ -58,8 +62,8 @@ statement_card n initial following = record {
   line = n;
 }
 
--- The lines from number n on are these cards: comments and statements. A statement is an initial
--- line with its continuation lines, of which there are at most 19, and the comments among them.
+-- The lines from number n on are these cards. They are comments and statements. A statement is an
+-- initial line with its continuation lines, at most 19, and the comments between these.
 pub data AreCards : ℕ → List (List ℕ) → List CardFields → Type 0 where
   no_lines : {n : ℕ} → AreCards n [] []
   comment : {n : ℕ} {line : List ℕ} {rest : List (List ℕ)} {cards : List CardFields}
@@ -72,34 +76,34 @@ pub data AreCards : ℕ → List (List ℕ) → List CardFields → Type 0 where
       → AreCards (n + 1 + length following) rest cards
       → AreCards n (initial ∷ (following ++ rest)) (statement_card n initial following ∷ cards)
 
--- the lines behind the last initial line, last line first
+-- the lines behind the last initial line, the last of them first
 abbrev pub since_initial : List (List ℕ) → List (List ℕ)
 since_initial before = take_while (λ line. not (is_initial line)) (reverse before)
 
--- what is wrong with a continuation line, number n, behind these lines
+-- the fault of continuation line number n because of the lines before it
 unfoldable pub place_fault : List (List ℕ) → ℕ → Option FormFault
 place_fault before n =
     if not (list_any is_initial before) then Some (LooseContinuation n)
     else (if length (continuations (since_initial before)) == 19 then Some (TooManyContinuations n)
     else None)
 
--- what is wrong with line number n behind these lines
+-- the fault of line number n behind these lines
 unfoldable pub line_fault : List (List ℕ) → ℕ → List ℕ → Option FormFault
 line_fault before n line =
     option_or (own_fault n line) (if is_continuation line then place_fault before n else None)
 
--- what is wrong with the line at this index, and so its number is one more
+-- the fault of the line at index i: indices count from 0, line numbers from 1
 abbrev pub fault_of_card : List (List ℕ) → ℕ → Option FormFault
 fault_of_card all i = line_fault (take i all) (i + 1) (slice_index_or all i [])
 
--- the fault of one line, and none before it has one
+-- the fault is that of one line, and no line before it has one
 pub record IsFirstFormFault (all : List (List ℕ)) (fault : FormFault) : Type 0 where
   pub index : ℕ
   pub within : index < length all
   pub found : fault_of_card all index ≡ Some fault
   pub first : (i : ℕ) → i < index → fault_of_card all i ≡ None
 
--- when a source is refused so: want of memory can come at any source
+-- a source may be refused with this fault; Memory may come for any source
 abbrev pub IsRefusedBy : List ℕ → FormFault → Type 0
 IsRefusedBy source Memory = Unit {0}
 IsRefusedBy source TooLarge = 65536 < length source

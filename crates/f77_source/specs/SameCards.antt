@@ -1,4 +1,4 @@
--- Cards are the same exactly where they are equal.
+-- The test of two cards holds exactly where they are equal.
 use Rattle.std.specs.Prelude.{◌≡◌, ℕ, nat_eq, true, Option, Some, None, refl}
 use Rattle.std.specs.Bool.{Decides}
 use Rattle.std.specs.Option.{option_eq}

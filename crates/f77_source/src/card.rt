@@ -1,4 +1,5 @@
-//! Cards: statements as they stand on their lines.
+//! Cards: statements as they stand on their lines. Contracts see the text of a card as a list of character codes, so
+//! clauses compare cards as values.
 
 ghost use Rattle.std.specs.Prelude.{◌≡◌, OnOk, false, string_bytes};
 ghost use Rattle.std.specs.Cmp.{partial_equiv_from_equiv};
@@ -11,10 +12,10 @@ use crate::line::append_line_part;
 use std::alloc::AllocError;
 use std::marker::Model;
 
-/// A statement as it stands on its lines: the label, the text and the number of the initial line.
+/// A statement as it stands on its lines: its label, its text and the number of its initial line.
 ///
-/// As read, the label is 1 to 99999, the text has no blanks and is in upper case, and lines count from 1. A card that
-/// is to be written may hold any label and any text.
+/// In a card that was read, the label is 1 to 99999, the text has no blanks and is in upper case, and lines count from
+/// 1. A card that is to be written may have any label and any text.
 #[derive(Debug, Drop)]
 pub struct Card {
     label: Option<u32>,
@@ -46,7 +47,7 @@ impl Eq for Card {
 }
 
 impl Card {
-    /// A card of these parts.
+    /// Makes a card of these parts. Nothing is tested: `write_form` does that.
     pub fn new(label: Option<u32>, text: String, line: u32) -> Card
         ensures { result ≡ record { label = label; text = string_bytes text; line = line } }
     {
@@ -74,7 +75,7 @@ impl Card {
         self.line
     }
 
-    /// Adds what a line adds to its statement. After want of memory the text is of no use.
+    /// Adds to the text what a line adds to its statement. Where memory runs out, the text may have a part of the line.
     pub(crate) fn append(&mut self, line: &[u8]) -> Result<(), AllocError>
         requires { has_foreign line.now ≡ false }
         ensures { OnOk result (self.new ≡ extended line.now self.old) }

@@ -1,4 +1,4 @@
-//! Why lines are no cards, and cards no lines.
+//! Why a source can not be read as cards, and why cards can not be written.
 
 ghost use Rattle.std.specs.Prelude.{◌≡◌};
 ghost use Rattle.f77_source.specs.declared.fault.FormFault.TheVariants.{Memory};
@@ -18,7 +18,7 @@ pub enum FormFault {
     /// F3: a byte outside 32 to 126 that is no tab.
     #[error("line {0} holds a character that is not printable ASCII")]
     NotAscii(u32),
-    /// F4: a tab.
+    /// F4: a tab, which counts as no blank.
     #[error("line {0} holds a tab")]
     Tab(u32),
     /// F5: columns 1 to 5 hold no label.
@@ -27,7 +27,7 @@ pub enum FormFault {
     /// F6: a continuation line with no initial line before it.
     #[error("line {0} continues no statement")]
     LooseContinuation(u32),
-    /// F7: the twentieth continuation line of a statement.
+    /// F7: a twentieth continuation line of one statement, which may have 19 (3.3).
     #[error("line {0} is a continuation line too many")]
     TooManyContinuations(u32),
 }

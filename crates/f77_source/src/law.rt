@@ -1,4 +1,4 @@
-//! What holds of the line form itself.
+//! Laws of the fixed source form.
 
 ghost use Rattle.std.specs.Prelude.{◌≡◌, ◌↔◌, ℕ, true, [], List};
 ghost use Rattle.std.specs.List.{All};
@@ -8,14 +8,14 @@ ghost use Rattle.f77_source.specs.Read.{lines, AreCards, IsFirstFormFault};
 ghost use Rattle.f77_source.specs.Write.{card_faults, written};
 ghost use Rattle.f77_source.specs.declared.fault.FormFault.{FormFault};
 
-/// Written cards are read again, where no line of theirs is a comment.
+/// Cards that were written are read again, if each has a label or a first line that is not blank.
 #[tactic(auto, using(crate::proofs::ReadBack::read_back))]
 pub fn written_cards_are_read()
     ensures { (cards : List CardFields)
         → card_faults cards ≡ [] → All HasInitialLine cards → IsReadAs (written cards) cards }
 {}
 
-/// Lines are one list of cards, or have one first fault, and not both.
+/// The lines of a source are one list of cards, or one of them is the first with a fault, and never both.
 #[tactic(auto, using(crate::proofs::Outcomes::one_list, crate::proofs::Outcomes::one_first_fault))]
 pub fn one_reading()
     ensures some { (source : List ℕ) → HasCardsOrFault source }
@@ -29,7 +29,7 @@ pub fn one_reading()
         → ¬ (IsFirstFormFault (lines source) fault) }
 {}
 
-/// Cards are equal by `==` exactly where they have the same label or none, the same text and the same line.
+/// Two cards are equal by `==` exactly where their labels, their texts and their lines are equal.
 #[tactic(auto, using(crate::specs::SameCards::same_card_decides))]
 pub fn equal_cards_are_one()
     ensures { (card other : CardFields) → (same_card card other ≡ true) ↔ (card ≡ other) }

@@ -1,4 +1,4 @@
-//! One line of a source.
+//! One line of a source: its columns, its kind, its label, its text, and what is wrong with it alone.
 
 ghost use Rattle.std.specs.Prelude.{◌≡◌, ◌<◌, ◌++◌, Option, None, true, false, take, OnOk, string_bytes};
 ghost use Rattle.std.specs.List.{list_all, list_any};
@@ -26,7 +26,7 @@ ghost use Rattle.f77_source.specs.Line.{
 use crate::fault::FormFault;
 use std::alloc::AllocError;
 
-/// What a line is (ANSI X3.9-1978, 3.2).
+/// The kind of a line (ANSI X3.9-1978, 3.2).
 #[derive(Clone, Copy, Debug, PartialEq, Eq)]
 pub(crate) enum LineKind {
     Comment,
@@ -34,7 +34,7 @@ pub(crate) enum LineKind {
     Continuation,
 }
 
-/// The columns up to this one.
+/// The columns from 1 to `last`, or all where the line is shorter.
 fn columns_up_to(line: &[u8], last: usize) -> &[u8]
     ensures { result.now ≡ take last line.now }
 {
@@ -77,7 +77,7 @@ fn are_blank(columns: &[u8]) -> bool
     columns.iter().all(|c| *c == b' ')
 }
 
-/// What stands in a column, from 1 on, and a blank where the line is shorter.
+/// The character in a column, counted from 1: a blank where the line is shorter.
 fn character_in(line: &[u8], number: usize) -> u8
     requires { 0 < number }
     ensures { result ≡ column line.now number }
@@ -85,6 +85,7 @@ fn character_in(line: &[u8], number: usize) -> u8
     line.get(number - 1).copied().unwrap_or(b' ')
 }
 
+/// A tab is no blank, so a line of blanks and tabs is no comment.
 #[tactic(auto, unfolding(crate::specs::Line::is_comment))]
 fn is_comment_line(line: &[u8]) -> bool
     ensures { result ≡ is_comment line.now }
@@ -93,7 +94,7 @@ fn is_comment_line(line: &[u8]) -> bool
     mark == b'C' || mark == b'c' || mark == b'*' || are_blank(counted_columns(line))
 }
 
-/// What the line is.
+/// The kind of the line. A blank or a 0 in column 6 makes it initial (3.2.2).
 #[tactic(auto, unfolding(crate::specs::Line::kind))]
 pub(crate) fn line_kind(line: &[u8]) -> LineKind
     ensures { result ≡ kind line.now }
@@ -108,7 +109,7 @@ pub(crate) fn line_kind(line: &[u8]) -> LineKind
     LineKind::Continuation
 }
 
-/// The number of the digits of columns 1 to 5, blanks left out.
+/// The number that the digits of columns 1 to 5 make, blanks left out.
 fn number_in_label_columns(line: &[u8]) -> u32
     requires { list_all is_label_character (label_field line.now) ≡ true }
     ensures value { result ≡ field_number line.now }
@@ -123,7 +124,7 @@ fn number_in_label_columns(line: &[u8]) -> u32
     number
 }
 
-/// The label of an initial line.
+/// The label of an initial line, or None where columns 1 to 5 are blank.
 #[tactic(auto, unfolding(crate::specs::Line::label))]
 pub(crate) fn label_of(line: &[u8]) -> Option<u32>
     requires { list_all is_label_character (label_field line.now) ≡ true }
@@ -141,7 +142,7 @@ fn are_label_characters(columns: &[u8]) -> bool
     columns.iter().all(|c| c.is_ascii_digit() || *c == b' ')
 }
 
-/// Whether columns 1 to 5 fit an initial line.
+/// Whether columns 1 to 5 are as in an initial line: blank, or a label from 1 to 99999.
 #[tactic(auto, unfolding(crate::specs::Line::is_label_field))]
 fn has_label_field(line: &[u8]) -> bool
     ensures { result ≡ is_label_field line.now }
@@ -153,7 +154,7 @@ fn has_label_field(line: &[u8]) -> bool
     are_blank(columns) || number_in_label_columns(line) != 0
 }
 
-/// Whether columns 1 to 5 fit a line of this kind.
+/// Whether columns 1 to 5 are as a line of this kind wants them.
 fn fits_kind(line: &[u8], kind: LineKind) -> bool
     ensures { result ≡ fits_label_field kind line.now }
 {
@@ -178,7 +179,9 @@ fn has_tab_character(line: &[u8]) -> bool
     counted_columns(line).iter().any(|c| *c == b'\t')
 }
 
-/// What is wrong with the line by itself, which has this number.
+/// The fault of the line alone, which has this number. F3 comes before F4, whichever stands first in the line. Columns
+/// are tested before the place of the line: a continuation line with something in columns 1 to 5 is F5, also where F6
+/// or F7 would follow.
 #[tactic(auto, unfolding(crate::specs::Line::own_fault))]
 pub(crate) fn fault_of(line: &[u8], number: u32) -> Option<FormFault>
     ensures { result ≡ own_fault number line.now }
@@ -198,7 +201,7 @@ pub(crate) fn fault_of(line: &[u8], number: u32) -> Option<FormFault>
     Some(FormFault::BadLabel(number))
 }
 
-/// Adds to the text what the line adds to its statement.
+/// Adds to a text what the line adds to its statement: columns 7 to 72, without blanks, in upper case.
 pub(crate) fn append_line_part(text: &mut String, line: &[u8]) -> Result<(), AllocError>
     requires { list_any is_foreign (counted line.now) ≡ false }
     ensures { OnOk result (string_bytes text.new ≡ string_bytes text.old ++ line_part line.now) }

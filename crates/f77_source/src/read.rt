@@ -1,4 +1,4 @@
-//! Lines read into cards.
+//! A source read into cards, line by line.
 
 ghost use Rattle.std.specs.Prelude.{◌≡◌, ◌≤◌, ◌<◌, ◌⊎◌, List, [], ◌∷◌, length};
 ghost use Rattle.std.specs.Prelude.{IfOk, IfErr, MatchOption, MatchResult};
@@ -12,7 +12,7 @@ use crate::fault::FormFault;
 use crate::reader::Reader;
 use std::alloc::Global;
 
-/// The line without the one carriage return that may end it.
+/// The line without its last byte where that is a carriage return.
 fn without_carriage_return(line: &[u8]) -> &[u8]
     ensures { result.now ≡ strip_carriage_return line.now }
 {
@@ -23,7 +23,7 @@ fn without_carriage_return(line: &[u8]) -> &[u8]
     }
 }
 
-/// How many bytes stand before the first end of a line.
+/// The number of bytes before the first LF, or of all bytes where there is none.
 fn first_line_length(source: &[u8]) -> usize
     ensures place { result ≡ position_or_len is_line_end source.now }
     ensures within { result ≤ length source.now }
@@ -36,7 +36,7 @@ fn first_line_length(source: &[u8]) -> usize
     source.len()
 }
 
-/// The first line, and what stands behind its end.
+/// The first line, and the source behind its end. None where the source is empty.
 fn next_line(source: &[u8]) -> Option<(&[u8], &[u8])>
     ensures { MatchOption result (source.now ≡ [])
         (λ x. (length x.1.now < length source.now) × (lines source.now ≡ x.0.now ∷ lines x.1.now)) }
@@ -54,7 +54,8 @@ fn next_line(source: &[u8]) -> Option<(&[u8], &[u8])>
 
 /// The cards of a source in fixed form, in the order of their lines (ANSI X3.9-1978, section 3).
 ///
-/// Of several faults the first line's is told, and of one line's faults the first in the order of `FormFault`.
+/// TooLarge comes before all other faults. Otherwise the first line with a fault is reported, with the first of its
+/// faults in the order of `FormFault`.
 pub fn read_form(alloc: Global, source: &[u8]) -> Result<Vec<Card>, FormFault>
     // What is read.
     ensures within { IfOk result (λ _. length source.now ≤ 65536) }

@@ -1,4 +1,4 @@
-//! The reader of lines: what it keeps from line to line.
+//! The reader of lines, and what it keeps from line to line.
 
 ghost use Rattle.std.specs.Prelude.{◌≡◌, OnOk, IfOk, true, false};
 ghost use Rattle.std.specs.List.{list_all};
@@ -13,14 +13,14 @@ use crate::line::{LineKind, append_line_part, fault_of, label_of, line_kind};
 use crate::statement::Statement;
 use std::alloc::{AllocError, Global};
 
-/// The cards that are complete, and the current statement.
+/// The cards that are complete, and the statement that may still have continuation lines.
 #[derive(Drop)]
 pub(crate) struct Reader {
     pub(crate) cards: Vec<Card>,
     pub(crate) current: Option<Statement>,
 }
 
-/// The card that an initial line begins.
+/// The card that an initial line begins. `number` is that of the line.
 fn begin_card(alloc: Global, line: &[u8], number: u32) -> Result<Card, AllocError>
     requires printable { has_foreign line.now ≡ false }
     requires label { list_all is_label_character (label_field line.now) ≡ true }
@@ -32,7 +32,7 @@ fn begin_card(alloc: Global, line: &[u8], number: u32) -> Result<Card, AllocErro
 }
 
 impl Reader {
-    /// Nothing is read yet.
+    /// A reader that has read no line.
     pub(crate) fn new(alloc: Global) -> Reader
         ensures { progress_of result ≡ nothing_read }
     {
@@ -42,7 +42,7 @@ impl Reader {
         }
     }
 
-    /// All cards.
+    /// All cards, once the last line is read.
     pub(crate) fn finish(self) -> Result<Vec<Card>, AllocError>
         ensures { IfOk result (λ cards. cards.items ≡ all_cards (progress_of self)) }
     {
@@ -53,7 +53,7 @@ impl Reader {
         Ok(cards)
     }
 
-    /// Takes an initial line, which has this number.
+    /// Reads an initial line: the statement before it is complete.
     fn begin(&mut self, alloc: Global, line: &[u8], number: u32) -> Result<(), AllocError>
         requires printable { has_foreign line.now ≡ false }
         requires label { list_all is_label_character (label_field line.now) ≡ true }
@@ -70,7 +70,7 @@ impl Reader {
         Ok(())
     }
 
-    /// Takes a continuation line, which has this number.
+    /// Reads a continuation line. F6 and F7 are found here.
     fn go_on(&mut self, line: &[u8], number: u32) -> Result<(), FormFault>
         requires { has_foreign line.now ≡ false }
         ensures { Steps result (gone_on number line.now (progress_of self.old)) (progress_of self.new) }
@@ -95,7 +95,7 @@ impl Reader {
         Ok(())
     }
 
-    /// Takes a line, which has this number.
+    /// Reads the next line, of any kind. Where it has a fault, nothing is said of the reader.
     pub(crate) fn take(&mut self, alloc: Global, line: &[u8], number: u32) -> Result<(), FormFault>
         ensures { Steps result (taken number line.now (progress_of self.old)) (progress_of self.new) }
     {

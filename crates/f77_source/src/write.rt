@@ -38,7 +38,7 @@ use crate::card::Card;
 use crate::fault::FormFault;
 use std::alloc::{AllocError, Global};
 
-/// How many continuation lines a text takes.
+/// The number of continuation lines that the text needs, at 66 characters a line.
 fn continuation_lines(text: &str) -> usize
     ensures { result ≡ continuation_count text.now }
 {
@@ -60,7 +60,7 @@ fn has_bad_label(label: Option<u32>) -> bool
     }
 }
 
-/// What keeps the card from being written.
+/// The fault for which the card can not be written.
 #[tactic(auto, unfolding(crate::specs::Write::card_fault))]
 fn fault_of(card: &Card) -> Option<FormFault>
     ensures { result ≡ card_fault card.now }
@@ -77,7 +77,7 @@ fn fault_of(card: &Card) -> Option<FormFault>
     None
 }
 
-/// What keeps the first card that has a fault from being written.
+/// The fault of the first card that has one.
 fn first_fault(cards: &[Card]) -> Option<FormFault>
     ensures { MatchOption result (card_faults cards.now ≡ [])
         (λ fault. slice_get (card_faults cards.now) 0 ≡ Some fault) }
@@ -90,7 +90,7 @@ fn first_fault(cards: &[Card]) -> Option<FormFault>
     None
 }
 
-/// Columns 1 to 5.
+/// Adds columns 1 to 5: the label right-adjusted, or five blanks.
 fn push_label(out: &mut String, label: Option<u32>) -> Result<(), AllocError>
     requires { is_bad_label label ≡ false }
     ensures { OnOk result (string_bytes out.new ≡ string_bytes out.old ++ label_text label) }
@@ -101,7 +101,7 @@ fn push_label(out: &mut String, label: Option<u32>) -> Result<(), AllocError>
     }
 }
 
-/// Columns 7 to 72 of the line with this index among those of the text.
+/// Adds columns 7 to 72 of one line of the text: index 0 is the initial line.
 fn push_piece(out: &mut String, text: &str, index: usize) -> Result<(), AllocError>
     requires printable { list_all is_printable text.now ≡ true }
     requires within { 66 * index ≤ length text.now }
@@ -112,7 +112,7 @@ fn push_piece(out: &mut String, text: &str, index: usize) -> Result<(), AllocErr
     out.push_str(&text[start..end])
 }
 
-/// The initial line of a card.
+/// Adds the initial line of a card. Column 6 is blank.
 fn push_initial_line(out: &mut String, card: &Card) -> Result<(), AllocError>
     requires printable { list_all is_printable card.now.text ≡ true }
     requires label { is_bad_label card.now.label ≡ false }
@@ -124,7 +124,7 @@ fn push_initial_line(out: &mut String, card: &Card) -> Result<(), AllocError>
     out.push_str("\n")
 }
 
-/// The continuation line with this index.
+/// Adds a continuation line of the text: index 1 is the first.
 fn push_continuation_line(out: &mut String, text: &str, index: usize) -> Result<(), AllocError>
     requires printable { list_all is_printable text.now ≡ true }
     requires within { 66 * index ≤ length text.now }
@@ -135,7 +135,9 @@ fn push_continuation_line(out: &mut String, text: &str, index: usize) -> Result<
     out.push_str("\n")
 }
 
-/// The lines of a card.
+/// Adds the lines of a card. The text is cut after each 66 characters, so a line may begin or end with a blank of the
+/// text. A card without label and text gives a blank line, so that each card has a line. Such a line would be read as a
+/// comment, so `law::written_cards_are_read` excludes it.
 fn push_card(out: &mut String, card: &Card) -> Result<(), AllocError>
     requires { card_fault card.now ≡ None }
     ensures { OnOk result (string_bytes out.new ≡ string_bytes out.old ++ written_card card.now) }
@@ -151,14 +153,14 @@ fn push_card(out: &mut String, card: &Card) -> Result<(), AllocError>
 /// The lines of the cards in order, each ended by LF (ANSI X3.9-1978, 3.2).
 ///
 /// A label stands right-adjusted in columns 1 to 5, the first 66 characters of the text from column 7 on, and each
-/// further 66 characters on a continuation line with `+` in column 6. No line is padded. Of several faults the first
-/// card's is told, at its line, and of one card's faults the first in the order of `FormFault`.
+/// further 66 characters on a continuation line with `+` in column 6. No line is filled with blanks. The first card
+/// with a fault is reported, at its own line, with the first of its faults in the order of `FormFault`.
 pub fn write_form(alloc: Global, cards: &[Card]) -> Result<String, FormFault>
     ensures text { IfOk result (λ text. string_bytes text ≡ written cards.now) }
     ensures accepted { IfOk result (λ _. card_faults cards.now ≡ []) }
     ensures refused { IfErr result
         (λ fault. (slice_get (card_faults cards.now) 0 ≡ Some fault) ⊎ (fault ≡ FormFault.Memory)) }
-    // A fault is told before any memory is taken.
+    // A fault is found before any memory is taken.
     ensures told { (fault : FormFault)
         → slice_get (card_faults cards.now) 0 ≡ Some fault → IfErr result (λ found. found ≡ fault) }
 {

@@ -1,4 +1,4 @@
--- More calls read the same, once they are enough: so the readers meet their own equations.
+-- More calls read the same once they are enough, so the readers satisfy their own equations.
 use Rattle.std.proofs.Common.{arith, ◌-◌, zero-add, ◌≡◌, ◌<◌, ◌≤◌, ◌+◌, ℕ, zero, suc, length, length-append, List, [], ◌∷◌, Bool, true, false, cond, refl, Option, Some, None, ap, sym, ◌∙◌}
 use Rattle.std.specs.Prelude.{codes, ◌==◌, ◌&&◌, nat_le}
 use Rattle.f77_tree.specs.declared.operator.Operator.{Operator}
@@ -12,13 +12,13 @@ use Rattle.f77_syntax.proofs.Sound.{Sound, sound_within}
 use Rattle.f77_syntax.proofs.Sound as sound
 use Rattle.f77_syntax.proofs.Shorter.{Shorter, shorter, operator_shorter, past_word_short, spelled_long}
 
--- the two read alike any text of at most this length
+-- two readers agree on each text of at most this length
 pub record Agree (n : ℕ) (R Q : Readers) : Type 0 where
   pub expr : (w : ℕ) (s : List ℕ) → length s ≤ n → R.expr w s ≡ Q.expr w s
   pub climb : (w : ℕ) (t : Tree) (own : ℕ) (s : List ℕ) → length s ≤ n → R.climb w t own s ≡ Q.climb w t own s
   pub items : (s : List ℕ) → length s ≤ n → R.items s ≡ Q.items s
 
--- the same step first, and then steps that agree where the first succeeded
+-- two readings with the same first step agree if they agree behind it
 same_bind : {A B : Type 0} (o p : Option A) (f g : A → Option B) → o ≡ p → ((x : A) → o ≡ Some x → f x ≡ g x) → (o >>= f) ≡ (p >>= g)
 same_bind None p f g e h = rw (← e) refl
 same_bind (Some x) p f g e h = rw (← e) (h x refl)
@@ -27,7 +27,7 @@ same_cond : {A : Type 0} (b : Bool) (x y z v : A) → x ≡ z → y ≡ v → co
 same_cond true x y z v p q = p
 same_cond false x y z v p q = q
 
--- a test that fails makes any two alike
+-- behind a test that fails any two readers agree
 same_when : {A : Type 0} (b : Bool) (x y z : A) → (b ≡ true → x ≡ z) → cond b x y ≡ cond b z y
 same_when true x y z p = p refl
 same_when false x y z p = refl
@@ -91,7 +91,7 @@ module _ (n : ℕ) (R Q : Readers) (short : Shorter R) (sound_R : Sound R) (agre
       more t [] fall = refl
       more t (c ∷ r) fall = same_when (c == 44) _ _ _ (λ _. same_bind (R.items r) (Q.items r) _ _ (agree.items r (omega arith)) (λ x e. refl))
 
--- one more call in one another makes no difference
+-- one more call inside another makes no difference
 more_calls : (n : ℕ) → Agree n (within n) (within (suc n))
 unfolding within expr_at start_at climb_at trees_at operator_at
 more_calls zero = record {
@@ -121,7 +121,7 @@ more_calls (suc n) =
       items = items_same n (within n) (within (suc n)) short sound_n agree;
     }
 
--- so any number of calls that is enough reads alike
+-- two numbers of calls that are both enough read the same
 enough_expr : (d n w : ℕ) (s : List ℕ) → length s ≤ n → (within n).expr w s ≡ (within (d + n)).expr w s
 enough_expr zero n w s h = rw zero-add refl
 enough_expr (suc d) n w s h = enough_expr d n w s h ∙ (more_calls (d + n)).expr w s (omega arith) ∙ ap (λ k. (within k).expr w s) (omega arith)

@@ -14,7 +14,7 @@ use Rattle.f77_syntax.proofs.Steps.{along, bind_ok, chosen, guarded}
 use Rattle.f77_tree.proofs.Words.{word_whole}
 use Rattle.f77_syntax.proofs.Sound.{sound_reading, close_is}
 
--- nothing stands behind
+-- a value behind which nothing has to stand
 pub ended_is : {A : Type 0} (x : A) (rest : List ℕ) (y : A) → value_ended x rest ≡ Some y → (x ≡ y) × (rest ≡ [])
 ended_is x [] y e = (same_Some x y e, refl)
 ended_is x (c ∷ rest) y e = absurd (let h = guarded (length (c ∷ rest) == 0) (Some x) y e in let z = eqb-true (length (c ∷ rest)) 0 h.0 in omega arith)

@@ -3,7 +3,7 @@ use Rattle.std.proofs.Common.{arith, ◌≤◌, ◌+◌, ◌-◌, ◌*◌, ℕ, 
 use Rattle.std.specs.Str.{chars, chars_after, continuation_len, lead_bits}
 use Rattle.f77_syntax.specs.TextLimits.{character_count}
 
--- behind the first byte of a character, which is one
+-- the characters of the bytes behind the first byte of a character, which counts as one
 after_few : (bytes : List ℕ) (n c : ℕ) → length (chars_after n c bytes) ≤ length bytes + 1
 after_few [] zero c = omega arith
 after_few [] (suc n) c = omega arith

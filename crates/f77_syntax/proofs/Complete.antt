@@ -40,7 +40,7 @@ closing own = if nat_lt own 8 then own + 1 else own
 closing_at : (own : ℕ) → ((own < 8) × (closing own ≡ own + 1)) ⊎ ((8 ≤ own) × (closing own ≡ own))
 closing_at own = grind (arith, nat_tests)
 
--- the tables
+-- the levels of each operator
 closing_level : (op : Operator) → closing (level op) ≡ right_level op
 closing_level Equivalent = refl
 closing_level NotEquivalent = refl
@@ -85,7 +85,7 @@ tables Multiply = record { up = omega arith; left = λ own h g. omega (arith, cl
 tables Divide = record { up = omega arith; left = λ own h g. omega (arith, closing_at own); high = omega arith; right = omega arith; low = omega arith; front = λ y. refl }
 tables Power = record { up = omega arith; left = λ own h g. omega (arith, closing_at own); high = omega arith; right = omega arith; low = omega arith; front = λ y. refl }
 
--- what an operator of that text is not the beginning of another's
+-- the text does not begin with an asterisk, so an operator before it is not the beginning of another one
 abbrev pub NoStar : List ℕ → Type 0
 NoStar [] = Unit {0}
 NoStar (c ∷ s) = (c == 42) ≡ false
@@ -362,11 +362,11 @@ mutual
   complete_all (SpellsAll.last {text = text} {t = t} p) rest = last_read text t (complete (omega arith) p) rest
   complete_all (SpellsAll.more {text = text} {rest = others} {t = t} {ts = ts} p q) rest = more_read text others t ts (complete (omega arith) p) rest (complete_all q rest)
 
--- the whole text
+-- the whole text is read
 pub whole : {text : List ℕ} {t : Tree} → Spells 1 text t → reading.expr 1 text ≡ Some (t, [])
 unfolding front_level
 whole {text = text} p = ap (reading.expr 1) (sym (append-nil text)) ∙ operand_read 1 (complete (omega arith) p) [] (omega arith)
 
--- a text spells one tree at most
+-- a text spells at most one tree
 pub one_tree : {text : List ℕ} {t u : Tree} → Spells 1 text t → Spells 1 text u → t ≡ u
 one_tree {t = t} {u = u} p q = ap (λ x. x.0) (same_Some (t, []) (u, []) (sym (whole p) ∙ whole q))

@@ -18,7 +18,7 @@ use Rattle.f77_syntax.specs.code.Data.{clipped_constant, clip_constant, clip_val
 use Rattle.f77_tree.proofs.Tests.{and_true}
 use Rattle.f77_syntax.proofs.Clip.{constant_clip, small_clipped, short_cuts}
 
--- Keeping them changes no limit, and within the limits it changes nothing.
+-- keeping initial values changes no limit, and within the limits it changes nothing
 number_clip : (z : ℤ) → nat_le (magnitude (clipped_constant z)) largest_integer ≡ nat_le (magnitude z) largest_integer
 number_clip z = either (nat_le (magnitude z) largest_integer) refl
   where

@@ -158,7 +158,7 @@ pub groups_is : (s : List ℕ) (gs : List GroupFields) → groups_at s ≡ Some 
 unfolding groups_at
 groups_is s gs e = within_is (suc (length s)) s gs e
 
--- What is spelled is read so.
+-- initial values that are spelled are read so
 no_star : (rest : List ℕ) → Stops rest → tree_after 42 rest ≡ None
 no_star [] h = refl
 no_star (c ∷ s) h = let other : (c == 42) ≡ false = grind (arith, nat_tests) in rw other refl

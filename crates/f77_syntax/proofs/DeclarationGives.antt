@@ -61,7 +61,7 @@ decl_array s inner behind rest name bounds z x n h found end close named same at
 pub decl_shorter : (s rest : List ℕ) (x : DeclFields × List ℕ) → decl_at s ≡ Some x → rest ≡ x.1 → length rest ≤ length s
 decl_shorter s rest x e end = rw end (fronts_short (decl_is s x e))
 
--- the list of them
+-- the list of declared names
 module _ (text : List ℕ) where
   pub declarations_fail : (e : ReadError) → Fails e (items_at decl_at text) → Fails e (declarations_at text)
   unfolding declarations_at

@@ -13,7 +13,7 @@ use Rattle.f77_syntax.specs.code.Declaration.{clip_decl}
 use Rattle.f77_tree.proofs.Tests.{and_true}
 use Rattle.f77_syntax.proofs.Clip.{constant_clip, small_clipped, short_cut}
 
--- Keeping them changes no bound's limit and no node, and within the limits it changes nothing.
+-- keeping declared names changes no bound's limit and no node, and within the limits it changes nothing
 bounds_clip : (bounds : List ℕ) → list_all small_bound (map clipped bounds) ≡ list_all small_bound bounds
 bounds_clip [] = refl
 bounds_clip (b ∷ bs) = rw (constant_clip b, bounds_clip bs) refl

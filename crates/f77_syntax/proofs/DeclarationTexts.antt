@@ -25,7 +25,7 @@ use Rattle.f77_syntax.proofs.JoinedTexts.{Fronts, IsSound, IsRead, Stops, items_
 use Rattle.std.proofs.lemmas.List.Folds.{list_any-append}
 use Rattle.f77_syntax.proofs.WordTexts.{is_equals, words_no_equals}
 
--- What is read is spelled so.
+-- declared names that are read are spelled so
 pub name_is : IsSound SpellsName name_at
 name_is s x e =
     let (n, found) = guarded (is_name (word s)) (Some (word s, past_word s)) x e in
@@ -77,7 +77,7 @@ declarations_is s ds e =
     let whole : s ≡ f.text = f.is ∙ ap (λ v. f.text ++ v) none ∙ append-nil f.text in
     subst (λ v. SpellsDecls v ds) (sym whole) (subst (λ v. SpellsDecls f.text v) same f.spells)
 
--- What is spelled is read so.
+-- declared names that are spelled are read so
 pub stops_word : (rest : List ℕ) → Stops rest → EndsWord rest
 stops_word [] h = tt
 stops_word (c ∷ s) h = grind (arith, nat_tests)

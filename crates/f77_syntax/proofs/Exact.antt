@@ -1,4 +1,4 @@
--- Cards are one program at most, or have one first fault.
+-- Cards are at most one program, or have one first fault.
 use Rattle.std.proofs.Common.{arith, ◌≡◌, ◌≢◌, ◌⊎◌, inl, inr, ℕ, List, ◌∷◌, Bool, true, false, refl, ap, sym, ◌∙◌, subst, Option, Some}
 use Rattle.f77_source.specs.Card.{CardFields}
 use Rattle.f77_program.specs.declared.fault.SyntaxFault.{SyntaxFault}
@@ -38,7 +38,7 @@ none_behind_end Data = refl
 none_behind_end Executable = refl
 none_behind_end End = refl
 
--- no cards are both
+-- no cards are a program and have a fault
 pub either_lines_or_fault : {before : Option Group} {cards : List CardFields} {lines : List LineFields} {fault : SyntaxFault} {A : Type 0}
     → AreLines before cards lines → IsFirstSyntaxFault before cards fault → A
 either_lines_or_fault AreLines.finished (IsFirstSyntaxFault.unended h) = absurd (h refl)

@@ -115,7 +115,7 @@ statement_clip Statement.Stop = refl
 statement_clip Statement.Trap = refl
 statement_clip Statement.End = refl
 
--- what is kept of a statement that a text spells is formed exactly where its names have six characters at most
+-- what is kept of a statement that a text spells is formed exactly where its names have at most six characters
 pub short_told : (got s : Statement) → IsFormed got → got ≡ clip_statement s → statement_names s ≡ true
 short_told got s formed same =
     let own = formed_spelled s (sym (statement_clip s) ∙ ap (statement_formed is_symbolic) (sym same) ∙ is_symbolic_formed got formed) in own.2

@@ -103,7 +103,7 @@ pub ends_before : (w own : ℕ) (left : Expr) (op : Operator) (rest behind text 
     → (nat_le w (level op) && nat_le (left_level op) own) ≡ false → (x : Tree × List ℕ) × (reading.expr w text ≡ Some x) × ((tree_of left ≡ clip x.0) × (rest ≡ x.1))
 ends_before w own left op rest behind text k e h = climb_whole w own k.tree left rest text k.same k.reads (rw (e, h) refl)
 
--- the arms of a start
+-- each way in which an expression may begin
 pub start_empty : (w : ℕ) → start_at reading w [] ≡ None
 unfolding start_at
 start_empty w = refl
@@ -129,7 +129,7 @@ pub start_word : (w c : ℕ) (s : List ℕ) → (c == 40) ≡ false
 unfolding start_at
 start_word w c s a b d e = rw (a, b, d, e) refl
 
--- a chosen start
+-- the beginning of an expression, once it is known which way it begins
 pub start_along : (w : ℕ) (s : List ℕ) (r : Result (Expr × ℕ × Bor (List ℕ)) ReadError) (o : Option (Tree × ℕ × List ℕ))
     → start_at reading w s ≡ o → Gives IsTreeStart r o → Gives IsTreeStart r (start_at reading w s)
 start_along w s r o e g = rw e g

@@ -29,7 +29,7 @@ use Rattle.f77_syntax.proofs.AssignmentSound.{after_is, ended_is}
 use Rattle.f77_syntax.proofs.JoinedTexts.{items_is, items_read}
 use Rattle.f77_syntax.proofs.LabelTexts.{label_spelled, each_label_read, last_label_is, last_label_read, past_comma_is}
 
--- What is read is spelled so.
+-- GO TO statements that are read are spelled so
 computed_is : (s : List ℕ) (u : Statement) → computed_at s ≡ Some u → SpellsAction (codes "GOTO(" ++ s) u
 unfolding computed_at selector_at
 computed_is s u e =
@@ -62,7 +62,7 @@ goto_is s u e = by_open (tree_after 40 s) refl e
     by_open None is e = unconditional_is s u e
     by_open (Some r) is e = subst (λ z. SpellsAction (codes "GOTO" ++ z) u) (sym (after_is 40 s r is)) (computed_is r u e)
 
--- What is spelled is read so: no label begins with a parenthesis, and no expression with a comma.
+-- GO TO statements that are spelled are read so: no label begins with a parenthesis, and no expression with a comma
 not_open : (row : List ℕ) → is_number row ≡ true → tree_after 40 row ≡ None
 not_open [] n = refl
 not_open (c ∷ row) n =
@@ -103,7 +103,7 @@ unfolding goto_at computed_at
 computed_read comma {y = y} {labels = labels} l p =
     rw (items_read label_at each_label_read l (41 ∷ (optional_comma comma ++ y)) refl refl) (selector_read labels comma p)
 
--- Their class: no equals sign stands in them.
+-- the class of a GO TO: no equals sign stands in it
 pub goto_class : (row : List ℕ) → is_number row ≡ true → class_of (codes "GOTO" ++ row) ≡ Keyword
 goto_class row n =
     keyword_class (codes "GOTO" ++ row) refl (ap (behind_character 61 0) (sym (append-nil (codes "GOTO" ++ row))) ∙ pass_quiet 61 refl equals_other (codes "GOTO" ++ row) [] 0 (quiet_number row n))

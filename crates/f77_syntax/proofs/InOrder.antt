@@ -14,7 +14,7 @@ Behind Data groups = (m : ℕ) × (e : ℕ) × (groups ≡ behind_heading 0 m e)
 Behind Executable groups = (e : ℕ) × (groups ≡ behind_heading 0 0 e)
 Behind End groups = groups ≡ []
 
--- what a statement that is no SUBROUTINE begins behind declarations
+-- what may stand behind declarations, beginning with a statement that is no SUBROUTINE
 from_declarations : (g : Group) (groups : List Group) → may_stand (Some Declaration) g ≡ true → Behind g groups
     → (d : ℕ) × (m : ℕ) × (e : ℕ) × (g ∷ groups ≡ behind_heading d m e)
 from_declarations Subroutine groups h b = cc

@@ -21,7 +21,7 @@ pub record Fronts {A : Type 0} (SpellsItem : List ℕ → A → Type 0) (s : Lis
   pub is : s ≡ text ++ x.1
   pub spells : SpellsItem text x.0
 
--- what this reads, a front of the text spells
+-- a reader is sound: what it reads is spelled by a front of the text
 abbrev pub IsSound : {A : Type 0} → (List ℕ → A → Type 0) → (List ℕ → Option (A × List ℕ)) → Type 0
 IsSound {A = A} SpellsItem item = (s : List ℕ) (x : A × List ℕ) → item s ≡ Some x → Fronts SpellsItem s x
 
@@ -60,7 +60,7 @@ abbrev pub Stops : List ℕ → Type 0
 Stops [] = Unit {0}
 Stops (c ∷ s) = is_stop c ≡ true
 
--- this reads what is spelled, up to where an item stops
+-- what is spelled is read, up to where an item stops
 abbrev pub IsRead : {A : Type 0} → (List ℕ → A → Type 0) → (List ℕ → Option (A × List ℕ)) → Type 0
 IsRead {A = A} SpellsItem item = (text : List ℕ) (x : A) → SpellsItem text x → (rest : List ℕ) → Stops rest → item (text ++ rest) ≡ Some (x, rest)
 
@@ -99,7 +99,7 @@ module _ {X A B : Type 0} (view : X → B) (kept : A → B) (item : List ℕ →
       whole None = refl
       whole (Some x) = refl
 
-  -- what reads nothing ends the reading
+  -- where an item is not read, the reading ends
   first_fails : (n : ℕ) (s : List ℕ) (e : ReadError) → length s < n → Fails e (item s) → Fails e (items_within item n s)
   first_fails zero s e h f = absurd (omega arith)
   first_fails (suc n) s e h f = fails_bind e (item s) (λ x. with_others (items_within item n) x.0 x.1 (tree_after 44 x.1)) f

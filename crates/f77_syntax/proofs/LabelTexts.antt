@@ -15,7 +15,7 @@ use Rattle.f77_tree.proofs.Tests.{and_true}
 use Rattle.f77_syntax.proofs.AssignmentSound.{after_is, ended_is}
 use Rattle.f77_syntax.proofs.JoinedTexts.{IsSound, IsRead, Stops}
 
--- What is read is spelled so.
+-- labels that are read are spelled so
 digits_whole : (s : List ℕ) → s ≡ digits s ++ past_digits s
 digits_whole [] = refl
 digits_whole (c ∷ s) = step (is_digit c) (digits_whole s)
@@ -65,7 +65,7 @@ past_comma_is (c ∷ s) = step (c == 44) refl
     step true e = (true, ap (λ z. z ∷ s) (eqb-true c 44 e))
     step false e = (false, refl)
 
--- What is spelled is read so.
+-- Labels that are spelled are read so.
 -- what may follow a row of digits
 abbrev pub EndsDigits : List ℕ → Type 0
 EndsDigits [] = Unit {0}

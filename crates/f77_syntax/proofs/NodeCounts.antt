@@ -37,7 +37,7 @@ data_nodes (g ∷ gs) = group_count g + data_nodes gs
 abbrev pub declaration_nodes : List DeclFields → ℕ
 declaration_nodes ds = length ds
 
--- a statement
+-- the nodes of a statement
 abbrev pub count_by_part : Statement → ℕ
 count_by_part (Statement.Subroutine name names) = 1 + length names
 count_by_part (Statement.Declare kind ds) = 1 + declaration_nodes ds
@@ -59,7 +59,7 @@ count_by_part Statement.Stop = 1
 count_by_part Statement.Trap = 1
 count_by_part Statement.End = 1
 
--- The list of nodes has as many.
+-- The list of nodes has this number of nodes.
 mutual
   parts_counted : (t : Tree) → length (parts t) ≡ nodes t
   parts_counted (Tree.Number n) = omega arith

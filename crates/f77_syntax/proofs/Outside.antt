@@ -1,5 +1,4 @@
--- What stands outside parentheses: expressions hide no equals sign and, outside parentheses, no comma; so the class of a
--- statement can be told from its text.
+-- What stands outside parentheses. Expressions hide no equals sign and, outside parentheses, no comma, so the text of a statement decides its class.
 use Rattle.std.proofs.Common.{arith, ◌≡◌, ℕ, suc, ◌-◌, List, [], ◌∷◌, ◌++◌, Bool, true, false, refl, ap, sym, ◌∙◌, Option, Some, None, append_assoc, append-nil}
 use Rattle.std.specs.Prelude.{◌==◌, ◌&&◌, not, codes}
 use Rattle.std.specs.List.{list_all, list_any}

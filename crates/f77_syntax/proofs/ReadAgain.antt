@@ -63,7 +63,7 @@ admitted line f k e = record {
   nodes = k.nodes;
 }
 
--- lines that are alike and that these cards are
+-- lines that these cards are, and that are the same program apart from line numbers
 abbrev pub Found : Option Group → List CardFields → List LineFields → Type 0
 Found before read lines = (found : List LineFields) × AreLines before read found × AreAlike found lines
 

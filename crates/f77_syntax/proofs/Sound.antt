@@ -1,4 +1,4 @@
--- What is read is spelled so.
+-- Expressions: what is read is spelled so.
 use Rattle.std.proofs.Common.{arith, ◌≡◌, inl, inr, ℕ, zero, suc, length, ◌≤◌, List, [], ◌∷◌, ◌++◌, Bool, true, false, cond, subst, refl, Option, Some, None, ap, sym, ◌∙◌, append_assoc}
 use Rattle.std.specs.Prelude.{◌==◌, ◌&&◌, nat_le, codes}
 use Rattle.std.proofs.lemmas.Option.{same_Some, none-some}
@@ -31,7 +31,7 @@ pub record FrontsAll (s : List ℕ) (ts : Trees) (rest : List ℕ) : Type 0 wher
   pub is : s ≡ text ++ rest
   pub spells : SpellsAll text ts
 
--- the same where a form of the level w is wanted, and one of the level x.1 is found
+-- a form of the level x.1 is found where one of the level w is wanted
 pub record Starts (w : ℕ) (s : List ℕ) (x : Tree × ℕ × List ℕ) : Type 0 where
   pub text : List ℕ
   pub is : s ≡ text ++ x.2

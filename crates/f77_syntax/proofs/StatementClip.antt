@@ -108,7 +108,7 @@ kept_by_part Statement.Stop n h = refl
 kept_by_part Statement.Trap n h = refl
 kept_by_part Statement.End n h = refl
 
--- The nodes tell the same.
+-- asked of the nodes, the answers are the same
 pub statement_constants_clip : (s : Statement) → statement_constants (clip_statement s) ≡ statement_constants s
 statement_constants_clip s = told_by_part (clip_statement s) ∙ constants_by_part s ∙ sym (told_by_part s)
 

@@ -1,4 +1,4 @@
--- A statement that is spelled is read so, and a text spells one statement at most.
+-- A statement that is spelled is read so, and a text spells at most one statement.
 use Rattle.std.proofs.Common.{arith, ◌≡◌, inl, inr, subst, ℕ, ◌-◌, length, List, [], ◌∷◌, ◌++◌, Bool, true, false, refl, Some, ap, sym, ◌∙◌, append_assoc, append-nil, length-append}
 use Rattle.std.specs.Prelude.{◌==◌, codes, None}
 use Rattle.std.specs.List.{list_all, list_any, join_with_byte}
@@ -165,7 +165,7 @@ action_read SpellsAction.go_on = refl
 action_read SpellsAction.return = refl
 action_read SpellsAction.stop = refl
 
--- no such statement is the word THEN
+-- no statement that may stand in a logical IF is the word THEN
 then_none : action_at (codes "THEN") ≡ None
 unfolding action_at simple_action_at class_of begins_if simple_at word_statement
 then_none = refl
@@ -320,7 +320,7 @@ statement_read (SpellsStatement.loop {name = name} row comma n m p q) = loop_rea
 statement_read (SpellsStatement.loop_by {name = name} row comma n m p q r) = loop_by_read row name comma n m p q r
 statement_read SpellsStatement.end = refl
 
--- a text spells one statement at most
+-- a text spells at most one statement
 pub one_statement : {s : List ℕ} {t u : Statement} → SpellsStatement s t → SpellsStatement s u → t ≡ u
 one_statement {t = t} {u = u} p q = same_Some t u (sym (statement_read p) ∙ statement_read q)
 

@@ -1,4 +1,4 @@
--- Which cards are which program, and why cards are none.
+-- Which cards are which program, and why cards are no program.
 use Rattle.std.specs.Prelude.{◌≡◌, ◌≢◌, ℕ, ◌≤◌, ◌<◌, ◌⊎◌, true, false, List, [], ◌∷◌, Option, Some, None}
 use Rattle.f77_source.specs.Card.{CardFields}
 use Rattle.f77_tree.specs.StatementGrammar.{SpellsStatement}
@@ -23,7 +23,7 @@ pub record IsAdmitted (text : List ℕ) (s : Statement) : Type 0 where
   pub constants : statement_constants s ≡ true
   pub nodes : statement_nodes s ≤ most_nodes
 
--- why the text of the card with this line is not admitted
+-- why the text of the card with this line number is refused
 pub data IsCardRefused (line : ℕ) (text : List ℕ) : SyntaxFault → Type 0 where
   characters : most_characters < character_count text → IsCardRefused line text (TooLong line)
   parentheses : character_count text ≤ most_characters
@@ -43,12 +43,12 @@ pub data IsCardRefused (line : ℕ) (text : List ℕ) : SyntaxFault → Type 0 w
       → statement_names s ≡ true → statement_constants s ≡ true → most_nodes < statement_nodes s
       → IsCardRefused line text (TooLong line)
 
--- the line that a card with this statement is
+-- the line of a card with this statement
 abbrev pub line_with : CardFields → Statement → LineFields
 line_with card s = record { label = card.label; stmt = s; line = card.line }
 
--- The cards, behind a statement of this group or at
--- the start, are the lines to the end of a program.
+-- The cards are the lines to the end of a program, behind a statement of this group or from the
+-- start on.
 pub data AreLines : Option Group → List CardFields → List LineFields → Type 0 where
   finished : AreLines (Some End) [] []
   next : {before : Option Group} {card : CardFields} {cards : List CardFields}
@@ -57,18 +57,18 @@ pub data AreLines : Option Group → List CardFields → List LineFields → Typ
       → AreLines (Some (group_of s)) cards lines
       → AreLines before (card ∷ cards) (line_with card s ∷ lines)
 
--- what is told of a statement out of its place (ANSI X3.9-1978, 3.5)
+-- the fault of a statement that may not stand at its place (ANSI X3.9-1978, 3.5)
 abbrev pub misplaced_statement : Option Group → ℕ → SyntaxFault
 misplaced_statement None line = NoSubroutine
 misplaced_statement (Some group) line = Unknown line
 
--- what is told where the cards end behind a statement of this
--- group, which is not END, or at once (ANSI X3.9-1978, 3.5)
+-- the fault where the cards end behind a statement of this group, which is not END, or where there
+-- is no card (ANSI X3.9-1978, 3.5)
 abbrev pub unfinished : Option Group → SyntaxFault
 unfinished None = NoSubroutine
 unfinished (Some group) = NoEnd
 
--- The first fault of the cards, behind a statement of this group or at the start.
+-- the first fault of the cards, behind a statement of this group or from the start on
 pub data IsFirstSyntaxFault : Option Group → List CardFields → SyntaxFault → Type 0 where
   unended : {before : Option Group}
       → before ≢ Some End → IsFirstSyntaxFault before [] (unfinished before)

@@ -1,4 +1,4 @@
--- What is read of a program that was printed.
+-- What is read from a program that was printed.
 use Rattle.std.specs.Prelude.{◌≡◌, ◌≤◌, ℕ, true, List, None}
 use Rattle.f77_source.specs.Card.{CardFields}
 use Rattle.f77_source.specs.Law.{squeezed}
@@ -12,15 +12,15 @@ use Rattle.f77_program.specs.Program.{LineFields}
 use Rattle.f77_syntax.specs.Parsing.{AreLines}
 use Rattle.f77_syntax.specs.TextLimits.{IsTooDeep}
 
--- a statement of an unmutated program, and its limits,
--- those on names and on the length of its text aside
+-- the statement is of a program that is no mutant, and keeps the limits on depth, constants and
+-- nodes
 pub record KeepsLimits (s : Statement) : Type 0 where
   pub unmutated : IsUnmutated s
   pub flat : ¬ (IsTooDeep (squeezed (statement_text s)))
   pub constants : statement_constants s ≡ true
   pub nodes : statement_nodes s ≤ most_nodes
 
--- the source is read as a program that is alike
+-- the source is read as the same program, apart from line numbers
 pub record ReadsBack (source : List ℕ) (program : List LineFields) : Type 0 where
   pub cards : List CardFields
   pub are_cards : AreCards 1 (lines source) cards

@@ -1,4 +1,4 @@
--- What reading is made of: one part after another, and a prefix that is taken off.
+-- The steps of reading: one part after another, and a prefix taken off.
 use Rattle.std.specs.Prelude.{ℕ, List, [], ◌∷◌, ◌==◌, if◌then◌else◌}
 use Rattle.std.specs.Prelude.{Option, Some, None, option_and_then}
 
@@ -6,7 +6,7 @@ infixl 10 ◌>>=◌
 abbrev pub ◌>>=◌ : {A B : Type 0} → Option A → (A → Option B) → Option B
 o >>= f = option_and_then f o
 
--- what stands behind a prefix
+-- the text behind a prefix, if the text begins with it
 abbrev pub strip : List ℕ → List ℕ → Option (List ℕ)
 strip [] s = Some s
 strip (c ∷ p) [] = None

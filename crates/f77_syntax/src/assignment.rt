@@ -1,4 +1,4 @@
-//! Assignments read from texts.
+//! Reading assignments.
 
 ghost use Rattle.f77_syntax.specs.code.Assignment.{reference_at, assign_at};
 ghost use Rattle.f77_syntax.specs.code.View.{Gives};
@@ -10,7 +10,7 @@ use f77_tree::characters::{is_name, split_word};
 use f77_tree::{Name, Ref, Stmt};
 use std::alloc::Global;
 
-/// Reads a name with its subscripts, and what follows.
+/// Reads a reference, and gives the text behind it too.
 fn reference(alloc: Global, text: &[u8]) -> Result<(Ref, &[u8]), ReadError>
     ensures { Gives IsReference result (reference_at text.now) }
 {

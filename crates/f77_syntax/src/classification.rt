@@ -1,10 +1,11 @@
-//! What a statement is, from its text as a whole.
+//! The class of a statement, found from its text as a whole. No word is reserved and blanks are gone, so `DO10I=1` and
+//! `DO10I=1,5` differ by the comma alone.
 
 ghost use Rattle.std.specs.Prelude.{◌≡◌, ◌<◌, option_map};
 ghost use Rattle.f77_syntax.specs.Classification as classification;
 ghost use Rattle.f77_syntax.specs.Classification.{behind_character, class_of};
 
-/// The class of a statement: how it is told from the others (ANSI X3.9-1978, 3.3).
+/// The class of a statement: which function reads it (ANSI X3.9-1978, 3.3).
 #[derive(Clone, Copy, Debug, PartialEq, Eq)]
 pub(crate) enum Class {
     /// An arithmetic, a logical or a block IF.
@@ -13,7 +14,7 @@ pub(crate) enum Class {
     Loop,
     /// An assignment.
     Assignment,
-    /// What its keyword says.
+    /// Any other statement: its keyword says which it is.
     Keyword,
 }
 

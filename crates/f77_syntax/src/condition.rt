@@ -1,4 +1,4 @@
-//! The condition of an IF, and the labels of an arithmetic IF, read from texts.
+//! Reading the condition of an IF, and the labels of an arithmetic IF.
 
 ghost use Rattle.f77_syntax.specs.code.Condition.{arithmetic_at, condition_at};
 ghost use Rattle.std.specs.Prelude.{◌≡◌};
@@ -13,7 +13,7 @@ use crate::label::labels;
 use f77_tree::{Expr, Stmt};
 use std::alloc::Global;
 
-/// Reads `IF(`, an expression and `)`, and what follows.
+/// Reads `IF(`, an expression and `)`, and gives the text behind them too.
 pub(crate) fn condition(alloc: Global, text: &[u8]) -> Result<(Expr, &[u8]), ReadError>
     ensures { Gives IsTree result (condition_at text.now) }
 {
@@ -25,7 +25,7 @@ pub(crate) fn condition(alloc: Global, text: &[u8]) -> Result<(Expr, &[u8]), Rea
     Ok((condition, rest))
 }
 
-/// Reads the labels of an arithmetic IF.
+/// Reads the labels of an arithmetic IF. Nothing may stand behind them.
 pub(crate) fn arithmetic(value: Expr, text: &[u8]) -> Result<Stmt, ReadError>
     ensures { (t : Tree) → tree_of value ≡ clip t → Gives IsStatement result (arithmetic_at t text.now) }
 {

@@ -1,4 +1,4 @@
-//! The constants of DATA, read from texts.
+//! Reading the constants of DATA.
 
 ghost use Rattle.std.specs.Prelude.{◌≡◌, pos};
 ghost use Rattle.f77_syntax.specs.code.Declaration.{bound_at};
@@ -11,14 +11,14 @@ use crate::scan::number;
 use f77_tree::Constant;
 use f77_tree::characters::{is_number, split_word};
 
-/// The number of this size, or -2147483648 where it is too large.
+/// The number, or -2147483648 where it is above 2147483647.
 fn above_zero(size: u32) -> i32
     ensures { result ≡ clipped_constant (pos size) }
 {
     i32::try_from(size).unwrap_or(i32::MIN)
 }
 
-/// The number of this size with a minus sign, or -2147483648 where it is too large.
+/// The negative of the number, or -2147483648 where the number is above 2147483647.
 fn below_zero(size: u32) -> i32
     ensures { result ≡ clipped_constant (initial.negative size) }
 {
@@ -28,7 +28,7 @@ fn below_zero(size: u32) -> i32
     }
 }
 
-/// Reads digits, and what follows them.
+/// Reads digits, and gives the text behind them too.
 pub(crate) fn digits(text: &[u8]) -> Option<(u32, &[u8])>
     ensures { Finds clipped result (bound_at text.now) }
 {
@@ -63,7 +63,7 @@ fn truth(text: &[u8]) -> Option<(Constant, &[u8])>
     Some((Constant::Truth(false), rest))
 }
 
-/// Reads a constant with its sign, and what follows.
+/// Reads a constant with its sign, and gives the text behind it too.
 pub(crate) fn read_constant(text: &[u8]) -> Option<(Constant, &[u8])>
     ensures { Finds clip_constant result (constant_at text.now) }
 {

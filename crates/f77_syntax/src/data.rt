@@ -1,4 +1,4 @@
-//! Names with their initial values, read from texts.
+//! Reading DATA: names with their initial values.
 
 ghost use Rattle.std.specs.Prelude.{◌≡◌, ◌<◌, ◌≤◌, length, IfOk};
 ghost use Rattle.f77_syntax.specs.code.Data.{repeat_at, data_value_at, data_values_at, group_at, groups_at};
@@ -14,7 +14,7 @@ use crate::names::names;
 use f77_tree::{DataGroup, Value};
 use std::alloc::Global;
 
-/// Reads a repeat with its asterisk, and what follows.
+/// Reads a repeat with its asterisk, and gives the text behind it too.
 fn repeat(text: &[u8]) -> Option<(u32, &[u8])>
     ensures { Finds clipped result (repeat_at text.now) }
 {
@@ -23,7 +23,7 @@ fn repeat(text: &[u8]) -> Option<(u32, &[u8])>
     Some((times, behind))
 }
 
-/// Reads a constant with its repeat, and what follows.
+/// Reads a constant with its repeat, and gives the text behind it too. Without a repeat it counts once.
 fn value(text: &[u8]) -> Result<(Value, &[u8]), ReadError>
     ensures found { Gives IsValue result (data_value_at text.now) }
     ensures shorter { IfOk result (λ x. length x.1.now ≤ length text.now) }
@@ -35,21 +35,21 @@ fn value(text: &[u8]) -> Result<(Value, &[u8]), ReadError>
     Ok((Value { times, constant }, rest))
 }
 
-/// Reads values joined by commas, and what follows them.
+/// Reads values joined by commas, and gives the text behind them too.
 fn values(alloc: Global, text: &[u8]) -> Result<(Vec<Value>, &[u8]), ReadError>
     ensures { Gives AreDataValues result (data_values_at text.now) }
 {
     joined(alloc, text, value)
 }
 
-/// What follows a slash.
+/// The text behind a slash, which has to stand at the front.
 fn past_slash(text: &[u8]) -> Result<&[u8], ReadError>
     ensures { Gives (λ x s. x.now ≡ s) result (tree_after 47 text.now) }
 {
     after_byte(text, b'/').ok_or(ReadError::Unknown)
 }
 
-/// Reads names and their values between slashes, and what follows.
+/// Reads names and their values between slashes, and gives the text behind them too.
 fn group(alloc: Global, text: &[u8]) -> Result<(DataGroup, &[u8]), ReadError>
     ensures found { Gives IsGroup result (group_at text.now) }
     ensures shorter { IfOk result (λ x. length x.1.now < length text.now) }
@@ -61,7 +61,7 @@ fn group(alloc: Global, text: &[u8]) -> Result<(DataGroup, &[u8]), ReadError>
     Ok((DataGroup { names, values }, rest))
 }
 
-/// Reads what follows the keyword DATA.
+/// Reads what follows the keyword DATA, up to the end. A comma may stand between two groups.
 pub(crate) fn groups(alloc: Global, text: &[u8]) -> Result<Vec<DataGroup>, ReadError>
     ensures { Gives AreGroups result (groups_at text.now) }
 {

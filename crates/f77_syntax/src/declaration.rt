@@ -1,4 +1,4 @@
-//! Declared names with their bounds, read from texts.
+//! Reading declared names with their bounds.
 
 ghost use Rattle.std.specs.Prelude.{◌≡◌, ◌≤◌, length, IfOk};
 ghost use Rattle.f77_syntax.specs.code.Declaration.{bound_at, bounds_at, decl_at};
@@ -13,7 +13,7 @@ use f77_tree::characters::{is_name, is_number, split_word};
 use f77_tree::{Decl, Name};
 use std::alloc::Global;
 
-/// Reads a bound, and what follows it.
+/// Reads a bound, and gives the text behind it too.
 fn bound(text: &[u8]) -> Result<(u32, &[u8]), ReadError>
     ensures found { Gives (λ x a. (x.0 ≡ clipped a.0) × (x.1.now ≡ a.1)) result (bound_at text.now) }
     ensures shorter { IfOk result (λ x. length x.1.now ≤ length text.now) }
@@ -25,14 +25,14 @@ fn bound(text: &[u8]) -> Result<(u32, &[u8]), ReadError>
     Ok((number(front), rest))
 }
 
-/// Reads bounds joined by commas, and what follows them.
+/// Reads bounds joined by commas, and gives the text behind them too.
 fn bounds(alloc: Global, text: &[u8]) -> Result<(Vec<u32>, &[u8]), ReadError>
     ensures { Gives AreBounds result (bounds_at text.now) }
 {
     joined(alloc, text, bound)
 }
 
-/// Reads a declared name with its bounds, and what follows.
+/// Reads a declared name with its bounds, if it has any, and gives the text behind it too.
 fn declaration(alloc: Global, text: &[u8]) -> Result<(Decl, &[u8]), ReadError>
     ensures found { Gives IsDecl result (decl_at text.now) }
     ensures shorter { IfOk result (λ x. length x.1.now ≤ length text.now) }
@@ -51,7 +51,7 @@ fn declaration(alloc: Global, text: &[u8]) -> Result<(Decl, &[u8]), ReadError>
     Ok((Decl { name, bounds }, rest))
 }
 
-/// Reads what follows the keyword INTEGER, LOGICAL or DIMENSION.
+/// Reads what follows the keyword INTEGER, LOGICAL or DIMENSION, up to the end.
 pub(crate) fn declarations(alloc: Global, text: &[u8]) -> Result<Vec<Decl>, ReadError>
     ensures { Gives AreDecls result (declarations_at text.now) }
 {

@@ -1,4 +1,4 @@
-//! DO statements read from texts.
+//! Reading DO statements.
 
 ghost use Rattle.std.specs.Prelude.{◌≡◌, true, IfOk};
 ghost use Rattle.f77_syntax.specs.code.DoLoop.{control_at, step_at, parameters_at, loop_at};
@@ -13,7 +13,7 @@ use f77_tree::characters::{is_name, split_word};
 use f77_tree::{Expr, Name, Stmt};
 use std::alloc::Global;
 
-/// Reads the label and the name of the DO variable, and what follows the equals sign.
+/// Reads the label and the name of the DO variable, and gives the text behind the equals sign too.
 fn control(text: &[u8]) -> Result<(u32, &[u8], &[u8]), ReadError>
     ensures read { Gives IsControl result (control_at text.now) }
     ensures named { IfOk result (λ x. is_name x.1.now ≡ true) }
@@ -29,7 +29,7 @@ fn control(text: &[u8]) -> Result<(u32, &[u8], &[u8]), ReadError>
     Ok((label, front, parameters))
 }
 
-/// Reads the third parameter, where there is one.
+/// Reads the third parameter, if there is one. Nothing may stand behind it.
 fn step(alloc: Global, text: &[u8]) -> Result<Option<Expr>, ReadError>
     ensures { Gives IsIncrementationRead result (step_at text.now) }
 {

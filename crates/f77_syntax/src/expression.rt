@@ -1,4 +1,4 @@
-//! Expressions read from texts, by recursive descent.
+//! Reading expressions, by recursive descent.
 
 ghost use Rattle.std.specs.Prelude.{◌≡◌, ◌<◌, ◌≤◌, true, length, map, IfOk, option_map};
 ghost use Rattle.f77_syntax.specs.code.Reading.{reading, close_at, tree_after, past_comma};
@@ -17,7 +17,7 @@ use f77_tree::characters::{is_name, is_number, split_word};
 use f77_tree::{Expr, Intrinsic, Name, Ref, Sign};
 use std::alloc::Global;
 
-/// Reads an expression of the wanted level or a tighter one, and what follows it.
+/// Reads an expression of the level `wanted` or a higher one, and gives the text behind it too.
 #[cycle(parser)]
 pub(crate) fn expression(alloc: Global, wanted: u8, text: &[u8]) -> Result<(Expr, &[u8]), ReadError>
     ensures found { Gives IsTree result (reading.expr wanted text.now) }
@@ -38,7 +38,7 @@ pub(crate) fn expression(alloc: Global, wanted: u8, text: &[u8]) -> Result<(Expr
     }
 }
 
-/// Reads what an expression begins with: that, its level, and what follows it.
+/// Reads what an expression begins with. Gives its level and the text behind it too.
 #[cycle(parser)]
 fn start(alloc: Global, wanted: u8, text: &[u8]) -> Result<(Expr, u8, &[u8]), ReadError>
     ensures found { Gives IsTreeStart result (start_at reading wanted text.now) }
@@ -56,6 +56,7 @@ fn start(alloc: Global, wanted: u8, text: &[u8]) -> Result<(Expr, u8, &[u8]), Re
     }
 }
 
+/// Reads what stands behind an opening parenthesis: an expression and the closing one.
 #[cycle(parser)]
 fn group(alloc: Global, text: &[u8]) -> Result<(Expr, u8, &[u8]), ReadError>
     ensures { Gives IsTreeStart result (enclosed_at reading text.now) }
@@ -65,6 +66,7 @@ fn group(alloc: Global, text: &[u8]) -> Result<(Expr, u8, &[u8]), ReadError>
     Ok((inner, 9, rest))
 }
 
+/// Reads the operand of a sign. A sign may not stand where a level above 6 is wanted.
 #[cycle(parser)]
 fn signed(
     alloc: Global,
@@ -98,6 +100,7 @@ fn dotted(alloc: Global, wanted: u8, text: &[u8]) -> Result<(Expr, u8, &[u8]), R
     negated(alloc, wanted, behind)
 }
 
+/// Reads the operand of `.NOT.`, which may not stand where a level above 4 is wanted.
 #[cycle(parser)]
 fn negated(alloc: Global, wanted: u8, text: &[u8]) -> Result<(Expr, u8, &[u8]), ReadError>
     ensures { Gives IsTreeStart result (negated_at reading wanted text.now) }
@@ -131,7 +134,7 @@ fn operand(alloc: Global, text: &[u8]) -> Result<(Expr, u8, &[u8]), ReadError>
     Ok((with_list(front, items), 9, rest))
 }
 
-/// A call of the function of this name, or else a reference.
+/// A call of the function with this name, or a reference where no function has it.
 fn with_list(name: &[u8], items: Vec<Expr>) -> Expr
     requires { is_name name.now ≡ true }
     ensures { tree_of result ≡ listed_by (function_named name.now) (cut name.now) (trees (map tree_of items.items)) }
@@ -145,7 +148,9 @@ fn with_list(name: &[u8], items: Vec<Expr>) -> Expr
     }
 }
 
-/// Reads expressions joined by commas, and what follows them.
+/// Reads expressions joined by commas, and gives the text behind them too. It is a loop of its own and no call of
+/// `joined`: expressions and lists call each other, and a function called through a closure in such a cycle has no
+/// measure.
 #[cycle(parser)]
 pub(crate) fn list(alloc: Global, text: &[u8]) -> Result<(Vec<Expr>, &[u8]), ReadError>
     ensures { Gives IsTreeList result (reading.items text.now) }
@@ -162,14 +167,14 @@ pub(crate) fn list(alloc: Global, text: &[u8]) -> Result<(Vec<Expr>, &[u8]), Rea
     }
 }
 
-/// What follows a closing parenthesis.
+/// The text behind a closing parenthesis, which has to stand at the front.
 pub(crate) fn closed(text: &[u8]) -> Result<&[u8], ReadError>
     ensures { Gives (λ x s. x.now ≡ s) result (close_at text.now) }
 {
     after_byte(text, b')').ok_or(ReadError::Unknown)
 }
 
-/// What follows this byte, where the text begins with it.
+/// The text behind this byte, if the text begins with it.
 pub(crate) fn after_byte(text: &[u8], byte: u8) -> Option<&[u8]>
     ensures { option_map (λ rest. rest.now) result ≡ tree_after byte text.now }
 {
@@ -177,7 +182,7 @@ pub(crate) fn after_byte(text: &[u8], byte: u8) -> Option<&[u8]>
     (*first == byte).then_some(rest)
 }
 
-/// What follows the comma at the front, or the text itself.
+/// The text behind the comma at its front, or the text itself where there is none.
 pub(crate) fn past_comma(text: &[u8]) -> &[u8]
     ensures rest { result.now ≡ past_comma text.now }
     ensures short { length result.now ≤ length text.now }

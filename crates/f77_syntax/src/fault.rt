@@ -1,16 +1,16 @@
-//! Why a text could not be read.
+//! Why a text is not read.
 
 ghost use Rattle.std.specs.Prelude.{◌≡◌};
 ghost use Rattle.f77_syntax.specs.declared.fault.ReadError.TheVariants.{Memory};
 
 use std::alloc::{AllocError, AllocFailed};
 
-/// Why a reader gives no value: memory ran out, or the text spells none.
+/// Why a reader gives no value: memory ran out, or the text spells nothing of the sort.
 #[derive(Debug, Drop)]
 pub enum ReadError {
     /// Memory ran out.
     Memory,
-    /// The text spells none.
+    /// The text spells nothing of the sort that is read.
     Unknown,
 }
 

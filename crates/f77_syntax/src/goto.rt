@@ -1,4 +1,4 @@
-//! GO TO statements, unconditional and computed, read from texts (ANSI X3.9-1978, 11.1 and 11.2).
+//! Reading GO TO statements, unconditional and computed (ANSI X3.9-1978, 11.1 and 11.2).
 
 ghost use Rattle.f77_syntax.specs.code.Goto.{selector_at, computed_at, goto_at};
 ghost use Rattle.f77_syntax.specs.code.Joined.{items_at};
@@ -13,14 +13,15 @@ use crate::label::{label, last_label};
 use f77_tree::Stmt;
 use std::alloc::Global;
 
-/// Reads labels joined by commas, and what follows.
+/// Reads labels joined by commas, and gives the text behind them too. They keep their order, and a label that is
+/// written twice stands twice, since a value chooses by place.
 fn labels(alloc: Global, text: &[u8]) -> Result<(Vec<u32>, &[u8]), ReadError>
     ensures { Gives AreLabels result (items_at label_at text.now) }
 {
     joined(alloc, text, label)
 }
 
-/// Reads the expression behind the labels.
+/// Reads the expression behind the labels. A comma may stand before it, and is not kept.
 fn selector(alloc: Global, labels: Vec<u32>, text: &[u8]) -> Result<Stmt, ReadError>
     ensures { Gives IsStatement result (selector_at labels.items text.now) }
 {

@@ -1,4 +1,4 @@
-//! Items joined by commas, read from texts.
+//! Reading items joined by commas. Lists of expressions have a loop of their own (`expression::list`).
 
 ghost use Rattle.std.specs.Prelude.{MatchResult};
 ghost use Rattle.f77_syntax.specs.code.Joined.{JoinsItems, Breaks, Shortens};
@@ -7,7 +7,7 @@ use crate::expression::after_byte;
 use crate::fault::ReadError;
 use std::alloc::Global;
 
-/// Reads items joined by commas, each by this function, and what follows them.
+/// Reads items joined by commas by the function `item` for one, and gives the text behind them too.
 pub(crate) fn joined<'a, T: Drop, F: Fn(&'a [u8]) -> Result<(T, &'a [u8]), ReadError>>(
     alloc: Global,
     text: &'a [u8],

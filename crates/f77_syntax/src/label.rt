@@ -1,4 +1,4 @@
-//! Labels read from texts.
+//! Reading statement labels.
 
 ghost use Rattle.std.specs.Prelude.{◌≡◌, ◌≤◌, true, length, IfOk};
 ghost use Rattle.f77_tree.specs.Grammar as grammar;
@@ -16,7 +16,7 @@ const MOST_DIGITS: usize = 5;
 
 const OUT_OF_RANGE: u32 = 100_000;
 
-/// The number of a label, the least one out of range where it has more than five digits.
+/// The number of a label. A label of more than five digits is out of range, and gives 100000.
 #[tactic(auto, unfolding(f77_tree::specs::StatementGrammar::label_number))]
 fn label_number(row: &[u8]) -> u32
     requires { grammar.is_number row.now ≡ true }
@@ -29,7 +29,7 @@ fn label_number(row: &[u8]) -> u32
     }
 }
 
-/// Reads a label, and what follows it.
+/// Reads a label, and gives the text behind it too.
 pub(crate) fn label(text: &[u8]) -> Result<(u32, &[u8]), ReadError>
     ensures found { Gives IsLabel result (label_at text.now) }
     ensures shorter { IfOk result (λ x. length x.1.now ≤ length text.now) }
@@ -41,7 +41,7 @@ pub(crate) fn label(text: &[u8]) -> Result<(u32, &[u8]), ReadError>
     Ok((label_number(row), rest))
 }
 
-/// Reads a label that is the whole text.
+/// Reads a label behind which nothing stands.
 pub(crate) fn last_label(text: &[u8]) -> Result<u32, ReadError>
     ensures { Gives (λ x a. x ≡ a) result (labels.last_label text.now) }
 {
@@ -52,7 +52,7 @@ pub(crate) fn last_label(text: &[u8]) -> Result<u32, ReadError>
     Ok(label)
 }
 
-/// Reads a label with a comma behind it, and what follows.
+/// Reads a label and a comma, and gives the text behind them too.
 fn label_comma(text: &[u8]) -> Result<(u32, &[u8]), ReadError>
     ensures { Gives IsLabel result (labels.label_comma text.now) }
 {
@@ -63,7 +63,7 @@ fn label_comma(text: &[u8]) -> Result<(u32, &[u8]), ReadError>
     Ok((label, rest))
 }
 
-/// Reads three labels joined by commas.
+/// Reads three labels joined by commas, up to the end.
 pub(crate) fn labels(text: &[u8]) -> Result<(u32, u32, u32), ReadError>
     ensures { Gives (λ x a. x ≡ a) result (labels.labels_at text.now) }
 {

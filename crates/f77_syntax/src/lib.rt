@@ -1,5 +1,11 @@
-//! Statements and programs read from the texts of cards, and that there
-//! is one reading. What the statements are is said by `f77_tree`.
+//! Statements and programs read from the texts of cards, and that there is one reading. The crate `f77_tree` says what
+//! statements are.
+//!
+//! Cards are read as a program, and it is printed with the parentheses that it needs:
+//!
+//!     let cards = read_form(alloc, b"      subroutine a ( i , k )\n   10 k = (i) - (i - k)\n      end\n")?;
+//!     let program = parse(alloc, cards.as_slice())?;   // three lines
+//!     let text = print(alloc, &program)?;              // "      SUBROUTINE A(I,K)\n   10 K=I-(I-K)\n      END\n"
 #![tactic(auto)]
 
 mod assignment;

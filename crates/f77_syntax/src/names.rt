@@ -1,4 +1,4 @@
-//! Names joined by commas, read from texts.
+//! Reading names joined by commas.
 
 ghost use Rattle.std.specs.Prelude.{◌≤◌, length, IfOk};
 ghost use Rattle.f77_syntax.specs.code.Names.{name_at, names_at, IsName, AreNames};
@@ -10,7 +10,7 @@ use f77_tree::Name;
 use f77_tree::characters::{is_name, split_word};
 use std::alloc::Global;
 
-/// Reads a name, and what follows it.
+/// Reads a name, and gives the text behind it too. Of a long name the first seven characters are kept.
 fn name(text: &[u8]) -> Result<(Name, &[u8]), ReadError>
     ensures found { Gives IsName result (name_at text.now) }
     ensures shorter { IfOk result (λ x. length x.1.now ≤ length text.now) }
@@ -22,7 +22,7 @@ fn name(text: &[u8]) -> Result<(Name, &[u8]), ReadError>
     Ok((Name::beginning(front), behind))
 }
 
-/// Reads names joined by commas, and what follows them.
+/// Reads names joined by commas, and gives the text behind them too.
 pub(crate) fn names(alloc: Global, text: &[u8]) -> Result<(Vec<Name>, &[u8]), ReadError>
     ensures { Gives AreNames result (names_at text.now) }
 {

@@ -1,4 +1,4 @@
-//! Programs read from cards.
+//! Cards read as a program: `parse`.
 
 ghost use Rattle.std.specs.Prelude.{◌≡◌, ◌≢◌, ◌≤◌, ◌⊎◌, List, ◌∷◌, true};
 ghost use Rattle.std.specs.Prelude.{IfOk, IfErr, MatchResult, map, Some, None, Err};
@@ -25,7 +25,7 @@ use std::alloc::Global;
 
 const MOST_NODES: usize = 200;
 
-/// The statement that a text spells.
+/// The statement that a text spells, or Unknown if it spells none.
 fn spelled(alloc: Global, line: u32, text: &[u8]) -> Result<Stmt, SyntaxFault>
     ensures { MatchResult result
         (λ stmt. (s : Statement) × SpellsStatement text.now s × (statement_of stmt ≡ clip_statement s))
@@ -39,7 +39,7 @@ fn spelled(alloc: Global, line: u32, text: &[u8]) -> Result<Stmt, SyntaxFault>
     }
 }
 
-/// Asks the nodes of a statement whether its constants are in range, and whether they are not too many.
+/// Whether the constants and labels of a statement are in range, and whether it has at most 200 nodes.
 fn within_limits(alloc: Global, line: u32, stmt: &Stmt) -> Result<(), SyntaxFault>
     ensures constants { IfOk result (λ _. statement_constants (statement_of stmt.now) ≡ true) }
     ensures few { IfOk result (λ _. statement_nodes (statement_of stmt.now) ≤ most_nodes) }
@@ -56,7 +56,7 @@ fn within_limits(alloc: Global, line: u32, stmt: &Stmt) -> Result<(), SyntaxFaul
     Ok(())
 }
 
-/// The statement that a text of not too many characters spells within the other limits.
+/// The statement that a text spells within all limits. The length of the text has been tested.
 fn limited(alloc: Global, line: u32, text: &[u8]) -> Result<Stmt, SyntaxFault>
     requires { character_count text.now ≤ most_characters }
     ensures { MatchResult result
@@ -75,7 +75,7 @@ fn limited(alloc: Global, line: u32, text: &[u8]) -> Result<Stmt, SyntaxFault>
     Ok(stmt)
 }
 
-/// The statement that a text spells within the limits.
+/// The statement that a text spells within all limits.
 pub(crate) fn admitted(alloc: Global, line: u32, text: &str) -> Result<Stmt, SyntaxFault>
     ensures { MatchResult result
         (λ stmt. IsAdmitted text.now (statement_of stmt))
@@ -87,6 +87,7 @@ pub(crate) fn admitted(alloc: Global, line: u32, text: &str) -> Result<Stmt, Syn
     limited(alloc, line, text.as_bytes())
 }
 
+/// The fault of a statement that may not stand here.
 fn misplaced(before: Option<Group>, line: u32) -> SyntaxFault
     ensures { result ≡ misplaced_statement before line }
 {
@@ -96,7 +97,7 @@ fn misplaced(before: Option<Group>, line: u32) -> SyntaxFault
     }
 }
 
-/// The statement of a card that stands behind a statement of this group, or first.
+/// The statement of a card, which stands behind a statement of the group `before`, or first where that is None.
 fn in_place(alloc: Global, before: Option<Group>, card: &Card) -> Result<Stmt, SyntaxFault>
     ensures { MatchResult result
         (λ stmt. IsAdmitted card.now.text (statement_of stmt)
@@ -114,7 +115,7 @@ fn in_place(alloc: Global, before: Option<Group>, card: &Card) -> Result<Stmt, S
     Ok(stmt)
 }
 
-/// The program of these cards, where the last statement is of this group.
+/// The program of these lines, the last of which is of the group `last`.
 fn finished(lines: Vec<Shared<Line>>, last: Option<Group>) -> Result<Program, SyntaxFault>
     requires { last ≡ Some End → IsProgram None (map line_of lines.items) }
     ensures { MatchResult result
@@ -130,8 +131,9 @@ fn finished(lines: Vec<Shared<Line>>, last: Option<Group>) -> Result<Program, Sy
 
 /// The program that the cards are: the statement of each card's text, in order (ANSI X3.9-1978, 3.5).
 ///
-/// Of several faults the first card's is told, and of one card's faults the first in this order: a card behind END, the
-/// length of its text, the depth of its parentheses, no statement, a name, a constant, the number of nodes, its place.
+/// The first card with a fault is reported, with the first of its faults in this order: AfterEnd; TooLong for the
+/// length of its text; TooDeep; Unknown where it spells no statement; BadName; BadConstant; TooLong for its nodes;
+/// NoSubroutine or Unknown for its place. NoEnd, and NoSubroutine where there is no card, come last.
 pub fn parse(alloc: Global, cards: &[Card]) -> Result<Program, SyntaxFault>
     // What is read.
     ensures lines { IfOk result (λ program. AreLines None cards.now (map line_of program)) }

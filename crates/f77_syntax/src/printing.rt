@@ -1,4 +1,4 @@
-//! Programs printed in fixed form, and read again.
+//! Printing programs in fixed form, with the promise that the text reads back.
 
 ghost use Rattle.std.specs.Prelude.{◌≡◌, ◌⊎◌, [], Some, IfOk, IfErr, map, string_bytes};
 ghost use Rattle.std.specs.List.{All, slice_get};
@@ -13,13 +13,14 @@ use std::alloc::Global;
 /// The program in fixed form: each line with its label and the canonical text of its statement, ended by LF (ANSI
 /// X3.9-1978, 3.2).
 ///
-/// Of several faults the first line's is told: its label (1 to 99999) before the length of its statement (20 lines).
+/// The first line with a fault is reported: BadConstant where its label is not 1 to 99999, or else TooLong where its
+/// statement needs more than 20 lines.
 pub fn print(alloc: Global, program: &Program) -> Result<String, SyntaxFault>
     ensures text { IfOk result (λ text. string_bytes text ≡ printed (map line_of program.now)) }
     ensures accepted { IfOk result (λ _. print_faults (map line_of program.now) ≡ []) }
     ensures refused { IfErr result
         (λ fault. (slice_get (print_faults (map line_of program.now)) 0 ≡ Some fault) ⊎ (fault ≡ SyntaxFault.Memory)) }
-    // What is printed is read as a program that is alike.
+    // The text reads back as the same program, apart from line numbers, if each statement keeps the limits.
     ensures back { IfOk result (λ text. All (λ line. KeepsLimits line.stmt) (map line_of program.now)
         → ReadsBack (string_bytes text) (map line_of program.now)) }
 {

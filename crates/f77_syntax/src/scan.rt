@@ -1,4 +1,4 @@
-//! Names, numbers and operators at the front of a text.
+//! Finding names, numbers and operators at the front of a text.
 
 ghost use Rattle.std.specs.Prelude.{◌≡◌, ◌<◌, length, true, option_map, IfSome};
 ghost use Rattle.std.specs.Str.Parse.{digits_value};
@@ -10,7 +10,7 @@ ghost use Rattle.f77_syntax.specs.code.View.{clipped};
 use f77_tree::Operator;
 use f77_tree::characters::is_digit;
 
-/// The operators that begin with an asterisk, one before that whose text begins its own.
+/// The operators that begin with an asterisk. `**` is tried first, since `*` is its beginning.
 const STARRED: [Operator; 2] = [Operator::Power, Operator::Multiply];
 
 /// The operators that begin with a dot.
@@ -27,7 +27,7 @@ const DOTTED: [Operator; 10] = [
     Operator::NotEquivalent,
 ];
 
-/// The digits at the front, and what follows them.
+/// The digits at the front, and the text behind them.
 pub(crate) fn split_digits(text: &[u8]) -> (&[u8], &[u8])
     ensures front { result.0.now ≡ digits text.now }
     ensures back { result.1.now ≡ past_digits text.now }
@@ -40,7 +40,7 @@ pub(crate) fn split_digits(text: &[u8]) -> (&[u8], &[u8])
     text.split_at(text.len())
 }
 
-/// The number that digits write, or the least one that is too large.
+/// The number that the digits make, or 2147483648 where it is larger.
 pub(crate) fn number(digits: &[u8]) -> u32
     requires { grammar.is_number digits.now ≡ true }
     ensures { result ≡ clipped (digits_value 10 digits.now) }
@@ -55,7 +55,7 @@ pub(crate) fn number(digits: &[u8]) -> u32
     n
 }
 
-/// The operator at the front, and what follows it.
+/// The operator at the front, and the text behind it.
 pub(crate) fn next_operator(text: &[u8]) -> Option<(Operator, &[u8])>
     ensures found { option_map (λ x. (x.0, x.1.now)) result ≡ operator_at text.now }
     ensures shorter { IfSome result (λ x. length x.1.now < length text.now) }
@@ -71,7 +71,7 @@ pub(crate) fn next_operator(text: &[u8]) -> Option<(Operator, &[u8])>
     }
 }
 
-/// The first of these operators whose text stands at the front, and what follows it.
+/// The first of these operators whose text stands at the front, and the text behind it.
 fn first_operator<'a>(operators: &[Operator], text: &'a [u8]) -> Option<(Operator, &'a [u8])>
     ensures { option_map (λ x. (x.0, x.1.now)) result ≡ reading.first_operator operators.now text.now }
 {

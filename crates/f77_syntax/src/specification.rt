@@ -1,4 +1,4 @@
-//! INTEGER, LOGICAL, DIMENSION and DATA statements read from texts.
+//! Reading INTEGER, LOGICAL, DIMENSION and DATA statements.
 
 ghost use Rattle.f77_syntax.specs.code.Statement.{declared_at, dimension_at, data_at};
 ghost use Rattle.f77_syntax.specs.code.View.{Gives};

@@ -1,4 +1,4 @@
-//! Statements read from texts.
+//! Reading a statement: by the class of its whole text, then by its keyword.
 
 ghost use Rattle.std.specs.Prelude.{◌≡◌, option_map};
 ghost use Rattle.std.specs.Str.{bytes_eq};
@@ -29,7 +29,7 @@ fn spells(text: &[u8], word: &str) -> bool
     text == word.as_bytes()
 }
 
-/// A statement of one keyword alone.
+/// The statement that consists of one keyword alone, if the text is one.
 #[tactic(auto, unfolding(crate::specs::code::Statement::word_statement))]
 fn word_statement(text: &[u8]) -> Option<Stmt>
     ensures { option_map statement_of result ≡ reading.word_statement text.now }
@@ -63,7 +63,7 @@ fn simple(alloc: Global, text: &[u8]) -> Result<Stmt, ReadError>
     word_statement(text).ok_or(ReadError::Unknown)
 }
 
-/// Reads the same, where it may stand in a logical IF.
+/// Reads a GO TO, or a statement of one keyword alone that may stand in a logical IF.
 #[tactic(auto, unfolding(crate::specs::code::Statement::simple_action_at))]
 fn simple_action(alloc: Global, text: &[u8]) -> Result<Stmt, ReadError>
     ensures { Gives IsStatement result (simple_action_at text.now) }

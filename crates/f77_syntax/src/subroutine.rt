@@ -1,4 +1,4 @@
-//! SUBROUTINE statements read from texts.
+//! Reading SUBROUTINE statements.
 
 ghost use Rattle.std.specs.Prelude.{◌≡◌, option_map};
 ghost use Rattle.f77_syntax.specs.code.Subroutine.{dummies_at, before_close, subroutine_at, AreDummies};
@@ -12,7 +12,7 @@ use f77_tree::characters::{is_name, split_word};
 use f77_tree::{Name, Stmt};
 use std::alloc::Global;
 
-/// Reads names joined by commas up to the end, or nothing.
+/// Reads names joined by commas up to the end. The text may be empty.
 fn dummies(alloc: Global, text: &[u8]) -> Result<Vec<Name>, ReadError>
     ensures { Gives AreDummies result (dummies_at text.now) }
 {
@@ -26,7 +26,7 @@ fn dummies(alloc: Global, text: &[u8]) -> Result<Vec<Name>, ReadError>
     Ok(names)
 }
 
-/// What stands before the closing parenthesis that ends the text.
+/// The text before its last character, which has to be a closing parenthesis.
 fn without_close(text: &[u8]) -> Option<&[u8]>
     ensures { option_map (λ front. front.now) result ≡ before_close text.now }
 {

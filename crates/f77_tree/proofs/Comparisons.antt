@@ -18,7 +18,7 @@ use Rattle.f77_tree.proofs.Views.{stop_view, trap_view, end_view}
 abbrev pub same_lists : List Expr → List Expr → Bool
 same_lists xs ys = same_trees (trees (map tree_of xs)) (trees (map tree_of ys))
 
--- what is left of the lists behind so many items is the same
+-- the rests of two lists, behind i items, are the same
 abbrev pub same_rest : List Expr → List Expr → ℕ → Bool
 same_rest xs ys i = same_lists (drop i xs) (drop i ys)
 

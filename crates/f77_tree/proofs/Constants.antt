@@ -1,4 +1,4 @@
--- The limit on constants, told of a statement part by part.
+-- The limit on constants, said of a statement part by part.
 use Rattle.std.proofs.Common.{◌≡◌, ℕ, List, [], ◌∷◌, ◌++◌, Bool, true, refl, ◌∙◌, ap, Option, Some, None}
 use Rattle.std.specs.Prelude.{◌&&◌, map, nat_le}
 use Rattle.std.specs.List.{flat_map, list_all}
@@ -49,7 +49,7 @@ group_constants g = list_all small_value g.values
 abbrev pub data_constants : List GroupFields → Bool
 data_constants gs = list_all group_constants gs
 
--- a statement
+-- the constants of a statement, part by part
 abbrev pub by_part : Statement → Bool
 by_part (Statement.Subroutine name names) = true
 by_part (Statement.Declare kind ds) = declaration_constants ds
@@ -71,7 +71,7 @@ by_part Statement.Stop = true
 by_part Statement.Trap = true
 by_part Statement.End = true
 
--- The nodes tell the same.
+-- asked of the nodes, the answer is the same
 mutual
   parts_small : (t : Tree) → list_all small_tree (parts t) ≡ small_constants t
   parts_small (Tree.Number n) = and-true (nat_le n largest_integer)
@@ -116,7 +116,7 @@ groups_small (g ∷ gs) = rw (list_all-append is_small_node (group_nodes g) (fla
 target_small : (name : List ℕ) (items : Trees) → list_all is_small_node (target_nodes name items) ≡ all_small_constants items
 target_small name items = list_all-map is_small_node NodeOf.Part (all_parts items) ∙ all_small items
 
--- two lists of nodes, each told of its part
+-- two lists of nodes, each with its answer
 both : (xs ys : List NodeOf) (b d : Bool) → list_all is_small_node xs ≡ b → list_all is_small_node ys ≡ d → list_all is_small_node (xs ++ ys) ≡ (b && d)
 both xs ys b d e f = list_all-append is_small_node xs ys ∙ rw (e, f) refl
 

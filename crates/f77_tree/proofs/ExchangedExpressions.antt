@@ -106,7 +106,7 @@ module _ (next : Bool) (k i : ℕ) (no : next ≡ false) (decided : IsTrue next 
       (sought_second tree_sites tree_sites parts_behind (Tree.Binary op) (λ u v. refl) done told i m j a c b (tree_of x.value) (tree_of y.value) (tree_of z.value)
       (tree_of w.value) past s t)
 
-  -- the same of what an assignment assigns to
+  -- the reference that an assignment assigns to, with exchanged subscripts
   pub in_target : (x : Ref) (old new : List Expr) → old ≡ x.subscripts.items → length new ≡ x.subscripts.len → Items old new
       → Sought target_sites told k j a b (assigned_reference x) (assigned_reference (record { name = x.name; subscripts = with_items x.subscripts new }))
   in_target x old new was long s =

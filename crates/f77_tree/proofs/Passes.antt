@@ -183,7 +183,7 @@ module _ {X : Type 0} (site : X → Site X) (behind : X → List (Site X)) (whol
     };
   }
 
--- nothing is put at the first ones
+-- at the first sites nothing is put
 put_fixed : {A X : Type 0} (f : A → NodeOf) (names : List A) (xs : List (Site X)) (k : ℕ) (n : NodeOf) (x : X)
     → put_number (map (λ a. fixed x (f a)) names ++ xs) k n x ≡ put_number xs (k - length names) n x
 put_fixed f [] xs k n x = ap (λ j. put_number xs j n x) (omega arith)
@@ -193,7 +193,7 @@ put_fixed f (a ∷ names) xs (suc (suc k)) n x =
     let e : suc k - length names ≡ suc (suc k) - suc (length names) = omega arith in
     put_fixed f names xs (suc k) n x ∙ ap (λ j. put_number xs j n x) e
 
--- all of them are passed by
+-- nodes that stay are passed by
 pub passed_fixed : {A X : Type 0} (of : X → List (Site X)) (f : A → NodeOf) (names : List A) (told : Bool) (k j : ℕ) (a : NodeOf) (x : X)
     → of x ≡ map (λ n. fixed x (f n)) names → told ≡ false → j ≡ k - length names → Sought of told k j a a x x
 passed_fixed of f names told k j a x all not_told falls = record {
@@ -208,7 +208,7 @@ passed_fixed of f names told k j a x all not_told falls = record {
   };
 }
 
--- the names of a group of DATA are, and its values are looked at
+-- a group of DATA: its names are passed by, its values are looked at
 module _ (names : List (List ℕ)) where
   abbrev Group : List Value → GroupFields
   Group values = record { names = names; values = values }
@@ -256,7 +256,7 @@ passed_nothing of (suc k) a x none = record {
   passed = λ is. record { same = refl; kept = refl; counted = omega (arith, ap length none); unchanged = ap (λ l. put_number l (suc k) a x) none };
 }
 
--- a pass over a list as far as it has come: what is told of the rest is told of the whole
+-- a pass over a list as far as it has come: what is found in the rest is found in the whole
 abbrev pub Passing : {X : Type 0} → (X → List (Site X)) → List X → List X → List X → ℕ → ℕ → NodeOf → NodeOf → Type 0
 Passing {X = X} of before rest whole start k a b =
     (told : Bool) (j : ℕ) (c : NodeOf) (final : List X) → Sought (list_sites of) told k j b c rest final → Sought (list_sites of) told start j a c whole (before ++ final)
@@ -304,7 +304,7 @@ module _ {X : Type 0} (of : X → List (Site X)) where
     pub last_item : length items ≤ i → Sought (list_sites of) false start k a b whole items
     last_item over = passing_ends (take i items) (drop i items) whole items start k a b p (drop_all i items over) (sym (take_all i items over))
 
-  -- the same of items that stand for others
+  -- an item of the loop and its end, where the items stand for others
   module _ {E : Type 0} (view : E → X) (items : List E) (whole : List X) (i start k : ℕ) (a b : NodeOf)
       (p : Passing of (map view (take i items)) (map view (drop i items)) whole start k a b) where
     pub next_viewed : (e e' : E) (done : Bool) (m : ℕ) (c : NodeOf) → i < length items → e ≡ get_or items i e → done ≡ false → Sought of done k m b c (view e) (view e')
@@ -332,7 +332,7 @@ within_within : {X Y Z : Type 0} (f : Y → Z) (g : X → Y) (xs : List (Site X)
 within_within f g [] = refl
 within_within f g (s ∷ xs) = ap (λ l. (s.0, λ n. f (g (s.1 n))) ∷ l) (within_within f g xs)
 
--- the sites of both of a pair
+-- the sites of both parts of a pair
 abbrev pub pair_sites : {X Y : Type 0} → (X → List (Site X)) → (Y → List (Site Y)) → X × Y → List (Site (X × Y))
 pair_sites of on p = side_by_side (λ u v. (u, v)) (of p.0) (on p.1) p.0 p.1
 

@@ -1,4 +1,4 @@
--- What the truth of a test says of its parts.
+-- What follows for the parts of a test that holds.
 use Rattle.std.proofs.Common.{◌≡◌, Bool, true, false, refl}
 use Rattle.std.specs.Prelude.{◌&&◌, not}
 

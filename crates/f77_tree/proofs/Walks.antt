@@ -5,7 +5,7 @@ use Rattle.std.proofs.lemmas.List.{drop_more, map-append}
 use Rattle.f77_tree.specs.Node.{NodeOf, node_of}
 use Rattle.f77_tree.specs.declared.node.Node.{Node}
 
--- items whose nodes are told one item after another
+-- items whose nodes are listed one item after another
 module _ {X : Type 0} (nodes : X → List NodeOf) (all : List X → List NodeOf) (none : all [] ≡ [])
     (more : (x : X) (xs : List X) → all (x ∷ xs) ≡ nodes x ++ all xs) (xs : List X) (i : ℕ) where
   -- the nodes of one more item are listed

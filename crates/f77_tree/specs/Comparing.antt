@@ -1,4 +1,5 @@
--- Which expressions and parts of declarations are the same: those of one form with the same parts.
+-- Which expressions and parts of declarations are the same: those of one form whose parts are the
+-- same.
 use Rattle.std.specs.Prelude.{ℕ, ◌==◌, nat_eq, List, Bool, true, false, ◌&&◌}
 use Rattle.std.specs.Bool.{beq}
 use Rattle.std.specs.Cmp.Lexicographic.{pointwise}
@@ -61,12 +62,14 @@ abbrev mutual
   same_trees (Trees.Then t ts) (Trees.Then u us) = same_tree t u && same_trees ts us
   same_trees _ _ = false
 
--- a name with its subscripts
+-- two names are the same, and so are their subscripts
 abbrev pub same_place : List ℕ × List Tree → List ℕ × List Tree → Bool
 same_place p q = bytes_eq p.0 q.0 && same_trees (trees p.1) (trees q.1)
 
+-- two declared names have the same name and the same bounds
 abbrev pub same_decl : DeclFields → DeclFields → Bool
 same_decl d e = bytes_eq d.name e.name && pointwise nat_eq d.bounds e.bounds
 
+-- two groups of DATA have the same names and the same values
 abbrev pub same_group : GroupFields → GroupFields → Bool
 same_group g h = pointwise bytes_eq g.names h.names && pointwise same_value g.values h.values

@@ -11,15 +11,16 @@ use Rattle.f77_tree.specs.Grammar.{is_number, truth_constant_text}
 use Rattle.f77_tree.specs.Joined.{Joined}
 use Rattle.f77_tree.specs.Tree.{GroupFields}
 
+-- the view of a group of DATA
 abbrev pub data_group_of : DataGroup → GroupFields
 data_group_of g = record { names = g.names.items; values = g.values.items }
 
--- a number behind a minus sign
+-- the negative of a number
 abbrev pub negative : ℕ → ℤ
 negative zero = pos zero
 negative (suc n) = negsuc n
 
--- Which texts spell them.
+-- the text spells the constant
 pub data SpellsConstant : List ℕ → Constant → Type 0 where
   unsigned : {text : List ℕ}
       → is_number text ≡ true → SpellsConstant text (Number (pos (digits_value 10 text)))
@@ -29,7 +30,7 @@ pub data SpellsConstant : List ℕ → Constant → Type 0 where
       → SpellsConstant (45 ∷ text) (Number (negative (digits_value 10 text)))
   logical : (b : Bool) → SpellsConstant (truth_constant_text b) (Truth b)
 
--- a constant, so many times
+-- the text spells a constant with its repeat
 pub data SpellsValue : List ℕ → Value → Type 0 where
   once : {text : List ℕ} {c : Constant}
       → SpellsConstant text c → SpellsValue text (record { times = 1; constant = c })
@@ -38,13 +39,13 @@ pub data SpellsValue : List ℕ → Value → Type 0 where
       → SpellsValue (digits ++ (42 ∷ text))
       (record { times = digits_value 10 digits; constant = c })
 
--- names, and values between slashes
+-- the text spells a group: names, and values between slashes
 pub data SpellsGroup : List ℕ → GroupFields → Type 0 where
   group : {x y : List ℕ} {names : List (List ℕ)} {values : List Value}
       → Joined SpellsName x names → Joined SpellsValue y values
       → SpellsGroup (x ++ (47 ∷ (y ++ 47 ∷ []))) (record { names = names; values = values })
 
--- one group or more: a comma may stand between two
+-- the text spells one group or more; a comma may stand between two
 pub data SpellsGroups : List ℕ → List GroupFields → Type 0 where
   last : {text : List ℕ} {g : GroupFields} → SpellsGroup text g → SpellsGroups text (g ∷ [])
   more : {text rest : List ℕ} {g : GroupFields} {gs : List GroupFields}

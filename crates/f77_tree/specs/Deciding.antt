@@ -1,10 +1,10 @@
--- Tests that hold exactly of equal values.
+-- Tests that hold of equal values alone.
 use Rattle.std.specs.Prelude.{◌≡◌, Bool, true, Option, Some, None, refl}
 use Rattle.std.specs.Bool.{Decides}
 use Rattle.std.specs.Option.{option_eq}
 use Rattle.std.proofs.Common.{true≢false, sym, ap, subst}
 
--- a test that holds of equal values alone, and of each value and itself
+-- a test decides equality if it holds of no two different values, and of each value and itself
 pub decided_by : {K : Type 0} (test : K → K → Bool)
     → ((x y : K) → test x y ≡ true → x ≡ y) → ((x : K) → test x x ≡ true)
     → (x y : K) → Decides (test x y) (x ≡ y)

@@ -1,8 +1,8 @@
--- What is told of a statement from its form alone.
+-- What follows from the form of a statement alone.
 use Rattle.std.specs.Prelude.{Bool, true, false}
 use Rattle.f77_tree.specs.declared.form.Form.{Form}
 
--- the forms of executable statements (ANSI X3.9-1978, 7.1)
+-- statements of this form are executable (ANSI X3.9-1978, 7.1)
 abbrev pub is_executable : Form → Bool
 is_executable Form.Subroutine = false
 is_executable Form.Declare = false
@@ -10,8 +10,8 @@ is_executable Form.Dimension = false
 is_executable Form.Preset = false
 is_executable _ = true
 
--- Statements of this form may stand in a logical IF (ANSI X3.9-1978, 11.5): executable
--- ones, but for DO, block IF, ELSE IF, ELSE, END IF, END and another logical IF.
+-- statements of this form may stand in a logical IF (ANSI X3.9-1978, 11.5): executable ones, but no
+-- DO, block IF, ELSE IF, ELSE, END IF, END or other logical IF
 abbrev pub acts : Form → Bool
 acts Form.Subroutine = false
 acts Form.Declare = false

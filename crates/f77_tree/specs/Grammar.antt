@@ -11,30 +11,34 @@ use Rattle.f77_tree.specs.Intrinsic.{function_name, function_named}
 use Rattle.f77_tree.specs.Operator.{symbol, sign_symbol, level, left_level, right_level}
 use Rattle.f77_tree.specs.Tree.{Tree, Trees}
 
+-- an upper-case letter (3.1.1)
 abbrev pub is_letter : ℕ → Bool
 is_letter c = nat_le 65 c && nat_le c 90
 
+-- a digit (3.1.2)
 abbrev pub is_digit : ℕ → Bool
 is_digit c = nat_le 48 c && nat_le c 57
 
+-- a letter or a digit, as in a name
 abbrev pub is_word : ℕ → Bool
 is_word c = is_letter c || is_digit c
 
--- letters and digits, the first of them a letter (2.2)
+-- a name: letters and digits, the first of them a letter (2.2)
 abbrev pub is_name : List ℕ → Bool
 is_name [] = false
 is_name (c ∷ s) = is_letter c && list_all is_word s
 
--- one digit or more
+-- a number: one digit or more
 abbrev pub is_number : List ℕ → Bool
 is_number [] = false
 is_number (c ∷ s) = is_digit c && list_all is_digit s
 
--- the letters and digits at the front, and what follows them
+-- the letters and digits at the front of a text, and the text behind them
 abbrev pub word : List ℕ → List ℕ
 word [] = []
 word (c ∷ s) = if is_word c then c ∷ word s else []
 
+-- the text behind the letters and digits at the front
 abbrev pub past_word : List ℕ → List ℕ
 past_word [] = []
 past_word (c ∷ s) = if is_word c then past_word s else c ∷ s
@@ -43,14 +47,14 @@ abbrev pub truth_constant_text : Bool → List ℕ
 truth_constant_text true = codes ".TRUE."
 truth_constant_text false = codes ".FALSE."
 
--- a function's name with a list behind it is a call, in an expression
+-- in an expression, the name of a function with a list behind it is a call
 abbrev pub is_call : List ℕ → Trees → Bool
 is_call name Trees.None = false
 is_call name (Trees.Then t ts) = is_some (function_named name)
 
 mutual
-  -- the text spells the tree, where a form of this level
-  -- or a tighter one is wanted (level 1 is the loosest)
+  -- the text spells the tree, where an expression of this level or a higher one is read (level 1
+  -- binds loosest)
   pub data Spells : ℕ → List ℕ → Tree → Type 0 where
     number : {w : ℕ} {text : List ℕ}
         → is_number text ≡ true → Spells w text (Tree.Number (digits_value 10 text))

@@ -7,12 +7,12 @@ pub data Joined {A : Type 0} (SpellsItem : List ℕ → A → Type 0) : List ℕ
   more : {text rest : List ℕ} {x : A} {xs : List A} → SpellsItem text x → Joined SpellsItem rest xs
       → Joined SpellsItem (text ++ (44 ∷ rest)) (x ∷ xs)
 
--- one item or more
+-- the list has one item or more
 abbrev pub has_items : {A : Type 0} → List A → Bool
 has_items [] = false
 has_items (x ∷ xs) = true
 
--- this text before the first item, and a comma before each other
+-- the items as text: `before` stands before the first, and a comma before each other
 abbrev pub separated : {A : Type 0} → (A → List ℕ) → List ℕ → List A → List ℕ
 separated text before [] = []
 separated text before (x ∷ xs) = before ++ (text x ++ separated text (codes ",") xs)

@@ -1,5 +1,5 @@
--- The limits of a statement, each asked of its nodes: constants,
--- bounds, repeats and labels; and how many nodes there are.
+-- The limits of a statement, each asked of its nodes: on constants, bounds, repeats and labels, and
+-- on the number of nodes.
 use Rattle.std.specs.Prelude.{ℕ, suc, ℤ, pos, negsuc, length, Bool, true, ◌&&◌, nat_le}
 use Rattle.std.specs.List.{list_all}
 use Rattle.f77_tree.specs.declared.data.Constant.{Constant}
@@ -25,11 +25,13 @@ abbrev pub magnitude : ℤ → ℕ
 magnitude (pos n) = n
 magnitude (negsuc n) = suc n
 
+-- a constant of DATA is at most 2147483647 with either sign
 abbrev pub small_constant : Constant → Bool
 small_constant (Number z) = nat_le (magnitude z) largest_integer
 small_constant (Truth b) = true
 
--- constants, bounds and repeats are ones that INTEGER has, and a repeat is 1 at least
+-- no constant, bound or repeat of the node is above 2147483647, a repeat is at least 1, and a label
+-- is in range
 abbrev pub is_small_node : NodeOf → Bool
 is_small_node (NodeOf.Part (Tree.Number n)) = nat_le n largest_integer
 is_small_node (NodeOf.Declared d) = list_all (λ bound. nat_le bound largest_integer) d.bounds
@@ -42,6 +44,6 @@ is_small_node _ = true
 abbrev pub statement_constants : Statement → Bool
 statement_constants s = list_all is_small_node (nodes_of s)
 
--- how many nodes the statement has, itself counted
+-- the number of nodes of the statement, which is one of them
 abbrev pub statement_nodes : Statement → ℕ
 statement_nodes s = length (nodes_of s)

@@ -1,4 +1,4 @@
--- The limit on the names of a statement: each has six characters at most.
+-- The limit on the names of a statement: each has at most six characters.
 use Rattle.std.specs.Prelude.{List, Bool, true, ◌&&◌, Option, Some, None}
 use Rattle.std.specs.List.{list_all}
 use Rattle.f77_tree.specs.Name.{is_short}
@@ -20,26 +20,28 @@ abbrev mutual
   all_short_names Trees.None = true
   all_short_names (Trees.Then t ts) = short_names t && all_short_names ts
 
--- what holds of an expression, where there is one
+-- a test of an expression; where there is none, it holds
 abbrev pub of_value : (Tree → Bool) → Option Tree → Bool
 of_value p None = true
 of_value p (Some t) = p t
 
--- a declared name has six characters at most
+-- a declared name has at most six characters
 abbrev pub decl_name : DeclFields → Bool
 decl_name d = is_short d.name
 
+-- each of these declared names has at most six characters
 abbrev pub declaration_names : List DeclFields → Bool
 declaration_names ds = list_all decl_name ds
 
--- each name of a group of DATA has six characters at most
+-- each name of a group of DATA has at most six characters
 abbrev pub has_short_group_names : GroupFields → Bool
 has_short_group_names g = list_all is_short g.names
 
+-- each name of these groups of DATA has at most six characters
 abbrev pub data_names : List GroupFields → Bool
 data_names gs = list_all has_short_group_names gs
 
--- each name of the statement has six characters at most (ANSI X3.9-1978, 2.2)
+-- each name of the statement has at most six characters (ANSI X3.9-1978, 2.2)
 abbrev pub statement_names : Statement → Bool
 statement_names (Statement.Subroutine name names) = is_short name && list_all is_short names
 statement_names (Statement.Declare kind ds) = declaration_names ds

@@ -23,7 +23,7 @@ pub data NodeOf : Type 0 where
   Labelled : ℕ → NodeOf
   Initial : Value → NodeOf
 
--- an expression and its parts
+-- the expressions that an expression consists of, itself first; and those of a list
 abbrev mutual
   pub parts : Tree → List Tree
   parts (Tree.Number n) = Tree.Number n ∷ []
@@ -39,34 +39,37 @@ abbrev mutual
   all_parts Trees.None = []
   all_parts (Trees.Then t ts) = parts t ++ all_parts ts
 
--- the nodes of an expression: one for itself, and one for each of its parts, in preorder
+-- the nodes of an expression: one for itself and one for each of its parts, in preorder
 abbrev pub tree_nodes : Tree → List NodeOf
 tree_nodes t = map NodeOf.Part (parts t)
 
+-- the nodes of the third parameter of a DO, if it has one
 abbrev pub step_parts : Option Tree → List NodeOf
 step_parts None = []
 step_parts (Some t) = tree_nodes t
 
--- the names of a group of DATA, and its values
+-- the nodes of a group of DATA: its names, then its values
 abbrev pub group_nodes : GroupFields → List NodeOf
 group_nodes g = map NodeOf.Named g.names ++ map NodeOf.Initial g.values
 
--- a reference that is assigned to, and the parts of its subscripts
+-- the nodes of a reference that is assigned to: itself, then the parts of its subscripts
 abbrev pub target_nodes : List ℕ → Trees → List NodeOf
 target_nodes name items = NodeOf.Target name items ∷ map NodeOf.Part (all_parts items)
 
+-- the nodes of the three labels of an arithmetic IF
 abbrev pub label_nodes : ℕ → ℕ → ℕ → List NodeOf
 label_nodes l m n = NodeOf.Labelled l ∷ (NodeOf.Labelled m ∷ (NodeOf.Labelled n ∷ []))
 
--- the terminal statement's label and the DO variable
+-- the nodes of the control of a DO: the label of its terminal statement, then the DO variable
 abbrev pub control_nodes : ℕ → List ℕ → List NodeOf
 control_nodes label name = NodeOf.Labelled label ∷ (NodeOf.Named name ∷ [])
 
+-- the nodes of the parameters of a DO
 abbrev pub parameter_nodes : Tree → Tree → Option Tree → List NodeOf
 parameter_nodes a b c = tree_nodes a ++ (tree_nodes b ++ step_parts c)
 
--- The nodes behind a statement's own. The statement inside a logical
--- IF has one too; the unit's name, bounds and repeats have none.
+-- The nodes behind a statement's own. The statement inside a logical IF has a node too. The unit's
+-- name, bounds and repeats have none.
 abbrev pub nodes_behind : Statement → List NodeOf
 nodes_behind (Statement.Subroutine name names) = map NodeOf.Named names
 nodes_behind (Statement.Declare kind ds) = map NodeOf.Declared ds
@@ -92,17 +95,17 @@ nodes_behind Statement.End = []
 abbrev pub nodes_of : Statement → List NodeOf
 nodes_of s = NodeOf.Itself s ∷ nodes_behind s
 
--- the label that a node is
+-- the label, if the node is one
 abbrev pub label_of : NodeOf → Option ℕ
 label_of (NodeOf.Labelled label) = Some label
 label_of _ = None
 
--- the name that a reference bears
+-- the name of a reference
 abbrev pub tree_name : Tree → Option (List ℕ)
 tree_name (Tree.Reference name items) = Some name
 tree_name _ = None
 
--- the name that a node bears
+-- the name that a node has, if it has one
 abbrev pub node_name : NodeOf → Option (List ℕ)
 node_name (NodeOf.Target name items) = Some name
 node_name (NodeOf.Part t) = tree_name t
@@ -110,11 +113,11 @@ node_name (NodeOf.Named name) = Some name
 node_name (NodeOf.Declared d) = Some d.name
 node_name _ = None
 
--- the names that the nodes of a statement bear, in order of appearance
+-- the names that the nodes of a statement have, in order of appearance
 abbrev pub names_of : Statement → List (List ℕ)
 names_of s = filter_map node_name (nodes_of s)
 
--- what a node of the program stands for
+-- the view of a node
 abbrev pub node_of : Node → NodeOf
 node_of (node.Statement s) = NodeOf.Itself (statement_of s.now)
 node_of (node.Target r) =

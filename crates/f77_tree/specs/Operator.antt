@@ -1,4 +1,4 @@
--- The operators: their texts, their levels and the levels that they want of their operands.
+-- The operators: their texts, their levels, and the levels of their operands.
 use Rattle.std.specs.Prelude.{ℕ, suc, Bool, true, false, if◌then◌else◌, List, codes}
 use Rattle.f77_tree.specs.declared.operator.Operator.{Operator}
 use Rattle.f77_tree.specs.declared.operator.Operator.TheVariants.{Equivalent, NotEquivalent, Or, And, Less}
@@ -30,7 +30,7 @@ abbrev pub sign_symbol : Sign → ℕ
 sign_symbol Plus = 43
 sign_symbol Minus = 45
 
--- the level of a form with this operator, loosest first (ANSI X3.9-1978, section 6)
+-- the level of an expression with this operator, loosest first (ANSI X3.9-1978, section 6)
 abbrev pub level : Operator → ℕ
 level Equivalent = 1
 level NotEquivalent = 1
@@ -58,14 +58,14 @@ is_relation GreaterOrEqual = true
 is_relation Greater = true
 is_relation _ = false
 
--- the level wanted of a left operand: the operator's own, but the
--- next one for a relation and for a power (ANSI X3.9-1978, section 6)
+-- the lowest level of a left operand: the operator's own, but the next one for a relation and for a
+-- power (ANSI X3.9-1978, section 6)
 abbrev pub left_level : Operator → ℕ
 left_level Power = suc (level Power)
 left_level operator = if is_relation operator then suc (level operator) else level operator
 
--- the level wanted of a right operand: the next one,
--- but for a power its own (ANSI X3.9-1978, section 6)
+-- the lowest level of a right operand: the next one, but its own for a power (ANSI X3.9-1978,
+-- section 6)
 abbrev pub right_level : Operator → ℕ
 right_level Power = level Power
 right_level operator = suc (level operator)

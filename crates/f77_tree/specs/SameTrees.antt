@@ -1,4 +1,4 @@
--- Expressions and statements are the same exactly where they are equal.
+-- The tests of two expressions or statements hold exactly where they are equal.
 use Rattle.std.specs.Prelude.{◌≡◌, ℕ, ◌==◌, List, [], ◌∷◌, Option, Bool, true, ◌&&◌, refl}
 use Rattle.std.specs.Bool.{Decides}
 use Rattle.std.specs.Cmp.{IsEquivalence, decided, unsigned_Decides}
@@ -287,7 +287,7 @@ statement_own Statement.End = refl
 pub statement_decides : (s t : Statement) → Decides (same_statement s t) (s ≡ t)
 statement_decides = decided_by same_statement statement_is statement_own
 
--- So each test is an equivalence.
+-- each of these tests is an equivalence
 pub tree_equiv : IsEquivalence same_tree
 tree_equiv = decided same_tree tree_decides
 

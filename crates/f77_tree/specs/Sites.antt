@@ -1,26 +1,28 @@
--- The sites of a statement: its nodes in their order, each together with what the statement
--- becomes when another node stands there. A position is a place in this list, from 0.
+-- The sites of a statement: its nodes in their order, each with the statement that results where
+-- another node is put there. A position is a place in this list, from 0.
 use Rattle.std.specs.Prelude.{ℕ, List, [], ◌∷◌, ◌++◌, map, Option, Some, None, slice_get}
 use Rattle.f77_tree.specs.declared.data.Value.{Value}
 use Rattle.f77_tree.specs.Node.{NodeOf}
 use Rattle.f77_tree.specs.Tree.{Tree, Trees, GroupFields}
 use Rattle.f77_tree.specs.Statement.{Statement}
 
--- a node of a whole, and the whole with another node in its place
+-- a node of a whole, and the whole that results where another node is put there
 abbrev pub Site : Type 0 → Type 0
 Site X = NodeOf × (NodeOf → X)
 
+-- the node of a site
 abbrev pub node_at : {X : Type 0} → Site X → NodeOf
 node_at site = site.0
 
+-- the whole that results where a node is put at a site
 abbrev pub whole_with : {X : Type 0} → Site X → NodeOf → X
 whole_with site = site.1
 
--- a site of a part as one of the whole
+-- a site of a part, as a site of the whole
 abbrev pub site_within : {X Y : Type 0} → (X → Y) → Site X → Site Y
 site_within f site = (node_at site, λ node. f (whole_with site node))
 
--- a node in the place of one: it has to be of the same sort, else nothing changes
+-- a node is put in the place of an expression: unless it is an expression too, nothing changes
 abbrev pub part_or : Tree → NodeOf → Tree
 part_or t (NodeOf.Part u) = u
 part_or t _ = t
@@ -45,7 +47,7 @@ abbrev pub statement_or : Statement → NodeOf → Statement
 statement_or s (NodeOf.Itself other) = other
 statement_or s _ = s
 
--- a node that nothing is put in the place of
+-- a node that stays, whatever is put there
 abbrev pub fixed : {X : Type 0} → X → NodeOf → Site X
 fixed x node = (node, λ other. x)
 
@@ -55,11 +57,11 @@ list_sites sites [] = []
 list_sites sites (x ∷ xs) = map (site_within (λ y. y ∷ xs)) (sites x)
     ++ map (site_within (λ ys. x ∷ ys)) (list_sites sites xs)
 
--- an expression before its parts
+-- the sites of an expression: itself, then those of its parts
 abbrev pub part_then : Tree → List (Site Tree) → List (Site Tree)
 part_then t rest = (NodeOf.Part t, part_or t) ∷ rest
 
--- the parts behind an expression, in preorder; and the expressions of a list, each with its parts
+-- the sites of the parts of an expression, in preorder; and of the expressions of a list
 abbrev mutual
   pub parts_behind : Tree → List (Site Tree)
   parts_behind (Tree.Number n) = []
@@ -81,40 +83,44 @@ abbrev mutual
       map (site_within (λ u. Trees.Then u ts)) (part_then t (parts_behind t))
       ++ map (site_within (Trees.Then t)) (item_sites ts)
 
--- an expression and its parts
+-- the sites of an expression: itself and its parts
 abbrev pub tree_sites : Tree → List (Site Tree)
 tree_sites t = part_then t (parts_behind t)
 
+-- the sites of the third parameter of a DO, if it has one
 abbrev pub step_sites : Option Tree → List (Site (Option Tree))
 step_sites None = []
 step_sites (Some t) = map (site_within Some) (tree_sites t)
 
--- the reference that an assignment assigns to, and the parts of its subscripts
+-- the sites of a reference that is assigned to: itself, then the parts of its subscripts
 abbrev pub target_sites : List ℕ × Trees → List (Site (List ℕ × Trees))
 target_sites place = (NodeOf.Target place.0 place.1, target_or place)
     ∷ map (site_within (λ items. (place.0, items))) (item_sites place.1)
 
+-- the site of a label
 abbrev pub label_sites : ℕ → List (Site ℕ)
 label_sites label = (NodeOf.Labelled label, label_or label) ∷ []
 
+-- the site of a name
 abbrev pub name_sites : List ℕ → List (Site (List ℕ))
 name_sites name = (NodeOf.Named name, name_or name) ∷ []
 
+-- the site of a value of DATA
 abbrev pub value_sites : Value → List (Site Value)
 value_sites value = (NodeOf.Initial value, value_or value) ∷ []
 
--- the names of a group of DATA, which stay, and its values
+-- the sites of a group of DATA: its names, which stay, then its values
 abbrev pub group_sites : GroupFields → List (Site GroupFields)
 group_sites group =
     map (λ name. fixed group (NodeOf.Named name)) group.names
     ++ map (site_within (λ values. record { names = group.names; values = values }))
     (list_sites value_sites group.values)
 
--- a statement before what stands behind it
+-- the sites of a statement: itself, then those behind it
 abbrev pub statement_then : Statement → List (Site Statement) → List (Site Statement)
 statement_then s rest = (NodeOf.Itself s, statement_or s) ∷ rest
 
--- the nodes behind a statement's own: dummy arguments and declared names stay
+-- the sites behind a statement's own: dummy arguments and declared names stay
 abbrev pub sites_behind : Statement → List (Site Statement)
 sites_behind (Statement.Subroutine name names) =
     map (λ n. fixed (Statement.Subroutine name names) (NodeOf.Named n)) names
@@ -154,11 +160,11 @@ sites_behind Statement.Stop = []
 sites_behind Statement.Trap = []
 sites_behind Statement.End = []
 
--- the statement itself, and then its parts from left to right
+-- the sites of a statement: itself, then its parts from left to right
 abbrev pub sites : Statement → List (Site Statement)
 sites s = statement_then s (sites_behind s)
 
--- the whole with a node in the place of the one at a site, the whole itself where there is no site
+-- the whole with a node put at a site; where there is no such site, the whole as it is
 abbrev pub put_node : {X : Type 0} → Option (Site X) → NodeOf → X → X
 put_node None node x = x
 put_node (Some site) node x = whole_with site node

@@ -1,4 +1,4 @@
--- Statements as trees, apart from where they lie in memory (ANSI X3.9-1978, section 7).
+-- Statements as trees (ANSI X3.9-1978, section 7), without the memory in which they lie.
 use Rattle.std.specs.Prelude.{ℕ, ◌==◌, nat_eq, List, [], ◌∷◌, Bool, true}
 use Rattle.std.specs.Prelude.{false, ◌&&◌, Option, Some, None, option_map, map}
 use Rattle.std.specs.Cmp.Lexicographic.{pointwise}
@@ -17,6 +17,7 @@ use Rattle.f77_tree.specs.Joined.{has_items}
 use Rattle.f77_tree.specs.Tree.{Tree, Trees, DeclFields, GroupFields}
 use Rattle.f77_tree.specs.View.{trees, tree_of, reference_fields}
 
+-- a statement (ANSI X3.9-1978, section 7); only mutants have Trap
 pub data Statement : Type 0 where
   Subroutine : List ℕ → List (List ℕ) → Statement
   Declare : Kind → List DeclFields → Statement
@@ -63,11 +64,11 @@ stmt_step Stmt-F.Stop = Statement.Stop
 stmt_step Stmt-F.Trap = Statement.Trap
 stmt_step Stmt-F.End = Statement.End
 
--- the statement that one of the program stands for
+-- the view of a statement
 abbrev pub statement_of : Stmt → Statement
 statement_of = fold-Stmt Statement stmt_step
 
--- What a statement is, apart from what it names and computes (7.1).
+-- the form of a statement: what it is, apart from what it names and computes (7.1)
 abbrev pub form_of : Statement → Form
 form_of (Statement.Subroutine name names) = Form.Subroutine
 form_of (Statement.Declare kind declarations) = Form.Declare
@@ -89,12 +90,11 @@ form_of Statement.Stop = Form.Stop
 form_of Statement.Trap = Form.Trap
 form_of Statement.End = Form.End
 
--- it is executable (ANSI X3.9-1978, 7.1)
+-- the statement is executable (ANSI X3.9-1978, 7.1)
 abbrev pub is_executable_statement : Statement → Bool
 is_executable_statement s = is_executable (form_of s)
 
--- the expression of a statement that has one: what it
--- assigns, tests or chooses by; a DO has parameters instead
+-- the expression that a statement assigns, tests or chooses by; a DO has parameters instead
 abbrev pub value_of : Statement → Option Tree
 value_of (Statement.Assign name items t) = Some t
 value_of (Statement.ComputedGoto labels t) = Some t
@@ -104,7 +104,7 @@ value_of (Statement.BlockIf t) = Some t
 value_of (Statement.ElseIf t) = Some t
 value_of _ = None
 
--- the labels that control may go to from a statement (11.1, 11.2, 11.4, 11.5)
+-- the labels to which control may go from a statement (11.1, 11.2, 11.4, 11.5)
 abbrev pub jumps_of : Statement → List ℕ
 jumps_of (Statement.Goto label) = label ∷ []
 jumps_of (Statement.ComputedGoto labels t) = labels
@@ -112,13 +112,13 @@ jumps_of (Statement.ArithIf t l m n) = l ∷ (m ∷ (n ∷ []))
 jumps_of (Statement.LogicalIf t s) = jumps_of s
 jumps_of _ = []
 
--- a computed GO TO has a label (11.2); each other statement names as many as its form wants
+-- the statement is no computed GO TO without a label (11.2)
 abbrev pub has_labels : Statement → Bool
 has_labels (Statement.ComputedGoto labels t) = has_items labels
 has_labels _ = true
 
--- What is put in the place of each part of a statement: its names,
--- what it declares and presets, subscripts, expressions, labels.
+-- What is put in the place of each part of a statement: of its names, declared names, groups of
+-- DATA, subscripts, expressions and labels.
 pub record Change : Type 0 where
   pub name : List ℕ → List ℕ
   pub names : List (List ℕ) → List (List ℕ)
@@ -152,7 +152,7 @@ changed_by change (Statement.Loop label name a b c) =
     (option_map change.tree c)
 changed_by change statement = statement
 
--- Statements are the same that have one form and the same parts.
+-- statements are the same if they have one form and their parts are the same
 abbrev pub same_statement : Statement → Statement → Bool
 same_statement (Statement.Subroutine name names) (Statement.Subroutine other others) =
     bytes_eq name other && pointwise bytes_eq names others

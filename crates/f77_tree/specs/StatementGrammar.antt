@@ -15,11 +15,11 @@ use Rattle.f77_tree.specs.Data.{SpellsGroups}
 use Rattle.f77_tree.specs.declared.tree.Kind.{Kind}
 use Rattle.f77_tree.specs.declared.tree.Kind.TheVariants.{Integer, Logical}
 
--- The number of a label. A row of more than five digits is out of range, whatever it writes.
+-- the number of a label: more than five digits are out of range, whatever they are
 unfoldable pub label_number : List ℕ → ℕ
 label_number row = if nat_le (length row) 5 then digits_value 10 row else 100000
 
--- the row of digits spells the label
+-- the digits spell the label
 pub data SpellsLabel : List ℕ → ℕ → Type 0 where
   digits : (row : List ℕ) → is_number row ≡ true → SpellsLabel row (label_number row)
 
@@ -52,8 +52,7 @@ abbrev pub kind_keyword : Kind → List ℕ
 kind_keyword Integer = codes "INTEGER"
 kind_keyword Logical = codes "LOGICAL"
 
--- The text spells the statement. No word is reserved:
--- which rule serves is a matter of the whole text.
+-- The text spells the statement. No word is reserved: the whole text decides which rule applies.
 pub data SpellsStatement : List ℕ → Statement → Type 0 where
   action : {text : List ℕ} {s : Statement} → SpellsAction text s → SpellsStatement text s
   subroutine : {name : List ℕ} → is_name name ≡ true
@@ -90,11 +89,11 @@ pub data SpellsStatement : List ℕ → Statement → Type 0 where
       (Statement.Loop (label_number row) name a b (Some c))
   end : SpellsStatement (codes "END") Statement.End
 
--- A label as a text may spell it: any that is out of range is the least one.
+-- a label as a text may spell it: 100000 stands for each label that is out of range
 abbrev pub label_in_text : ℕ → ℕ
 label_in_text n = if nat_le n 99999 then n else 100000
 
--- An expression as a text may spell it: IABS stands for what only mutants have.
+-- an expression as a text may spell it: IABS stands for ZPUSH, which only mutants have
 abbrev mutual
   pub tree_in_text : Tree → Tree
   tree_in_text (Tree.Number n) = Tree.Number n
@@ -110,6 +109,7 @@ abbrev mutual
   trees_in_text Trees.None = Trees.None
   trees_in_text (Trees.Then t ts) = Trees.Then (tree_in_text t) (trees_in_text ts)
 
+-- each part of a statement as a text may spell it
 abbrev pub parts_in_text : Change
 parts_in_text = record {
   name = λ name. name;
@@ -122,16 +122,17 @@ parts_in_text = record {
   labels = map label_in_text;
 }
 
--- A statement as a text may spell it, sizes aside: CONTINUE stands for what only mutants have.
+-- a statement as a text may spell it, sizes aside: CONTINUE stands for TRAP, which only mutants
+-- have
 abbrev pub in_text : Statement → Statement
 in_text (Statement.LogicalIf t s) = Statement.LogicalIf (tree_in_text t) (in_text s)
 in_text Statement.Trap = Statement.Continue
 in_text s = changed_by parts_in_text s
 
--- it has nothing that only mutants have
+-- the statement has nothing that only mutants have
 abbrev pub IsUnmutated : Statement → Type 0
 IsUnmutated s = in_text s ≡ s
 
--- some text spells the statement, and its names have six characters at most
+-- some text spells the statement, and its names have at most six characters
 abbrev pub IsFormed : Statement → Type 0
 IsFormed s = (text : List ℕ) × SpellsStatement text (in_text s) × (statement_names s ≡ true)

@@ -1,5 +1,5 @@
--- Expressions as trees, apart from where they lie in memory,
--- and the parts of declarations. Parentheses leave no trace.
+-- Expressions and the parts of declarations as trees, without the memory in which they lie.
+-- Parentheses leave no trace.
 use Rattle.std.specs.Prelude.{ℕ, List, Bool}
 use Rattle.f77_tree.specs.declared.intrinsic.Intrinsic.{Intrinsic}
 use Rattle.f77_tree.specs.declared.operator.Operator.{Operator}
@@ -17,7 +17,7 @@ mutual
     Binary : Operator → Tree → Tree → Tree
     ZeroPush : Tree → Tree
 
-  -- subscripts or arguments
+  -- a list of expressions: subscripts or arguments
   pub data Trees : Type 0 where
     None : Trees
     Then : Tree → Trees → Trees

@@ -1,4 +1,4 @@
--- The tree that an expression of the program stands for.
+-- The view of an expression: its tree.
 use Rattle.std.specs.Prelude.{ℕ, List, [], ◌∷◌}
 use Rattle.f77_tree.specs.declared.tree.Expr.{Expr}
 use Rattle.f77_tree.specs.declared.tree.Ref.{Ref}
@@ -6,6 +6,7 @@ use Rattle.f77_tree.specs.declared.tree.Expr.TheOpen.{Expr-F, Ref-F}
 use Rattle.f77_tree.specs.declared.tree.Expr.TheFolds.{fold-Expr, fold-Ref}
 use Rattle.f77_tree.specs.Tree.{Tree, Trees}
 
+-- a list of expressions, as subscripts or arguments
 abbrev pub trees : List Tree → Trees
 trees [] = Trees.None
 trees (t ∷ ts) = Trees.Then t (trees ts)
@@ -23,8 +24,10 @@ expr_step (Expr-F.ZeroPush t) = Tree.ZeroPush t.value
 abbrev pub ref_step : Ref-F Tree (List ℕ × List Tree) → List ℕ × List Tree
 ref_step r = (r.name, r.subscripts.items)
 
+-- the view of an expression
 abbrev pub tree_of : Expr → Tree
 tree_of = fold-Expr Tree (List ℕ × List Tree) expr_step ref_step
 
+-- the view of a reference: its name and its subscripts
 abbrev pub reference_fields : Ref → List ℕ × List Tree
 reference_fields = fold-Ref Tree (List ℕ × List Tree) expr_step ref_step

@@ -1,4 +1,4 @@
-//! The characters of names and of numbers.
+//! The characters of names and of numbers (ANSI X3.9-1978, 2.2, 3.1 and 4.3).
 
 ghost use Rattle.std.specs.Prelude.{◌≡◌, ◌≤◌, length};
 ghost use Rattle.std.specs.List.{list_all};

@@ -1,6 +1,6 @@
-//! Comparisons of expressions and of the parts of declarations: equal are those that stand for the same.
+//! Comparisons of expressions and of the parts of declarations: two are equal exactly where their trees are equal.
 //!
-//! They are written out, since a derived `eq` says nothing of a type that holds itself.
+//! They are written out, since a derived `eq` says nothing of a type that contains itself.
 
 ghost use Rattle.std.specs.Prelude.{◌≡◌, map};
 ghost use Rattle.std.specs.Cmp.{on_equiv, partial_equiv_from_equiv};
@@ -61,7 +61,7 @@ impl Eq for Ref {
     ghost laws = { on_equiv reference_fields place_equiv };
 }
 
-/// A comparison by `Vec`'s own `eq` would leave the cycle.
+/// Compares two lists. `Vec`'s own `eq` can not be called here, since it is outside of the cycle of calls.
 #[cycle(comparing)]
 fn same_all(items: &[Expr], others: &[Expr]) -> bool
     ensures { result ≡ same_trees (trees (map tree_of items.now)) (trees (map tree_of others.now)) }

@@ -1,6 +1,6 @@
 //! Copies of expressions and of the parts of declarations, in memory of their own.
 //!
-//! They are written out, since a derived `clone` says nothing of a type that holds itself.
+//! They are written out, since a derived `clone` says nothing of a type that contains itself.
 
 ghost use Rattle.std.specs.Prelude.{◌≡◌, map, IfOk};
 ghost use Rattle.f77_tree.specs.View.{tree_of, reference_fields};
@@ -46,7 +46,7 @@ impl Clone for Ref {
     }
 }
 
-/// A call of `Box`'s own `clone` would leave the cycle.
+/// Copies a boxed expression. `Box`'s own `clone` can not be called here, since it is outside of the cycle of calls.
 #[cycle(copying)]
 fn copy_boxed(source: &Box<Expr>) -> Result<Box<Expr>, AllocError>
     ensures { IfOk result (λ copy. tree_of copy.value ≡ tree_of source.now.value) }
@@ -54,7 +54,7 @@ fn copy_boxed(source: &Box<Expr>) -> Result<Box<Expr>, AllocError>
     Ok(Box::new(*Box::allocator(source), Expr::clone(source)?)?)
 }
 
-/// The same for `Vec`'s.
+/// Copies a list of expressions. `Vec`'s own `clone` can not be called here, for the same reason.
 #[cycle(copying)]
 fn copy_all(items: &Vec<Expr>) -> Result<Vec<Expr>, AllocError>
     ensures { IfOk result (λ copies. map tree_of copies.items ≡ map tree_of items.now.items) }

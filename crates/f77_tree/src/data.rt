@@ -1,30 +1,30 @@
-//! Names with their initial values, as they stand behind DATA.
+//! Groups of names and initial values, as they stand behind DATA.
 
 use crate::name::Name;
 
-/// A constant of a DATA statement, its sign part of it (ANSI X3.9-1978, section 9).
+/// A constant of a DATA statement, with its sign (ANSI X3.9-1978, section 9).
 #[derive(Clone, Copy, Debug, PartialEq, Eq, Drop)]
 pub enum Constant {
-    /// An INTEGER constant: -2147483648 stands for any whose size is above 2147483647.
+    /// An INTEGER constant. -2147483648 stands for each constant above 2147483647, whatever its sign.
     Number(i32),
     /// A LOGICAL constant.
     Truth(bool),
 }
 
-/// A constant, so many times (ANSI X3.9-1978, section 9).
+/// A constant and how often it is repeated (ANSI X3.9-1978, section 9).
 #[derive(Clone, Copy, Debug, PartialEq, Eq, Drop)]
 pub struct Value {
-    /// The repeat, 1 where none is written: 2147483648 stands for any that is too large.
+    /// The repeat, 1 where none is written. 2147483648 stands for each repeat above 2147483647.
     pub times: u32,
-    /// What is repeated.
+    /// The constant that is repeated.
     pub constant: Constant,
 }
 
-/// Names with the values that they get, each in order (ANSI X3.9-1978, section 9).
+/// A group: names, and the values that they get, both in the order written (ANSI X3.9-1978, section 9).
 #[derive(Debug, Drop)]
 pub struct DataGroup {
-    /// Variables and arrays: an array takes a value for each element, the first subscript varying fastest (5.2.4).
+    /// Variables and arrays. An array takes a value for each element, the first subscript varying fastest (5.2.4).
     pub names: Vec<Name>,
-    /// What stands between the slashes.
+    /// The values between the slashes.
     pub values: Vec<Value>,
 }

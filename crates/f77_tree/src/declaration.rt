@@ -11,7 +11,7 @@ use crate::name::Name;
 pub struct Decl {
     /// A variable, or an array where bounds follow.
     pub name: Name,
-    /// The upper bound of each dimension, in order: 2147483648 stands for any that is too large.
+    /// The upper bound of each dimension, in order. 2147483648 stands for each bound above 2147483647.
     pub bounds: Vec<u32>,
 }
 
@@ -21,7 +21,7 @@ fn has_bounds(item: &Decl) -> bool
     !item.bounds.is_empty()
 }
 
-/// Whether each name has bounds, as DIMENSION asks (ANSI X3.9-1978, 8.1).
+/// Whether each name has bounds, as DIMENSION requires (ANSI X3.9-1978, 8.1).
 pub fn all_bounded(items: &[Decl]) -> bool
     ensures { result ≡ declared.all_bounded (map decl_of items.now) }
 {

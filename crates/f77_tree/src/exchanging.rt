@@ -1,4 +1,6 @@
-//! A node of a statement and another one that change places: neither takes memory.
+//! Exchanging a node of a statement with another node. It takes no memory, and done once more with what came out it
+//! restores the statement. One pass counts down to the node. A position is a place in the list of nodes, so neither the
+//! numbering nor the exchange needs arithmetic on positions.
 
 ghost use Rattle.std.specs.Prelude.{◌≡◌, ◌+◌, ◌-◌, ◌<◌, ◌^◌, true, false, option_map};
 ghost use Rattle.f77_tree.specs.Statement.{Statement, statement_of};
@@ -14,8 +16,8 @@ use crate::replacement::Replacement;
 use crate::{Expr, Name, Ref, Stmt};
 use std::mem;
 
-/// The node of the statement at this position, from 0, and this one change places, where the two are
-/// of one sort and another node may stand there; where not, both stay. It takes no memory.
+/// Exchanges the node of the statement at this position, from 0, with another node. If the two are of different sorts,
+/// or nothing may be put there, both stay as they are. It takes no memory.
 pub fn exchange(stmt: &mut Stmt, position: usize, node: &mut Replacement)
     requires { position + 1 < 2 ^ 64 }
     ensures put { statement_of stmt.new
@@ -27,7 +29,8 @@ pub fn exchange(stmt: &mut Stmt, position: usize, node: &mut Replacement)
     let _exchanged = exchange_statement(stmt, &mut number, node);
 }
 
-/// The same of the node with this number, from 1. The number falls by the nodes that were passed.
+/// Exchanges the node with this number, from 1, and says whether it did. The number falls by the nodes that were
+/// passed. All functions of this module that take a number do so.
 #[cycle(exchange)]
 fn exchange_statement(stmt: &mut Stmt, number: &mut usize, node: &mut Replacement) -> bool
     ensures { Sought sites result number.old number.new
@@ -46,7 +49,7 @@ fn exchange_statement(stmt: &mut Stmt, number: &mut usize, node: &mut Replacemen
     exchange_behind(stmt, number, node)
 }
 
-/// The same of the nodes behind the statement's own.
+/// Exchanges a node behind the statement's own.
 #[cycle(exchange)]
 fn exchange_behind(stmt: &mut Stmt, number: &mut usize, node: &mut Replacement) -> bool
     ensures { Sought sites_behind result number.old number.new
@@ -105,7 +108,7 @@ fn exchange_logical(
     exchange_expression(condition, number, node) || exchange_statement(statement, number, node)
 }
 
-/// So many nodes that nothing takes the place of.
+/// Passes nodes that can not be exchanged.
 fn pass(count: usize, number: &mut usize) -> bool
     ensures none { result ≡ false }
     ensures counted { number.new ≡ number.old - count }

@@ -1,4 +1,4 @@
-//! Values of DATA that change places with others: the names stay.
+//! Exchanging a value of DATA. The names of DATA are passed by.
 
 ghost use Rattle.std.specs.Prelude.{map};
 ghost use Rattle.f77_tree.specs.Data.{data_group_of};

@@ -1,4 +1,4 @@
-//! Expressions, or parts of theirs, that change places with others.
+//! Exchanging an expression or a part of one.
 
 ghost use Rattle.std.specs.Prelude.{map, option_map};
 ghost use Rattle.f77_tree.specs.View.{tree_of, trees};
@@ -11,8 +11,8 @@ use crate::replacement::Replacement;
 use crate::{Expr, Ref};
 use std::mem;
 
-/// The expression with this number, from 1, and this one change places: whether they do.
-/// The number falls by the nodes that were passed.
+/// Exchanges the expression with this number, from 1, and says whether it did. The number falls by the nodes that were
+/// passed.
 #[cycle(exchange)]
 pub fn exchange_expression(expr: &mut Expr, number: &mut usize, node: &mut Replacement) -> bool
     ensures { Sought tree_sites result number.old number.new
@@ -65,7 +65,7 @@ fn exchange_items(items: &mut [Expr], number: &mut usize, node: &mut Replacement
     false
 }
 
-/// The third parameter of a DO.
+/// Exchanges a node in the third parameter of a DO.
 pub fn exchange_step(step: &mut Option<Expr>, number: &mut usize, node: &mut Replacement) -> bool
     ensures { Sought step_sites result number.old number.new
         (replacement_of node.old) (replacement_of node.new)
@@ -77,7 +77,7 @@ pub fn exchange_step(step: &mut Option<Expr>, number: &mut usize, node: &mut Rep
     }
 }
 
-/// What an assignment assigns to.
+/// Exchanges the reference that an assignment assigns to, or a part of its subscripts.
 pub fn exchange_target(target: &mut Ref, number: &mut usize, node: &mut Replacement) -> bool
     ensures { Sought target_sites result number.old number.new
         (replacement_of node.old) (replacement_of node.new)

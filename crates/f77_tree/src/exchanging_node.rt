@@ -1,4 +1,4 @@
-//! Nodes without parts that change places with others.
+//! Exchanging a node that has no parts: a label, a name or a value of DATA.
 
 ghost use Rattle.std.specs.Prelude.{◌≡◌, ◌-◌, ◌↔◌, IsTrue};
 ghost use Rattle.f77_tree.specs.code.Exchanging.{Sought};
@@ -9,7 +9,7 @@ use crate::replacement::Replacement;
 use crate::{Name, Value};
 use std::mem;
 
-/// Whether the next node is the one that is looked for.
+/// Whether the next node is the one that is looked for. The number falls by 1.
 #[inline]
 pub fn is_next(number: &mut usize) -> bool
     ensures decided { IsTrue result ↔ number.old ≡ 1 }

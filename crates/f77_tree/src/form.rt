@@ -40,7 +40,7 @@ pub enum Form {
     Return,
     /// STOP (11.12).
     Stop,
-    /// What a mutant has in place of a statement.
+    /// TRAP, which only mutants have in place of a statement.
     Trap,
     /// END (11.14).
     End,
@@ -57,8 +57,8 @@ impl Form {
         )
     }
 
-    /// Whether a statement of this form may stand in a logical IF (11.5): it is
-    /// executable, and no DO, no block IF and nothing of its, no logical IF and not END.
+    /// Whether a statement of this form may stand in a logical IF (11.5): each executable one but DO, block IF, ELSE
+    /// IF, ELSE, END IF, END and another logical IF.
     pub fn acts(self) -> bool
         ensures { result ≡ acts self }
     {

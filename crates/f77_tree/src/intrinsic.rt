@@ -3,10 +3,10 @@
 ghost use Rattle.std.specs.Prelude.{◌≡◌};
 ghost use Rattle.f77_tree.specs.Intrinsic as functions;
 
-/// An intrinsic function. Each takes and gives INTEGER values.
+/// An intrinsic function. Its arguments and its result are INTEGER.
 #[derive(Clone, Copy, Debug, PartialEq, Eq)]
 pub enum Intrinsic {
-    /// The remainder of a division.
+    /// The remainder of a division, with the sign of the first argument.
     Mod,
     /// The absolute value.
     Iabs,
@@ -17,7 +17,7 @@ pub enum Intrinsic {
 }
 
 impl Intrinsic {
-    /// Its name.
+    /// The name by which the function is called.
     pub fn name(self) -> &'static str
         ensures { result.now ≡ functions.function_name self }
     {
@@ -29,7 +29,7 @@ impl Intrinsic {
         }
     }
 
-    /// The function of this name.
+    /// The function of this name, if there is one.
     #[tactic(auto, unfolding(crate::specs::Intrinsic::function_named))]
     pub fn named(name: &[u8]) -> Option<Intrinsic>
         ensures { result ≡ functions.function_named name.now }

@@ -1,4 +1,4 @@
-//! What holds of every tree and statement.
+//! Laws of expressions and statements.
 
 ghost use Rattle.std.specs.Prelude.{◌≡◌, ◌↔◌, ℕ, true, List, map};
 ghost use Rattle.f77_tree.specs.Comparing.{same_tree, same_place, same_decl, same_group};
@@ -7,14 +7,14 @@ ghost use Rattle.f77_tree.specs.Sites.{node_at, sites};
 ghost use Rattle.f77_tree.specs.Statement.{same_statement, Statement};
 ghost use Rattle.f77_tree.specs.Tree.{Tree, DeclFields, GroupFields};
 
-/// Expressions and references are equal by `==` exactly where their trees are one.
+/// Two expressions, or two references, are equal by `==` exactly where their trees are equal.
 #[tactic(auto, using(crate::specs::SameTrees::tree_decides, crate::specs::SameTrees::place_decides))]
 pub fn equal_expressions_are_one()
     ensures expressions { (t u : Tree) → (same_tree t u ≡ true) ↔ (t ≡ u) }
     ensures references { (p q : List ℕ × List Tree) → (same_place p q ≡ true) ↔ (p ≡ q) }
 {}
 
-/// The same of statements, and of what their lists hold.
+/// Two statements, declared names or groups of DATA are equal by `==` exactly where their views are equal.
 #[tactic(auto, using(crate::specs::SameTrees::statement_decides, crate::specs::SameTrees::decl_decides, crate::specs::SameTrees::group_decides))]
 pub fn equal_statements_are_one()
     ensures statements { (s t : Statement) → (same_statement s t ≡ true) ↔ (s ≡ t) }
@@ -22,7 +22,7 @@ pub fn equal_statements_are_one()
     ensures groups { (g h : GroupFields) → (same_group g h ≡ true) ↔ (g ≡ h) }
 {}
 
-/// There is one numbering: the sites of a statement stand in the order of its nodes.
+/// The sites of a statement stand in the order of its nodes, so there is one numbering.
 pub fn sites_are_numbered_as_nodes()
     ensures { (s : Statement) → map node_at (sites s) ≡ nodes_of s }
 {}

@@ -1,4 +1,5 @@
-//! The limits of a statement that are asked of its nodes.
+//! The limits on constants, bounds, repeats and labels. A limit is asked of the list of nodes, not form by form: a node
+//! is in range or not, whatever statement it stands in.
 
 ghost use Rattle.std.specs.Prelude.{◌≡◌, map};
 ghost use Rattle.std.specs.List.{list_all};
@@ -61,8 +62,8 @@ fn is_small(node: &Node<'_>) -> bool
     }
 }
 
-/// Whether each constant and bound among the nodes is one that INTEGER has,
-/// each repeat too and not 0, and each label 1 to 99999. It takes no memory.
+/// Whether each constant and each bound among the nodes is at most 2147483647, each repeat 1 to 2147483647, and each
+/// label 1 to 99999. It takes no memory.
 pub fn are_small(nodes: &[Node<'_>]) -> bool
     ensures { result ≡ list_all limits.is_small_node (map node_of nodes.now) }
 {

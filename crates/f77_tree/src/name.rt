@@ -1,4 +1,4 @@
-//! Names.
+//! Names: letters and digits, kept in seven characters.
 
 ghost use Rattle.std.specs.Prelude.{◌≡◌, ◌&&◌, List, [], ◌∷◌, ℕ, Some, None, if◌then◌else◌, true};
 ghost use Rattle.std.specs.List.{list_all};
@@ -19,16 +19,16 @@ use std::str;
 /// The most characters of a name (ANSI X3.9-1978, 2.2).
 pub const LONGEST_NAME: usize = 6;
 
-/// How many characters are kept: the last of them tells that a name is too long.
+/// The number of characters that are kept. The last of them shows that a name is too long.
 const KEPT: usize = LONGEST_NAME + 1;
 
-/// A symbolic name (ANSI X3.9-1978, 2.2): 1 to 6 letters and digits, the first of them a letter;
-/// or the first seven of a longer one, which no program has.
+/// A symbolic name (ANSI X3.9-1978, 2.2): 1 to 6 letters and digits, the first of them a letter. Or it is the first
+/// seven characters of a longer name, which no program has.
 ///
-/// They lie in the value itself, so a copy takes no memory.
+/// The characters lie in the value itself, so a copy takes no memory.
 #[derive(Clone, Copy, Drop)]
 pub struct Name {
-    /// With blanks behind them.
+    /// The characters of the name, and blanks behind them.
     letters: [u8; KEPT],
 }
 
@@ -49,7 +49,7 @@ impl Model for Name {
     ghost inverse_ok = { λ n h. ap (λ z. record { letters = z }) (sym h.padding) };
 }
 
-/// Whether two names lie in the same characters: most names differ in one of the first.
+/// Whether two names have the same characters. A loop is quick, since most names differ in one of the first.
 fn are_same(one: &[u8; KEPT], other: &[u8; KEPT]) -> bool
     ensures { result ≡ bytes_eq one.now other.now }
 {
@@ -85,7 +85,7 @@ impl Hash for Name {
     }
 }
 
-/// As a text in quotes.
+/// A name is shown as a text in quotes.
 impl Debug for Name {
     fn fmt<W: fmt::Write>(&self, f: &mut Formatter<W>) -> fmt::Result {
         Debug::fmt(&self.as_str(), f)
@@ -101,7 +101,7 @@ impl Display for Name {
 }
 
 impl Name {
-    /// The name of the first seven of these letters and digits. It takes no memory.
+    /// The name that consists of the first seven of these letters and digits. It takes no memory.
     pub fn beginning(letters: &[u8]) -> Name
         requires { grammar.is_name letters.now ≡ true }
         ensures { result ≡ cut letters.now }
@@ -112,8 +112,8 @@ impl Name {
         Name { letters: field }
     }
 
-    /// The name that is written so, where it is 1 to 6 letters
-    /// and digits and the first is a letter. It takes no memory.
+    /// The name of these characters, if they are 1 to 6 letters and digits and the first is a letter. It takes no
+    /// memory.
     pub fn new(letters: &str) -> Option<Name>
         ensures { result ≡ (if grammar.is_name letters.now && is_short letters.now then Some letters.now else None) }
     {
@@ -123,7 +123,7 @@ impl Name {
         Some(Name::beginning(letters.as_bytes()))
     }
 
-    /// Its letters and digits.
+    /// The letters and digits of the name.
     pub fn as_str(&self) -> &str
         ensures letters { result.now ≡ self.now }
         ensures name { grammar.is_name self.now ≡ true }
@@ -135,7 +135,7 @@ impl Name {
         }
     }
 
-    /// Whether it has six characters at most. It takes no memory.
+    /// Whether the name has at most six characters. It takes no memory.
     pub fn is_short(&self) -> bool
         ensures short { result ≡ is_short self.now }
         ensures name { grammar.is_name self.now ≡ true }
@@ -144,7 +144,7 @@ impl Name {
     }
 }
 
-/// Whether each of the names has six characters at most. It takes no memory.
+/// Whether each of the names has at most six characters. It takes no memory.
 pub fn are_short(names: &[Name]) -> bool
     ensures { result ≡ list_all is_symbolic names.now }
 {

@@ -1,4 +1,4 @@
-//! The nodes of a statement, numbered from 0: itself, then its parts from left to right.
+//! The nodes of a statement, numbered from 0: the statement itself, then its parts from left to right.
 
 ghost use Rattle.std.specs.Prelude.{◌≡◌, option_map};
 ghost use Rattle.f77_tree.specs.View.{tree_of};
@@ -12,7 +12,7 @@ use crate::{Decl, Expr, Name, Ref, Stmt, Value};
 pub enum Node<'a> {
     /// The statement itself, or the one inside a logical IF.
     Statement(&'a Stmt),
-    /// What an assignment assigns to.
+    /// The reference that an assignment assigns to.
     Target(&'a Ref),
     /// An expression, or a part of one.
     Expression(&'a Expr),
@@ -36,7 +36,7 @@ fn reference_name(expr: &Expr) -> Option<&Name>
 }
 
 impl<'a> Node<'a> {
-    /// The label, where the node is one.
+    /// The label, if the node is one.
     pub fn label(&self) -> Option<u32>
         ensures { result ≡ nodes.label_of (node_of self.now) }
     {
@@ -46,7 +46,7 @@ impl<'a> Node<'a> {
         }
     }
 
-    /// The name that the node bears, where it is a reference, a declared name or a name alone.
+    /// The name of the node, if it is a reference, a declared name or a name alone.
     pub fn name(&self) -> Option<&'a Name>
         ensures { option_map (λ name. name.now) result ≡ nodes.node_name (node_of self.now) }
     {

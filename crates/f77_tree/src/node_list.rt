@@ -1,4 +1,5 @@
-//! All nodes of a statement.
+//! All nodes of a statement, as one list. The limits on constants and on the number of nodes, and the operators, ask
+//! this list alone.
 
 ghost use Rattle.std.specs.Prelude.{◌≡◌, ◌++◌, IfOk, OnOk, map, flat_map, option_map};
 ghost use Rattle.f77_tree.specs.Data.{data_group_of};
@@ -11,7 +12,7 @@ use crate::node::Node;
 use crate::{DataGroup, Decl, Expr, Name, Stmt, Value};
 use std::alloc::{AllocError, Global};
 
-/// The nodes of the statement, in the order of their positions: itself first.
+/// The nodes of the statement, in the order of their positions: the statement itself first.
 pub fn nodes(alloc: Global, stmt: &Stmt) -> Result<Vec<Node<'_>>, AllocError>
     ensures { IfOk result (λ list. map node_of list.items ≡ nodes_of (statement_of stmt.now)) }
 {
@@ -79,7 +80,7 @@ fn add_statement<'a>(list: &mut Vec<Node<'a>>, stmt: &'a Stmt) -> Result<(), All
     }
 }
 
-/// An expression and its parts.
+/// Adds an expression and its parts, in preorder.
 #[cycle(parts)]
 fn add_tree<'a>(list: &mut Vec<Node<'a>>, expr: &'a Expr) -> Result<(), AllocError>
     ensures { OnOk result (map node_of list.new.items ≡ map node_of list.old.items ++ tree_nodes (tree_of expr.now)) }

@@ -1,4 +1,4 @@
-//! The operators that stand between two operands.
+//! The operators between two operands, and the signs.
 
 ghost use Rattle.std.specs.Prelude.{◌≡◌, ◌&&◌, nat_le};
 ghost use Rattle.f77_tree.specs.Operator as levels;
@@ -31,7 +31,7 @@ pub enum Sign {
 }
 
 impl Operator {
-    /// Its text.
+    /// The text of the operator, such as `.EQV.` or `**`.
     pub fn symbol(self) -> &'static str
         ensures { result.now ≡ levels.symbol self }
     {
@@ -54,7 +54,7 @@ impl Operator {
         }
     }
 
-    /// The level of an expression with this operator, 1 for the loosest.
+    /// The level of an expression with this operator, from 1 for what binds loosest to 8 for `**`.
     pub fn level(self) -> u8
         ensures { result ≡ levels.level self }
     {
@@ -74,7 +74,7 @@ impl Operator {
         }
     }
 
-    /// The level that its left operand has at least.
+    /// The lowest level that its left operand may have.
     pub fn left_level(self) -> u8
         ensures { result ≡ levels.left_level self }
     {
@@ -90,7 +90,7 @@ impl Operator {
         }
     }
 
-    /// The level that its right operand has at least.
+    /// The lowest level that its right operand may have.
     pub fn right_level(self) -> u8
         ensures { result ≡ levels.right_level self }
     {
@@ -100,7 +100,8 @@ impl Operator {
         }
     }
 
-    /// Whether it goes on with an operand of level `own`, where an expression of level `wanted` is wanted.
+    /// Whether this operator may follow an operand of level `own`, where an expression of level `wanted` or higher is
+    /// read.
     pub fn goes_on(self, own: u8, wanted: u8) -> bool
         ensures { result ≡ (nat_le wanted (levels.level self) && nat_le (levels.left_level self) own) }
     {
@@ -109,7 +110,7 @@ impl Operator {
 }
 
 impl Sign {
-    /// Its character.
+    /// The character of the sign.
     pub fn symbol(self) -> u8
         ensures { result ≡ levels.sign_symbol self }
     {

@@ -1,13 +1,13 @@
-//! Nodes that take the place of others.
+//! Nodes that are put in the place of others.
 
 use crate::{Expr, Name, Ref, Stmt, Value};
 
-/// A node that may take the place of one of a statement.
+/// A node that may be put in the place of one of the same sort.
 #[derive(Drop)]
 pub enum Replacement {
-    /// A statement, in the place of the whole or of the one inside a logical IF.
+    /// A statement, in the place of the whole statement or of the one inside a logical IF.
     Statement(Stmt),
-    /// What an assignment assigns to.
+    /// A reference that an assignment assigns to.
     Target(Ref),
     /// An expression, or a part of one.
     Expression(Expr),

@@ -1,4 +1,4 @@
-//! Values that have several owners.
+//! Values with several owners.
 
 ghost use Rattle.std.specs.Prelude.{◌≡◌, IfOk};
 ghost use Rattle.std.specs.Arc.{arc_value};
@@ -9,7 +9,7 @@ use std::marker::Model;
 use std::ops::Deref;
 use std::sync::Arc;
 
-/// A value that several owners read: to copy it is to count one owner more. Contracts see the value alone.
+/// A value that several owners read. A copy takes no memory: it counts one owner more. Contracts see the value alone.
 #[derive(Drop)]
 pub struct Shared<T: Drop> {
     value: Arc<T>,
@@ -22,7 +22,7 @@ impl<T: Drop> Model for Shared<T> {
 }
 
 impl<T: Drop> Shared<T> {
-    /// The value, with one owner. It takes the memory for the value.
+    /// The value, with one owner. It takes memory for the value.
     pub fn new(alloc: Global, value: T) -> Result<Shared<T>, AllocError>
         ensures { IfOk result (λ shared. shared ≡ value) }
     {
@@ -55,7 +55,7 @@ impl<T: Drop> Clone for Shared<T> {
     }
 }
 
-/// It is shown as the value.
+/// A shared value is shown as the value itself.
 impl<T: Debug + Drop> Debug for Shared<T> {
     fn fmt<W: fmt::Write>(&self, f: &mut Formatter<W>) -> fmt::Result {
         self.value.fmt(f)

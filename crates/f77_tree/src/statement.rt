@@ -1,6 +1,7 @@
-//! Statements as trees: what they are, their parts, copies and comparisons.
+//! Statements as trees: what they are, their parts, copies and comparisons. One module has all of a statement (form,
+//! expression, labels, copy, comparison), so a further statement is added here once.
 //!
-//! Copies and comparisons are written out, since what is derived says nothing of a type that holds itself.
+//! Copies and comparisons are written out, since derived ones say nothing of a type that contains itself.
 
 ghost use Rattle.std.specs.Prelude.{◌≡◌, length, option_map, slice_get};
 ghost use Rattle.std.specs.Cmp.{on_equiv, partial_equiv_from_equiv};
@@ -89,14 +90,14 @@ pub enum Stmt {
     Return,
     /// STOP (11.12).
     Stop,
-    /// What a mutant has in place of a statement, to be told when it is executed.
+    /// TRAP, which only mutants have in place of a statement: a run that executes it is Trapped.
     Trap,
     /// END (11.14).
     End,
 }
 
 impl Stmt {
-    /// Its form. It takes no memory.
+    /// The form of the statement. It takes no memory.
     pub fn form(&self) -> Form
         ensures { result ≡ form_of (statement_of self.now) }
     {
@@ -122,7 +123,7 @@ impl Stmt {
             Stmt::End => Form::End,
         }
     }
-    /// The expression of a statement that has one: what it assigns, tests or chooses by. A DO has parameters instead.
+    /// The expression that the statement assigns, tests or chooses by, if it has one. A DO has parameters instead.
     pub fn value(&self) -> Option<&Expr>
         ensures { option_map (λ value. tree_of value.now) result ≡ value_of (statement_of self.now) }
     {
@@ -137,7 +138,7 @@ impl Stmt {
         }
     }
 
-    /// How many labels it names that control may go to (11.1, 11.2, 11.4, 11.5).
+    /// The number of labels to which control may go from the statement (11.1, 11.2, 11.4, 11.5).
     pub fn jump_count(&self) -> usize
         ensures { result ≡ length (jumps_of (statement_of self.now)) }
     {
@@ -150,7 +151,7 @@ impl Stmt {
         }
     }
 
-    /// The label `k` from 0 of those that control may go to, None past the last.
+    /// The label number `k` of those to which control may go, counted from 0. None past the last.
     pub fn jump(&self, k: usize) -> Option<u32>
         ensures { result ≡ slice_get (jumps_of (statement_of self.now)) k }
     {
@@ -168,7 +169,7 @@ impl Stmt {
         }
     }
 
-    /// Whether a computed GO TO has a label (11.2); each other statement names as many as its form wants.
+    /// Whether the statement is no computed GO TO without a label (11.2). Each other form has its labels in any case.
     #[tactic(auto, using(crate::proofs::Forms::has_its_labels))]
     pub fn has_labels(&self) -> bool
         ensures { result ≡ has_labels (statement_of self.now) }

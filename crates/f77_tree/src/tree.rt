@@ -1,4 +1,4 @@
-//! Expressions as trees: parentheses leave no trace.
+//! Expressions as trees. Parentheses leave no trace in them.
 
 ghost use Rattle.std.specs.Prelude.{◌≡◌};
 ghost use Rattle.f77_tree.specs.StatementGrammar.{kind_keyword};
@@ -33,7 +33,7 @@ impl Kind {
 #[cycle(tree)]
 #[derive(Debug, Drop)]
 pub enum Expr {
-    /// An unsigned INTEGER constant.
+    /// An unsigned INTEGER constant. 2147483648 stands for each constant above 2147483647.
     Number(u32),
     /// A LOGICAL constant.
     Truth(bool),
@@ -47,11 +47,12 @@ pub enum Expr {
     Not(Box<Expr>),
     /// An operator between its operands.
     Binary(Operator, Box<Expr>, Box<Expr>),
-    /// What a mutant has in place of an INTEGER expression, to be told where it is zero.
+    /// ZPUSH(e), which only mutants have in place of an INTEGER expression e: the value of e, but a run is Trapped
+    /// where that is 0.
     ZeroPush(Box<Expr>),
 }
 
-/// A name, with the subscripts that follow it.
+/// A name with its subscripts; a variable has none.
 #[cycle(tree)]
 #[derive(Debug, Drop)]
 pub struct Ref {

@@ -11,7 +11,7 @@ fn card(rt: &impl AllocGlobal, label: Option<u32>, text: &str, line: u32) -> Res
     Ok(Card::new(label, String::from_str(rt.alloc(), text)?, line))
 }
 
-/// How many cards a source has, or its fault.
+/// The number of cards of a source, or its fault.
 fn cards_text(rt: &impl AllocGlobal, source: &str) -> Result<String, Fail> {
     match read_form(rt.alloc(), source.as_bytes()) {
         Ok(cards) => Ok(format!(in rt.alloc(); "{}", cards.len())?),
@@ -19,7 +19,7 @@ fn cards_text(rt: &impl AllocGlobal, source: &str) -> Result<String, Fail> {
     }
 }
 
-/// Compares the cards of so many empty lines.
+/// Compares what is read of `count` empty lines.
 fn assert_lines(rt: &impl AllocGlobal, count: usize, want: &str) -> Result<(), Fail> {
     let source = repeated(rt, "", count, "\n", "")?;
     expect(cards_text(rt, source.as_str()), want, want)
@@ -31,13 +31,13 @@ fn limits_the_source(rt: HostRuntime) -> Result<(), Fail> {
     assert_lines(&rt, 65_537, "TooLarge")
 }
 
-/// Adds a card without a label.
+/// Adds a card without label.
 fn add(rt: &impl AllocGlobal, cards: &mut Vec<Card>, line: u32, text: &str) -> Result<(), Fail> {
     let card = card(rt, None, text, line)?;
     Ok(cards.push(card)?)
 }
 
-/// The cards of SUBROUTINE A, this text and END, on lines 1 to 3.
+/// The cards of SUBROUTINE A, of this text and of END, on lines 1 to 3.
 fn cards(rt: &impl AllocGlobal, text: &str) -> Result<Vec<Card>, Fail> {
     let mut cards = Vec::new(rt.alloc());
     add(rt, &mut cards, 1, "SUBROUTINEA")?;
@@ -46,7 +46,7 @@ fn cards(rt: &impl AllocGlobal, text: &str) -> Result<Vec<Card>, Fail> {
     Ok(cards)
 }
 
-/// Compares the fault of a text that could be made.
+/// Compares the fault of a card with this text.
 fn assert_text(
     rt: &(impl AllocGlobal + Abort),
     text: Result<String, Fail>,
@@ -58,7 +58,7 @@ fn assert_text(
     Ok(())
 }
 
-/// A character of two bytes counts once.
+/// A character of two bytes counts as one.
 #[test]
 fn limits_the_characters_of_a_card(rt: HostRuntime) -> Result<(), Fail> {
     assert_text(
@@ -86,7 +86,7 @@ fn written(rt: &impl AllocGlobal, card: Card) -> Result<String, Fail> {
     }
 }
 
-/// Compares what is written of a card on line 7 with this label and so many of these characters.
+/// Compares the lines that are written of a card on line 7, with this label and this text.
 fn assert_written(
     rt: &impl AllocGlobal,
     label: u32,
@@ -111,13 +111,13 @@ fn writes_cards(rt: HostRuntime) -> Result<(), Fail> {
     assert_written(&rt, 0, repeated(&rt, "K=", 1, "é", ""), "NotAscii(7)")
 }
 
-/// Whether the card is that of STOP under label 10 on line 2.
+/// Whether the card is that of STOP with label 10 on line 2.
 fn is_stop(rt: &impl AllocGlobal, other: &Card) -> Result<bool, Fail> {
     let stop = card(rt, Some(10), "STOP", 2)?;
     Ok(stop == *other)
 }
 
-/// Compares the card of STOP under label 10 on line 2 with a card of these parts.
+/// Compares the card of STOP with label 10 on line 2 with a card of these parts.
 fn assert_card(
     rt: &(impl AllocGlobal + Abort),
     label: Option<u32>,

@@ -1,4 +1,4 @@
-//! What a checked program tells: its lines, its dummy arguments and where a run starts.
+//! What a checked program has: its lines, its dummy arguments, its labels and the start of its runs.
 
 use f77_check::{Shape, Start};
 use f77_syntax::{Constant, print};
@@ -13,7 +13,7 @@ fn show_shape(text: &mut String, shape: &Shape) -> Result<(), Fail> {
     Ok(write!(text, "{kind:?} {elements:?};")?)
 }
 
-/// The kind of each dummy argument, and its number of elements.
+/// The kind and the number of elements of each dummy argument.
 fn shapes_text(rt: &impl AllocGlobal, shapes: &[Shape]) -> Result<String, Fail> {
     let mut text = String::new(rt.alloc());
     for shape in shapes {
@@ -38,7 +38,7 @@ fn given(rt: &impl AllocGlobal, statements: &str) -> Result<String, Fail> {
     Ok(print(rt.alloc(), &program)?)
 }
 
-/// The program that is kept of these statements in fixed form.
+/// The program that the checked program of these statements keeps, in fixed form.
 fn kept(rt: &impl AllocGlobal, statements: &str) -> Result<String, Fail> {
     let checked = checked(rt, statements)?;
     Ok(print(rt.alloc(), checked.program())?)
@@ -50,7 +50,7 @@ fn keeps_the_program(rt: HostRuntime) -> Result<(), Fail> {
     expect(kept(&rt, SHAPES), given.as_str(), SHAPES)
 }
 
-/// The value of a slot, a blank before it.
+/// Adds the value of a slot, with a blank before it.
 fn show_value(text: &mut String, value: Option<Constant>) -> Result<(), Fail> {
     match value {
         Some(Constant::Number(number)) => Ok(write!(text, " {number}")?),
@@ -59,7 +59,7 @@ fn show_value(text: &mut String, value: Option<Constant>) -> Result<(), Fail> {
     }
 }
 
-/// The value of each slot at the start, a blank before it.
+/// The value of each slot at the start of a run, with a blank before each.
 fn initial(rt: &impl AllocGlobal, start: &Start) -> Result<String, Fail> {
     let mut text = String::new(rt.alloc());
     for value in start.initial.as_slice() {

@@ -1,4 +1,4 @@
-//! Copies of programs and statements, which print as what they were made from.
+//! Copies of programs and statements, which print as their originals do.
 
 ghost use Rattle.std.specs.Prelude.{◌≡◌, IfOk, IfErr, map};
 ghost use Rattle.f77_program.specs.Program.{line_of};
@@ -9,7 +9,7 @@ use f77_syntax::{Program, Stmt, SyntaxFault};
 use samples::{expect, read, source};
 use std::test::Fail;
 
-/// A caller that answers with faults: it knows the lines of the copy, and the only fault.
+/// A caller whose contract follows from that of `clone`: it knows the lines of the copy, and the only fault.
 fn copy_program(program: &Program) -> Result<Program, SyntaxFault>
     ensures same { IfOk result (λ copy. map line_of copy ≡ map line_of program.now) }
     ensures refused { IfErr result (λ fault. fault ≡ SyntaxFault.Memory) }
@@ -17,7 +17,7 @@ fn copy_program(program: &Program) -> Result<Program, SyntaxFault>
     Ok(program.clone()?)
 }
 
-/// The same for a statement.
+/// A caller of `clone` for a statement.
 fn copy_statement(stmt: &Stmt) -> Result<Stmt, SyntaxFault>
     ensures same { IfOk result (λ copy. statement_of copy ≡ statement_of stmt.now) }
     ensures refused { IfErr result (λ fault. fault ≡ SyntaxFault.Memory) }
@@ -30,13 +30,13 @@ const STATEMENTS: &str = "SUBROUTINE ALL(I,J,P); INTEGER I,M(2,3); LOGICAL P,Q; 
     GO TO 10; GO TO (10,20,10),I-J; IF (I-J) 10,20,30; IF (P) K(3)=IABS(L); IF (P) THEN; ELSE IF (I.GT.J) THEN; ELSE; \
     END IF; DO 20 I=1,9; DO 10 J=9,1,-2; 10 CONTINUE; 20 RETURN; 99999 STOP; END";
 
-/// The copy of a program in fixed form, which is gone then.
+/// A copy of a program in fixed form. The program itself is dropped.
 fn copy_of(rt: &impl AllocGlobal, lines: &str) -> Result<Program, Fail> {
     let program = read(rt, lines)?;
     Ok(copy_program(&program)?)
 }
 
-/// That copy, printed.
+/// The copy of a program whose original is dropped, printed.
 fn copied(rt: &impl AllocGlobal, lines: &str) -> Result<String, Fail> {
     let copy = copy_of(rt, lines)?;
     reprinted(rt, &copy)
@@ -48,7 +48,7 @@ fn copies_every_statement(rt: HostRuntime) -> Result<(), Fail> {
     expect(copied(&rt, lines.as_str()), lines.as_str(), STATEMENTS)
 }
 
-/// The unit with the copy of a statement, printed when the statement is gone.
+/// The unit with the copy of a statement, printed after the statement is dropped.
 fn copied_statement(rt: &impl AllocGlobal, stmt: Stmt) -> Result<String, Fail> {
     let copy = copy_statement(&stmt);
     drop(stmt);
@@ -68,7 +68,7 @@ fn copies_statements_of_mutants(rt: HostRuntime) -> Result<(), Fail> {
     assert_copied(&rt, pushing(&rt)?, pushed)
 }
 
-/// A copy of the program whose second statement is a trap, printed.
+/// A copy of the program, with TRAP as its second statement, printed.
 fn trapped(rt: &impl AllocGlobal, program: &Program) -> Result<String, Fail> {
     let copy = program.clone()?;
     let mut changed = lines_of(rt, &copy)?;
@@ -78,7 +78,7 @@ fn trapped(rt: &impl AllocGlobal, program: &Program) -> Result<String, Fail> {
 
 const LABELLED: &str = "      SUBROUTINE A(I)\n   10 I=1\n      END\n";
 
-/// Compares the changed copy of a program, and then the program.
+/// Compares the changed copy of a program, and then the program itself.
 fn assert_kept(rt: &impl AllocGlobal, program: &Program) -> Result<(), Fail> {
     let changed = "      SUBROUTINE A(I)\n   10 TRAP\n      END\n";
     expect(trapped(rt, program), changed, "changed")?;

@@ -1,4 +1,4 @@
-//! The edits of operators, the programs that they make, and edits that make none.
+//! The edits of operators: which there are, the programs that they make, and edits that make none.
 
 use crate::trees::{assign, put, unit};
 use f77_check::{Checked, check};
@@ -17,7 +17,7 @@ pub(crate) fn operator(code: &str) -> Result<Op, Fail> {
     }
 }
 
-/// Adds the statement, the position and the rank of an edit.
+/// Adds the statement, the position and the rank of an edit to a text.
 fn show_edit(text: &mut String, edit: &Edit) -> Result<(), Fail> {
     let statement = edit.statement;
     let position = edit.position;
@@ -33,13 +33,13 @@ fn edits_text(rt: &impl AllocGlobal, edits: &[Edit]) -> Result<String, Fail> {
     Ok(text)
 }
 
-/// The edits of an operator.
+/// The edits of an operator, as a text.
 fn list_text(rt: &impl AllocGlobal, original: &Checked, code: &str) -> Result<String, Fail> {
     let edits = edits(rt.alloc(), original, operator(code)?, 1)?;
     edits_text(rt, &edits)
 }
 
-/// Each row is an operator and its edits.
+/// Compares lists: each row is an operator and its edits.
 fn assert_lists(rt: &impl AllocGlobal, statements: &str, rows: &str) -> Result<(), Fail> {
     let original = checked(rt, statements)?;
     for row in rows.trim_matches('\n').lines() {
@@ -82,7 +82,7 @@ const PRESET_EDITS: &str = "
 DSA => 2 3 1;2 3 2;
 ";
 
-/// SUBROUTINE A with K = the number, made of lines, so that the number may be above the largest INTEGER.
+/// SUBROUTINE A with K = the number. It is made of lines, so the number may be above 2147483647.
 fn assigning(rt: &impl AllocGlobal, number: u32) -> Result<Checked, Fail> {
     let mut lines = unit(rt)?;
     put(&mut lines, 1, assign(rt, Expr::Number(number))?);
@@ -92,7 +92,7 @@ fn assigning(rt: &impl AllocGlobal, number: u32) -> Result<Checked, Fail> {
     }
 }
 
-/// No constant is put that is above the largest INTEGER.
+/// No constant above 2147483647 is put anywhere.
 #[test]
 fn keeps_the_largest_constant(rt: HostRuntime) -> Result<(), Fail> {
     for row in NEAR_THE_LARGEST.trim_matches('\n').lines() {
@@ -111,7 +111,7 @@ const NEAR_THE_LARGEST: &str = "
 4294967295 => 
 ";
 
-/// The edit of a code, a statement, a position and a rank.
+/// The edit that is written as an operator, a statement, a position and a rank.
 fn edit_of(text: &str) -> Result<Edit, Fail> {
     let mut words = text.split(' ');
     let op = operator(words.next().unwrap_or(""))?;
@@ -132,13 +132,13 @@ fn given(rt: &impl AllocGlobal, statements: &str) -> Result<String, Fail> {
     Ok(print(rt.alloc(), &program)?)
 }
 
-/// The program that an edit makes in fixed form.
+/// The program that an edit makes, in fixed form.
 fn made(rt: &impl AllocGlobal, original: &Checked, edit: &str) -> Result<String, Fail> {
     let made = apply(rt.alloc(), original, &edit_of(edit)?)?;
     Ok(print(rt.alloc(), made.program())?)
 }
 
-/// A row is an edit and the statements of the program that it makes.
+/// Compares a row: an edit, and the statements of the program that it makes.
 fn assert_made(rt: &impl AllocGlobal, original: &Checked, row: &str) -> Result<(), Fail> {
     let (edit, statements) = parts(row)?;
     let want = given(rt, statements)?;
@@ -165,7 +165,7 @@ fn fault_of(rt: &impl AllocGlobal, original: &Checked, edit: &Edit) -> Option<Op
     apply(rt.alloc(), original, edit).err()
 }
 
-/// Each of these edits makes no program.
+/// None of these edits makes a program.
 fn assert_refused(
     rt: &(impl AllocGlobal + Abort),
     statements: &str,
@@ -188,5 +188,5 @@ fn refuses_edits_that_make_no_mutant(rt: HostRuntime) -> Result<(), Fail> {
 const WITHOUT_REPLACEMENT: &str =
     "AOR 2 2 7; AOR 2 3 1; AOR 2 2 0; AOR 2 5 1; AOR 0 2 2; AOR 4 2 2; ROR 2 2 1; SVR 1 1 1; SDL 3 0 1";
 
-/// These put what their operator gives, but the program would be illegal or the same.
+/// The operators give something for these, but the program would be illegal or the same as before.
 const WITHOUT_MUTANT: &str = "SVR 4 2 2; SVR 5 1 2; GLR 3 5 1; DER 4 1 1; RSR 5 0 1; RSR 7 0 1";

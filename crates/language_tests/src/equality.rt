@@ -8,7 +8,7 @@ use samples::{holder, parts, program};
 use std::process::Abort;
 use std::test::Fail;
 
-/// A caller that answers by `==`: it knows that equal programs have the same lines, and unequal ones not.
+/// A caller whose contract follows from that of `==`: the answer is true exactly where the lines are equal.
 #[tactic(auto, using(f77_program::specs::SameLines::lines_decide))]
 fn is_same(program: &Program, other: &Program) -> bool
     ensures { (result ≡ true) ↔ (map line_of program.now ≡ map line_of other.now) }
@@ -16,7 +16,7 @@ fn is_same(program: &Program, other: &Program) -> bool
     program == other
 }
 
-/// Whether the programs of these two statements are the same.
+/// Whether the programs of these two statements are equal.
 fn are_same(rt: &impl AllocGlobal, left: &str, right: &str) -> Result<bool, Fail> {
     let program = holder(rt, left)?;
     let other = holder(rt, right)?;
@@ -31,7 +31,7 @@ fn assert_row(rt: &(impl AllocGlobal + Abort), row: &str, want: bool) -> Result<
     Ok(())
 }
 
-/// The same for each row.
+/// Compares the programs of each row.
 fn assert_rows(rt: &(impl AllocGlobal + Abort), rows: &str, want: bool) -> Result<(), Fail> {
     for row in rows.split("; ") {
         assert_row(rt, row, want)?;
@@ -65,26 +65,26 @@ const EQUAL: &str =
     IF(P)THEN => IF(P)THEN; ELSEIF(P)THEN => ELSEIF(P)THEN; ELSE => ELSE; ENDIF => ENDIF; \
     DO10I=1,9,2 => DO10I=1,9,2; CONTINUE => CONTINUE; RETURN => RETURN; STOP => STOP";
 
-/// Whether the program of the statements of a row is this one.
+/// Whether the program is that of the statements of a row.
 fn is_program(rt: &impl AllocGlobal, made: &Program, row: &str) -> Result<bool, Fail> {
     let other = program(rt, row)?;
     Ok(is_same(made, &other))
 }
 
-/// Whether a copy of the program is the same.
+/// Whether a copy of the program is equal to it.
 fn is_same_as_copy(made: &Program) -> Result<bool, Fail> {
     let copy = made.clone()?;
     Ok(is_same(made, &copy))
 }
 
-/// The program of the statements of a row is another one.
+/// The program is not that of the statements of a row.
 fn assert_other(rt: &(impl AllocGlobal + Abort), made: &Program, row: &str) -> Result<(), Fail> {
     let same = is_program(rt, made, row)?;
     assert!(rt; !same, "{row}");
     Ok(())
 }
 
-/// Compares the program with each of the others, and with a copy of it.
+/// Compares the program with each of the others, none of which is equal, and with a copy of it.
 fn assert_others(
     rt: &(impl AllocGlobal + Abort),
     made: &Program,
@@ -112,12 +112,12 @@ SUBROUTINE ADD(I); STOP; END
 SUBROUTINE ADD(I); END
 ";
 
-/// Whether two values are the same, which are gone then.
+/// Whether two values are equal. Both are dropped.
 fn are_equal<T: PartialEq + Drop>(one: T, other: T) -> bool {
     one == other
 }
 
-/// END under this label, on the line of this number.
+/// END with this label, on the line with this number.
 fn end(label: Option<u32>, line: u32) -> Line {
     Line {
         label,
@@ -126,7 +126,7 @@ fn end(label: Option<u32>, line: u32) -> Line {
     }
 }
 
-/// Whether END under this label, on the line of this number, is END under label 10 on line 3.
+/// Whether END with this label, on the line with this number, is equal to END with label 10 on line 3.
 fn is_end(label: Option<u32>, line: u32) -> bool {
     are_equal(end(Some(10), 3), end(label, line))
 }
@@ -138,12 +138,12 @@ fn compares_lines(rt: HostRuntime) {
     assert!(rt; !is_end(Some(10), 4));
 }
 
-/// The value, to be told where it is zero.
+/// ZPUSH of a constant.
 fn pushed(rt: &impl AllocGlobal, value: u32) -> Result<Expr, Fail> {
     Ok(Expr::ZeroPush(Box::new(rt.alloc(), Expr::Number(value))?))
 }
 
-/// Whether this value and 1, both to be told where they are zero, are the same.
+/// Whether ZPUSH of this constant and ZPUSH(1) are equal.
 fn is_pushed_one(rt: &impl AllocGlobal, value: u32) -> Result<bool, Fail> {
     let one = pushed(rt, 1)?;
     let other = pushed(rt, value)?;

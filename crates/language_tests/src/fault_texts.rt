@@ -54,7 +54,7 @@ fn other_faults_have_texts(rt: HostRuntime) -> Result<(), Fail> {
     assert_text(&rt, &SyntaxFault::TooLong(5), long)
 }
 
-/// The text of the fault of a program, or none.
+/// The text of the fault of a program, empty where it is legal.
 fn program_text(rt: &impl AllocGlobal, program: &Program) -> Result<String, Fail> {
     match check(rt.alloc(), program).err() {
         Some(fault) => text_of(rt, &fault),
@@ -70,7 +70,7 @@ fn cards_text(rt: &impl AllocGlobal, cards: &[Card]) -> Result<String, Fail> {
     }
 }
 
-/// Compares the text of the fault of statements.
+/// Compares the text of the fault of the statements of a row.
 fn assert_row(rt: &impl AllocGlobal, row: &str) -> Result<(), Fail> {
     let (statements, want) = parts(row)?;
     let lines = source(rt, statements)?;

@@ -1,4 +1,4 @@
-//! Lists at their limits, in small.
+//! The limits on lists of mutants, tried with small limits.
 
 ghost use Rattle.std.specs.Prelude.{◌≤◌};
 
@@ -9,7 +9,7 @@ use samples::parts;
 use std::process::Abort;
 use std::test::Fail;
 
-/// A list of so many mutants, of which each such is kept.
+/// A list to which `count` mutants are added, and which keeps each `every`-th of them.
 fn filled(
     rt: &impl AllocGlobal,
     every: u32,
@@ -34,7 +34,7 @@ fn filled(
     Ok(listing)
 }
 
-/// How many mutants are kept and of how many, or why there is no list.
+/// How many mutants are kept of how many, or why there is no list.
 fn told(rt: &impl AllocGlobal, filled: Result<Listing, OpsFault>) -> Result<String, Fail> {
     match filled {
         Ok(listing) => {
@@ -46,7 +46,7 @@ fn told(rt: &impl AllocGlobal, filled: Result<Listing, OpsFault>) -> Result<Stri
     }
 }
 
-/// Each row is how many mutants are put into a list, and what comes of it.
+/// Compares rows: how many mutants are added to a list, and what comes of it.
 fn assert_filled(
     rt: &(impl AllocGlobal + Abort),
     every: u32,

@@ -1,11 +1,11 @@
-//! The nodes of statements, in the order of their numbers.
+//! The nodes of statements, in the order of their positions.
 
 use f77_syntax::{Constant, Expr, Name, Node, Stmt, Value, print_stmt};
 use f77_tree::nodes;
 use samples::{expect, held, holder, parts};
 use std::test::Fail;
 
-/// A constant, or what an operator, a sign or a function is called. Of a reference nothing.
+/// Adds a constant, or the name of an operator, a sign or a function. For a reference it adds nothing.
 fn show_expression(text: &mut String, expr: &Expr) -> Result<(), Fail> {
     match expr {
         Expr::Number(number) => write!(text, "{number}")?,
@@ -33,7 +33,7 @@ fn show_statement(rt: &impl AllocGlobal, text: &mut String, stmt: &Stmt) -> Resu
     Ok(text.push_str(shown.as_str())?)
 }
 
-/// What a node is.
+/// Adds what a node is.
 fn show_kind(rt: &impl AllocGlobal, text: &mut String, node: Node<'_>) -> Result<(), Fail> {
     match node {
         Node::Statement(stmt) => show_statement(rt, text, stmt),
@@ -45,7 +45,7 @@ fn show_kind(rt: &impl AllocGlobal, text: &mut String, node: Node<'_>) -> Result
     }
 }
 
-/// The name or the label that a node bears.
+/// Adds the name or the label of a node, if it has one.
 fn show_borne(text: &mut String, node: Node<'_>) -> Result<(), Fail> {
     text.push_str(node.name().map_or("", Name::as_str))?;
     match node.label() {
@@ -54,7 +54,7 @@ fn show_borne(text: &mut String, node: Node<'_>) -> Result<(), Fail> {
     }
 }
 
-/// How many subscripts a reference has.
+/// Adds the number of subscripts of a reference.
 fn show_subscripts(text: &mut String, node: Node<'_>) -> Result<(), Fail> {
     match node {
         Node::Expression(Expr::Reference(place)) => {
@@ -79,7 +79,7 @@ fn show_nodes(rt: &impl AllocGlobal, text: &mut String, nodes: &[Node<'_>]) -> R
     Ok(())
 }
 
-/// The nodes of a statement, from node 0 on.
+/// The nodes of a statement, from node 0 on, as a text.
 fn node_texts(rt: &impl AllocGlobal, stmt: &Stmt) -> Result<String, Fail> {
     let nodes = nodes(rt.alloc(), stmt)?;
     let mut text = String::new(rt.alloc());
@@ -87,7 +87,7 @@ fn node_texts(rt: &impl AllocGlobal, stmt: &Stmt) -> Result<String, Fail> {
     Ok(text)
 }
 
-/// The nodes of the statement of this text.
+/// The nodes of the statement that this text spells.
 fn nodes_of(rt: &impl AllocGlobal, text: &str) -> Result<String, Fail> {
     let holder = holder(rt, text)?;
     node_texts(rt, held(&holder, text)?)

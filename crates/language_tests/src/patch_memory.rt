@@ -1,5 +1,5 @@
-//! Each allocation can be refused: a change is then answered with want of memory, and else undisturbed, and the program
-//! that is changed stays as it was.
+//! Changed programs where each allocation is refused in turn. The answer is then want of memory or the usual one, and
+//! the program that is changed stays as it was.
 
 use crate::patches::{judged_fault, patched_fault};
 use f77_check::{CheckFault, Checked};
@@ -10,19 +10,19 @@ use std::test::Fail;
 
 const LOOP: &str = "SUBROUTINE S(K); DO 10 I=1,3; 10 K=K+I; END";
 
-/// Judged by the changed statement alone, and legal.
+/// A change that is judged by the changed statement alone, and is legal.
 const ALONE: &str = "3 K=K-I";
 
-/// The same, with a fault.
+/// A change that is judged by the changed statement alone, and has a fault.
 const ALONE_FAULT: &str = "3 I=K";
 
-/// Judged by the whole changed program, since the DO ends nowhere else, and legal.
+/// A change that is judged by the whole program, since the DO is gone, and is legal.
 const WHOLE: &str = "2 K=0";
 
-/// The same, with a fault.
+/// A change that is judged by the whole program, and has a fault.
 const WHOLE_FAULT: &str = "2 DO 20 I=1,3";
 
-/// Whether a fault is of want of memory, or as it is with ample memory.
+/// The fault is want of memory, or the one that comes where there is enough memory.
 fn assert_answer(rt: &impl Abort, answer: Option<Option<CheckFault>>, want: &Option<CheckFault>) {
     match answer {
         Some(fault) => assert!(rt; fault == Some(CheckFault::Memory) || fault == *want),
@@ -30,7 +30,7 @@ fn assert_answer(rt: &impl Abort, answer: Option<Option<CheckFault>>, want: &Opt
     }
 }
 
-/// Asks by both calls.
+/// Compares the answers of `patched` and of `judge`.
 fn assert_answers(
     rt: &impl Abort,
     old: &Checked,
@@ -42,7 +42,7 @@ fn assert_answers(
     assert_answer(rt, judged_fault(old, number, stmt), want);
 }
 
-/// Asks twice. Where a statement is not made for want of memory nothing is asked.
+/// Compares all answers twice. If the statement can not be made for want of memory, nothing is asked.
 fn assert_asked(
     rt: &(impl AllocGlobal + Abort),
     old: &Checked,
@@ -57,13 +57,13 @@ fn assert_asked(
     Ok(())
 }
 
-/// The program is still that of these statements. Where there is no memory for another nothing is compared.
+/// The program is still that of these statements. If there is no memory for another one, nothing is compared.
 fn assert_kept(rt: &(impl AllocGlobal + Abort), old: &Checked) -> Result<(), Fail> {
     assert!(rt; *old.program() == program(rt, LOOP)?);
     Ok(())
 }
 
-/// Asks, and compares the program with what it was.
+/// Compares the answers to a change, and then the program with what it was.
 fn assert_undisturbed(
     rt: &(impl AllocGlobal + Abort),
     change: &str,

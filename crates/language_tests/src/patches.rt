@@ -1,5 +1,5 @@
-//! Checked programs with one statement changed. What tells of a change by the changed statement alone agrees with the
-//! check of the whole changed program, whose verdicts are rows of the program `rows`.
+//! Checked programs with one statement changed. Where the changed statement alone decides, the answer agrees with the
+//! check of the whole changed program, whose answers are rows of the program `rows`.
 
 use f77_check::{CheckFault, Checked, check};
 use f77_syntax::{Program, Stmt, print};
@@ -8,7 +8,7 @@ use std::alloc::Global;
 use std::process::Abort;
 use std::test::Fail;
 
-/// The fault that `judge` answers, None where the statement does not fit.
+/// The fault that `judge` reports. None where the statement does not fit.
 pub(crate) fn judged_fault(
     old: &Checked,
     number: usize,
@@ -20,7 +20,7 @@ pub(crate) fn judged_fault(
     Some(old.judge(number, stmt).err())
 }
 
-/// The fault that `patched` answers, None where the statement does not fit.
+/// The fault that `patched` reports. None where the statement does not fit.
 pub(crate) fn patched_fault(
     old: &Checked,
     number: usize,
@@ -36,7 +36,7 @@ fn fault_of(alloc: Global, program: &Program) -> Option<CheckFault> {
     check(alloc, program).err()
 }
 
-/// The fault that the check of the whole changed program answers, None where the statement does not fit.
+/// The fault that the check of the whole changed program reports. None where the statement does not fit.
 fn whole_fault(
     rt: &impl AllocGlobal,
     old: &Checked,
@@ -50,13 +50,13 @@ fn whole_fault(
     Ok(Some(fault_of(rt.alloc(), &new)))
 }
 
-/// A program that has each form of statement.
+/// A program with each form of statement.
 const FORMS: &str =
     "SUBROUTINE S(K,P); LOGICAL P; INTEGER M(3); DATA L/1/; K=J; IF (K) 10,20,30; 10 GO TO 20; \
     20 GO TO (10,30),K; 30 IF (P) K=2; DO 40 I=1,3; IF (P) THEN; M(I)=3; ELSE IF (K.EQ.3) THEN; RETURN; ELSE; STOP; \
     END IF; 40 CONTINUE; END";
 
-/// Each form of statement, put in the place of each other one.
+/// Statements of each form, each of which is put in the place of each statement of the program.
 const STATEMENTS: &str =
     "SUBROUTINE S(K,P); SUBROUTINE S(P); SUBROUTINE S(K,P,L); LOGICAL P; LOGICAL P,K; INTEGER M(3); \
     INTEGER M(2,2),N; DIMENSION M(3); DATA L/1/; DATA L/.TRUE./; DATA M/3*4/,N/5/; K=J; K=N; K=P; K=X; X=K; I=K; \
@@ -66,10 +66,10 @@ const STATEMENTS: &str =
     DO 40 J=K,3,2; DO 40 J=1,3,0; DO 40 P=1,3; DO 30 I=1,3; DO 50 I=1,3; IF (P) THEN; IF (K) THEN; \
     ELSE IF (K.EQ.3) THEN; ELSE IF (K) THEN; ELSE; END IF; CONTINUE; RETURN; STOP; END";
 
-/// Changes after which the program keeps names that it has no more, or has others.
+/// Changes after which the table of names has names that the program no longer has, or the program has new ones.
 const FIRST_CHANGES: &str = "5 K=1; 5 K=N; 9 P=.FALSE.; 10 CONTINUE; 11 IF (K.EQ.1) THEN";
 
-/// Compares the three answers for one place of a statement.
+/// Compares the three answers for a statement in one place.
 fn assert_agreed(
     rt: &(impl AllocGlobal + Abort),
     old: &Checked,
@@ -88,7 +88,7 @@ fn assert_agreed(
     Ok(())
 }
 
-/// The same for each place.
+/// Compares the three answers for a statement in each place.
 fn assert_agreed_anywhere(
     rt: &(impl AllocGlobal + Abort),
     old: &Checked,
@@ -137,7 +137,7 @@ fn assert_fits(
     Ok(())
 }
 
-/// The same for each of these changes.
+/// Compares for each of these changes whether its statement fits.
 fn assert_all_fit(rt: &(impl AllocGlobal + Abort), changes: &str, want: bool) -> Result<(), Fail> {
     let old = checked(rt, "SUBROUTINE S(K); LOGICAL P; DATA P/.TRUE./; K=1; END")?;
     for change in changes.split("; ") {
@@ -160,7 +160,7 @@ const UNFITTING: &str =
     "1 K=I; 2 DATA I/1/; 2 K=I; 3 INTEGER I; 4 INTEGER I; 4 DATA I/1/; 4 SUBROUTINE X; 4 END; 5 K=I; 0 K=I; 6 K=I; \
     6 END";
 
-/// Compares what a checked program prints with what the program of these statements does.
+/// Compares the text of a checked program with that of the program of these statements.
 fn assert_printed(
     rt: &(impl AllocGlobal + Abort),
     checked: &Checked,

@@ -1,4 +1,4 @@
-//! Plans.
+//! Plans: which operators were asked for, how many mutants each has, and the edit of each number.
 
 use crate::edits::operator;
 use mothra_ops::{Edit, Op, Plan};
@@ -6,7 +6,7 @@ use samples::{ADD, checked, parts};
 use std::process::Abort;
 use std::test::Fail;
 
-/// The plan of the sum for these operators.
+/// The plan of these operators for the sum.
 fn plan(rt: &impl AllocGlobal, ops: &[Op], every: u32) -> Result<Plan, Fail> {
     if every == 0 {
         return Err(Fail::new("no edit is kept"));
@@ -14,7 +14,7 @@ fn plan(rt: &impl AllocGlobal, ops: &[Op], every: u32) -> Result<Plan, Fail> {
     Ok(Plan::new(rt.alloc(), checked(rt, ADD)?, ops, every)?)
 }
 
-/// Each row is an operator, and whether it was asked for, how many mutants it has and how long its whole list is.
+/// Compares rows: an operator, whether it was asked for, how many mutants it has, and how long its whole list is.
 fn assert_lengths(rt: &(impl AllocGlobal + Abort), plan: &Plan, rows: &[&str]) -> Result<(), Fail> {
     for row in rows {
         let (code, wanted) = parts(row)?;
@@ -30,7 +30,7 @@ fn assert_lengths(rt: &(impl AllocGlobal + Abort), plan: &Plan, rows: &[&str]) -
     Ok(())
 }
 
-/// The edit of the sum's own node, in the place of which the operator puts what has this rank.
+/// The edit that puts the replacement of this rank in the place of the sum.
 fn edit_of_sum(op: Op, rank: usize) -> Edit {
     Edit {
         op,

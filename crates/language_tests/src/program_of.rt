@@ -1,4 +1,4 @@
-//! Programs made of lines and of trees, mutants among them.
+//! Programs made of lines and of trees, also those of mutants.
 
 use crate::trees::{assign, lines_in, name, printed, pushing, put, unit, unit_text};
 use f77_syntax::{Expr, Intrinsic, Line, Name, Ref, Stmt};
@@ -21,7 +21,7 @@ fn reversed(rt: &impl AllocGlobal) -> Result<Vec<Line>, Fail> {
     Ok(lines)
 }
 
-/// Compares the program of lines that could be made.
+/// Compares what `Program::of` makes of lines.
 fn assert_lines(
     rt: &impl AllocGlobal,
     lines: Result<Vec<Line>, Fail>,
@@ -37,21 +37,21 @@ fn makes_programs_of_lines(rt: HostRuntime) -> Result<(), Fail> {
     assert_lines(&rt, reversed(&rt), "None")
 }
 
-/// So many times the name I.
+/// The name I, `count` times.
 fn dummies(rt: &impl AllocGlobal, count: usize) -> Result<Vec<Name>, Fail> {
     let mut names = Vec::new(rt.alloc());
     names.resize(count, name("I")?)?;
     Ok(names)
 }
 
-/// SUBROUTINE A with so many dummy arguments.
+/// SUBROUTINE A with `count` dummy arguments.
 fn subroutine(rt: &impl AllocGlobal, count: usize) -> Result<Stmt, Fail> {
     let name = name("A")?;
     let arguments = dummies(rt, count)?;
     Ok(Stmt::Subroutine { name, arguments })
 }
 
-/// The unit with a heading of 21 lines.
+/// The unit with a SUBROUTINE statement of 21 lines.
 fn with_long_heading(rt: &impl AllocGlobal) -> Result<Vec<Line>, Fail> {
     let mut lines = unit(rt)?;
     put(&mut lines, 0, subroutine(rt, 654)?);
@@ -95,7 +95,7 @@ fn makes_programs_of_trees(rt: HostRuntime) -> Result<(), Fail> {
     assert_stmt(&rt, pushing(&rt)?, pushed)
 }
 
-/// A logical IF of a constant.
+/// A logical IF with a constant as its condition.
 fn logical_if(rt: &impl AllocGlobal, truth: bool, inner: Stmt) -> Result<Stmt, Fail> {
     let statement = Box::new(rt.alloc(), inner)?;
     let condition = Expr::Truth(truth);
@@ -105,7 +105,7 @@ fn logical_if(rt: &impl AllocGlobal, truth: bool, inner: Stmt) -> Result<Stmt, F
     })
 }
 
-/// Compares the unit with IF (.TRUE.) before the statement.
+/// Compares the unit with IF (.TRUE.) and this statement inside it.
 fn assert_conditional(rt: &impl AllocGlobal, inner: Stmt, want: &str) -> Result<(), Fail> {
     assert_stmt(rt, logical_if(rt, true, inner)?, want)
 }

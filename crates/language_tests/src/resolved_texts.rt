@@ -3,7 +3,7 @@
 use f77_check::{Action, Condition, Element, Jump, Number, Resolved};
 use std::test::Fail;
 
-/// A variable as its slot, an array element as its first slot, its bounds and its subscripts.
+/// Adds the slot of a variable, or the first slot, the bounds and the subscripts of an array element.
 #[cycle(shown)]
 fn show_element(text: &mut String, element: &Element) -> Result<(), Fail> {
     match element {
@@ -114,7 +114,7 @@ fn show_choice(text: &mut String, word: &str, condition: &Condition) -> Result<(
     Ok(text.push(' ')?)
 }
 
-/// What an assignment assigns to.
+/// Adds the target of an assignment.
 fn show_target(text: &mut String, target: &Element) -> Result<(), Fail> {
     show_element(text, target)?;
     Ok(text.push('=')?)
@@ -178,7 +178,7 @@ fn show_action(text: &mut String, action: &Action) -> Result<(), Fail> {
     }
 }
 
-/// A resolved statement: what it does, the loops that end there, and the next statement.
+/// A resolved statement as a text: its action, the DOs that end there, and the next statement.
 pub(crate) fn shown(rt: &impl AllocGlobal, resolved: &Resolved) -> Result<String, Fail> {
     let mut text = String::new(rt.alloc());
     show_action(&mut text, &resolved.action)?;

@@ -1,4 +1,4 @@
-//! How each type is shown for debugging: as Rust shows its fields.
+//! How each type is shown for debugging: its fields are shown as Rust shows them.
 
 use f77_source::Card;
 use samples::{expect, held, holder, parts, program};

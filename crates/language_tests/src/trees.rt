@@ -8,7 +8,7 @@ use std::test::Fail;
 
 const UNIT: &str = "C\nC\nC\nC\nC\nC\n      SUBROUTINE A\n      CONTINUE\n      END\n";
 
-/// The name that is written so.
+/// The name of these letters.
 pub(crate) fn name(letters: &str) -> Result<Name, Fail> {
     match Name::new(letters) {
         Some(name) => Ok(name),
@@ -69,7 +69,7 @@ pub(crate) fn lines_in(rt: &impl AllocGlobal, source: &str) -> Result<Vec<Line>,
     lines_of(rt, &program)
 }
 
-/// Puts a statement in the place of one of the lines, from 0.
+/// Puts a statement in the place of that of a line, counted from 0.
 pub(crate) fn put(lines: &mut [Line], place: usize, stmt: Stmt) {
     match lines.get_mut(place) {
         Some(line) => drop(replace(&mut line.stmt, stmt)),
@@ -77,7 +77,7 @@ pub(crate) fn put(lines: &mut [Line], place: usize, stmt: Stmt) {
     }
 }
 
-/// Puts a label before the second line.
+/// Gives the second line a label.
 fn label(lines: &mut [Line], label: Option<u32>) {
     if let Some(line) = lines.get_mut(1) {
         line.label = label;
@@ -88,7 +88,7 @@ fn fault_text(rt: &impl AllocGlobal, fault: SyntaxFault) -> Result<String, Fail>
     Ok(format!(in rt.alloc(); "{fault:?}")?)
 }
 
-/// A program in fixed form, or the fault.
+/// A program in fixed form, or its fault.
 fn program_text(rt: &impl AllocGlobal, program: &Program) -> Result<String, Fail> {
     match print(rt.alloc(), program) {
         Ok(text) => Ok(text),
@@ -96,7 +96,7 @@ fn program_text(rt: &impl AllocGlobal, program: &Program) -> Result<String, Fail
     }
 }
 
-/// The program of the lines in fixed form, or the fault, or `None`.
+/// The program of the lines in fixed form, or its fault, or `None` where they are no program.
 pub(crate) fn printed(rt: &impl AllocGlobal, lines: Vec<Line>) -> Result<String, Fail> {
     match Program::of(rt.alloc(), lines) {
         Ok(Some(program)) => program_text(rt, &program),
@@ -105,7 +105,7 @@ pub(crate) fn printed(rt: &impl AllocGlobal, lines: Vec<Line>) -> Result<String,
     }
 }
 
-/// The program of the lines of a program, printed.
+/// The lines of a program, made a program again and printed.
 pub(crate) fn reprinted(rt: &impl AllocGlobal, program: &Program) -> Result<String, Fail> {
     let lines = lines_of(rt, program)?;
     printed(rt, lines)
@@ -116,7 +116,7 @@ pub(crate) fn unit(rt: &impl AllocGlobal) -> Result<Vec<Line>, Fail> {
     lines_in(rt, UNIT)
 }
 
-/// The same with this statement under this label in the place of CONTINUE, printed.
+/// The unit with this statement and this label in the place of CONTINUE, printed.
 pub(crate) fn unit_text(
     rt: &impl AllocGlobal,
     before: Option<u32>,

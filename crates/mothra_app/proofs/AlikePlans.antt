@@ -12,7 +12,7 @@ use Rattle.mothra_ops.specs.declared.edit.Edit.{Edit}
 use Rattle.mothra_app.proofs.OneListing.{one_of}
 use Rattle.mothra_app.proofs.OneProgram.{Laws}
 
--- the same lists of the same program
+-- the two plans have the same lists of the same program
 pub record AreAlike (one other : PlanFields) : Type 0 where
   pub program : program_of one ≡ program_of other
   pub every : one.every ≡ other.every
@@ -44,7 +44,7 @@ no_whole : (list : Option ListFields) → is_some list ≡ false → option_map_
 no_whole None none = refl
 no_whole (Some l) none = absurd (true≢false none)
 
--- the list of an operator that was asked for
+-- an operator that was asked for has its counted list
 pub counted : {program : List LineFields} {ops : List Op} {every : ℕ} (plan : PlanFields) → IsPlanOf program ops every plan → (op : Op)
     → asked plan op ≡ true → IsCountedList op program every (edits_of plan op) (whole_of plan op)
 counted {program} {ops} {every} plan is op of =

@@ -1,4 +1,4 @@
--- From what was read and answered to what is served.
+-- What was read and answered is what is served.
 use Rattle.std.proofs.Common.{arith, ◌≡◌, ◌≢◌, ◌∙◌, ℕ, ◌<◌, ◌≤◌, ◌++◌, Bool, true, false, sym, ap, refl, subst, inl, inr}
 use Rattle.std.proofs.Common.{List, [], Option, Some, None, Result, Ok, Err, IfOk, length, length-append, append-nil, nat_lt, string_bytes}
 use Rattle.std.proofs.lemmas.Bool.{ltb-true, ltb-false, lt-ltb}
@@ -24,7 +24,7 @@ use Rattle.mothra_app.specs.declared.status.Status.{Status}
 use Rattle.mothra_app.specs.declared.status.Status.TheVariants as status
 use Rattle.mothra_app.proofs.Outcomes.{report_answered, within}
 
--- ---- what was read stands for all the bytes
+-- ---- what was read gives the job of all the bytes
 
 job_at : (xs v : List ℕ) (b : Bool) → nat_lt 1048576 (length v) ≡ b → length v ≤ length xs
     → (length v < 1048577 → xs ≡ v) → job_of xs ≡ job_of v
@@ -89,7 +89,7 @@ report_never bench s other t (IsReportAnswer.broken_off f is) e other_than unlik
 
 -- ---- words that are refused, or ask for help or the version
 
--- want of memory is none of these
+-- want of memory is no refusal and no help
 pub never_memory : {A : Type 0} (s : Status) → IsRefusal kind.OutOfMemory s → A
 never_memory status.Report refusal = absurd refusal
 never_memory status.Fault refusal = absurd refusal

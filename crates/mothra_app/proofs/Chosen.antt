@@ -8,7 +8,7 @@ use Rattle.mothra_codes.specs.Op.{index}
 use Rattle.mothra_codes.specs.declared.op.Op.{Op}
 use Rattle.mothra_codes.proofs.Operators.{same_op}
 
--- two operators are one, or one stands before the other
+-- two operators are the same, or one stands before the other
 pub same_index : (a b : Op) → (a ≡ b) ⊎ ((index a < index b) ⊎ (index b < index a))
 same_index a b = elim (cases_order (index a) (index b)) [
   | inl same ↦ inl (same_op a b same)

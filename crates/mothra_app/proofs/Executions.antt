@@ -1,4 +1,4 @@
--- From what the check and the run of a program answer to what a test of a job comes to.
+-- The outcome of a test of a job, concluded from the answers of the check and of the run.
 use Rattle.std.proofs.Common.{◌≡◌, ◌⊎◌, inl, inr, ℕ, List, refl, sym, subst, Option, Some, None, Result, Ok, Err, IfSome, MatchResult, String, Global, string_bytes}
 use Rattle.f77_program.specs.Program.{LineFields}
 use Rattle.f77_check.specs.Checked.{shapes}
@@ -39,7 +39,7 @@ pub executed_refused : (job : JobFields) (test steps : ℕ) (fault : Fault) → 
 executed_refused job test steps fault (inl is) = inl (IsExecuted.no_program is)
 executed_refused job test steps fault (inr memory) = inr (legal_in_runs fault memory)
 
--- a test comes to what its run comes to
+-- the outcome of a test is that of its run
 pub run_executed : (job : JobFields) (test steps : ℕ) (program : List LineFields) (arguments : List Arg) (line : Result (String Global) Fault)
     → IsLegalProgramOf job.source (Ok program) → test_at job.suite test ≡ Some arguments
     → MatchResult line (λ text. IsRunLine program arguments steps (Ok (string_bytes text))) (λ fault. IsRunLine program arguments steps (Err fault) ⊎ Contains of_runs fault)

@@ -1,4 +1,4 @@
--- The place where a list no longer holds.
+-- The first place where a property of lists no longer holds.
 use Rattle.std.proofs.Common.{arith, ◌≡◌, ◌∙◌, ◌+◌, ℕ, suc, List, [], ◌∷◌, ◌++◌, length, length-append, All, ap, refl, sym, subst}
 use Rattle.std.proofs.Math.Seq.{get_or-append_seam}
 use Rattle.std.proofs.lemmas.List.{get_or_append_left}
@@ -10,7 +10,7 @@ head_of x y xs ys e = cc
 tail_of : {X : Type 0} (x y : X) (xs ys : List X) → x ∷ xs ≡ y ∷ ys → xs ≡ ys
 tail_of x y xs ys e = cc
 
--- A fact of lists passes to their fronts: then a list is cut in one place at the item with which it no longer holds.
+-- Where a property of lists passes to their fronts, there is only one item with which it no longer holds of a list.
 pub one_cut : {X : Type 0} (P : List X → Type 0) → ((xs ys : List X) → P (xs ++ ys) → P xs) → (before after others behind : List X) (x y : X)
     → before ++ x ∷ after ≡ others ++ y ∷ behind → P before → (P (before ++ x ∷ []) → ⊥) → P others → (P (others ++ y ∷ []) → ⊥)
     → (length before ≡ length others) × (x ≡ y)
@@ -36,13 +36,13 @@ pub item_holds : {X : Type 0} (P : X → Type 0) (before after : List X) (x : X)
 item_holds P before after x all =
     subst P (get_or-append_seam before x after x) (all (length before) x (omega (arith, length-append before (x ∷ after))))
 
--- one item is the first that does not hold
+-- only one item is the first of which the property does not hold
 pub one_first_not : {X : Type 0} (P : X → Type 0) (xs : List X) (n m : ℕ) → IsFirstNot P xs n → IsFirstNot P xs m → n ≡ m
 one_first_not P xs n m one other =
     let cut = one_cut (All P) (front_holds P) one.before one.after other.before other.after one.item other.item (sym one.cut ∙ other.cut)
     one.hold (λ all. one.fails (item_holds P one.before [] one.item all)) other.hold (λ all. other.fails (item_holds P other.before [] other.item all)) in
     one.number ∙ ap (λ (k : ℕ). k + 1) cut.0 ∙ sym other.number
 
--- where all hold, none is
+-- where the property holds of all items, none is the first of which it does not
 pub all_hold : {X : Type 0} (P : X → Type 0) (xs : List X) (n : ℕ) → IsFirstNot P xs n → All P xs → ⊥
 all_hold P xs n first all = first.fails (item_holds P first.before first.after first.item (subst (All P) first.cut all))

@@ -1,4 +1,4 @@
--- What holds of the report that a job is served with.
+-- The report with which a job is served is that of a bench of the job.
 use Rattle.std.proofs.Common.{ℕ, List, refl, Ok, Err}
 use Rattle.clap.specs.Words.{Text}
 use Rattle.mothra_codes.specs.declared.op.Op.{Op}

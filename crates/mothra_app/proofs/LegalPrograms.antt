@@ -1,4 +1,4 @@
--- From what the reading and the check of a source answer to what its legal program is.
+-- The legal program of a source, concluded from the answers of the reading and of the check.
 use Rattle.std.proofs.Common.{◌≡◌, ◌⊎◌, inl, inr, ℕ, List, sym, subst, Some, Ok, Err}
 use Rattle.std.specs.Prelude.{Contains}
 use Rattle.f77_program.specs.Program.{LineFields}

@@ -1,4 +1,4 @@
--- The lines of a list, from one of the mutants or operators on.
+-- The lines of a list are written one by one.
 use Rattle.std.proofs.Common.{arith, ◌≡◌, ◌∙◌, ◌<◌, inl, inr, ◌≤◌, ◌+◌, ◌++◌, ℕ, suc, true, false, cond, List, [], ◌∷◌}
 use Rattle.std.proofs.Common.{length, drop, map, get_or, drop-cons, add-one, append_assoc, sym, ap, refl, Some, codes}
 use Rattle.std.specs.Prelude.{Contains, IsTrue, ◌↔◌, filter, flat_map, slice_get, sum}
@@ -17,21 +17,21 @@ use Rattle.mothra_ops.specs.Plan.{PlanFields, asked, edits_of}
 use Rattle.mothra_ops.specs.declared.edit.Edit.{Edit}
 use Rattle.mothra_app.proofs.Chosen.{test_is_named}
 
--- one part more of a text is written
+-- one more part of a text is written
 pub part_more : (old new part rest after all : List ℕ) → new ≡ old ++ part → rest ≡ part ++ after → old ++ rest ≡ all → new ++ after ≡ all
 part_more old new part rest after all is front so_far =
     ap (λ t. t ++ after) is ∙ append_assoc old part after ∙ ap (λ t. old ++ t) (sym front) ∙ so_far
 
 -- ---- mutants
 
--- the lines of the mutants that stand behind the first ones
+-- the lines of the mutants after the first i
 abbrev pub lines_behind : PlanFields → Op → ℕ → List ℕ
 lines_behind plan op i = flat_map (listed_line (program_of plan) plan.every op) (enumerate_from (i + 1) (drop i (edits_of plan op)))
 
 split : (edits : List Edit) (i : ℕ) (edit : Edit) → i < length edits → get_or edits i edit ≡ edit → drop i edits ≡ edit ∷ drop (i + 1) edits
 split edits i edit within at = rw add-one (drop-cons edits i edit within ∙ ap (λ e. e ∷ drop (suc i) edits) at)
 
--- the lines behind one mutant, and then its own
+-- the lines from a mutant on are its own line and the lines after it
 told : (plan : PlanFields) (op : Op) (i : ℕ) (edit : Edit) → slice_get (edits_of plan op) i ≡ Some edit → drop i (edits_of plan op) ≡ edit ∷ drop (i + 1) (edits_of plan op)
     → lines_behind plan op i ≡ (mutant_text plan op (i + 1) ++ codes "\n") ++ lines_behind plan op (i + 1)
 told plan op i edit is front =
@@ -50,7 +50,7 @@ no_mutant_more plan op i over = ap (λ edits. flat_map (listed_line (program_of 
 
 -- ---- operators
 
--- the operators that were asked for and stand behind the first ones
+-- the operators after the first i that were asked for
 abbrev pub asked_behind : PlanFields → ℕ → List Op
 asked_behind plan i = filter (asked plan) (drop i all_ops)
 
@@ -69,7 +69,7 @@ operator_asked plan i within is = behind plan i within ∙ ap (λ b. cond b (op_
 operator_passed : (plan : PlanFields) (i : ℕ) → i < 22 → asked plan (op_at i) ≡ false → asked_behind plan i ≡ asked_behind plan (i + 1)
 operator_passed plan i within is = behind plan i within ∙ ap (λ b. cond b (op_at i ∷ asked_behind plan (i + 1)) (asked_behind plan (i + 1))) is
 
--- the operator at a place was asked for: its lines and its count come first
+-- where the operator at place i was asked for, its lines and its count come next
 pub lines_more : (plan : PlanFields) (i : ℕ) → i < 22 → asked plan (op_at i) ≡ true
     → operators_behind plan i ≡ plan_lines plan (op_at i) ++ operators_behind plan (i + 1)
 lines_more plan i within is = ap (flat_map (plan_lines plan)) (operator_asked plan i within is)
@@ -84,13 +84,13 @@ counts_more plan i within is =
     ∙ sum_by-cons count (op_at i) rest
     ∙ ap (λ n. count (op_at i) + n) (sym (sum-map count rest))
 
--- it was not
+-- where the operator at place i was not asked for, nothing of it comes
 pub lines_as_before : (plan : PlanFields) (i : ℕ) → i < 22 → asked plan (op_at i) ≡ false → operators_behind plan i ≡ operators_behind plan (i + 1)
 lines_as_before plan i within is = ap (flat_map (plan_lines plan)) (operator_passed plan i within is)
 
 pub counts_as_before : (plan : PlanFields) (i : ℕ) → i < 22 → asked plan (op_at i) ≡ false → count_behind plan i ≡ count_behind plan (i + 1)
 counts_as_before plan i within is = ap (λ ops. sum (map (λ op. length (edits_of plan op)) ops)) (operator_passed plan i within is)
 
--- the operators that a plan was asked for are those that were named
+-- the operators that a plan was asked for are those that are named
 pub asked_are_chosen : (plan : PlanFields) (ops : List Op) → ((op : Op) → IsTrue (asked plan op) ↔ Contains ops op) → asked_ops plan ≡ operators_chosen ops
 asked_are_chosen plan ops named = filter_agree (asked plan) _ (test_is_named (asked plan) ops named) all_ops

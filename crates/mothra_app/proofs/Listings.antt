@@ -1,4 +1,4 @@
--- From what the plan of a program answers to how its mutants are listed.
+-- How the mutants of a program are listed, concluded from the answer of its plan.
 use Rattle.std.proofs.Common.{◌≡◌, ◌∙◌, ◌⊎◌, inl, inr, ℕ, List, ap, sym, subst, Ok, Err}
 use Rattle.std.specs.Prelude.{Contains, IsTrue, ◌↔◌}
 use Rattle.f77_program.specs.Program.{LineFields}

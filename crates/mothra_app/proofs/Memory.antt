@@ -1,4 +1,4 @@
--- The faults that may come in place of an answer.
+-- The faults that may come in the place of an answer.
 use Rattle.std.proofs.Common.{arith, ◌≡◌, ℕ, zero, suc, List, [], ◌∷◌, refl}
 use Rattle.std.specs.Prelude.{Contains}
 use Rattle.f77_source.specs.declared.fault.FormFault.TheVariants as form

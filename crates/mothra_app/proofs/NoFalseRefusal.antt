@@ -1,4 +1,4 @@
--- A legal job is answered with its report, or broken off for want of memory or of a thread.
+-- A legal job is answered with its report, or with a fault for want of memory or of a thread.
 use Rattle.std.proofs.Common.{◌≡◌, ◌∙◌, ℕ, List, [], ◌∷◌, All, Some, None, sym, ap, subst}
 use Rattle.std.specs.Prelude.{Contains}
 use Rattle.std.proofs.lemmas.List.Elements.{All-cons, All-contains, All-nil}
@@ -28,12 +28,12 @@ use Rattle.mothra_app.specs.declared.status.Status.TheVariants as status
 
 -- ---- the answer
 
--- words and bytes are served with one status and one text at most
+-- for the same words and bytes there is at most one status and one text
 abbrev pub OneAnswer : Type 0
 OneAnswer = (words : List Text) (bytes : List ℕ) (status other : Status) (text also : List ℕ)
     → IsServed words bytes status text → IsServed words bytes other also → (status ≡ other) × (text ≡ also)
 
--- words with a bad list of operators ask for nothing
+-- words with a bad list of operators are no request
 asks_nothing : {A : Type 0} (words : List Text) (request : Request) → request_of words ≡ Some request → HasBadOperators words → A
 asks_nothing words request is bad = let none : Some request ≡ None = sym is ∙ ap request_in bad in absurd (cc)
 

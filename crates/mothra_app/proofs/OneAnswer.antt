@@ -1,4 +1,4 @@
--- Words and bytes are served with one status and one text at most.
+-- For the same words and bytes there is at most one status and one text.
 use Rattle.std.proofs.Common.{◌≡◌, ◌∙◌, ℕ, List, sym, ap, refl, subst, Option, Some, Ok, Err}
 use Rattle.std.specs.List.{slice_get}
 use Rattle.clap.specs.Words.{Text}

@@ -1,4 +1,4 @@
--- A plan, tests and declared entries have a bench, or one reason why there is none.
+-- A plan, tests and declared entries have a bench, or exactly one reason why they have none.
 use Rattle.std.proofs.Common.{arith, ◌≡◌, ◌≢◌, ◌∙◌, ◌+◌, ◌<◌, ◌≤◌, ℕ, true, List, [], ◌∷◌, ◌++◌, length, length-append, append_assoc, get_or, All, ap, refl, sym, subst}
 use Rattle.std.proofs.Math.Seq.{get_or-append_seam}
 use Rattle.std.proofs.lemmas.List.{get_or_append_left, length_push}
@@ -15,7 +15,7 @@ use Rattle.mothra_ops.specs.Plan.{PlanFields, asked}
 use Rattle.mothra_app.proofs.AlikePlans.{AreAlike, turned}
 use Rattle.mothra_app.proofs.FirstBreaks.{all_hold, item_holds, one_cut, one_first_not}
 
--- Why there is no bench, without want of memory.
+-- The reasons why there is no bench, apart from want of memory.
 pub data IsRefused (plan : PlanFields) (tests : List (List Arg)) (steps : ℕ) (declared : List Ticket) : BenchFault → Type 0 where
   misfit : {n : ℕ} → IsFirstNot (FitsProgram (program_of plan)) tests n → IsRefused plan tests steps declared (bench.TestShape n)
   failing : {n : ℕ} → All (FitsProgram (program_of plan)) tests → IsFirstNot (EndsOn (program_of plan) steps) tests n
@@ -62,7 +62,7 @@ twice_fails {plan} is fine =
     fine.once k (length is.before) is.entry low (omega (arith, length_push is.before is.entry))
     (subst (λ (e : Ticket). asked plan e.op ≡ true) (sym left) is.asked) (left ∙ sym right)
 
--- the fronts of an entry that is told are fine, and with it they no longer are
+-- only one entry has a front that is fine without it and not fine with it
 cut_of : {plan : PlanFields} {entries : List Ticket} (before after others behind : List Ticket) (one other : Ticket) → entries ≡ before ++ one ∷ after
     → entries ≡ others ++ other ∷ behind → AreFine plan before → (AreFine plan (before ++ one ∷ []) → ⊥) → AreFine plan others
     → (AreFine plan (others ++ other ∷ []) → ⊥) → (length before ≡ length others) × (one ≡ other)
@@ -113,7 +113,7 @@ one_refusal (IsRefused.twice fit end is) (IsRefused.failing fits also) = absurd 
 one_refusal (IsRefused.twice fit end is) (IsRefused.unknown fits ends also) = never_both also is
 one_refusal (IsRefused.twice fit end is) (IsRefused.twice fits ends also) = ap (λ (n : ℕ). bench.EquivalentTwice n) (one_twice is also)
 
--- where there is a bench, there is none
+-- where there is a bench, there is no such reason
 pub never_refused : {plan : PlanFields} {tests : List (List Arg)} {steps : ℕ} {declared : List Ticket} {fault : BenchFault}
     → IsRefused plan tests steps declared fault → All (FitsProgram (program_of plan)) tests → All (EndsOn (program_of plan) steps) tests → AreFine plan declared → ⊥
 never_refused (IsRefused.misfit is) fit end fine = all_hold _ _ _ is fit

@@ -1,4 +1,4 @@
--- A test of a job comes to one thing at most.
+-- A test of a job has at most one outcome or fault.
 use Rattle.std.proofs.Common.{◌≡◌, ◌∙◌, ℕ, List, sym, ap, refl, subst, Option, Some, None, Result, Ok, Err}
 use Rattle.f77_program.specs.Program.{LineFields}
 use Rattle.f77_meaning.specs.declared.argument.Arg.{Arg}

@@ -1,4 +1,4 @@
--- The mutants of a source are listed in one way at most.
+-- There is at most one list of the mutants of a source.
 use Rattle.std.proofs.Common.{arith, ◌≡◌, ◌∙◌, ◌<◌, ◌≤◌, ◌⊎◌, ◌++◌, ℕ, Bool, true, false, inl, inr, List, [], ◌∷◌, length, map, sym, ap, ap₂, refl, subst, cond, Ok, Err, Result}
 use Rattle.std.specs.Prelude.{Contains, filter, flat_map, sum}
 use Rattle.f77_program.specs.Program.{LineFields}
@@ -35,7 +35,7 @@ never_long {op} {program} {every} {edits} {A} laws some long list = go (laws.too
     go (inl many) = absurd (omega (arith, few, many))
     go (inr many) = absurd (omega (arith, list.few_whole, many))
 
--- one operator is the first whose list is too long
+-- only one operator is the first whose list is too long
 pub one_first : {ops : List Op} {program : List LineFields} {every : ℕ} (op other : Op) → Laws → 1 ≤ every → IsFirstTooLong ops program every op
     → IsFirstTooLong ops program every other → op ≡ other
 one_first op other laws some first also = go (same_index op other)

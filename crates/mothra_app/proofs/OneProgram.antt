@@ -1,4 +1,4 @@
--- A source has one program at most, or one fault.
+-- A source has at most one program or one fault.
 use Rattle.std.proofs.Common.{arith, ◌≡◌, ◌∙◌, ◌<◌, ◌≤◌, ◌⊎◌, ℕ, List, length, [], sym, ap, refl, subst, Some, None, Result, Ok, Err}
 use Rattle.std.specs.List.{slice_get}
 use Rattle.f77_source.specs.Card.{CardFields}
@@ -73,7 +73,7 @@ same_program p q e = cc
 pub never_both : {A : Type 0} (p : List LineFields) (f : Fault) → (let read : Read = Ok p in let other : Read = Err f in read ≡ other) → A
 never_both p f e = absurd (cc)
 
--- a list has no first item where it is empty
+-- an empty list has no first item
 pub first_of_none : {A B : Type 0} (items : List A) (x : A) → items ≡ [] → slice_get items 0 ≡ Some x → B
 first_of_none items x none first =
     let is : None ≡ Some x = sym (ap (λ list. slice_get list 0) none) ∙ first in absurd (cc)
@@ -82,7 +82,7 @@ same_check : (f g : CheckFault) (p q : List LineFields) → p ≡ q → first_fa
 same_check f g p q same first also =
     let some : Some f ≡ Some g = sym first ∙ ap first_fault same ∙ also in cc
 
--- a source is one legal program at most, or has one first fault
+-- a source is at most one legal program, or has one first fault
 pub one_legal : {source : List ℕ} {read other : Read} → Laws → IsLegalProgramOf source read → IsLegalProgramOf source other → read ≡ other
 one_legal laws (IsLegalProgramOf.no_program p) (IsLegalProgramOf.no_program q) = one_read laws p q
 one_legal laws (IsLegalProgramOf.no_program p) (IsLegalProgramOf.not_legal q first) = never_both _ _ (one_read laws q p)

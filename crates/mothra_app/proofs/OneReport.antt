@@ -1,4 +1,4 @@
--- A job is reported on in one way at most.
+-- There is at most one report of a job.
 use Rattle.std.proofs.Common.{◌≡◌, ◌≢◌, ◌∙◌, ◌↔◌, ◌≤◌, ◌++◌, ℕ, Bool, List, [], codes, length, get_or, All, sym, ap, subst, if◌then◌else◌, Ok, Err, Result}
 use Rattle.std.specs.Prelude.{Contains, IsTrue, filter, flat_map}
 use Rattle.std.specs.Option.{option_and_then, option_map_or}
@@ -34,7 +34,7 @@ use Rattle.mothra_app.proofs.OneProgram.{Laws, one_legal, same_fault, same_progr
 abbrev Text : Type 0
 Text = Result (List ℕ) Fault
 
--- ---- a text rests on no more of a plan than its program and its lists
+-- ---- a report depends on the program and the lists of a plan alone
 
 same_heading : (one other : BenchFields) → AreAlike one.plan other.plan → one.tests ≡ other.tests → one.steps ≡ other.steps
     → report.heading one ≡ report.heading other
@@ -76,7 +76,7 @@ same_text one other plans tests steps entries =
     let lines = same_entries one.plan other.plan plans entries in
     λ i. heading i ++ (operators i ++ (report.counts_line (codes "TOTAL") (counts entries) ++ (score_line (score_of (counts entries)) ++ (lines i ++ line (codes "END")))))
 
--- ---- nor do its entries
+-- ---- so do its entries
 
 same_tickets : (one other : PlanFields) → AreAlike one other → tickets_of one ≡ tickets_of other
 same_tickets one other plans = λ i. flat_map (λ op. tickets op (length (plans.same_edits op i))) all_ops
@@ -120,7 +120,7 @@ report_moved one other text plans tests steps declared is = record {
 moved : {ops : List Op} {every : ℕ} (p q : List LineFields) (plan : PlanFields) → p ≡ q → IsPlanOf p ops every plan → IsPlanOf q ops every plan
 moved {ops} {every} p q plan same is = subst (λ program. IsPlanOf program ops every plan) same is
 
--- a list that is too long has no plan
+-- where a list is too long there is no plan
 no_plan : {program : List LineFields} {ops : List Op} {every : ℕ} {op : Op} {A : Type 0} (plan : PlanFields) → Laws → 1 ≤ every
     → IsFirstTooLong ops program every op → IsPlanOf program ops every plan → A
 no_plan {op = op} plan laws some first is = never_long laws some first.long (counted plan is op ((is.asked op).1 first.asked)).list
@@ -132,7 +132,7 @@ one_fault job steps one other f g laws p q own its none also =
     let reason = refused_moved one other (alike one other laws p q) (refused one job.suite steps job.equivalent f own none) in
     one_refusal reason (refused other job.suite steps job.equivalent g its also)
 
--- a bench or a fault
+-- where there is a fault there is no bench
 not_both : {job : JobFields} {ops : List Op} {every steps : ℕ} {program : List LineFields} {A : Type 0} (plan : PlanFields) (f : BenchFault) (bench : BenchFields)
     → Laws → IsLegalProgramOf job.source (Ok program) → IsPlanOf program ops every plan → f ≢ Memory → IsNoBench plan job.suite steps job.equivalent f
     → IsBenchOf job ops every steps bench → A

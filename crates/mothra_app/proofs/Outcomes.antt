@@ -1,4 +1,4 @@
--- From what the call of a command answers to what the command comes to, and to the answer.
+-- The outcome of a command and its answer, concluded from the answers of its calls.
 use Rattle.std.proofs.Common.{◌≡◌, ◌≤◌, ◌⊎◌, inl, inr, ℕ, List, sym, subst, Result, Ok, Err, MatchResult, String, Global, string_bytes}
 use Rattle.std.specs.Prelude.{Contains}
 use Rattle.mothra_app.specs.code.Answer.{IsReadyBench, IsReportAnswer}
@@ -28,7 +28,7 @@ use Rattle.mothra_app.proofs.Memory.{in_exec, in_list, in_print}
 abbrev Text : Type 0
 Text = Result (String Global) Fault
 
--- the command comes to this text or this fault, or memory ran out
+-- the text or the fault is the outcome of the command, or memory ran out
 abbrev pub Comes : Request → JobRead → Text → Type 0
 Comes request read text =
     MatchResult text (λ t. IsRequestOutcome request read (Ok (string_bytes t))) (λ fault. IsRequestOutcome request read (Err fault) ⊎ MayFailBy request fault)
@@ -86,7 +86,7 @@ listed request job read source named operators every text is of_job same own com
 
 -- ---- what is ready without threads
 
--- what holds of a report and its text holds of the answer that has them
+-- a property of a report and its text holds of the answer that has them
 pub as_report : (P : Status → List ℕ → Type 0) (a : Answer) (text : String Global) → a.status ≡ status.Report → a.text ≡ text
     → P status.Report (string_bytes text) → P a.status (string_bytes a.text)
 as_report P a text is own holds = rw (is, own) holds
@@ -115,7 +115,7 @@ pub fault_told : (request : Request) (read : JobRead) (fault : Fault) (s : Statu
 fault_told request read fault s text is line told =
     subst (λ v. IsAnswer request read v text) (sym is) (fault_answered request read fault text line told)
 
--- so many workers may report on the bench
+-- the number of workers that report on the bench is 1 to 32
 pub within : (request : Request) (read : JobRead) (bench : BenchFields) (workers : ℕ) → IsReadyBench read request bench workers
     → (1 ≤ workers) × (workers ≤ 32)
 within request read bench workers (IsReadyBench.of_job is of few) = few

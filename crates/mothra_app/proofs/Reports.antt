@@ -1,4 +1,4 @@
--- From what the calls of `run` answer to the bench of a job, and to what `run` comes to without one.
+-- The bench of a job, or the fault of `run`, concluded from the answers of its calls.
 use Rattle.std.proofs.Common.{◌⊎◌, inl, inr, ℕ, List, Ok, Err}
 use Rattle.std.specs.Prelude.{Contains}
 use Rattle.f77_program.specs.Program.{LineFields}

@@ -1,4 +1,4 @@
--- From what the calls on a source answer to what the source is, and how it is printed.
+-- The program of a source, and how it is printed, concluded from the answers of the calls on it.
 use Rattle.std.proofs.Common.{◌≡◌, ◌≤◌, ◌⊎◌, inl, inr, ℕ, List, [], sym, subst, length, Some, None, Result, Ok, Err, MatchResult}
 use Rattle.std.specs.Prelude.{Contains, IsErrAnd}
 use Rattle.std.specs.List.{slice_get}
@@ -19,7 +19,7 @@ use Rattle.mothra_app.specs.declared.fault.Fault.{Fault}
 use Rattle.mothra_app.specs.declared.fault.Fault.TheVariants.{Form, Syntax}
 use Rattle.mothra_app.proofs.Memory.{form_in, syntax_in}
 
--- a result that is this fault
+-- where the result is this fault, what holds of the fault holds of the result
 pub told : {A : Type 0} (r : Result A Fault) (P : A → Type 0) (Q : Fault → Type 0) (fault : Fault) → IsErrAnd r (λ e. e ≡ fault) → Q fault
     → MatchResult r P Q
 told (Ok x) P Q fault is q = absurd is

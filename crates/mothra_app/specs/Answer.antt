@@ -1,4 +1,4 @@
--- The answer to a request, and to words that are none.
+-- The answer to a request, and to words that are no request.
 use Rattle.std.specs.Prelude.{◌≡◌, ◌≢◌, ◌⊎◌, ℕ, List, Result, Ok, Err}
 use Rattle.clap.specs.declared.error.kind.ErrorKind.{ErrorKind}
 use Rattle.clap.specs.declared.error.kind.ErrorKind.TheVariants as kind
@@ -16,11 +16,11 @@ use Rattle.mothra_cli.specs.declared.request.Request.TheVariants as command
 use Rattle.mothra_app.specs.declared.status.Status.{Status}
 use Rattle.mothra_app.specs.declared.status.Status.TheVariants as status
 
--- what a command comes to: the text of its report, or the first fault
+-- the outcome of a command: the text of its report, or the first fault
 abbrev pub Outcome : Type 0
 Outcome = Result (List ℕ) Fault
 
--- what the command comes to on a job, or on bytes that are none
+-- the outcome of the request on a job, or on bytes that are no job
 abbrev pub IsRequestOutcome : Request → JobRead → Outcome → Type 0
 IsRequestOutcome request (Err fault) outcome = outcome ≡ Err (Job fault)
 IsRequestOutcome command.Print (Ok job) outcome = IsPrinted job.source outcome
@@ -30,23 +30,23 @@ IsRequestOutcome (command.List operators every) (Ok job) outcome =
 IsRequestOutcome (command.Run operators every steps workers) (Ok job) outcome =
     IsReported job operators every steps outcome
 
--- The status and the text that a command comes to: its report, or the line of the first fault.
+-- The status and the text of the outcome of a request: its report, or the line of the first fault.
 pub data IsToldAnswer (request : Request) (read : JobRead) : Status → List ℕ → Type 0 where
   report : {text : List ℕ}
       → IsRequestOutcome request read (Ok text) → IsToldAnswer request read status.Report text
   fault : (fault : Fault) → IsRequestOutcome request read (Err fault)
       → IsToldAnswer request read status.Fault (fault_line fault)
 
--- The answer to a request: what the command comes to,
--- or the line of a fault that may come in its place.
+-- The answer to a request: the text of its outcome, or the
+-- line of a fault that may come in the place of any outcome.
 pub data IsAnswer (request : Request) (read : JobRead) : Status → List ℕ → Type 0 where
   told : {status : Status} {text : List ℕ}
       → IsToldAnswer request read status text → IsAnswer request read status text
   broken_off : (fault : Fault)
       → MayFailBy request fault → IsAnswer request read status.Fault (fault_line fault)
 
--- the status of what is told of words for which the command line has an
--- error of this kind: why it refuses them, or its help or version
+-- the status of the answer to words for which the command line has an error
+-- of this kind: it refuses them, or they ask for help or the version
 abbrev pub IsRefusal : ErrorKind → Status → Type 0
 IsRefusal cause status.Report = ⊥
 IsRefusal cause status.Fault = ⊥

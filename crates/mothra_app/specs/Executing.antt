@@ -1,4 +1,4 @@
--- The command `exec`: what one test of the program of a job comes to.
+-- The command `exec`: the outcome of the program of a job on one of its tests.
 use Rattle.std.specs.Prelude.{◌≡◌, ℕ, List, Some, None, Result, Ok, Err}
 use Rattle.f77_program.specs.Program.{LineFields}
 use Rattle.f77_check.specs.Checked.{shapes}
@@ -13,8 +13,8 @@ use Rattle.mothra_app.specs.declared.fault.Fault.{Fault}
 use Rattle.mothra_app.specs.declared.fault.Fault.TheVariants.{Job, Run}
 use Rattle.mothra_job.specs.declared.job.JobFault.TheVariants.{NoTest}
 
--- The line of the outcome of a run with these arguments
--- within so many steps, or why the program is not run.
+-- The line of the outcome of a run with these arguments and
+-- this limit on steps, or the fault why the program is not run.
 pub data IsRunLine (program : List LineFields) (arguments : List Arg) (steps : ℕ) : Result (List ℕ)
     Fault → Type 0 where
   misfit : {fault : RunFault} → refusal (shapes program) arguments ≡ Some fault
@@ -23,7 +23,8 @@ pub data IsRunLine (program : List LineFields) (arguments : List Arg) (steps : �
       → refusal (shapes program) arguments ≡ None → IsOutcomeOf program arguments steps answer
       → IsRunLine program arguments steps (Ok (outcome_line answer))
 
--- What a test of a job comes to within so many steps. J8 comes behind the faults of the program.
+-- The outcome of `exec` for a test of a job and a limit on steps. J8 comes after the faults of the
+-- program.
 pub data IsExecuted (job : JobFields) (test steps : ℕ) : Result (List ℕ) Fault → Type 0 where
   no_program : {fault : Fault}
       → IsLegalProgramOf job.source (Err fault) → IsExecuted job test steps (Err fault)

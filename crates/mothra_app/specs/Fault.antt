@@ -1,4 +1,4 @@
--- Faults of the calls that a command makes.
+-- The faults that may come in the place of any answer.
 use Rattle.std.specs.Prelude.{List, [], ◌∷◌, Contains}
 use Rattle.mothra_bench.specs.Analysis.{IsNoReport}
 use Rattle.mothra_app.specs.declared.fault.Fault.{Fault}
@@ -12,8 +12,8 @@ use Rattle.mothra_cli.specs.declared.request.Request.{Request}
 use Rattle.mothra_cli.specs.declared.request.Request.TheVariants as command
 use Rattle.mothra_replacements.specs.declared.fault.OpsFault.TheVariants as ops
 
--- want of memory for a program, F1 or S1; for a legal
--- one, C1 too; for a run, N1 too; for its mutants, O1 too
+-- want of memory for a program is F1 or S1; for a legal program also
+-- C1; for a run also N1; for its mutants also O1
 abbrev pub of_programs : List Fault
 of_programs = Form form.Memory ∷ Syntax syntax.Memory ∷ []
 
@@ -26,21 +26,21 @@ of_runs = Run run.Memory ∷ of_legal_programs
 abbrev pub of_mutants : List Fault
 of_mutants = Ops ops.Memory ∷ of_legal_programs
 
--- want of memory, which may come in place of any other
--- answer of the command; of `run` there are more
+-- want of memory, which may come in the place of any answer
+-- to the request; for `run` there are more faults
 abbrev pub request_memory_faults : Request → List Fault
 request_memory_faults command.Print = Job job.Memory ∷ of_programs
 request_memory_faults (command.Exec test steps) = Job job.Memory ∷ of_runs
 request_memory_faults (command.List operators every) = Job job.Memory ∷ of_mutants
 request_memory_faults (command.Run operators every steps workers) = Job job.Memory ∷ of_mutants
 
--- what may come in place of any other answer of `run`: want of memory, or of a thread
+-- the faults that may come in the place of any answer of `run`: want of memory, or of a thread
 abbrev pub MayFailRun : Fault → Type 0
 MayFailRun (Bench fault) = IsNoReport fault
 MayFailRun fault = Contains (Job job.Memory ∷ of_mutants) fault
 
--- what may come in place of any other answer of the
--- command: want of memory, and for `run` of a thread too
+-- the faults that may come in the place of any answer to the
+-- request: want of memory, and for `run` also of a thread
 abbrev pub MayFailBy : Request → Fault → Type 0
 MayFailBy (command.Run operators every steps workers) fault = MayFailRun fault
 MayFailBy request fault = Contains (request_memory_faults request) fault

@@ -1,4 +1,4 @@
--- The words of the laws.
+-- Definitions of the laws.
 use Rattle.std.specs.Prelude.{◌≡◌, ⊤, ℕ, List, Ok}
 use Rattle.clap.specs.Words.{Text}
 use Rattle.f77_source.specs.declared.fault.FormFault.TheVariants as form
@@ -25,9 +25,9 @@ use Rattle.mothra_app.specs.declared.status.Status.TheVariants as status
 
 -- ---- the headline
 
--- The text is the report of a bench of the job that was read. A report
--- has each mutant of the bench's plan once, in order, with the verdict
--- of running it alone. The number of workers is no argument of it.
+-- The text is the report of a bench of the job that was read. A report has
+-- each mutant of the bench's plan once, in order, with the verdict of running
+-- it alone. The number of workers is no argument of this definition.
 pub record ReportsJob (read : JobRead) (ops : List Op) (every steps : ℕ)
     (text : List ℕ) : Type 0 where
   pub job : JobFields
@@ -38,20 +38,20 @@ pub record ReportsJob (read : JobRead) (ops : List Op) (every steps : ℕ)
 
 -- ---- no false refusal
 
--- a legal job: the command line has no fault for the words,
--- and the words and the bytes are served with this report
+-- the words and the bytes are those of a legal job: the command line
+-- takes the words, and they are served with this report
 pub record IsLegalJob (words : List Text) (bytes report : List ℕ) : Type 0 where
   pub taken : IsTaken words
   pub served : IsServed words bytes status.Report report
 
--- What a legal job may be answered with: its report; or the line of a
--- fault, which may come in place of any answer to what the words ask for.
+-- The answers to a legal job: its report; or the line of a fault that may
+-- come in the place of any answer to the request.
 pub data IsFairAnswer (words : List Text) (report : List ℕ) : Status → List ℕ → Type 0 where
   whole : IsFairAnswer words report status.Report report
   broken_off : {request : Request} (fault : Fault) → AsksFor words request → MayFailBy request fault
       → IsFairAnswer words report status.Fault (fault_line fault)
 
--- want of memory, with the code J1, F1, S1, C1, N1, O1 or B1, or of a thread, B2
+-- the fault is want of memory (J1, F1, S1, C1, N1, O1 or B1) or of a thread (B2)
 abbrev pub IsWant : Fault → Type 0
 IsWant (Job job.Memory) = ⊤
 IsWant (Form form.Memory) = ⊤

@@ -1,4 +1,4 @@
--- The one line that tells a fault: FAULT, its code, and its detail where it has one.
+-- The line of a fault: FAULT, its code, and its detail where it has one.
 use Rattle.std.specs.Prelude.{ℕ, ◌&&◌, List, ◌++◌, map, codes, nat_le, if◌then◌else◌}
 use Rattle.std.specs.Fmt.{decimal}
 use Rattle.std.specs.Str.{chars}
@@ -31,6 +31,7 @@ numbered_line code n = codes "FAULT " ++ (code ++ (codes " " ++ (decimal n ++ co
 abbrev pub shown_character : ℕ → ℕ
 shown_character c = if nat_le 32 c && nat_le c 126 then c else 63
 
+-- the text with a question mark for each character outside 32 to 126
 abbrev pub printable : List ℕ → List ℕ
 printable name = map shown_character (chars name)
 
@@ -99,7 +100,7 @@ ops_line ops.Memory = plain_line (codes "O1")
 ops_line ops.NotASite = plain_line (codes "O2")
 ops_line (ops.TooMany op) = named_line (codes "O3") (code_of op)
 
--- the detail is the name of a mutant
+-- the line of a fault whose detail is the name of a mutant
 abbrev pub mutant_fault_line : List ℕ → Ticket → List ℕ
 mutant_fault_line code t = codes "FAULT "
     ++ (code ++ (codes " " ++ (code_of t.op ++ (codes " " ++ (decimal t.number ++ codes "\n")))))
@@ -117,7 +118,7 @@ bench_line (bench.Stranger ticket) = mutant_fault_line (codes "B8") ticket
 bench_line (bench.Missing ticket) = mutant_fault_line (codes "B9") ticket
 bench_line bench.Stalled = plain_line (codes "B10")
 
--- the line of a fault, by the call that it comes from
+-- the line of a fault of any call
 unfoldable pub fault_line : Fault → List ℕ
 fault_line (Job fault) = job_line fault
 fault_line (Form fault) = form_line fault

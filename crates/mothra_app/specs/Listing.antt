@@ -21,12 +21,12 @@ use Rattle.mothra_replacements.specs.declared.fault.OpsFault.TheVariants.{TooMan
 abbrev pub count_line : Op → ℕ → List ℕ
 count_line op count = code_of op ++ (codes " " ++ (decimal count ++ codes "\n"))
 
--- the mutant of this number
+-- the line of a mutant: its number and its edit
 abbrev pub listed_line : List LineFields → ℕ → Op → ℕ × Edit → List ℕ
 listed_line program every op numbered =
     edit_text program every op numbered.0 numbered.1 ++ codes "\n"
 
--- an operator that has these edits: how many, and then each by its number, from 1
+-- the lines of an operator with these edits: how many there are, then each with its number, from 1
 abbrev pub listing_lines : List LineFields → ℕ → Op → List Edit → List ℕ
 listing_lines program every op edits =
     count_line op (length edits) ++ flat_map (listed_line program every op) (enumerate_from 1 edits)
@@ -34,7 +34,7 @@ listing_lines program every op edits =
 abbrev pub total_line : ℕ → List ℕ
 total_line count = codes "TOTAL " ++ (decimal count ++ codes "\n")
 
--- these operators in their order, and last how many mutants they have in all
+-- the lines of these operators in their order, and last how many mutants they all have
 abbrev pub listing_text : List LineFields → ℕ → List Op → (Op → List Edit) → List ℕ
 listing_text program every ops lists =
     flat_map (λ op. listing_lines program every op (lists op)) ops
@@ -45,6 +45,7 @@ listing_text program every ops lists =
 abbrev pub asked_ops : PlanFields → List Op
 asked_ops plan = filter (asked plan) all_ops
 
+-- how many mutants the operators that the plan was asked for have
 abbrev pub asked_total : PlanFields → ℕ
 asked_total plan = sum (map (λ op. length (edits_of plan op)) (asked_ops plan))
 
@@ -53,11 +54,12 @@ asked_total plan = sum (map (λ op. length (edits_of plan op)) (asked_ops plan))
 abbrev pub is_named : List Op → Op → Bool
 is_named ops op = list_any (λ named. index named == index op) ops
 
--- the operators that are named, each once, in the order of all
+-- the operators that are named, each once, in the order of the operators
 abbrev pub operators_chosen : List Op → List Op
 operators_chosen ops = filter (is_named ops) all_ops
 
--- What `list` comes to for these operators, of whose lists each item is kept that `--every` says.
+-- The outcome of `list` for these operators, where every q-th item of their lists is kept, and q is
+-- `every`.
 pub data IsListed (source : List ℕ) (ops : List Op) (every : ℕ) : Result (List ℕ) Fault
     → Type 0 where
   no_program : {fault : Fault}

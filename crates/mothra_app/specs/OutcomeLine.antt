@@ -1,4 +1,4 @@
--- The one line that tells the outcome of a run.
+-- The line of the outcome of a run.
 use Rattle.std.specs.Prelude.{ℕ, Bool, List, [], ◌++◌, codes, flat_map, if◌then◌else◌}
 use Rattle.std.specs.Fmt.{signed_decimal}
 use Rattle.f77_tree.specs.Joined.{separated}
@@ -15,6 +15,7 @@ truth_letter b = if b then codes "T" else codes "F"
 abbrev pub array_text : {A : Type 0} → (A → List ℕ) → List A → List ℕ
 array_text text xs = codes "(" ++ (separated text [] xs ++ codes ")")
 
+-- the value of an argument: a number, T or F, or an array
 abbrev pub argument_text : Arg → List ℕ
 argument_text (Int z) = signed_decimal z
 argument_text (Truth b) = truth_letter b
@@ -25,7 +26,7 @@ argument_text (Truths bs) = array_text truth_letter bs
 abbrev pub arguments_text : List Arg → List ℕ
 arguments_text arguments = flat_map (λ argument. codes " " ++ argument_text argument) arguments
 
--- `RETURNED` or `STOPPED` and the values of the dummy arguments, or a word for another outcome
+-- `RETURNED` or `STOPPED` with the values of the dummy arguments, or the word of another outcome
 abbrev pub outcome_text : Outcome → List ℕ
 outcome_text (outcome.Returned arguments) = codes "RETURNED" ++ arguments_text arguments
 outcome_text (outcome.Stopped arguments) = codes "STOPPED" ++ arguments_text arguments

@@ -14,7 +14,8 @@ use Rattle.f77_legal.specs.declared.fault.CheckFault.{CheckFault}
 use Rattle.mothra_app.specs.declared.fault.Fault.{Fault}
 use Rattle.mothra_app.specs.declared.fault.Fault.TheVariants.{Form, Syntax, Check}
 
--- The program that a source is, or its first fault: that of its lines, else that of its cards.
+-- The program that a source is, or its first fault, where faults of lines come before those of
+-- cards.
 pub data IsProgramOf (source : List ℕ) : Result (List LineFields) Fault → Type 0 where
   too_large : 65536 < length source → IsProgramOf source (Err (Form TooLarge))
   no_cards : {fault : FormFault}

@@ -14,7 +14,8 @@ use Rattle.mothra_ops.specs.Mutants.{program_of}
 use Rattle.mothra_ops.specs.Plan.{IsFirstTooLong, IsPlan, PlanFields, asked}
 use Rattle.mothra_replacements.specs.declared.fault.OpsFault.TheVariants.{TooMany}
 
--- the plan of the program for these operators, of whose lists each item is kept that `--every` says
+-- the plan of the program for these operators, where every q-th item of their lists is kept, and q
+-- is `every`
 pub record IsPlanOf (program : List LineFields) (ops : List Op) (every : ℕ)
     (plan : PlanFields) : Type 0 where
   pub own : program_of plan ≡ program
@@ -34,8 +35,8 @@ pub record IsBenchOf (job : JobFields) (ops : List Op) (every steps : ℕ)
   pub declared : bench.declared ≡ job.equivalent
   pub is : IsBench bench
 
--- What `run` comes to for these operators within so many
--- steps. The number of workers is no argument of it.
+-- The outcome of `run` for these operators and this limit on steps.
+-- The number of workers is no argument of this definition.
 pub data IsReported (job : JobFields) (ops : List Op) (every steps : ℕ) : Result (List ℕ) Fault
     → Type 0 where
   no_program : {fault : Fault}

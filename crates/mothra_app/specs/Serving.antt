@@ -1,4 +1,4 @@
--- What is served: a status and a text, by the words and all the bytes of the reader.
+-- What is served for words and all the bytes of the reader: a status and a text.
 use Rattle.std.specs.Prelude.{◌≡◌, ℕ, List, Option, Some, codes}
 use Rattle.std.specs.Io.KnownBytes.{Appends, Keeps}
 use Rattle.clap.specs.Words.{Text, fault_of}
@@ -14,23 +14,23 @@ use Rattle.mothra_cli.specs.declared.request.Request.{Request}
 use Rattle.mothra_app.specs.declared.status.Status.{Status}
 use Rattle.mothra_app.specs.declared.status.Status.TheVariants as status
 
--- the command line takes the words, and they ask for
--- this, with numbers in the bounds of their options
+-- the command line takes the words, and they are this
+-- request, with numbers within the bounds of their options
 pub record AsksFor (words : List Text) (request : Request) : Type 0 where
   pub is : request_of words ≡ Some request
   pub bounded : IsBounded request
 
--- the status and the text that words and bytes are served with, where the words ask for something
+-- the status and the text with which words that are a request are served, for these bytes
 abbrev pub IsServed : List Text → List ℕ → Status → List ℕ → Type 0
 IsServed words bytes status text =
     (request : Request) × AsksFor words request × IsToldAnswer request (job_of bytes) status text
 
--- what is told of a value of `--ops` that is no list of operators' codes
+-- the answer where the value of `--ops` is no list of operators' codes
 abbrev pub bad_operators : List ℕ
 bad_operators = codes "BAD OPERATOR LIST\n"
 
--- What may be written for the words and the bytes: the answer to what
--- the words ask for, or what is told of words that ask for nothing.
+-- What may be written for the words and the bytes: an answer to the
+-- request, or the answer to words that are no request.
 pub data MayBeWritten (words : List Text) (bytes : List ℕ) : Status → List ℕ → Type 0 where
   answer : {request : Request} {status : Status} {text : List ℕ}
       → AsksFor words request → IsAnswer request (job_of bytes) status text
@@ -40,16 +40,16 @@ pub data MayBeWritten (words : List Text) (bytes : List ℕ) : Status → List �
       → IsRefusal cause status → IsAmong cause (fault_of mothra words)
       → MayBeWritten words bytes status text
 
--- what was read for an answer with this status: nothing for
--- words that are refused, or ask for help or the version
+-- what is read for an answer with this status: nothing, where the
+-- words are refused or ask for help or the version
 abbrev pub IsReadFor : Status → Option (List ℕ) → Option (List ℕ) → Type 0
 IsReadFor status.Report left now = IsRead limit left now
 IsReadFor status.Fault left now = IsRead limit left now
 IsReadFor status.Words left now = Keeps left now
 IsReadFor status.Help left now = Keeps left now
 
--- the text with this status may be written for the words,
--- where the reader had the bytes `left` and now has `now`
+-- the text with this status may be written for the words, where
+-- the reader had the bytes `left` before and has `now` after that
 pub record IsAnswered (words : List Text) (left now : Option (List ℕ)) (status : Status)
     (text : List ℕ) : Type 0 where
   pub bytes : List ℕ
@@ -57,15 +57,15 @@ pub record IsAnswered (words : List Text) (left now : Option (List ℕ)) (status
   pub may : MayBeWritten words bytes status text
   pub read : IsReadFor status left now
 
--- the whole of such a text was written to the writer that
--- held the bytes `old` and now holds `new`, and nothing else
+-- such a text was written whole, and nothing else, to a writer
+-- that held the bytes `old` before and holds `new` after that
 pub record WritesWhole (words : List Text) (left now old new : Option (List ℕ))
     (status : Status) : Type 0 where
   pub text : List ℕ
   pub answered : IsAnswered words left now status text
   pub written : Appends old new text
 
--- a front of such a text was written, and nothing else
+-- only a front of such a text was written
 pub record WritesFront (words : List Text) (left now old new : Option (List ℕ)) : Type 0 where
   pub status : Status
   pub text : List ℕ

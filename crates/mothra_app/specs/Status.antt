@@ -5,19 +5,19 @@ use Rattle.mothra_cli.specs.declared.input.InputFault.TheVariants as input
 use Rattle.mothra_app.specs.declared.status.AppFault.{AppFault}
 use Rattle.mothra_app.specs.declared.status.AppFault.TheVariants.{Memory, Read, Write}
 
--- what is told of an input that is not there
+-- the fault where the input can not be read
 abbrev pub of_input : InputFault → AppFault
 of_input input.Memory = Memory
 of_input input.Read = Read
 
--- a read failed, A2
+-- whether a read failed (A2)
 abbrev pub is_read_fault : {A : Type 0} → Result A AppFault → Bool
 is_read_fault (Ok status) = false
 is_read_fault (Err Memory) = false
 is_read_fault (Err Read) = true
 is_read_fault (Err Write) = false
 
--- a write failed or took no byte, A3
+-- whether a write failed or took no byte (A3)
 abbrev pub is_write_fault : {A : Type 0} → Result A AppFault → Bool
 is_write_fault (Ok status) = false
 is_write_fault (Err Memory) = false

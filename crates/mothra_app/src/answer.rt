@@ -1,4 +1,4 @@
-//! The answer to a request: a text, and what it is.
+//! The answer to a request: a text, and whether it is a report, a fault, a refusal or help.
 
 ghost use Rattle.std.specs.Prelude.{◌≡◌, ◌⊎◌, ◌≤◌, Err, IfOk, MatchResult, string_bytes};
 ghost use Rattle.clap.specs.Values.{kind_of};
@@ -26,25 +26,25 @@ use std::alloc::{AllocError, Global};
 use std::sync::Wait;
 use std::thread::Threads;
 
-/// A text, and what it is.
+/// What is written: a text and its status.
 #[derive(Debug, Drop)]
 pub struct Answer {
-    /// Whether it is a report, or what stands in place of one.
+    /// Whether the text is a report, or what stands in the place of one.
     pub status: Status,
     /// All that is to be written, each line ended by LF.
     pub text: String,
 }
 
-/// An answer, or what it takes threads to answer.
+/// What can be made without threads: an answer, or for `run` the bench.
 #[derive(Drop)]
 pub(crate) enum Ready {
     /// The answer.
     Answer(Answer),
-    /// The bench that `run` reports on, and by how many workers.
+    /// The bench on which `run` is to report, and the number of workers, 1 to 32.
     Bench(Bench, u32),
 }
 
-/// The answer that is a report.
+/// The report as an answer.
 fn reported(text: String) -> Answer
     ensures status { result.status ≡ Status.Report }
     ensures text { result.text ≡ text }
@@ -55,7 +55,7 @@ fn reported(text: String) -> Answer
     }
 }
 
-/// The answer to the request on the job that the bytes are, as far as it takes no threads, or the first fault.
+/// Does of the request what needs no threads, on the job that the bytes are; or gives the first fault.
 fn ready_or_fault(alloc: Global, request: &Request, bytes: &[u8]) -> Result<Ready, Fault>
     requires { IsBounded request.now }
     ensures { MatchResult result
@@ -86,7 +86,7 @@ fn ready_or_fault(alloc: Global, request: &Request, bytes: &[u8]) -> Result<Read
     }
 }
 
-/// The answer that tells a fault.
+/// The line of the fault as an answer.
 pub fn told(alloc: Global, fault: &Fault) -> Result<Answer, AllocError>
     ensures status { IfOk result (λ a. a.status ≡ Status.Fault) }
     ensures text { IfOk result (λ a. string_bytes a.text ≡ Line.fault_line fault.now) }
@@ -97,7 +97,7 @@ pub fn told(alloc: Global, fault: &Fault) -> Result<Answer, AllocError>
     })
 }
 
-/// The answer to the request on the job that the bytes are, as far as it takes no threads.
+/// Does of the request what needs no threads, on the job that the bytes are. A fault gives an answer with its line.
 pub(crate) fn ready_for(alloc: Global, request: &Request, bytes: &[u8]) -> Result<Ready, AllocError>
     requires { IsBounded request.now }
     ensures { IfOk result (IsReadyAnswer request.now (job_of bytes.now)) }
@@ -108,7 +108,7 @@ pub(crate) fn ready_for(alloc: Global, request: &Request, bytes: &[u8]) -> Resul
     }
 }
 
-/// The answer to `run`: the report of its bench by so many workers.
+/// The answer to `run`: the report of its bench, made with `workers` threads, or the line of a fault.
 pub(crate) fn report_on<R: Threads + Wait + Sync>(
     rt: &R,
     alloc: Global,
@@ -124,7 +124,7 @@ pub(crate) fn report_on<R: Threads + Wait + Sync>(
     }
 }
 
-/// The answer to words that the command line refuses, or that ask for help or the version: its text.
+/// The answer to words that `clap` refuses, or that ask for help or the version: the text of the error.
 pub fn refusal(alloc: Global, error: &Error) -> Result<Answer, AllocError>
     ensures { IfOk result (λ a. IsRefusal (kind_of error.now) a.status) }
 {
@@ -139,7 +139,7 @@ pub fn refusal(alloc: Global, error: &Error) -> Result<Answer, AllocError>
     })
 }
 
-/// The answer to a value of `--ops` that is no list of operators' codes.
+/// The answer where the value of `--ops` is no list of operators' codes.
 pub fn bad_list(alloc: Global) -> Result<Answer, AllocError>
     ensures status { IfOk result (λ a. a.status ≡ Status.Words) }
     ensures text { IfOk result (λ a. string_bytes a.text ≡ bad_operators) }

@@ -16,7 +16,7 @@ use f77_run::run;
 use mothra_job::{Job, JobFault};
 use std::alloc::Global;
 
-/// The line of the outcome of a run.
+/// Runs the program with these arguments. The result is the line of the outcome, or a fault: N1 to N3.
 fn run_program(
     alloc: Global,
     checked: &Checked,
@@ -33,7 +33,7 @@ fn run_program(
     Ok(outcome_line(alloc, &outcome)?)
 }
 
-/// The line of the outcome of a job's program, which is legal, on the test of this number.
+/// Runs a legal program on the test of the job with this number; J8 where there is no such test.
 fn run_test(
     alloc: Global,
     checked: &Checked,
@@ -53,7 +53,8 @@ fn run_test(
     }
 }
 
-/// The line of the outcome of a job's program on the test of this number, from 1, within so many steps.
+/// The command `exec`: runs the program of the job on the test with this number, from 1, within `steps` steps. The
+/// result is the line of the outcome.
 pub(crate) fn execute(alloc: Global, job: &Job, test: u32, steps: u32) -> Result<String, Fault>
     ensures { MatchResult result
         (λ text. IsExecuted job.now test steps (Ok (string_bytes text)))

@@ -1,4 +1,5 @@
-//! Faults of the calls that a command makes.
+//! The faults of all calls that a command makes. Which want of memory a command may answer follows from its calls:
+//! `print` never answers C1, N1 or O1.
 
 ghost use Rattle.std.specs.Prelude.{◌≡◌};
 ghost use Rattle.mothra_app.specs.declared.fault.Fault.TheVariants as fault;
@@ -11,10 +12,10 @@ use mothra_bench::BenchFault;
 use mothra_job::JobFault;
 use mothra_ops::OpsFault;
 
-/// Why a command has no report: the fault of the call that failed.
+/// Why a command has no report: the fault of the first call that failed.
 #[derive(Debug, Drop)]
 pub enum Fault {
-    /// The job cannot be read, or has no such test: J1 to J8.
+    /// The job can not be read, or has no such test: J1 to J8.
     Job(JobFault),
     /// The source is no cards: F1 to F7.
     Form(FormFault),
@@ -24,7 +25,7 @@ pub enum Fault {
     Check(CheckFault),
     /// The arguments of a test do not fit: N1 to N3.
     Run(RunFault),
-    /// The mutants cannot be listed: O1 or O3.
+    /// The mutants can not be listed: O1 or O3.
     Ops(OpsFault),
     /// The tests or declarations do not suit the program, or the run broke off: B1 to B10.
     Bench(BenchFault),

@@ -1,4 +1,4 @@
-//! What holds of what is served.
+//! Theorems on what is served. Each is the contract of a function that only cites other laws.
 
 ghost use Rattle.std.specs.Prelude.{◌≡◌, ℕ, Bool, List};
 ghost use Rattle.clap.specs.Words.{Text};
@@ -28,7 +28,7 @@ use mothra_bench::law::{handed_out_are_first, one_report};
 use mothra_ops::law::{one_list, too_long};
 use mothra_verdicts::law::verdict_of_the_item;
 
-/// Words and bytes are served with one status and one text at most.
+/// For the same words and bytes there is at most one status and one text.
 pub fn one_answer()
     ensures { (words : List Text) (bytes : List ℕ) (status other : Status) (text also : List ℕ)
         → IsServed words bytes status text → IsServed words bytes other also → (status ≡ other) × (text ≡ also) }
@@ -56,12 +56,15 @@ pub fn any_workers()
     one_report();
 }
 
-/// Between any two steps of an exchange for a plan, the mutants handed out of each operator are a front of its list, in
-/// order, each once, and none was accepted after the operator closed. Where `run` is served with a report,
+/// Between any two steps of an exchange for a plan, the mutants handed out of each operator are the first of its list,
+/// in order, each once, and no ticket was accepted after the operator was closed. Where `run` is served with a report,
 /// that report has every mutant once, with the verdict of running it alone, whatever the number of workers.
 ///
-/// Ticket k stands for item k of the list, where it is handed out as where it is run: a verdict of ticket k is that of
-/// the mutant which item k makes.
+/// Ticket k means item k of the list, both in the exchange and in a run: a verdict of ticket k is that of the mutant
+/// which item k makes.
+///
+/// The first clause speaks of sound words and views and not of an exchange. `exchange_of` promises, by the same
+/// definition, that those of the exchange of a plan are sound between any two steps.
 pub fn headline()
     ensures between_steps { (C : ℕ) (plan : PlanFields) (counts words : List ℕ) (views : List View)
         → IsSoundExchange C counts words views → AreCounts plan counts → KeepsLists C plan words views }
@@ -75,8 +78,8 @@ pub fn headline()
     verdict_of_the_item();
 }
 
-/// What may be written for a legal job is its report, or the line of a fault by which the command may break off: one of
-/// the eight that tell want of memory or of a thread. That it was wanting then is not said.
+/// For a legal job only its report may be written, or the line of one of eight faults, which say that memory or a
+/// thread was wanting. The law does not say that it was wanting then.
 pub fn no_false_refusal()
     ensures answer { (words : List Text) (bytes report : List ℕ) (status : Status) (text : List ℕ)
         → IsLegalJob words bytes report → MayBeWritten words bytes status text → IsFairAnswer words report status text }

@@ -1,4 +1,4 @@
-//! The one line that tells a fault.
+//! The line of a fault.
 
 ghost use Rattle.std.specs.Prelude.{◌≡◌, IfOk, string_bytes};
 ghost use Rattle.mothra_app.specs.Line as definition;
@@ -21,21 +21,21 @@ fn plain_line(alloc: Global, code: &str) -> Result<String, AllocError>
     format!(in alloc; "FAULT {code}\n")
 }
 
-/// The line of a fault with the number of an argument or an entry.
+/// The line of a fault whose detail is the number of an argument or of an entry.
 fn counted_line(alloc: Global, code: &str, number: usize) -> Result<String, AllocError>
     ensures { IfOk result (λ s. string_bytes s ≡ definition.numbered_line code.now number) }
 {
     format!(in alloc; "FAULT {code} {number}\n")
 }
 
-/// The line of a fault with a number.
+/// The line of a fault whose detail is another number.
 fn numbered_line(alloc: Global, code: &str, number: u32) -> Result<String, AllocError>
     ensures { IfOk result (λ s. string_bytes s ≡ definition.numbered_line code.now number) }
 {
     counted_line(alloc, code, number as usize)
 }
 
-/// The line of a fault with a name.
+/// The line of a fault whose detail is a name.
 fn named_line(alloc: Global, code: &str, name: &str) -> Result<String, AllocError>
     ensures { IfOk result (λ s. string_bytes s ≡ definition.named_line code.now name.now) }
 {
@@ -43,14 +43,14 @@ fn named_line(alloc: Global, code: &str, name: &str) -> Result<String, AllocErro
     format!(in alloc; "FAULT {code} {shown}\n")
 }
 
-/// The name with a question mark for each character that is not printable ASCII.
+/// The name, with a question mark in the place of each character outside 32 to 126.
 fn printable(alloc: Global, name: &str) -> Result<String, AllocError>
     ensures { IfOk result (λ s. string_bytes s ≡ definition.printable name.now) }
 {
     name.chars().map(shown).collect(alloc)
 }
 
-/// The character, or a question mark.
+/// The character, or a question mark if it is outside 32 to 126.
 fn shown(c: char) -> char
     ensures { result ≡ definition.shown_character c }
 {
@@ -143,7 +143,7 @@ fn ops_line(alloc: Global, fault: OpsFault) -> Result<String, AllocError>
     }
 }
 
-/// The line of a fault with the name of a mutant.
+/// The line of a fault whose detail is the name of a mutant.
 fn mutant_line(alloc: Global, code: &str, ticket: Ticket) -> Result<String, AllocError>
     ensures { IfOk result (λ s. string_bytes s ≡ definition.mutant_fault_line code.now ticket) }
 {
@@ -169,7 +169,7 @@ fn bench_line(alloc: Global, fault: BenchFault) -> Result<String, AllocError>
     }
 }
 
-/// The line that tells the fault: FAULT, its code, and its detail where it has one, ended by LF.
+/// The line of the fault: FAULT, its code, and its detail where it has one, ended by LF.
 #[tactic(auto, unfolding(crate::specs::Line::fault_line))]
 pub(crate) fn line_of(alloc: Global, fault: &Fault) -> Result<String, AllocError>
     ensures { IfOk result (λ s. string_bytes s ≡ definition.fault_line fault.now) }

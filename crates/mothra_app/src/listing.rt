@@ -14,7 +14,7 @@ use crate::program::legal_program_of;
 use mothra_ops::{Op, OpsFault, Plan};
 use std::alloc::{AllocError, Global};
 
-/// Adds the line of an operator: how many mutants it has.
+/// Adds the line with the code of an operator and the number of its mutants.
 fn push_count(text: &mut String, op: Op, count: u32) -> Result<(), AllocError>
     ensures { OnOk result (string_bytes text.new ≡ string_bytes text.old ++ definition.count_line op count) }
 {
@@ -22,7 +22,7 @@ fn push_count(text: &mut String, op: Op, count: u32) -> Result<(), AllocError>
     write!(text, "{code} {count}\n")
 }
 
-/// Adds the line of an operator's mutant.
+/// Adds the line of the mutant of an operator with this number, from 1.
 fn push_mutant(text: &mut String, plan: &Plan, op: Op, number: u32) -> Result<(), OpsFault>
     ensures line { OnOk result
         (string_bytes text.new ≡ string_bytes text.old ++ (mutant_text plan.now op number ++ codes "\n")) }
@@ -33,7 +33,7 @@ fn push_mutant(text: &mut String, plan: &Plan, op: Op, number: u32) -> Result<()
     Ok(())
 }
 
-/// Adds the lines of an operator: how many mutants it has, and each by its number.
+/// Adds the lines of an operator: how many mutants it has, then each mutant.
 fn push_operator(text: &mut String, plan: &Plan, op: Op) -> Result<(), OpsFault>
     ensures lines { OnOk result (string_bytes text.new ≡ string_bytes text.old ++ plan_lines plan.now op) }
     ensures memory { IfErr result (λ fault. fault ≡ Memory) }
@@ -46,7 +46,8 @@ fn push_operator(text: &mut String, plan: &Plan, op: Op) -> Result<(), OpsFault>
     Ok(())
 }
 
-/// Adds the lines of each operator that was asked for, in their order. It answers how many mutants there are in all.
+/// Adds the lines of each operator that was asked for, in the order of the operators. The result is the number of
+/// mutants of them all.
 fn push_operators(text: &mut String, plan: &Plan) -> Result<u64, OpsFault>
     ensures lines { OnOk result (string_bytes text.new ≡ string_bytes text.old ++ asked_lines plan.now) }
     ensures total { IfOk result (λ total. total ≡ asked_total plan.now) }
@@ -73,8 +74,8 @@ fn text_of(alloc: Global, plan: &Plan) -> Result<String, OpsFault>
     Ok(text)
 }
 
-/// The list of the mutants of the program that a source is, for
-/// these operators: each item of their lists, or one in so many.
+/// The command `list`: the mutants of the program that a source is, for these operators. Of each
+/// list every q-th item is kept, from the first, where `every` is q.
 pub(crate) fn list_mutants(
     alloc: Global,
     source: &str,

@@ -1,4 +1,4 @@
-//! The one line that tells the outcome of a run.
+//! The line of the outcome of a run.
 
 ghost use Rattle.std.specs.Prelude.{◌≡◌, ◌++◌, IfErr, IfOk, OnOk, string_bytes};
 ghost use Rattle.std.specs.Fmt.{signed_decimal};
@@ -66,7 +66,7 @@ fn push_arguments(text: &mut String, arguments: &[Arg]) -> Result<(), AllocError
     Ok(())
 }
 
-/// Adds what tells the outcome.
+/// Adds the word of the outcome, and the values of the dummy arguments where it has them.
 fn push_outcome(text: &mut String, outcome: &Outcome) -> Result<(), AllocError>
     ensures { OnOk result (string_bytes text.new ≡ string_bytes text.old ++ definition.outcome_text outcome.now) }
 {
@@ -90,7 +90,7 @@ fn push_outcome(text: &mut String, outcome: &Outcome) -> Result<(), AllocError>
     }
 }
 
-/// The line that tells the outcome, ended by LF. Want of memory is told as N1, as of the run.
+/// The line of the outcome, ended by LF. Want of memory for it is N1, as it is in the run.
 pub(crate) fn outcome_line(alloc: Global, outcome: &Outcome) -> Result<String, RunFault>
     ensures line { IfOk result (λ line. string_bytes line ≡ definition.outcome_line outcome.now) }
     ensures memory { IfErr result (λ e. e ≡ fault.Memory) }

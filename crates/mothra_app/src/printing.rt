@@ -9,7 +9,7 @@ use crate::program::program_of;
 use f77_syntax::print;
 use std::alloc::Global;
 
-/// The program that a source is, printed.
+/// The text of the program that a source is.
 pub(crate) fn print_source(alloc: Global, source: &str) -> Result<String, Fault>
     ensures { MatchResult result
         (λ text. IsPrinted source.now (Ok (string_bytes text)))

@@ -1,4 +1,4 @@
-//! The command `run`: the bench of the program of a job, on which its report rests.
+//! The command `run`: the bench of a job, of which its report is made.
 
 ghost use Rattle.std.specs.Prelude.{◌≤◌, ◌⊎◌, Err, MatchResult, length};
 ghost use Rattle.mothra_app.specs.Fault.{MayFailRun};
@@ -12,8 +12,8 @@ use mothra_job::Job;
 use mothra_ops::Plan;
 use std::alloc::Global;
 
-/// The bench of a job for these operators, of whose lists each item is kept, or one in so many, and within so many
-/// steps.
+/// The bench of a job for these operators, with this limit on steps. Of each list every q-th item is kept, from the
+/// first, where `every` is q.
 pub(crate) fn bench_of(
     alloc: Global,
     job: Job,

@@ -1,4 +1,7 @@
 //! From words and the bytes of a job to the bytes that are written.
+//!
+//! Words that are refused are answered before anything is read. All but the report of `run` is made without threads
+//! (`prepare`), so only `run` may wait. The whole text is there before the first byte is written.
 
 ghost use Rattle.std.specs.Prelude.{◌≡◌, ◌≢◌, false, Ok, Err, IfOk, map, string_bytes};
 ghost use Rattle.mothra_cli.specs.Input.{limit, IsRead, TakesAtMost};
@@ -17,7 +20,7 @@ use std::io::{Read, Write};
 use std::sync::Wait;
 use std::thread::Threads;
 
-/// The answer to a request, over all the bytes of the reader, as far as it takes no threads.
+/// Reads all bytes of the reader, and does of the request what needs no threads.
 fn read_and_prepare<R: Read>(
     alloc: Global,
     request: &Request,
@@ -35,8 +38,8 @@ fn read_and_prepare<R: Read>(
     Ok(ready_for(alloc, request, &bytes)?)
 }
 
-/// The answer to the words, over all the bytes of the reader where the command line takes them, as far as it takes no
-/// threads. So it waits for nobody.
+/// Does what needs no threads: an answer, or for `run` the bench. The reader is read only where the words are a
+/// request. The call waits for no thread.
 fn prepare<S: AsStr, R: Read>(
     alloc: Global,
     words: &[S],
@@ -58,7 +61,7 @@ fn prepare<S: AsStr, R: Read>(
     }
 }
 
-/// The answer to the words, over all the bytes of the reader where the command line takes them.
+/// The answer to the words. The reader is read only where the words are a request.
 fn answer_for<S: AsStr, R: Read>(
     rt: &(impl AllocGlobal + Threads + Wait + Sync),
     words: &[S],
@@ -79,10 +82,10 @@ fn answer_for<S: AsStr, R: Read>(
     }
 }
 
-/// Reads a job, and writes the text that the words ask for. The first word is the program's name.
+/// Reads a job and writes the text that the words ask for. The first word is the program's name.
 ///
-/// Nothing is written before the whole text stands, and the writer is not flushed. An interrupted call of the reader or
-/// the writer has failed, and is not tried again.
+/// Nothing is written before the whole text is there, and the writer is not flushed. A call of the reader or the writer
+/// that was interrupted has failed; it is not tried again.
 pub fn serve<S: AsStr, R: Read, W: Write>(
     rt: &(impl AllocGlobal + Threads + Wait + Sync),
     words: &[S],

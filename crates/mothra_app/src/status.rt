@@ -8,20 +8,20 @@ use mothra_cli::InputFault;
 use std::alloc::AllocError;
 use thiserror::Error;
 
-/// What was written.
+/// What the text that was written is.
 #[derive(Debug, Drop, Clone, Copy, PartialEq, Eq)]
 pub enum Status {
     /// The report that the words ask for.
     Report,
-    /// One line that tells a fault of the job.
+    /// The line of a fault.
     Fault,
     /// Why the command line refuses the words.
     Words,
-    /// The help that the words ask for, or the version.
+    /// The help or the version that the words ask for.
     Help,
 }
 
-/// Why no answer was written whole.
+/// Why no whole answer was written.
 #[derive(Clone, Copy, Debug, PartialEq, Eq, Error)]
 pub enum AppFault {
     /// A1: memory ran out before anything was written.
@@ -30,7 +30,7 @@ pub enum AppFault {
     /// A2: a read failed, and nothing was written.
     #[error("a read failed")]
     Read,
-    /// A3: a write failed or took no byte, behind a part of the text.
+    /// A3: a write failed or took no byte. Only the text in front of that was written.
     #[error("a write failed")]
     Write,
 }

@@ -1,4 +1,4 @@
--- What is closed stays closed.
+-- An operator that is closed stays closed.
 use Rattle.std.proofs.Common.{◌≡◌, ◌≢◌, ℕ, ◌+◌, ◌<◌, List, [], ◌∷◌, length, Bool, true, false, true≢false, eqb, All, get_or, take, refl, sym, ap, ◌∙◌, subst, eq-eqb}
 use Rattle.std.proofs.lemmas.Bool.{eqb-true}
 use Rattle.std.proofs.lemmas.List.{take_more}
@@ -11,7 +11,7 @@ use Rattle.mothra_exchange.specs.declared.view.View.{View}
 use Rattle.mothra_bench.specs.code.Closing.{AreClosed, Closes}
 use Rattle.mothra_bench.specs.Closing.{seen_of}
 
--- closing an operator leaves the others closed that were so
+-- closing one operator leaves those closed that were closed before
 stays : (old new : View) (op o : Op) → Closes op old new → (seen_of old o).closed ≡ true → (seen_of new o).closed ≡ true
 stays old new op o closes was = by_case (eqb (index o) (index op)) refl
   where

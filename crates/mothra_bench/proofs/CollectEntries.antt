@@ -15,7 +15,7 @@ use Rattle.mothra_bench.specs.declared.row_map.RowMap.{RowMap}
 use Rattle.mothra_verdicts.specs.declared.verdict.Row.{Row}
 use Rattle.mothra_bench.proofs.CollectLists.{any_default, cut_at}
 
--- the tickets from i on have the rows that they had
+-- the tickets from place i on have the rows that they had at first
 abbrev pub Left : RowMap → RowMap → List Ticket → ℕ → Type 0
 Left rows left tickets i = (k : ℕ) (d : Ticket) → i ≤ k → k < length tickets → ticket_row left (get_or tickets k d) ≡ ticket_row rows (get_or tickets k d)
 

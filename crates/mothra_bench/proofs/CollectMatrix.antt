@@ -75,7 +75,7 @@ the_one : (t u : Ticket) → Contains (t ∷ []) u → u ≡ t
 the_one t u (zero, lt, e) = sym e
 the_one t u (suc k, lt, e) = absurd (omega arith)
 
--- in a list in order what comes behind an item is not before it
+-- in a list in order, each later item comes after the item t
 behind : (R : Ticket → Ticket → Type 0) (before after : List Ticket) (t : Ticket) → AllPairs R (before ++ t ∷ after) → All (R t) after
 behind R [] after t h = λ k d lt. h 0 (suc k) d (omega arith) (omega arith)
 behind R (x ∷ xs) after t h = behind R xs after t (λ i j d p q. h (suc i) (suc j) d (omega arith) (omega arith))

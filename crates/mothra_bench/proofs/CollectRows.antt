@@ -1,4 +1,4 @@
--- Rows are put into a map.
+-- Rows are put into a map one by one.
 use Rattle.std.proofs.Common.{◌≡◌, ℕ, ◌≤◌, List, [], ◌∷◌, ◌++◌, length, Bool, true, false, cond, eqb, ◌&&◌, Option, None, Some, refl, sym, ap, ◌∙◌, subst, arith, append-nil}
 use Rattle.std.specs.Prelude.{option_to_list, is_none}
 use Rattle.std.proofs.lemmas.Bool.Decides.{nat_tests}
@@ -27,7 +27,7 @@ eqb_true a b e = grind (arith, nat_tests)
 one_ticket : (t u : Ticket) → t.op ≡ u.op → t.number ≡ u.number → t ≡ u
 one_ticket t u e f = ap (λ op. ticket op t.number) e ∙ ap (ticket u.op) f
 
--- a row of a ticket has it
+-- a row of a ticket bears that ticket
 pub own_ticket : (t : Ticket) (row : Row) → is_row_of t row ≡ true → row.ticket ≡ t
 own_ticket t row e =
     let h = and_true (eqb (index row.ticket.op) (index t.op)) (eqb row.ticket.number t.number) e in
@@ -46,7 +46,7 @@ with_one map rows row t true e new has =
 with_one map rows row t false e new has =
     has t ∙ sym (filter-append (is_row_of t) rows (row ∷ []) ∙ (ap (λ l. rows_of t rows ++ l) (one_filter t row false e) ∙ append-nil (rows_of t rows)))
 
--- a row whose ticket had none is put into a map
+-- a row whose ticket has no row yet is put into a map
 pub has_more : (map new : RowMap) (rows : List Row) (row : Row) → is_none (ticket_row map row.ticket) ≡ true
     → ((t : Ticket) → ticket_row new t ≡ cond (is_row_of t row) (Some row) (ticket_row map t)) → HasRows map rows → HasRows new (rows ++ row ∷ [])
 has_more map new rows row none is has = λ t. ap option_to_list (is t) ∙ with_one map rows row t (is_row_of t row) refl none has
@@ -59,7 +59,7 @@ one_there : (row : Option Row) → is_none row ≡ false → length (option_to_l
 one_there None e = absurd (cc)
 one_there (Some row) e = refl
 
--- rows that a map has are no doubles
+-- of the rows that a map has, no two are of one mutant
 pub no_double : (map : RowMap) (rows : List Row) → HasRows map rows → (plan : PlanFields) → NoDouble plan rows
 no_double map rows has plan t own = subst (λ l. length l ≤ 1) (has t) (at_most_one (ticket_row map t))
 

@@ -1,4 +1,4 @@
--- The tickets of a plan: they stand in order, and are those that the plan has.
+-- The tickets of a plan stand in order, and are those of the plan's mutants.
 use Rattle.std.proofs.Common.{◌≡◌, ℕ, suc, ◌+◌, ◌-◌, ◌<◌, ◌≤◌, List, [], ◌∷◌, ◌++◌, length, All, get_or, true, Option, Some, None, refl, sym, ap, ◌∙◌, subst, arith, inl, inr}
 use Rattle.std.specs.Prelude.{⊤, AllPairs, Contains, flat_map, is_some}
 use Rattle.std.specs.Option.{option_map_or}
@@ -36,7 +36,7 @@ own_ordered op n = λ i j d lt l.
     subst (λ t. Before t (get_or (tickets op n) j d)) (sym (ticket_at op n i d (omega arith)))
     (subst (Before (ticket op (i + 1))) (sym (ticket_at op n j d b)) (inr (refl, omega arith)))
 
--- the operators have the numbers from k on
+-- the places of the operators are k, k + 1 and so on
 Counted : ℕ → List Op → Type 0
 Counted k [] = ⊤
 Counted k (op ∷ ops) = (index op ≡ k) × Counted (suc k) ops

@@ -21,7 +21,7 @@ use Rattle.mothra_verdicts.specs.declared.fault.BenchFault.{BenchFault}
 use Rattle.mothra_verdicts.specs.declared.fault.BenchFault.TheVariants as fault
 use Rattle.mothra_verdicts.specs.declared.verdict.Row.{Row}
 
--- a ticket stands among those of the rows as often as it has rows
+-- a ticket occurs among the tickets of the rows as often as it has rows
 rows_times : (t : Ticket) (rows : List Row) → length (rows_of t rows) ≡ ticket_times (index t.op) t.number (tickets_in rows)
 rows_times t [] = refl
 rows_times t (row ∷ rows) = by_case (is_row_of t row) (rows_times t rows) refl
@@ -51,7 +51,7 @@ once_here n k h = (grind (arith, nat_tests), grind (arith, nat_tests))
 once_of : (n k : ℕ) → 1 ≤ k → k ≤ n → once_up_to n k ≡ 1
 once_of n k a b = grind (arith, nat_tests)
 
--- the rows are of the plan
+-- no row is of a mutant that the plan does not have
 no_stranger : (bench : BenchFields) (words : List Word) (rows : List Row) (t : Ticket) → AreComplete bench.plan words (tickets_in rows) → AreVerdicts bench rows
     → IsFirstStranger bench rows t → ⊥
 no_stranger bench words rows t complete verdicts first = first.unknown (record { has = has; tests = tests })
@@ -80,7 +80,7 @@ no_stranger bench words rows t complete verdicts first = first.unknown (record {
     tests = AllZip-long (λ (arguments : List Arg) (kill : Bool). IsKill (program_of bench.plan) (mutated (program_of bench.plan) verdict.mutant) arguments bench.steps kill)
         bench.tests first.row.kills verdict.alone
 
--- none stands twice
+-- no mutant has two rows
 no_double : (plan : PlanFields) (words : List Word) (rows : List Row) (t : Ticket) → AreComplete plan words (tickets_in rows) → IsFirstDouble plan rows t → ⊥
 no_double plan words rows t complete first =
     let more = times_cut t first.before first.row first.after first.own in
@@ -91,7 +91,7 @@ no_double plan words rows t complete first =
     let told = rows_times t first.before in
     absurd (omega arith)
 
--- and none is missing
+-- no mutant is without a row
 no_missing : (plan : PlanFields) (words : List Word) (rows : List Row) (t : Ticket) → AreComplete plan words (tickets_in rows) → IsFirstMissing plan words rows t → ⊥
 no_missing plan words rows t complete first =
     let n = length (edits_of plan t.op) in
@@ -102,7 +102,7 @@ no_missing plan words rows t complete first =
     let below = first.has.1 in
     first.missing (record { row = omega arith; handed = omega arith })
 
--- what keeps a matrix from being made of them is want of memory
+-- where such rows give no matrix, the fault is want of memory
 pub matrix_report : (bench : BenchFields) (words : List Word) (rows : List Row) (e : BenchFault) → AreComplete bench.plan words (tickets_in rows) → AreVerdicts bench rows
     → IsNoMatrix bench words rows e → IsNoReport e
 matrix_report bench words rows fault.Memory complete verdicts h = tt

@@ -1,4 +1,4 @@
--- What a thread is given may go to it.
+-- A closure may go to the thread that runs it.
 use mathlib.Core.List.{[], ◌∷◌}
 use mir.Syntax.{Sym}
 use denote.RattleType.{RattleType}

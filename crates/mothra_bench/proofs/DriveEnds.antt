@@ -1,4 +1,4 @@
--- How a drive comes to its answer.
+-- What holds of the answer of a drive.
 use Rattle.std.proofs.Common.{◌≡◌, ◌⊎◌, ℕ, List, [], ◌++◌, Bool, true, Option, None, Some, Result, Ok, Err, IfSome, IfNone, IsSome, IfOk, IfErr, MatchOption}
 use Rattle.std.proofs.Common.{refl, sym, ap, ◌∙◌, subst, append-nil, inl, inr}
 use Rattle.std.proofs.lemmas.List.Elements.{All-nil}
@@ -13,7 +13,7 @@ use Rattle.mothra_verdicts.specs.declared.fault.BenchFault.{BenchFault}
 use Rattle.mothra_verdicts.specs.declared.fault.BenchFault.TheVariants as fault
 use Rattle.mothra_verdicts.specs.declared.verdict.Row.{Row}
 
--- what holds of an answer
+-- a property of the answer, concluded from what holds of each of its four parts
 pub ok_answer : {X : Type 0} (own : Option BenchFault) (first second : Result (Unit {0}) BenchFault) (outcome : Result X BenchFault) (P : X → Type 0)
     → (own ≡ None → first ≡ Ok tt → second ≡ Ok tt → IfOk outcome P) → IfOk (answer_of own first second outcome) P
 ok_answer (Some e) first second outcome P h = tt
@@ -28,7 +28,7 @@ err_answer None (Err e) second outcome P a b c d = b
 err_answer None (Ok x) (Err e) outcome P a b c d = c
 err_answer None (Ok x) (Ok y) outcome P a b c d = d
 
--- no worker was joined yet
+-- the invariant holds before a worker is joined
 pub rows_none : (bench : BenchFields) (keeps : Bool) (taken : List Ticket) (f : Option BenchFault) (rows : List Row) → rows ≡ []
     → IfNone f (AreVerdicts bench rows × (keeps ≡ true → taken ≡ taken ++ tickets_in rows))
 rows_none bench keeps taken None rows e = (
@@ -41,14 +41,14 @@ pub any_none : (P : Type 0) (f : Option BenchFault) → P → IfNone f P
 any_none P None p = p
 any_none P (Some e) p = tt
 
--- why not all workers were started may be told
+-- a fault that kept some workers from being started is one that a drive may answer
 pub start_told : (may keeps : Bool) (plan : PlanFields) (counts : List ℕ) (X : Type 0) (f : Option BenchFault)
     → IfSome f (λ e. ((e ≡ fault.Memory) × X) ⊎ (e ≡ fault.Thread)) → IfSome f (IsNoDrive may keeps plan counts)
 start_told may keeps plan counts X None why = tt
 start_told may keeps plan counts X (Some e) (inl why) = subst (IsNoDrive may keeps plan counts) (sym why.0) tt
 start_told may keeps plan counts X (Some e) (inr why) = subst (IsNoDrive may keeps plan counts) (sym why) tt
 
--- and why a feeder was not
+-- a fault that kept a feeder from being started is one that a drive may answer
 pub feeder_told : {X : Type 0} (may keeps : Bool) (plan : PlanFields) (counts : List ℕ) (f g : Option BenchFault) (one : Option X)
     → IfSome f (IsNoDrive may keeps plan counts) → IfSome f (λ e. (g ≡ Some e) × (one ≡ None))
     → IfNone f (MatchOption one (g ≡ Some fault.Thread) (λ x. g ≡ None)) → IfSome g (IsNoDrive may keeps plan counts)
@@ -56,14 +56,14 @@ feeder_told may keeps plan counts (Some e) g one told kept thread = subst (λ o.
 feeder_told may keeps plan counts None g None told kept thread = subst (λ o. IfSome o (IsNoDrive may keeps plan counts)) (sym thread) tt
 feeder_told may keeps plan counts None g (Some x) told kept thread = subst (λ o. IfSome o (IsNoDrive may keeps plan counts)) (sym thread) tt
 
--- and want of memory for the rows of all
+-- want of memory for the list of all rows is a fault that a drive may answer
 pub rows_told : (may keeps : Bool) (plan : PlanFields) (counts : List ℕ) (f g : Option BenchFault) → IfSome f (IsNoDrive may keeps plan counts)
     → IfSome g (λ e. MatchOption f (e ≡ fault.Memory) (λ d. e ≡ d)) → IfSome g (IsNoDrive may keeps plan counts)
 rows_told may keeps plan counts f None told memory = tt
 rows_told may keeps plan counts None (Some e) told memory = subst (IsNoDrive may keeps plan counts) (sym memory) tt
 rows_told may keeps plan counts (Some d) (Some e) told memory = subst (IsNoDrive may keeps plan counts) (sym memory) told
 
--- a feeder's fault may be told
+-- a feeder's fault is one that a drive may answer
 pub stalled_told : (may keeps : Bool) (plan : PlanFields) (counts : List ℕ) (outcome : Result (Unit {0}) BenchFault) → IfErr outcome (IsStalled may)
     → IfErr outcome (IsNoDrive may keeps plan counts)
 stalled_told may keeps plan counts (Ok x) stalled = tt
@@ -82,14 +82,14 @@ pub where_none : (P : Type 0) (f : Option BenchFault) → IfNone f P → f ≡ N
 where_none P None p none = p
 where_none P (Some e) p none = let x = none in cc
 
--- without a fault behind it a feeder was started, and there was none before
+-- where there is no fault afterwards, a feeder was started, and there was no fault before
 pub began : {X : Type 0} (f g : Option BenchFault) (one : Option X) → IfSome f (λ e. (g ≡ Some e) × (one ≡ None))
     → IfNone f (MatchOption one (g ≡ Some fault.Thread) (λ x. g ≡ None)) → g ≡ None → (f ≡ None) × IsSome one
 began (Some e) g one kept thread none = let x = kept.0 in cc
 began None g None kept thread none = cc
 began None g (Some x) kept thread none = (refl, refl)
 
--- the fault of the drive's own, from one worker to the next
+-- the drive's own fault, from one worker to the next
 pub none_on : (first before after : Option BenchFault) → IfNone before (first ≡ None) → IfNone after (before ≡ None) → IfNone after (first ≡ None)
 none_on first None None p q = p
 none_on first (Some d) None p q = let x = q in cc

@@ -1,4 +1,4 @@
--- What a round of a feeder leaves of the stages of all operators, and what they come to.
+-- What the stages of all operators show after a round of a feeder.
 use Rattle.std.proofs.Common.{◌≡◌, ◌≢◌, ℕ, ◌+◌, ◌<◌, List, [], ◌∷◌, ◌++◌, length, Bool, true, false, true≢false, eqb}
 use Rattle.std.proofs.Common.{All, Contains, get_or, set, take, zero, suc, refl, sym, ap, ◌∙◌, subst, arith, eq-eqb}
 use Rattle.std.proofs.lemmas.Bool.{eqb-true}
@@ -19,7 +19,7 @@ use Rattle.mothra_bench.specs.declared.feeding.Stage.{Stage}
 use Rattle.mothra_bench.specs.declared.feeding.Stage.TheVariants as stage
 use Rattle.mothra_bench.proofs.FeederSteps.{shows_other}
 
--- the turn of an operator leaves what the stages of all tell
+-- after the turn of an operator the stages still show what the pass did
 pub all_show_one : (old new : View) (stages : List Stage) (op : Op) (s : Stage) → length stages ≡ 22 → ChangesOnly op old new → ShowsStage new op s → AllShow old stages
     → AllShow new (set stages (index op) s)
 all_show_one old new stages op s long only h all o = by_case (eqb (index o) (index op)) refl
@@ -51,7 +51,7 @@ stays_closed stages op o long h = by_case (eqb (index o) (index op)) refl
 pub now_closed : (stages : List Stage) (op : Op) → length stages ≡ 22 → stage_of (set stages (index op) stage.Closed) op ≡ stage.Closed
 now_closed stages op long = get_or-set_there stages (index op) stage.Closed (stage.Offered 0) (subst (λ (n : ℕ). index op < n) (sym long) (index_below op))
 
--- those visited so far are closed
+-- the operators visited so far are closed
 pub all_closed : (stages : List Stage) (ops : List Op) (op : Op) → length stages ≡ 22 → All (λ o. stage_of stages o ≡ stage.Closed) ops
     → All (λ o. stage_of (set stages (index op) stage.Closed) o ≡ stage.Closed) (ops ++ op ∷ [])
 all_closed stages ops op long h =
@@ -64,7 +64,7 @@ all_closed stages ops op long h =
 pub other_stage : (stages : List Stage) (op o : Op) (s : Stage) → o ≢ op → stage_of (set stages (index op) s) o ≡ stage_of stages o
 other_stage stages op o s ne = get_or-set_else stages (index op) (index o) s (stage.Offered 0) (λ i. ne (same_op o op i))
 
--- the same for the place of an operator
+-- after the turn of the operator at place i the stages still show what the pass did
 pub all_show_at : (old new : View) (stages : List Stage) (op : Op) (i : ℕ) (s : Stage) → i ≡ index op → length stages ≡ 22 → ChangesOnly op old new → ShowsStage new op s
     → AllShow old stages → AllShow new (set stages i s)
 all_show_at old new stages op i s at long only h all = subst (λ (j : ℕ). AllShow new (set stages j s)) (sym at) (all_show_one old new stages op s long only h all)
@@ -87,7 +87,7 @@ other_stage_at stages ops k i o s at lt none =
 none_once : (k : ℕ) → once_up_to 0 k ≡ 0
 none_once k = grind (arith, nat_tests)
 
--- a pass that has offered and closed nothing
+-- the first stage of an operator shows a pass that has offered and closed nothing
 pub shows_first : (view : View) (op : Op) (s : Stage) → s ≡ stage.Offered 0 → view.offered ≡ [] → view.closings ≡ [] → ShowsStage view op s
 shows_first view op s is offered closings = subst (ShowsStage view op) (sym is) (
   (λ k. ap (ticket_times (index op) k) offered ∙ sym (none_once k)),
@@ -105,7 +105,7 @@ first_stage zero i = refl
 first_stage (suc n) zero = refl
 first_stage (suc n) (suc i) = first_stage n i
 
--- all operators of a feeder are closed
+-- where the stages of all a feeder's operators are Closed, its operators are fed
 pub all_fed : (view : View) (stages : List Stage) (ops : List Op) → AllShow view stages → All (λ op. stage_of stages op ≡ stage.Closed) ops
     → ((op : Op) → ¬ (Contains ops op) → stage_of stages op ≡ stage.Offered 0) → AreFed ops view
 all_fed view stages ops all closed first = record {

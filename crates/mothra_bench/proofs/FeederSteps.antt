@@ -1,4 +1,4 @@
--- What the calls of a feeder leave of its pass.
+-- What the calls of a feeder do to its pass.
 use Rattle.std.proofs.Common.{◌≡◌, ◌⊎◌, ◌≢◌, ℕ, ◌+◌, ◌<◌, ◌≤◌, List, [], ◌∷◌, ◌++◌, Bool, true, false, true≢false, cond, eqb}
 use Rattle.std.proofs.Common.{ltb, not, Option, None, Some, IfSome, refl, sym, ap, ◌∙◌, subst, ⊎_elim, arith, inl, inr, eq-eqb}
 use Rattle.std.specs.Prelude.{slice_index}
@@ -39,7 +39,7 @@ close_gave C old op close.Busy new h = gave_same old new _ h.2.1.3 refl refl ref
 close_gave C old op close.Done new h = gave_same old new _ h.2.2 refl refl refl
 close_gave C old op close.GaveUp new h = record { counts = h.counts; part = h.part; taken = h.taken }
 
--- nor does an offer
+-- an offer takes nothing
 pub offer_gave : (C : ℕ) (old : View) (t : Ticket) (answer : Offer) (new : View) → OfferKept C old t answer new → OnlyGave old new
 offer_gave C old t offer.Closed new h = gave_same old new _ h.2.1 refl refl refl
 offer_gave C old t offer.PastEnd new h = gave_same old new _ h.2.1 refl refl refl
@@ -64,14 +64,14 @@ same_offers old new op last e h k = ap (ticket_times (index op) k) e ∙ h k
 same_closings : (old new : View) (op : Op) → new.closings ≡ old.closings → NeverClosed old op → NeverClosed new op
 same_closings old new op e h k = ap (times_closed (index op) k) e ∙ h k
 
--- what was seen lies no lower
+-- the number offered that the pass saw does not fall
 higher : (op : Op) (old new : View) (last : ℕ) → AtMost (seen_of old op) (seen_of new op) → last ≤ (seen_of old op).offered → last ≤ (seen_of new op).offered
 higher op old new last r h = let e = r.offered in omega arith
 
 higher_still : (op : Op) (old new : View) (last : ℕ) → AtMost (seen_of old op) (seen_of new op) → last < (seen_of old op).offered → last < (seen_of new op).offered
 higher_still op old new last r h = let e = r.offered in omega arith
 
--- a stage is still told behind a look
+-- a stage still holds after a look at the operator
 pub shows_looked : (op : Op) (old new : View) (s : Stage) → LooksOnly op old new → ShowsStage old op s → ShowsStage new op s
 shows_looked op old new (stage.Offered last) l h = (
   same_offers old new op last l.offered h.0,
@@ -94,7 +94,7 @@ shows_looked op old new stage.Closed l (IsFed.others_offered last o m) =
 shows_looked op old new stage.Closed l (IsFed.others_closed last o n c) =
     IsFed.others_closed last (same_offers old new op last l.offered o) (same_closings old new op l.closings n) (l.rises.close c).0
 
--- and behind a call on another operator
+-- a stage still holds after a call on another operator
 pub shows_other : (op other : Op) (old new : View) (s : Stage) → ChangesOnly op old new → other ≢ op → ShowsStage old other s → ShowsStage new other s
 shows_other op other old new s only ne h = shown s h
   where
@@ -168,7 +168,7 @@ fed_ended op old new h closes = by_case h.3 closes.closings
     by_case (inr c) (inl e) = IsFed.others_closed h.0 given (same_closings old new op e h.2) closes.closed
     by_case (inr c) (inr s) = absurd (true≢false (sym c ∙ s.was))
 
--- what the answers of an offer tell of the word that it found
+-- what each answer to an offer shows of the word that was found
 found_closed : (c past turn full : Bool) (n : ℕ) → cond c offer.Closed (cond past offer.PastEnd (cond turn (offer.OutOfTurn n) (cond full offer.Full offer.Accepted))) ≡ offer.Closed → c ≡ true
 found_closed true p t f n e = refl
 found_closed false true t f n e = absurd (cc)
@@ -212,7 +212,7 @@ in_turn k n e = grind (arith, nat_tests)
 out_of_turn : (k n : ℕ) → not (eqb k n) ≡ true → k ≢ n
 out_of_turn k n e = grind (arith, nat_tests)
 
--- an offer that found no room
+-- the stage after an offer that found the operator full
 pub shows_full : (C : ℕ) (old new : View) (t : Ticket) (s : Stage) → ShowsStage old t.op s → OfferKept C old t offer.Full new → ShowsStage new t.op s
 shows_full C old new t s h kept =
     shows_looked t.op old new s (looks_load C old new t.op kept.0 kept.1 kept.2.1 (offer_only C old t offer.Full new kept)) h
@@ -223,7 +223,7 @@ sees_full C old new t kept =
     let full = found_full w.closed (ltb w.count t.number) (not (eqb t.number (w.offered + 1))) (eqb w.offered (w.handed + C)) (w.offered + 1) kept.2.0 in
     subst (λ (x : Word). x.offered ≡ x.handed + C) (sym (seen_after_load C old new t.op w kept.1 kept.2.1)) (eqb-true w.offered (w.handed + C) full)
 
--- one that lost, behind looks
+-- an offer that was lost, after looks
 pub offer_looks : (C : ℕ) (t : Ticket) (old between new : View) (answer : Offer) → LooksOnly t.op old between → answer ≡ offer.Busy → OfferKept C between t answer new
     → LooksOnly t.op old new
 offer_looks C t old between new answer looks e kept =
@@ -231,7 +231,7 @@ offer_looks C t old between new answer looks e kept =
     let only = offer_only C between t offer.Busy new lost in
     looks_on t.op old between new (only_trans t.op old between new looks.changes only) looks (looks_lost C between new t.op lost.0 lost.1 lost.2.1 only)
 
--- one behind a close
+-- the stage after an offer that found the operator closed
 pub shows_closed : (C : ℕ) (old new : View) (t : Ticket) (last : ℕ) → ShowsStage old t.op (stage.Offered last) → OfferKept C old t offer.Closed new
     → ShowsStage new t.op stage.Ended
 shows_closed C old new t last h kept =
@@ -245,7 +245,7 @@ shows_closed C old new t last h kept =
       inr (ap (λ (x : Word). x.closed) seen ∙ shut),
     )
 
--- none is past the end
+-- no offer of a feeder is past the end
 pub shows_past : (C : ℕ) (old new : View) (t : Ticket) (last : ℕ) → t.number ≡ last + 1 → last < count_of old t.op → OfferKept C old t offer.PastEnd new
     → ShowsStage new t.op stage.Ended
 shows_past C old new t last next below kept =
@@ -255,7 +255,7 @@ shows_past C old new t last next below kept =
     let count = kept.1.count in
     absurd (omega arith)
 
--- one that is out of turn, since another pass offered
+-- the stage after an offer out of turn, which shows that another pass offered
 pub shows_turn : (C : ℕ) (old new : View) (t : Ticket) (last k : ℕ) → t.number ≡ last + 1 → ShowsStage old t.op (stage.Offered last)
     → OfferKept C old t (offer.OutOfTurn k) new → ShowsStage new t.op stage.Ended
 shows_turn C old new t last k next h kept =
@@ -285,7 +285,7 @@ offered_one op old new n e h k =
     let was = h k in
     omega arith
 
--- one that was accepted
+-- the stage after an offer that was accepted
 pub shows_accepted : (C : ℕ) (old new : View) (t : Ticket) (last : ℕ) → t.number ≡ last + 1 → last < count_of old t.op → ShowsStage old t.op (stage.Offered last)
     → OfferKept C old t offer.Accepted new → ShowsStage new t.op (stage.Offered t.number)
 shows_accepted C old new t last next below h kept =
@@ -333,7 +333,7 @@ fed_full op old new last count is h most closes =
     let same : last ≡ count_of old op = omega arith in
     fed_closed op old new (subst (HasOffered old op) same h.0) h.1 (omega arith) closes
 
--- a closing behind all offers, or behind their end
+-- a turn that closes the operator, after all offers or after their end
 pub turn_full : (op : Op) (old new : View) (s : Stage) (last count : ℕ) (result : Option Stage) → s ≡ stage.Offered last → count_of old op ≡ count → ShowsStage old op s → count ≤ last
     → IfSome result (λ x. (x ≡ stage.Closed) × Closes op old new) → IfSome result (ShowsStage new op)
 turn_full op old new s last count None is e h most r = tt

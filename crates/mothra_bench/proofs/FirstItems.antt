@@ -1,4 +1,4 @@
--- Between two steps of an exchange with the counts of a plan, the tickets handed out stand for the first items of its lists.
+-- Between two steps of an exchange with the counts of a plan, the tickets handed out are those of the first items of its lists.
 use Rattle.std.proofs.Common.{◌≡◌, ℕ, zero, suc, ◌+◌, ◌<◌, ◌≤◌, List, [], ◌∷◌, ◌++◌, map, length, take, Option, Some}
 use Rattle.std.proofs.Common.{refl, sym, ap, subst, ◌∙◌, arith, inl, inr}
 use Rattle.std.specs.Prelude.{slice_get, slice_index}

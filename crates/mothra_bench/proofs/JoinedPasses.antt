@@ -1,4 +1,4 @@
--- The passes of feeders and workers, merged into one.
+-- The passes of feeders and workers are merged into one.
 use Rattle.std.proofs.Common.{◌≡◌, ℕ, zero, suc, ◌+◌, ◌<◌, ◌≤◌, List, [], Result, Ok, IfOk, length, Contains, Bool, true, ◌&&◌, eqb, refl, sym, ap, ◌∙◌, subst, ⊎_elim, arith}
 use Rattle.std.specs.Prelude.{slice_index}
 use Rattle.std.proofs.lemmas.Bool.Decides.{nat_tests}
@@ -44,7 +44,7 @@ seen_right v w n op j = subst (λ (u : View). AtMost (seen_of w op) (seen_of u o
 above : (a b : Word) (last : ℕ) → AtMost a b → last < a.offered → last < b.offered
 above a b last h m = let e = h.offered in omega arith
 
--- an operator that one of two passes has fed and the other has not touched
+-- an operator that one of two passes has fed, and the other has not touched, is fed by the merged pass
 joined_fed : (u n : View) (op : Op) → AtMost (seen_of u op) (seen_of n op) → count_of n op ≡ count_of u op
     → ((k : ℕ) → ticket_times (index op) k n.offered ≡ ticket_times (index op) k u.offered)
     → ((k : ℕ) → times_closed (index op) k n.closings ≡ times_closed (index op) k u.closings) → IsFed u op → IsFed n op
@@ -76,7 +76,7 @@ untouched_both v w n op j p q = record {
 pub untouched : (v : View) (op : Op) → v.offered ≡ [] → v.closings ≡ [] → IsUntouched v op
 untouched v op o c = record { offered = λ k. ap (ticket_times (index op) k) o; closings = λ k. ap (times_closed (index op) k) c }
 
--- a pass that offered and closed nothing is merged into another
+-- where a pass that offered and closed nothing is merged into another, what was fed stays fed
 pub keeps_fed : (v w n : View) → JoinsPass v w n → w.offered ≡ [] → w.closings ≡ [] → KeepsFed v n
 keeps_fed v w n j o c = record { counts = joined_counts v w n j; fed = λ op fed. fed_left v w n op j (untouched w op o c) fed }
 
@@ -96,7 +96,7 @@ no_more : (a b : ℕ) → ((k : ℕ) → once_up_to a k ≡ once_up_to b k) → 
 no_more zero b h = omega arith
 no_more (suc a) b h = once_within b (suc a) (sym (h (suc a)) ∙ once_here a)
 
--- a number is told by what lies up to it
+-- two numbers are the same where the same numbers are at most each of them
 same_last : (a b : ℕ) → ((k : ℕ) → once_up_to a k ≡ once_up_to b k) → a ≡ b
 same_last a b h = let p = no_more a b h in let q = no_more b a (λ k. sym (h k)) in omega arith
 
@@ -151,7 +151,7 @@ split_on old between new p q = record {
   closings = q.closings ∙ p.closings;
 }
 
--- a split takes a share and gives a new pass
+-- a split changes only the share of the pass
 pub split_once : (old new : View) → new ≡ view_after_split old → OnlySplit old new
 split_once old new e = record {
   counts = ap (λ (v : View). v.counts) e;
@@ -168,7 +168,7 @@ split_new counts old new same e = record {
   closings = ap (λ (v : View). v.closings) e;
 }
 
--- all passes are merged: two feeders', then the workers'
+-- the pass into which those of two feeders, then those of the workers, were merged
 pub all_done : (plan : PlanFields) (first start one between other joined last : View) (front back : List Op) → IsWhole plan first → OnlySplit first start
     → AreShared front back → JoinsPass start one between → one.counts ≡ first.counts → AreFed front one → JoinsPass between other joined → other.counts ≡ first.counts
     → AreFed back other → KeepsFed joined last → last.part ≡ whole_part → AreOver last → IsDone plan last
@@ -198,7 +198,7 @@ all_done plan first start one between other joined last front back whole split s
         fed_right between other joined op i (also ∙ sym (joined_counts start one between j ∙ started))
         (untouched_both start one between op j (none op) (fed.others op h.0)) (All-contains (IsFed other) back op fed'.own h.1)
 
--- what the exchange ends with
+-- the numbers with which the exchange ends
 pub all_complete : (C : ℕ) (plan : PlanFields) (view : View) (words : List Word) (tickets : List Ticket) → IsDone plan view → EndsAsViews C view words → view.taken ≡ tickets
     → AreComplete plan words tickets
 all_complete C plan view words tickets done ends taken = record {
@@ -209,7 +209,7 @@ all_complete C plan view words tickets done ends taken = record {
     word : (op : Op) → operator_word words op ≡ complete_word (length (edits_of plan op))
     word op = ends_complete C view op (operator_word words op) (ends op) done.part (done.fed op) (done.over op) ∙ ap complete_word (done.counts op)
 
--- what was joined of a feeder that was started with a new pass
+-- a feeder that was started with a new pass has fed its operators when it is joined
 pub feeder_fed : (plan own : PlanFields) (ops given : List Op) (first : View) (counts : List ℕ) (view other : View) (outcome : Result (Unit {0}) BenchFault) → IsWhole plan first
     → counts ≡ first.counts → own ≡ plan → given ≡ ops → IsNewPass counts view → other.counts ≡ view.counts
     → (IsReadyPass own view → IfOk outcome (λ x. AreFed given other)) → outcome ≡ Ok tt → (other.counts ≡ first.counts) × AreFed ops other

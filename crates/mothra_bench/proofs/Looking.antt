@@ -1,4 +1,4 @@
--- What an offer or a close leaves of what a pass has seen.
+-- What a pass has seen after an offer or a close.
 use Rattle.std.proofs.Common.{◌≡◌, ◌⊎◌, ℕ, ◌+◌, ◌≤◌, List, [], ◌∷◌, ◌++◌, length, Bool, true, false, true≢false, cond, refl, sym, ap, ◌∙◌, subst, arith, inl, inr, length-set}
 use Rattle.std.specs.Prelude.{slice_index}
 use Rattle.mothra_codes.specs.declared.op.Op.{Op}
@@ -21,7 +21,7 @@ use Rattle.mothra_exchange.proofs.Steps.{new_look}
 use Rattle.mothra_bench.specs.code.Closing.{Closes, LooksOnly, Shuts}
 use Rattle.mothra_bench.specs.Closing.{count_of, seen_of}
 
--- the look after a load, and after another word was found or written behind it
+-- the look after a load, and after a word was found or written after that load
 abbrev loaded_look : View → Op → Word → Look
 loaded_look v op w = record { loads = (look_at v (index op)).loads + 1; loaded = w; seen = w }
 
@@ -105,7 +105,7 @@ open_word w e = by_case w.closed e
     by_case true e = absurd (cc)
     by_case false e = refl
 
--- what lies below an open word is open
+-- a word that is at most an open word is open
 pub open_below : (a b : Word) → AtMost a b → b.closed ≡ false → a.closed ≡ false
 open_below a b h e = by_case a.closed h.close
   where
@@ -168,7 +168,7 @@ closes_done C v op new d =
       });
     }
 
--- a close behind looks
+-- a close after looks
 pub closes_behind : (op : Op) (old between new : View) → LooksOnly op old between → Closes op between new → Closes op old new
 closes_behind op old between new p q = record {
   changes = only_trans op old between new p.changes q.changes;
@@ -186,7 +186,7 @@ closes_behind op old between new p q = record {
       closings = s.closings ∙ ap (λ cs. cs ++ closing op (seen_of new op).offered ∷ []) p.closings;
     })
 
--- a close that found the operator closed, or closed it, behind looks
+-- a close that found the operator closed, or closed it, after looks
 pub close_closes : (C : ℕ) (op : Op) (old between new : View) (answer : Close) → LooksOnly op old between
     → (answer ≡ close.Already) ⊎ (answer ≡ close.Done) → CloseKept C between op answer new → Closes op old new
 close_closes C op old between new answer looks (inl e) kept =
@@ -194,7 +194,7 @@ close_closes C op old between new answer looks (inl e) kept =
 close_closes C op old between new answer looks (inr e) kept =
     closes_behind op old between new looks (closes_done C between op new (subst (λ a. CloseKept C between op a new) e kept))
 
--- a close that lost, behind looks
+-- a close that was lost, after looks
 pub looks_next : (C : ℕ) (op : Op) (old between new : View) (answer : Close) → LooksOnly op old between → answer ≡ close.Busy
     → CloseKept C between op answer new → LooksOnly op old new
 looks_next C op old between new answer looks e kept =

@@ -1,4 +1,4 @@
--- What a take of a gate that keeps records leaves of a pass.
+-- What a take does to a pass of a gate that keeps records.
 use Rattle.std.proofs.Common.{◌≡◌, ◌≢◌, ℕ, ap, refl}
 use Rattle.mothra_codes.specs.declared.op.Op.{Op}
 use Rattle.mothra_codes.specs.declared.ticket.Ticket.{Ticket}
@@ -8,7 +8,7 @@ use Rattle.mothra_exchange.specs.declared.answer.Take.TheVariants as take
 use Rattle.mothra_exchange.specs.Gate.{TakeKept}
 use Rattle.mothra_bench.specs.Working.{OnlyTook}
 
--- it offers and closes nothing
+-- a take offers and closes nothing
 pub take_only : (C : ℕ) (old : View) (op : Op) (answer : Take) (new : View) → TakeKept C old op answer new → OnlyTook old new
 take_only C old op take.Finished new h =
     let e = h.2.1 in record { counts = ap (λ (v : View). v.counts) e; part = ap (λ (v : View). v.part) e; offered = ap (λ (v : View). v.offered) e; closings = ap (λ (v : View). v.closings) e }
@@ -20,7 +20,7 @@ take_only C old op (take.Taken ticket) new h =
     let e = h.2.2 in record { counts = ap (λ (v : View). v.counts) e; part = ap (λ (v : View). v.part) e; offered = ap (λ (v : View). v.offered) e; closings = ap (λ (v : View). v.closings) e }
 take_only C old op take.GaveUp new h = record { counts = h.counts; part = h.part; offered = h.offered; closings = h.closings }
 
--- with no ticket it takes nothing
+-- a take that gets no ticket takes nothing
 pub take_none : (C : ℕ) (old : View) (op : Op) (answer : Take) (new : View) → ((ticket : Ticket) → answer ≢ take.Taken ticket) → TakeKept C old op answer new
     → new.taken ≡ old.taken
 take_none C old op take.Finished new other h = ap (λ (v : View). v.taken) h.2.1

@@ -31,7 +31,7 @@ are_entries bench words rows entries collected all = record {
   declared = collected.declared;
 }
 
--- two tests of one statement
+-- two truth values that each say whether S holds are the same
 same_flag : (S : Type 0) (one other : Bool) → IsTrue one ↔ S → IsTrue other ↔ S → one ≡ other
 same_flag S true true p q = refl
 same_flag S false false p q = refl

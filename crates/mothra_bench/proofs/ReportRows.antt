@@ -1,4 +1,4 @@
--- The lines of a printed report: ABS with every second mutant of SUBROUTINE ADD(I,J,K), K=I+J, END, on the values 2, 3 and 0.
+-- Lines of a report as examples: every second mutant of ABS, for SUBROUTINE ADD(I,J,K), K=I+J, END and a test with the values 2, 3 and 0.
 use Rattle.std.proofs.Common.{◌≡◌, ℕ, Bool, true, false, List, [], ◌∷◌, Some, refl}
 use Rattle.std.specs.Prelude.{codes}
 use Rattle.std.specs.Fmt.{digits}

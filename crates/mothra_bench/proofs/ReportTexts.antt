@@ -1,4 +1,4 @@
--- Six texts, each written behind the one before it.
+-- Six texts, each written after the one before it.
 use Rattle.std.proofs.Common.{◌≡◌, ℕ, List, ◌++◌}
 use Rattle.std.proofs.lemmas.List.{append_assoc}
 

@@ -1,4 +1,4 @@
--- Of the two feeders each operator has one.
+-- Each operator belongs to exactly one of the two feeders.
 use Rattle.std.proofs.Common.{◌≡◌, ◌⊎◌, ℕ, ◌+◌, ◌-◌, ◌<◌, ◌≤◌, List, [], ◌∷◌, take, drop, get_or, ltb, not, inl, inr, All, Contains, Bool, true, false, ◌&&◌, refl, ap, ◌∙◌, arith}
 use Rattle.std.proofs.lemmas.Bool.{ltb-false, ltb-true}
 use Rattle.std.proofs.lemmas.List.{get_or-drop, get_or-take, get_or_default}
@@ -41,7 +41,7 @@ above_all (op ∷ ops) e =
 at_own : (op : Op) → get_or all_ops (index op) op ≡ op
 at_own op = get_or_default all_ops (index op) op Op.Aar (index_below op) ∙ op_at-index op
 
--- of two feeders the first has the operators below the eleventh place, and the second the others
+-- the first feeder has the operators at the places 0 to 10, and the second the others
 front_has : (op : Op) → index op < 11 → Contains (take 11 all_ops) op
 front_has op h = (index op, omega arith, get_or-take 11 all_ops (index op) op h ∙ at_own op)
 

@@ -26,7 +26,7 @@ numbered_within : {X : Type 0} (xs : List X) (n : ℕ) (x : X) → numbered xs n
 numbered_within xs zero x e = absurd (none-some x e)
 numbered_within xs (suc k) x e = let lt = slice_get_within xs k x e in (omega arith, omega arith)
 
--- a mutant that the plan makes is one that it has
+-- a ticket for which the plan makes a mutant is one that it has
 has_mutant : (plan : PlanFields) (t : Ticket) (mutant : MutantFields) → mutant_of plan t.op t.number ≡ Some mutant → HasMutant plan t
 has_mutant plan t mutant is =
     let edit = and_then_some (mutant_made (program_of plan)) (numbered (edits_of plan t.op) t.number) mutant is in
@@ -36,7 +36,7 @@ has_mutant plan t mutant is =
 has_row : (bench : BenchFields) (t : Ticket) (rows more : List Row) → AddsRow bench t rows more → HasMutant bench.plan t
 has_row bench t rows more adds = subst (HasMutant bench.plan) adds.of (has_mutant bench.plan adds.row.ticket adds.own.mutant adds.own.is)
 
--- tickets that the plan has stand before them
+-- the first unknown ticket stays the first with known tickets in front
 names_behind : (plan : PlanFields) (known tickets : List Ticket) (e : BenchFault) → All (HasMutant plan) known → NamesFirst plan tickets e
     → NamesFirst plan (known ++ tickets) e
 names_behind plan known tickets (fault.Stranger t) all first = record {
@@ -56,7 +56,7 @@ names_behind plan known tickets (fault.Double t) all first = tt
 names_behind plan known tickets (fault.Missing t) all first = tt
 names_behind plan known tickets fault.Stalled all first = tt
 
--- more were taken
+-- the first unknown ticket stays the first with more tickets after it
 names_before : (plan : PlanFields) (tickets more : List Ticket) (e : BenchFault) → NamesFirst plan tickets e → NamesFirst plan (tickets ++ more) e
 names_before plan tickets more (fault.Stranger t) first = record {
   before = first.before;
@@ -89,7 +89,7 @@ names_on Q plan some more (Some b) g (Some e) same known p q = tt
 names_on Q plan some more None None (Some e) same known p q = names_behind plan some more e known q
 names_on Q plan some more None (Some d) (Some e) same known p q = subst (NamesFirst plan (some ++ more)) (sym same) (names_before plan some more d p)
 
--- one step after another
+-- two steps, one after the other
 pub takes_on : (Q : BenchFault → Type 0) (plan : PlanFields) (old between new : View) (f g h : Option BenchFault)
     → IfSome h (λ e. MatchOption g (Q e) (λ d. e ≡ d)) → IfNone h (g ≡ None) → Takes plan old between f g → Takes plan between new g h → Takes plan old new f h
 takes_on Q plan old between new f g h same none p q = record {
@@ -103,7 +103,7 @@ none_known : (plan : PlanFields) (f : Option BenchFault) → IfNone f (All (HasM
 none_known plan None = All-nil (HasMutant plan)
 none_known plan (Some e) = tt
 
--- nothing was taken
+-- a step in which nothing was taken
 pub takes_none : (plan : PlanFields) (old new : View) (f : Option BenchFault) → new.taken ≡ old.taken → Takes plan old new f f
 takes_none plan old new f e = record { tickets = []; taken = e ∙ sym (append-nil old.taken); known = none_known plan f; first = still f }
   where
@@ -111,7 +111,7 @@ takes_none plan old new f e = record { tickets = []; taken = e ∙ sym (append-n
     still None = tt
     still (Some d) = tt
 
--- the gate gave up
+-- a step in which the gate gave up
 pub takes_stalled : (plan : PlanFields) (old new : View) (f g : Option BenchFault) → new.taken ≡ old.taken
     → MatchOption f (g ≡ Some fault.Stalled) (λ first. g ≡ Some first) → Takes plan old new f g
 takes_stalled plan old new f g e is = record { tickets = []; taken = e ∙ sym (append-nil old.taken); known = none_known plan g; first = told f is }
@@ -149,7 +149,7 @@ one_named plan t f None fails = tt
 one_named plan t None (Some e) fails = names_one plan t e fails
 one_named plan t (Some d) (Some e) fails = tt
 
--- a ticket was taken and run
+-- a step in which a ticket was taken and run
 pub takes_one : (bench : BenchFields) (old new : View) (t : Ticket) (rows more : List Row) (f g : Option BenchFault) → new.taken ≡ old.taken ++ t ∷ []
     → IfNone g (AddsRow bench t rows more) → IfSome g (λ e. MatchOption f (IsNoVerdict bench.plan t e) (λ d. e ≡ d)) → Takes bench.plan old new f g
 takes_one bench old new t rows more f g e adds fails = record {
@@ -159,7 +159,7 @@ takes_one bench old new t rows more f g e adds fails = record {
   first = one_named bench.plan t f g fails;
 }
 
--- what the first fault of all names
+-- the first fault of all names the first ticket that the plan does not have
 pub named_taken : (plan : PlanFields) (old new : View) (f g : Option BenchFault) → f ≡ None → Takes plan old new f g → IfSome g (NamesTaken plan old new)
 named_taken plan old new f None none takes = tt
 named_taken plan old new f (Some e) none takes = record {

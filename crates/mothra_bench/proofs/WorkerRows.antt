@@ -18,7 +18,7 @@ use Rattle.mothra_bench.proofs.WorkerSteps.{tickets-append}
 pub first_of_all : {X : Type 0} (l : List X) (x : X) (xs : List X) (P : X → Type 0) → l ≡ x ∷ xs → All P l → P x × All P xs
 first_of_all l x xs P e h = let g : All P (x ∷ xs) = subst (All P) e h in (g 0 x (omega arith), λ k d lt. g (suc k) d (omega arith))
 
--- a worker's fault is one of the whole
+-- a worker's fault is one that a drive may answer
 work_drive : (may keeps : Bool) (plan : PlanFields) (own counts : List ℕ) (e : BenchFault) → (keeps ≡ true → own ≡ counts) → IsNoWork may keeps plan own e
     → IsNoDrive may keeps plan counts e
 work_drive may keeps plan own counts fault.Memory same h = tt
@@ -32,7 +32,7 @@ work_drive may keeps plan own counts (fault.EquivalentTwice n) same h = absurd h
 work_drive may keeps plan own counts (fault.Double t) same h = absurd h
 work_drive may keeps plan own counts (fault.Missing t) same h = absurd h
 
--- the counts stay, and with them what keeps rows from coming
+-- where the counts stay the same, so do the faults that a drive may answer
 pub same_no_drive : (may keeps : Bool) (plan : PlanFields) (own counts : List ℕ) (e : BenchFault) → (keeps ≡ true → own ≡ counts) → IsNoDrive may keeps plan own e
     → IsNoDrive may keeps plan counts e
 same_no_drive may keeps plan own counts fault.Memory same h = tt
@@ -71,14 +71,14 @@ gathers bench may keeps own counts start before after None rows (Err e) (Some e'
 gathers bench may keeps own counts start before after (Some e) rows o (Some e') more same hn hs ws wn oc er rec =
     (subst (IsNoDrive may keeps bench.plan counts) (sym hs) ws, tt)
 
--- where a worker's rows were gathered, its pass shows that all is over
+-- where the rows of a worker were gathered, its pass shows that all operators are over
 pub over_gathered : (X Y Z : Type 0) (Q : Vec Row Global → Type 0) (f : Option BenchFault) (outcome : Result (Vec Row Global) BenchFault)
     → IfNone f (X × IsOkAnd outcome Q) → IfOk outcome (λ rows. Y) → IfNone f (Z ⊎ Y)
 over_gathered X Y Z Q (Some e) outcome h over = tt
 over_gathered X Y Z Q None (Ok rows) h over = inr over
 over_gathered X Y Z Q None (Err e) h over = absurd h.1
 
--- what holds where there is no fault holds of the rows that are answered
+-- a property of the rows where there is no fault holds of the rows that are answered
 pub answered_with : (X : Type 0) (f : Option BenchFault) (rows : Vec Row Global) (outcome : Result (Vec Row Global) BenchFault) → IfNone f X
     → MatchOption f (outcome ≡ Ok rows) (λ e. outcome ≡ Err e) → IfOk outcome (λ answered. X)
 answered_with X None rows outcome x e = subst (λ (r : Result (Vec Row Global) BenchFault). IfOk r (λ answered. X)) (sym e) x

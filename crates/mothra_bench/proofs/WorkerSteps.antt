@@ -38,7 +38,7 @@ use Rattle.mothra_verdicts.specs.declared.verdict.Row.{Row}
 use Rattle.mothra_bench.proofs.PassSteps.{take_only}
 use Rattle.mothra_bench.proofs.TakenTickets.{named_taken, takes_none, takes_on, takes_one, takes_stalled}
 
--- no rows, and nothing taken
+-- where nothing was taken there are no rows
 took_none : (old new : View) → new.taken ≡ old.taken → TookRows old new []
 took_none old new e = record { taken = e ∙ sym (append-nil old.taken); once = λ op k. omega arith }
 
@@ -68,7 +68,7 @@ adds_more bench keeps old between new rows more most p q = record {
   took = λ k. took_more old between new p.extra q.extra (p.took k) (q.took k);
 }
 
--- the counts of the pass stay, and with them what keeps a worker from its rows
+-- where the counts stay the same, so do the faults that a worker may answer
 pub same_no_work : (may keeps : Bool) (plan : PlanFields) (old new : List ℕ) (e : BenchFault) → (keeps ≡ true → new ≡ old) → IsNoWork may keeps plan new e
     → IsNoWork may keeps plan old e
 same_no_work may keeps plan old new fault.Memory same h = tt
@@ -105,7 +105,7 @@ rows_more bench keeps old between new rows more most f g (Some e) p q = tt
 rows_more bench keeps old between new rows more most f None None p q = (p.0, adds_more bench keeps old between new rows more most p.1 q.1)
 rows_more bench keeps old between new rows more most f (Some d) None p q = let y = q.0 in cc
 
--- one step after another
+-- two steps of a worker, one after the other
 pub went_on : (bench : BenchFields) (may keeps : Bool) (old between new : View) (h i j : Gathered) → Went bench may keeps old between h i
     → Went bench may keeps between new i j → Went bench may keeps old new h j
 went_on bench may keeps old between new h i j p q = record {
@@ -135,7 +135,7 @@ same_rows : (bench : BenchFields) (keeps : Bool) (old new : View) (rows : List R
 same_rows bench keeps old new rows None e = (refl, adds_none bench keeps old new rows e)
 same_rows bench keeps old new rows (Some d) e = tt
 
--- nothing was taken
+-- a step in which nothing was taken
 pub went_idle : (bench : BenchFields) (may keeps : Bool) (old new : View) (h : Gathered) → (keeps ≡ true → OnlyTook old new) → (keeps ≡ true → new.taken ≡ old.taken)
     → Went bench may keeps old new h h
 went_idle bench may keeps old new h only e = record {
@@ -145,7 +145,7 @@ went_idle bench may keeps old new h only e = record {
   takes = λ k. takes_none bench.plan old new h.fault (e k);
 }
 
--- nothing was done
+-- no step at all
 pub went_still : (bench : BenchFields) (may keeps : Bool) (view : View) (h : Gathered) → Went bench may keeps view view h h
 went_still bench may keeps view h = went_idle bench may keeps view view h (λ k. record { counts = refl; part = refl; offered = refl; closings = refl }) (λ k. refl)
 
@@ -158,7 +158,7 @@ stalled_rows : (X : Type 0) (f g : Option BenchFault) → MatchOption f (g ≡ S
 stalled_rows X None g e = subst (λ o. IfNone o X) (sym e) tt
 stalled_rows X (Some d) g e = subst (λ o. IfNone o X) (sym e) tt
 
--- the gate gave up
+-- a step in which the gate gave up
 pub went_stalled : (bench : BenchFields) (may keeps : Bool) (old new : View) (h i : Gathered) → may ≡ true
     → MatchOption h.fault (i.fault ≡ Some fault.Stalled) (λ first. i.fault ≡ Some first) → (keeps ≡ true → OnlyTook old new) → (keeps ≡ true → new.taken ≡ old.taken)
     → Went bench may keeps old new h i
@@ -186,7 +186,7 @@ fresh_at false c i j n k old p q e = omega arith
 fresh_one : (op : Op) (n : ℕ) (old : List Ticket) → ticket_times (index op) n old ≡ 0 → AreFresh old (ticket op n ∷ [])
 fresh_one op n old e o k = let h = fresh_at (eqb (index op) (index o)) (eqb n k) (index op) (index o) n k old refl refl e in omega arith
 
--- the ticket stands last
+-- the ticket that was taken stands last in the view
 taken_last : (C : ℕ) (old new : View) (op : Op) (t : Ticket) → TakeKept C old op (Taken t) new → new.taken ≡ old.taken ++ t ∷ []
 taken_last C old new op t h =
     let u = ticket op (h.0.handed + 1) in
@@ -254,7 +254,7 @@ ran_rows bench keeps C old new op t rows more f None kept h =
       },
     )
 
--- a ticket was taken and run
+-- a step in which a ticket was taken and run
 pub went_one : (bench : BenchFields) (may keeps : Bool) (C : ℕ) (old new : View) (op : Op) (t : Ticket) (h i : Gathered)
     → (keeps ≡ true → TakeKept C old op (Taken t) new)
     → IfNone i.fault ((h.fault ≡ None) × AddsRow bench t h.rows.items i.rows.items)
@@ -297,12 +297,12 @@ answers bench may keeps old new empty h outcome z none went out =
     (none_second (empty.fault ≡ None) (AddsRows bench keeps old new empty.rows.items h.rows.items) h.fault went.rows)
     (λ k. named_taken bench.plan old new empty.fault h.fault none (went.takes k)) out
 
--- there was no fault before
+-- where there was no fault before, a new fault is the first one
 pub first_fault : (f : Option BenchFault) (X : Type 0) (P : BenchFault → Type 0) → is_some f ≡ false → X → MatchOption f X P
 first_fault None X P e x = x
 first_fault (Some d) X P e x = cc
 
--- verdicts that were made are of this bench
+-- the verdicts that a worker asks are of its bench
 pub own_verdicts : {X : Type 0} (made : Result X BenchFault) (kept : Option X) (x : X) → IfOk made (λ v. v ≡ x) → kept ≡ result_ok made → IfSome kept (λ v. v ≡ x)
 own_verdicts made None x is own = tt
 own_verdicts (Ok v) (Some w) x is own = same_Some w v own ∙ is
@@ -311,7 +311,7 @@ own_verdicts (Err e) (Some w) x is own = absurd (none-some w (sym own))
 pub same_verdicts : {X : Type 0} {now before : Option X} (x : X) → now ≡ before → IfSome before (λ v. v ≡ x) → IfSome now (λ v. v ≡ x)
 same_verdicts x same is = subst (λ o. IfSome o (λ v. v ≡ x)) (sym same) is
 
--- with a fault there are no rows
+-- where there is a fault, no rows are answered
 pub faulty_answer : (P : Vec Row Global → Type 0) (f : Option BenchFault) (rows : Vec Row Global) (outcome : Result (Vec Row Global) BenchFault) → IsSome f
     → MatchOption f (outcome ≡ Ok rows) (λ e. outcome ≡ Err e) → IfOk outcome P
 faulty_answer P None rows outcome s out = absurd (true≢false (sym s))
@@ -324,7 +324,7 @@ any_rows X (Err e) x = tt
 same_over : (old new : View) (op : Op) → look_at new (index op) ≡ look_at old (index op) → IsOver old op → IsOver new op
 same_over old new op e over = subst (λ (l : Look). (l.seen.closed ≡ true) × (l.seen.handed ≡ l.seen.offered)) (sym e) over
 
--- a take that answers Finished leaves what is over
+-- after a take that answers Finished the operator is over, and so is each that was over before
 pub still_over : (C : ℕ) (old new : View) (op : Op) → TakeKept C old op Finished new → IsOver new op × ((other : Op) → IsOver old other → IsOver new other)
 still_over C old new op kept = (finished_over C old op new kept, λ other over. by_case (eqb (index other) (index op)) other over refl)
   where
@@ -334,7 +334,7 @@ still_over C old new op kept = (finished_over C old op new kept, λ other over. 
         let ne : other ≢ op = (λ i. true≢false (sym (eq-eqb (index other) (index op) (ap index i)) ∙ e)) in
         same_over old new other ((take_changes C old op Finished new kept).others other ne).look over
 
--- one operator more is over
+-- after one more turn of a round in which each operator was Finished, one more operator is over
 pub all_over : (old new : View) (i : ℕ) → i < 22 → ((op : Op) → index op < i → IsOver old op) → IsOver new (op_at i)
     → ((other : Op) → IsOver old other → IsOver new other) → (op : Op) → index op < i + 1 → IsOver new op
 all_over old new i small before here others op below = by_case (eqb (index op) i) refl

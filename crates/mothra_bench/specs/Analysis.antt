@@ -1,4 +1,4 @@
--- The report of a bench. The number of workers is no argument of it.
+-- The report of a bench. No definition here has the number of workers as an argument.
 use Rattle.std.specs.Prelude.{◌≡◌, ◌↔◌, ⊤, ℕ, IsTrue, List, map, All}
 use Rattle.mothra_verdicts.specs.Bench.{BenchFields, IsDeclared}
 use Rattle.mothra_bench.specs.Matrix.{tickets_of}
@@ -8,8 +8,8 @@ use Rattle.mothra_verdicts.specs.declared.fault.BenchFault.{BenchFault}
 use Rattle.mothra_verdicts.specs.declared.fault.BenchFault.TheVariants as fault
 use Rattle.mothra_bench.specs.declared.matrix.Entry.{Entry}
 
--- each mutant of the plan once, in order, with the verdict
--- of running it alone, and whether it is declared equivalent
+-- the entries of the mutants of the plan, each once, in order: the verdict of
+-- running the mutant alone, and whether it is declared equivalent
 pub record AreEntries (bench : BenchFields) (entries : List Entry) : Type 0 where
   pub tickets : map (λ entry. entry.ticket) entries ≡ tickets_of bench.plan
   pub verdicts : All (λ entry. IsVerdict bench entry.ticket entry.kills) entries
@@ -21,7 +21,7 @@ pub record IsReport (bench : BenchFields) (text : List ℕ) : Type 0 where
   pub are : AreEntries bench entries
   pub is : text ≡ report_text bench entries
 
--- why there is no report: want of memory, or a thread that could not begin
+-- the faults for which there is no report: want of memory, or a thread that can not begin
 abbrev pub IsNoReport : BenchFault → Type 0
 IsNoReport fault.Memory = ⊤
 IsNoReport fault.Thread = ⊤

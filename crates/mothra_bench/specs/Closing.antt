@@ -6,7 +6,7 @@ use Rattle.mothra_exchange.specs.declared.view.View.{View}
 use Rattle.mothra_exchange.specs.declared.word.Word.{Word}
 use Rattle.mothra_exchange.specs.View.{look_at}
 
--- how many tickets the operator has, and what the pass has last seen of it
+-- how many tickets the operator has, and the word of it that the pass saw last
 abbrev pub count_of : View → Op → ℕ
 count_of view op = slice_index view.counts (index op)
 

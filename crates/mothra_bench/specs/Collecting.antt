@@ -1,4 +1,4 @@
--- What a matrix has of the rows that were given.
+-- Which matrix is made of rows, and when none is.
 use Rattle.std.specs.Prelude.{◌≡◌, ◌↔◌, ◌≤◌, ◌==◌, ◌&&◌, ⊤, Bool, IsTrue, List}
 use Rattle.std.specs.Prelude.{[], ◌∷◌, ◌++◌, map, length, filter, All}
 use Rattle.mothra_codes.specs.Op.{index}
@@ -15,19 +15,20 @@ use Rattle.mothra_verdicts.specs.declared.fault.BenchFault.TheVariants as fault
 use Rattle.mothra_bench.specs.declared.matrix.Entry.{Entry}
 use Rattle.mothra_verdicts.specs.declared.verdict.Row.{Row}
 
--- the rows of a ticket
+-- the rows that bear a ticket
 abbrev pub is_row_of : Ticket → Row → Bool
 is_row_of ticket row = index row.ticket.op == index ticket.op && row.ticket.number == ticket.number
 
 abbrev pub rows_of : Ticket → List Row → List Row
 rows_of ticket rows = filter (is_row_of ticket) rows
 
--- the row is of the plan, with a truth value for each test
+-- the row is that of a mutant of the plan, with a truth value for each test
 pub record IsKnown (bench : BenchFields) (row : Row) : Type 0 where
   pub has : HasMutant bench.plan row.ticket
   pub tests : length row.kills ≡ length bench.tests
 
--- the first row that is of no mutant of the plan, or has not a truth value for each test
+-- the ticket of the first row that is of no mutant of the plan, or does not have a truth value
+-- for each test
 pub record IsFirstStranger (bench : BenchFields) (rows : List Row) (ticket : Ticket) : Type 0 where
   pub before : List Row
   pub row : Row
@@ -41,7 +42,7 @@ pub record IsFirstStranger (bench : BenchFields) (rows : List Row) (ticket : Tic
 abbrev pub NoDouble : PlanFields → List Row → Type 0
 NoDouble plan rows = (ticket : Ticket) → HasMutant plan ticket → length (rows_of ticket rows) ≤ 1
 
--- the first row whose ticket stood earlier
+-- the ticket of the first row whose ticket an earlier row has
 pub record IsFirstDouble (plan : PlanFields) (rows : List Row) (ticket : Ticket) : Type 0 where
   pub before : List Row
   pub row : Row
@@ -51,7 +52,7 @@ pub record IsFirstDouble (plan : PlanFields) (rows : List Row) (ticket : Ticket)
   pub single : NoDouble plan before
   pub there : length (rows_of ticket before) ≡ 1
 
--- a mutant has a row, and its ticket was handed out
+-- the ticket has a row and was handed out
 pub record IsCollected (words : List Word) (rows : List Row) (ticket : Ticket) : Type 0 where
   pub row : 1 ≤ length (rows_of ticket rows)
   pub handed : ticket.number ≤ (operator_word words ticket.op).handed
@@ -64,7 +65,7 @@ pub record IsFirstMissing (plan : PlanFields) (words : List Word) (rows : List R
   pub others : (other : Ticket)
       → HasMutant plan other → Before other ticket → IsCollected words rows other
 
--- the row that an entry is made of
+-- the row of which an entry is made
 abbrev pub row_of : Entry → Row
 row_of entry = record { ticket = entry.ticket; kills = entry.kills }
 
@@ -79,8 +80,8 @@ pub record AreCollected (bench : BenchFields) (words : List Word) (rows : List R
       (λ entry. entry.ticket.number ≤ (operator_word words entry.ticket.op).handed) entries
   pub declared : All (λ entry. IsTrue entry.declared ↔ IsDeclared bench entry.ticket) entries
 
--- Why there is no matrix: a row that is not of the plan;
--- else a second row of a mutant; else a mutant without one.
+-- The faults for which there is no matrix: want of memory; a row that is of no mutant of the
+-- plan; else a second row of a mutant; else a mutant that has no row or was not handed out.
 abbrev pub IsNoMatrix : BenchFields → List Word → List Row → BenchFault → Type 0
 IsNoMatrix bench words rows fault.Memory = ⊤
 IsNoMatrix bench words rows (fault.Stranger ticket) = IsFirstStranger bench rows ticket

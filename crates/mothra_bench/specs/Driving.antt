@@ -1,4 +1,4 @@
--- What workers and feeders come to together.
+-- What a drive of workers and feeders promises.
 use Rattle.std.specs.Prelude.{◌≡◌, ℕ, ◌≤◌, ⊤, Bool, true, List, [], ◌++◌, length}
 use Rattle.mothra_codes.specs.declared.op.Op.{Op}
 use Rattle.mothra_codes.specs.Op.{index}
@@ -17,12 +17,12 @@ use Rattle.mothra_verdicts.specs.declared.fault.BenchFault.{BenchFault}
 use Rattle.mothra_verdicts.specs.declared.fault.BenchFault.TheVariants as fault
 use Rattle.mothra_verdicts.specs.declared.verdict.Row.{Row}
 
--- no ticket stands twice, and each is at most the number handed out of its operator
+-- no ticket occurs twice, and each is at most the number handed out of its operator
 abbrev pub AreHandedOnce : List Word → List Ticket → Type 0
 AreHandedOnce words tickets = (op : Op) (k : ℕ)
     → ticket_times (index op) k tickets ≤ once_up_to (operator_word words op).handed k
 
--- the whole pass of an exchange with the counts of the plan, in which nothing was done
+-- the view of the first pass of an exchange with the counts of the plan: whole, and nothing done
 pub record IsWhole (plan : PlanFields) (view : View) : Type 0 where
   pub counts : AreCounts plan view.counts
   pub part : view.part ≡ whole_part
@@ -30,21 +30,21 @@ pub record IsWhole (plan : PlanFields) (view : View) : Type 0 where
   pub taken : view.taken ≡ []
   pub closings : view.closings ≡ []
 
--- the operator has so many tickets, all were offered and handed out, and it was closed
+-- the word of an operator whose tickets were all offered and handed out, and which was closed
 abbrev pub complete_word : ℕ → Word
 complete_word count = record { count = count; offered = count; handed = count; closed = true }
 
--- each operator ended with all its tickets handed out, and
--- the tickets are those of the plan's mutants, each once
+-- each operator ended closed, with all its tickets handed out, and the
+-- tickets are those of the plan's mutants, each once
 pub record AreComplete (plan : PlanFields) (words : List Word)
     (tickets : List Ticket) : Type 0 where
   pub ends : (op : Op) → operator_word words op ≡ complete_word (length (edits_of plan op))
   pub once : (op : Op) (k : ℕ)
       → ticket_times (index op) k tickets ≡ once_up_to (length (edits_of plan op)) k
 
--- Why there are no rows: want of memory; a thread that could not begin;
--- a ticket of no mutant of the plan, which no gate hands out that is
--- known to count the plan's; or the gate gave up, which only some may.
+-- The faults for which a drive has no rows: want of memory; a thread that can not begin; a ticket
+-- of no mutant of the plan, which a gate that keeps records and has the counts of the plan never
+-- hands out; or that the gate gave up, if it may.
 abbrev pub IsNoDrive : Bool → Bool → PlanFields → List ℕ → BenchFault → Type 0
 IsNoDrive may keeps plan counts fault.Memory = ⊤
 IsNoDrive may keeps plan counts fault.Thread = ⊤
@@ -53,7 +53,7 @@ IsNoDrive may keeps plan counts (fault.Stranger ticket) =
 IsNoDrive may keeps plan counts fault.Stalled = may ≡ true
 IsNoDrive may keeps plan counts _ = ⊥
 
--- The pass was whole when the exchange ended, and took the tickets of the rows.
+-- when the exchange ended its pass was whole, and had taken the tickets of the rows
 pub record EndsWhole (bound : ℕ) (old : View) (rows : List Row) (words : List Word) : Type 0 where
   pub last : View
   pub counts : last.counts ≡ old.counts

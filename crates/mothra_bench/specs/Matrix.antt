@@ -1,4 +1,4 @@
--- The kill matrix: one entry for each mutant, and what is counted in it.
+-- The kill matrix: one entry for each mutant, and its counts.
 use Rattle.std.specs.Prelude.{ℕ, ◌+◌, ◌-◌, ◌*◌, ◌/◌, ◌==◌, ◌&&◌, Bool, not, List, length, map}
 use Rattle.std.specs.Prelude.{flat_map, filter, count_by, Option, Some, None, if◌then◌else◌}
 use Rattle.std.specs.List.{list_any, range_with_len}
@@ -9,7 +9,7 @@ use Rattle.mothra_codes.specs.Ticket.{ticket}
 use Rattle.mothra_codes.specs.declared.ticket.Ticket.{Ticket}
 use Rattle.mothra_bench.specs.declared.matrix.Entry.{Entry}
 
--- the tickets of an operator with so many mutants, and those of a plan, by operator and number
+-- the tickets of an operator with `count` mutants, and those of a plan, by operator and number
 abbrev pub tickets : Op → ℕ → List Ticket
 tickets op count = map (λ k. ticket op (k + 1)) (range_with_len 0 count)
 
@@ -20,17 +20,17 @@ tickets_of plan = flat_map (λ op. tickets op (length (edits_of plan op))) all_o
 abbrev pub is_killed : Entry → Bool
 is_killed entry = list_any (λ kill. kill) entry.kills
 
--- declared equivalent, and survived
+-- the mutant is declared equivalent and survived
 abbrev pub is_equivalent : Entry → Bool
 is_equivalent entry = entry.declared && not (is_killed entry)
 
--- how many mutants there are, are killed, are equivalent
+-- how many mutants there are, how many are killed, how many are equivalent
 pub record Counts : Type 0 where
   pub total : ℕ
   pub killed : ℕ
   pub equivalent : ℕ
 
--- how many of these entries there are, are killed, are equivalent
+-- how many entries there are, how many are killed, how many are equivalent
 abbrev pub counts : List Entry → Counts
 counts entries = record {
   total = length entries;

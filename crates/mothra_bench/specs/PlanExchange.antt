@@ -1,4 +1,4 @@
--- The exchange of a plan: which items of the plan's lists its tickets stand for.
+-- The exchange of a plan: the tickets handed out are those of the first items of the plan's lists.
 use Rattle.std.specs.Prelude.{◌≡◌, ℕ, ◌<◌, List, Some, length, map, take}
 use mathlib.Core.Option.{some}
 use lib.ListN.{get_elem?}
@@ -23,16 +23,17 @@ abbrev pub AreFirstItems : PlanFields → Op → List ℕ → Type 0
 AreFirstItems plan op numbers =
     map (item_of plan op) numbers ≡ map Some (take (length numbers) (edits_of plan op))
 
--- Of an operator of the plan, whose word is w: the tickets taken are 1 to w.handed, each by
--- exactly one pass, once, and stand for the first items of its list, ticket k for item k;
--- and none was accepted after the operator closed.
+-- For an operator of the plan whose word is w: the tickets taken are 1 to w.handed, each once and
+-- by exactly one pass; they name the first items of the operator's list, ticket k item k; and no
+-- ticket was accepted after the operator was closed.
 pub record HandsOutFront (plan : PlanFields) (op : Op) (w : Word) (views : List View) : Type 0 where
   pub front : AreFirstItems plan op (one_to w.handed)
   pub in_order : IsInOrder op w views
 
 -- Some legal log for the lists of the plan has the numbers of the words. In it the tickets of each
--- operator were handed out as 1, 2, and on to w.handed, each once; their items, in the order of
--- the log, are the first of the operator's list; and none was accepted after the operator closed.
+-- operator were handed out in the order 1, 2, .., w.handed, each once; their items, in the order of
+-- the log, are the first of the operator's list; and no ticket was accepted after the operator was
+-- closed.
 pub record HasHistory (C : ℕ) (plan : PlanFields) (words : List ℕ) : Type 0 where
   pub log : List Event
   pub legal : IsLegalLog C (plan_counts plan) log
@@ -44,7 +45,7 @@ pub record HasHistory (C : ℕ) (plan : PlanFields) (words : List ℕ) : Type 0 
       → get_elem? log close ≡ some (Closed op)
       → get_elem? log offer ≡ some (Offered ticket) → ticket.op ≡ op → offer < close
 
--- what the words and the views of an exchange for the plan keep between any two steps
+-- what holds of the words and the views of an exchange for the plan between any two steps
 pub record KeepsLists (C : ℕ) (plan : PlanFields) (words : List ℕ)
     (views : List View) : Type 0 where
   pub operators : (op : Op) → (w : Word) × IsWordOf words op w × HandsOutFront plan op w views

@@ -22,7 +22,8 @@ named_number name number = name ++ (codes " " ++ decimal number)
 abbrev pub unit_line : List LineFields → List ℕ
 unit_line program = line (codes "UNIT " ++ unwrap_or (unit_name program) [])
 
--- the version, the unit's name, the numbers of tests and steps, and which of each list is kept
+-- the version, the unit's name, the number of tests, the limit on steps, and q where the plan keeps
+-- each q-th item of a list
 abbrev pub heading : BenchFields → List ℕ
 heading bench =
     line (codes "REPORT 2")
@@ -31,7 +32,7 @@ heading bench =
     ++ (line (named_number (codes "STEPS") bench.steps)
     ++ line (named_number (codes "EVERY") bench.plan.every))))
 
--- how many mutants, how many killed, how many equivalent
+-- a name, and how many mutants there are, how many are killed, how many are equivalent
 abbrev pub counts_line : List ℕ → Counts → List ℕ
 counts_line name counts = line
     (named_number (named_number (named_number name counts.total) counts.killed) counts.equivalent)
@@ -53,13 +54,13 @@ score_text (Some score) =
 abbrev pub score_line : Option ℕ → List ℕ
 score_line score = line (codes "SCORE " ++ score_text score)
 
--- K killed, S survived, E declared equivalent and survived, W declared and killed
+-- K killed, S survived, E declared equivalent and survived, W declared equivalent and killed
 abbrev pub status_of : Entry → List ℕ
 status_of entry =
     if entry.declared then (if is_killed entry then codes "W" else codes "E")
     else (if is_killed entry then codes "K" else codes "S")
 
--- 1 for a test that kills, 0 for one that does not
+-- the digit 1 for a test that kills, 0 for one that does not
 abbrev pub bit_of : Bool → ℕ
 bit_of kill = if kill then 49 else 48
 
@@ -76,27 +77,27 @@ mutant_line plan entry =
     line (codes "MUTANT " ++ (entry_name plan entry
     ++ (codes " " ++ (status_of entry ++ (codes " " ++ bits_of entry.kills)))))
 
--- survived, and not declared equivalent
+-- the mutant survived and is not declared equivalent
 abbrev pub is_survivor : Entry → Bool
 is_survivor entry = not entry.declared && not (is_killed entry)
 
--- `SURVIVOR`, the code and the two numbers of the mutant, and
--- where it is changed; nothing for one that is killed or declared
+-- `SURVIVOR`, the code and the two numbers of the mutant, and the change that it makes;
+-- nothing for a mutant that is killed or declared equivalent
 abbrev pub survivor_line : PlanFields → Entry → List ℕ
 survivor_line plan entry = if is_survivor entry
     then line (codes "SURVIVOR " ++ mutant_text plan entry.ticket.op entry.ticket.number) else []
 
--- declared equivalent, and killed
+-- the mutant is declared equivalent, and a test kills it
 abbrev pub is_wrong : Entry → Bool
 is_wrong entry = entry.declared && is_killed entry
 
--- `WRONG` and the code and the two numbers of the mutant;
--- nothing for one that is not declared or not killed
+-- `WRONG` and the code and the two numbers of the mutant; nothing for
+-- a mutant that is not declared equivalent or not killed
 abbrev pub wrong_line : PlanFields → Entry → List ℕ
 wrong_line plan entry =
     if is_wrong entry then line (codes "WRONG " ++ entry_name plan entry) else []
 
--- the lines of all entries, the survivors, and the entries that are wrongly declared
+-- a line for each entry, then the survivors, then the mutants that are wrongly declared equivalent
 abbrev pub entry_lines : PlanFields → List Entry → List ℕ
 entry_lines plan entries =
     flat_map (mutant_line plan) entries

@@ -1,4 +1,4 @@
--- What a worker does with its pass, and what it answers.
+-- What a worker does with its pass, and when it fails.
 use Rattle.std.specs.Prelude.{◌≡◌, ℕ, ◌-◌, ◌≤◌, ⊤, Bool, true, List, ◌∷◌, ◌++◌, All}
 use Rattle.mothra_codes.specs.declared.op.Op.{Op}
 use Rattle.mothra_codes.specs.Op.{index}
@@ -14,12 +14,12 @@ use Rattle.mothra_verdicts.specs.declared.fault.BenchFault.{BenchFault}
 use Rattle.mothra_verdicts.specs.declared.fault.BenchFault.TheVariants as fault
 use Rattle.mothra_verdicts.specs.declared.verdict.Row.{Row}
 
--- none of the tickets stands twice, or among the old ones
+-- none of the tickets occurs twice, or among the old ones
 abbrev pub AreFresh : List Ticket → List Ticket → Type 0
 AreFresh old tickets =
     (op : Op) (k : ℕ) → ticket_times (index op) k tickets ≤ 1 - ticket_times (index op) k old
 
--- a worker's pass offers and closes nothing, and keeps its counts and its part
+-- the pass of a worker offers and closes nothing, and keeps its counts and its share
 pub record OnlyTook (old new : View) : Type 0 where
   pub counts : new.counts ≡ old.counts
   pub part : new.part ≡ old.part
@@ -31,16 +31,17 @@ pub record TookRows (old new : View) (rows : List Row) : Type 0 where
   pub taken : new.taken ≡ old.taken ++ tickets_in rows
   pub once : AreFresh old.taken (tickets_in rows)
 
--- the pass shows of each operator that it is closed and that all that was offered is handed out
+-- the pass saw each operator closed, with all its offered tickets handed out
 abbrev pub AreOver : View → Type 0
 AreOver view = (op : Op) → IsOver view op
 
--- the gate keeps records, and its counts are those of the plan
+-- the gate keeps records and has the counts of the plan
 abbrev pub CountsPlan : Bool → PlanFields → List ℕ → Type 0
 CountsPlan keeps plan counts = (keeps ≡ true) × AreCounts plan counts
 
--- Why a worker gives no rows: want of memory; a ticket of no mutant of the plan, which no
--- gate hands out that is known to count the plan's; or the gate gave up, which only some may.
+-- The faults for which a worker has no rows: want of memory; a ticket of no mutant of the plan,
+-- which a gate that keeps records and has the counts of the plan never hands out; or that the gate
+-- gave up, if it may.
 abbrev pub IsNoWork : Bool → Bool → PlanFields → List ℕ → BenchFault → Type 0
 IsNoWork may keeps plan counts fault.Memory = ⊤
 IsNoWork may keeps plan counts (fault.Stranger ticket) =
@@ -57,12 +58,13 @@ pub record IsFirstUnknown (plan : PlanFields) (tickets : List Ticket)
   pub known : All (HasMutant plan) before
   pub unknown : ¬ (HasMutant plan ticket)
 
--- a fault that names a ticket names the first of them that the plan does not have
+-- where the fault names a ticket, it is the first of the tickets that the plan does not have
 abbrev pub NamesFirst : PlanFields → List Ticket → BenchFault → Type 0
 NamesFirst plan tickets (fault.Stranger ticket) = IsFirstUnknown plan tickets ticket
 NamesFirst plan tickets _ = ⊤
 
--- the same of the tickets that a pass took in between
+-- where the fault names a ticket, it is the first of those that the pass took and the plan does
+-- not have
 pub record NamesTaken (plan : PlanFields) (old new : View) (fault : BenchFault) : Type 0 where
   pub tickets : List Ticket
   pub taken : new.taken ≡ old.taken ++ tickets

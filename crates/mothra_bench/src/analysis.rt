@@ -1,4 +1,4 @@
-//! The report of a bench, by many threads.
+//! The report of a bench, made by many threads.
 
 ghost use Rattle.std.specs.Prelude.{◌≤◌, IfOk, IfErr, string_bytes};
 ghost use Rattle.mothra_bench.specs.Analysis.{IsNoReport, IsReport};
@@ -13,8 +13,8 @@ use std::alloc::Global;
 use std::sync::Wait;
 use std::thread::Threads;
 
-/// The report of the bench, by so many workers: each mutant with the
-/// verdict of running it alone. It is the same for each number of workers.
+/// The report of the bench: each mutant with the verdict of running it alone. `workers` threads run the
+/// mutants, and the report is the same for any number of them.
 pub fn analyse<R: Threads + Wait + Sync>(
     rt: &R,
     alloc: Global,

@@ -1,4 +1,4 @@
-//! Closing operators.
+//! Operators are closed.
 
 ghost use Rattle.std.specs.Prelude.{◌≡◌, true, false};
 ghost use Rattle.mothra_bench.specs.code.Closing.{AreClosed, Closes};
@@ -8,7 +8,7 @@ use mothra_codes::Op;
 use mothra_exchange::{Close, Gate};
 use std::sync::Wait;
 
-/// Closes an operator, however often it takes. False where the gate gave up.
+/// Closes an operator, and tries again as long as the close is lost. False where the gate gave up.
 pub(crate) fn close_one<G: Gate, R: Wait>(rt: &R, gate: &G, pass: &mut G::Pass, op: Op) -> bool
     requires { G.is_pass gate.now pass.old }
     ensures own { G.is_pass gate.now pass.new }

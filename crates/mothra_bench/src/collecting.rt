@@ -1,4 +1,4 @@
-//! The rows of all mutants, put into order and counted against the plan.
+//! The rows of all mutants are put in order and compared with the plan.
 
 ghost use Rattle.std.specs.Prelude.{◌↔◌, All, IfOk, IfErr, IsTrue, MatchOption};
 ghost use Rattle.mothra_bench.specs.Collecting.{AreCollected, IsFirstStranger, IsKnown, IsNoMatrix};
@@ -11,7 +11,7 @@ use mothra_exchange::{Tally, Ticket};
 use mothra_verdicts::{Bench, BenchFault, Row};
 use std::alloc::Global;
 
-/// Whether the row is of the plan, with a truth value for each test.
+/// Whether the row is that of a mutant of the plan, with a truth value for each test.
 fn is_known(bench: &Bench, row: &Row) -> bool
     ensures { IsTrue result ↔ IsKnown bench.now row.now }
 {
@@ -21,7 +21,7 @@ fn is_known(bench: &Bench, row: &Row) -> bool
         && row.kills.as_slice().len() == bench.tests().len()
 }
 
-/// The ticket of the first row that is not.
+/// The ticket of the first row that is of no mutant of the plan, or does not have a truth value for each test.
 fn first_stranger(bench: &Bench, rows: &[Row]) -> Option<Ticket>
     ensures { MatchOption result (All (IsKnown bench.now) rows.now) (IsFirstStranger bench.now rows.now) }
 {
@@ -35,8 +35,8 @@ fn first_stranger(bench: &Bench, rows: &[Row]) -> Option<Ticket>
 
 /// The matrix of the rows: one entry for each mutant of the plan.
 ///
-/// Of several faults the first in this order is told: B8 at the first row that is not of the plan
-/// or has not a truth value for each test, B7 at the first row whose ticket stood earlier, B9 at
+/// Of several faults the first in this order is reported: B8 at the first row that is of no mutant of the plan
+/// or does not have a truth value for each test, B7 at the first row whose ticket an earlier row has, B9 at
 /// the first mutant, by operator and number, that has no row or is above the number handed out.
 pub fn collect(
     alloc: Global,

@@ -1,4 +1,4 @@
-//! Mutants, counted.
+//! Mutants are counted, and the score is computed.
 
 ghost use Rattle.std.specs.Prelude.{◌≡◌, ◌+◌, ◌∷◌, ◌++◌, ◌<◌, ◌≤◌, ◌^◌, [], List, length};
 ghost use Rattle.mothra_bench.specs.Matrix as definition;
@@ -9,7 +9,7 @@ use crate::matrix::Entry;
 use mothra_codes::Op;
 use std::marker::Model;
 
-/// How many mutants there are, are killed, and are equivalent.
+/// How many mutants there are; how many of them are killed; how many are declared equivalent and survived.
 #[derive(Debug, Drop)]
 pub struct Counts {
     total: u32,
@@ -26,7 +26,7 @@ impl Model for Counts {
 }
 
 impl Counts {
-    /// Those of these entries. It takes no memory.
+    /// The counts of these entries. The call takes no memory.
     pub fn of(entries: &[Entry]) -> Counts
         requires { length entries.now < 2 ^ 32 }
         ensures { result ≡ counts entries.now }
@@ -38,7 +38,7 @@ impl Counts {
         counts
     }
 
-    /// Those of the entries of one operator. It takes no memory.
+    /// The counts of the entries of one operator. The call takes no memory.
     pub fn of_operator(op: Op, entries: &[Entry]) -> Counts
         requires { length entries.now < 2 ^ 32 }
         ensures { result ≡ counts (entries_of op entries.now) }
@@ -52,7 +52,7 @@ impl Counts {
         counts
     }
 
-    /// Those of no entries.
+    /// The counts of no entries.
     fn none() -> Counts
         ensures { result ≡ counts [] }
     {
@@ -85,22 +85,22 @@ impl Counts {
         self.total
     }
 
-    /// How many of them are killed.
+    /// How many entries are of killed mutants.
     pub fn killed(&self) -> u32
         ensures { result ≡ self.now.killed }
     {
         self.killed
     }
 
-    /// How many of them are equivalent.
+    /// How many entries are of mutants that are declared equivalent and survived.
     pub fn equivalent(&self) -> u32
         ensures { result ≡ self.now.equivalent }
     {
         self.equivalent
     }
 
-    /// The mutation score in hundredths of a percent, rounded down;
-    /// none where every mutant is equivalent, or there is none.
+    /// The mutation score in hundredths of a percent, 0 to 10000, rounded down. `None` where no mutant
+    /// counts: there is none, or each is equivalent.
     pub fn score(&self) -> Option<u32>
         ensures { result ≡ score_of self.now }
     {

@@ -1,4 +1,8 @@
-//! Workers and feeders, started, joined, and their passes merged.
+//! Workers and feeders are started and joined, and their passes are merged.
+//!
+//! The memory for the handles of all workers is taken before the first one starts, so that it can not be refused
+//! between two of them. Which fault is given is the contract of `answer`, which is private: a public clause can not
+//! speak of how each single thread ended.
 
 ghost use Rattle.std.specs.Prelude.{◌≡◌, ◌⊎◌, ◌+◌, ◌++◌, ◌<◌, ◌≤◌, [], true, false, All, length};
 ghost use Rattle.std.specs.Prelude.{None, IfOk, IfErr, IfSome, IfNone, MatchOption};
@@ -23,7 +27,7 @@ use std::sync::Wait;
 use std::thread;
 use std::thread::{Scope, Threads};
 
-/// What the threads of a drive share.
+/// What all threads of a drive use.
 #[derive(Drop)]
 struct Crew<'s, G, R> {
     rt: &'s R,
@@ -32,12 +36,12 @@ struct Crew<'s, G, R> {
     bench: &'s Bench,
     /// The operators of the first feeder.
     front: &'s [Op],
-    /// The operators of the second.
+    /// The operators of the second feeder.
     back: &'s [Op],
     workers: u32,
 }
 
-/// Starts the workers, until a thread cannot begin or there is no memory.
+/// Starts the workers one by one, until all are started, a thread can not begin or there is no memory.
 fn start_workers<'s, E, G: Gate + Sync, R: Threads + Wait + Sync>(
     scope: &Scope<'s, E>,
     crew: &Crew<'s, G, R>,
@@ -75,7 +79,7 @@ where
     (started, None)
 }
 
-/// Starts a feeder; closes its operators where there was a fault, or no thread can begin.
+/// Starts a feeder. Where there was a fault before, or its thread can not begin, its operators are closed instead.
 fn start_or_close<'s, E, G: Gate + Sync, R: Threads + Wait + Sync>(
     scope: &Scope<'s, E>,
     crew: &Crew<'s, G, R>,
@@ -115,7 +119,7 @@ where
     None
 }
 
-/// Waits for a feeder that was started.
+/// Waits for a feeder, if it was started, and merges its pass.
 fn join_started<G: Gate, R: Threads>(
     crew: &Crew<'_, G, R>,
     pass: &mut G::Pass,
@@ -142,8 +146,8 @@ fn join_started<G: Gate, R: Threads>(
     }
 }
 
-/// Waits for the workers, merges their passes, and gives all rows, or the first fault in their order. Want of memory
-/// for the rows of all is noted as the drive's own fault, unless it has one.
+/// Waits for the workers and merges their passes. The result has all rows, or the fault of the first worker that has
+/// one. Want of memory for the list of all rows becomes the drive's own fault, unless it has one.
 fn join_workers<G: Gate, R: Threads>(
     crew: &Crew<'_, G, R>,
     pass: &mut G::Pass,
@@ -178,7 +182,7 @@ where
     gathered.outcome()
 }
 
-/// The drive's own fault; else that of the first thread that has one, the feeders before the workers; else all rows.
+/// The drive's own fault; else the fault of the first thread that has one, feeders before workers; else all rows.
 fn answer(
     own: Option<BenchFault>,
     first: Result<(), BenchFault>,
@@ -217,7 +221,7 @@ where
     (pass, answer(fault, first, second, gathered))
 }
 
-/// The same, in a scope that ends with the last thread.
+/// Runs the threads in a scope, which ends after the last of them.
 fn run_scope<G: Gate + Sync, R: Threads + Wait + Sync>(
     crew: &Crew<'_, G, R>,
     pass: G::Pass,
@@ -240,14 +244,15 @@ where
     )
 }
 
-/// Runs the mutants of a bench's plan in so many workers, through a gate that two feeders
-/// fill: the first with the operators from AAR to DSA, the second with those from GLR to
-/// UOI. It joins all, merges their passes, which are split from the caller's, and finishes.
+/// Runs the mutants of the bench's plan in `workers` threads. Two more threads are the feeders, which offer the
+/// tickets to the gate: the first those of the operators from AAR to DSA, the second those from GLR to UOI. The passes
+/// of all threads are split from the caller's pass. In the end all threads are joined, their passes are merged, and
+/// the gate is finished.
 ///
-/// Where there is no memory, or a thread cannot begin, no further one is started, the operators of a feeder that was
-/// not started are closed, and the rest is joined; the answer is then B1 or B2. It is B1 where there is no memory for
-/// the rows of all. Else it is the fault of the first thread that has one: of the feeders, then of the workers, in
-/// their order.
+/// Where there is no memory (B1), or a thread can not begin (B2), no further thread is started, the operators of each
+/// feeder that was not started are closed, and the threads that run are joined. The fault is also B1 where there is no
+/// memory for the list of all rows. Else it is the fault of the first thread that has one: first the feeders, then the
+/// workers in their order.
 pub fn drive<G: Gate + Sync, R: Threads + Wait + Sync>(
     rt: &R,
     alloc: Global,

@@ -1,4 +1,4 @@
-//! Entries, made of rows.
+//! Entries of the matrix are made of rows.
 
 ghost use Rattle.std.specs.Prelude.{◌≡◌, ◌&&◌, ◌==◌, All, AllPairs, IfOk, IfErr, MatchOption, None, map, if◌then◌else◌};
 ghost use Rattle.mothra_codes.specs.Op.{index};
@@ -13,7 +13,7 @@ use mothra_exchange::{Tally, Ticket};
 use mothra_verdicts::{Bench, BenchFault};
 use std::alloc::Global;
 
-/// The entry of a ticket, whose row is taken. None where it has no row or was not handed out.
+/// The entry of a ticket, whose row is taken out of the map. None where the ticket has no row or was not handed out.
 fn entry_of(bench: &Bench, tally: &Tally, map: &mut RowMap, ticket: Ticket) -> Option<Entry>
     ensures entry { MatchOption result (¬ (IsHere tally.now map.old ticket))
         (λ entry. (entry.ticket ≡ ticket) × IsEntry bench.now tally.now map.old entry) }
@@ -33,7 +33,7 @@ fn entry_of(bench: &Bench, tally: &Tally, map: &mut RowMap, ticket: Ticket) -> O
     })
 }
 
-/// The entries of tickets that stand in order.
+/// The entries of tickets that stand in order; B9 at the first that has no row or was not handed out.
 pub(crate) fn entries_of(
     alloc: Global,
     bench: &Bench,

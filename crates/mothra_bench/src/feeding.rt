@@ -1,4 +1,4 @@
-//! Feeders: they offer the tickets of operators in order.
+//! Feeders offer the tickets of their operators in order.
 
 ghost use Rattle.std.specs.Prelude.{◌≡◌, ◌≢◌, ◌+◌, ◌<◌, ℕ, true, All, Contains};
 ghost use Rattle.std.specs.Prelude.{Some, IfOk, IfErr, IfNone, IfSome, slice_index};
@@ -22,14 +22,15 @@ use std::sync::Wait;
 /// How far a feeder has come with an operator.
 #[derive(Clone, Copy, PartialEq, Eq, Drop)]
 enum Stage {
-    /// So many tickets were offered.
+    /// This many tickets were offered and accepted.
     Offered(u32),
-    /// No more are offered.
+    /// A ticket was refused for good, so no more are offered.
     Ended,
     Closed,
 }
 
-/// Offers a ticket, again at once where a race was lost; none where the gate gave up.
+/// Offers a ticket, and at once again as long as the offer is lost. The result is the operator's stage after that,
+/// None where the gate gave up.
 fn offer<G: Gate, R: Wait>(
     rt: &R,
     gate: &G,
@@ -62,7 +63,7 @@ fn offer<G: Gate, R: Wait>(
     unreachable!()
 }
 
-/// Closes an operator; none where the gate gave up.
+/// Closes an operator. The result is the operator's stage after that, None where the gate gave up.
 fn close_turn<G: Gate, R: Wait>(rt: &R, gate: &G, pass: &mut G::Pass, op: Op) -> Option<Stage>
     requires { G.is_pass gate.now pass.old }
     ensures own { G.is_pass gate.now pass.new }
@@ -79,7 +80,8 @@ fn close_turn<G: Gate, R: Wait>(rt: &R, gate: &G, pass: &mut G::Pass, op: Op) ->
     }
 }
 
-/// Offers an operator's next ticket, or closes the operator behind its last; none where the gate gave up.
+/// Offers an operator's next ticket, or closes the operator after its last one. The result is the operator's stage
+/// after that, None where the gate gave up.
 fn offer_turn<G: Gate, R: Wait>(
     rt: &R,
     gate: &G,
@@ -109,20 +111,20 @@ fn offer_turn<G: Gate, R: Wait>(
     }
 }
 
-/// How a round of a feeder ended.
+/// How a round of a feeder over its operators ended.
 #[derive(Clone, Copy, PartialEq, Eq, Drop)]
 enum Round {
     /// Every operator is closed.
     Closed,
-    /// An operator went on.
+    /// Some operator went on to another stage.
     Moved,
-    /// None did.
+    /// Some operator is not closed, and none went on.
     Still,
     GaveUp,
 }
 
 impl Round {
-    /// The round behind the turn of an operator that went from a stage to another.
+    /// The round after the turn of an operator, which went from one stage to another or stayed.
     fn behind(self, from: Stage, to: Stage) -> Round
         ensures closed { result ≡ Round.Closed → (self ≡ Round.Closed) × (to ≡ Stage.Closed) }
         ensures gave_up { result ≡ Round.GaveUp → self ≡ Round.GaveUp }
@@ -137,7 +139,7 @@ impl Round {
     }
 }
 
-/// Goes round the operators once, which have so many mutants each.
+/// Goes round the operators once; `counts` says how many mutants each operator has.
 fn feed_round<G: Gate, R: Wait>(
     rt: &R,
     gate: &G,
@@ -169,10 +171,10 @@ fn feed_round<G: Gate, R: Wait>(
     round
 }
 
-/// Goes round the operators, offers the next ticket of each, closes each behind its last,
-/// and ends when all are closed. A full operator is passed over until the next round; an
-/// offer that lost a race is made again at once. An operator of which a ticket is refused
-/// for good is closed. It takes no memory.
+/// Goes round the operators, offers the next ticket of each, closes each after its last one, and ends when all are
+/// closed. An operator that is full has its turn again in the next round; an offer that was lost is made again at once.
+/// Where a ticket is refused for good, its operator is closed: the gate may have other feeders, and one of them may
+/// have offered more or closed the operator. The call takes no memory.
 pub fn feed<G: Gate, R: Wait>(
     rt: &R,
     gate: &G,

@@ -1,4 +1,4 @@
-//! What a worker, or all workers, have come to.
+//! The rows that a worker, or all workers, have gathered.
 
 ghost use Rattle.std.specs.Prelude.{◌≡◌, ◌∷◌, ◌++◌, [], None, Some, Ok, Err, IfOk, IfErr, OnOk};
 ghost use Rattle.std.specs.Prelude.{IfSome, IfNone, IsOkAnd, MatchOption, MatchResult};
@@ -11,7 +11,7 @@ use mothra_exchange::Ticket;
 use mothra_verdicts::{BenchFault, Row, Verdicts};
 use std::alloc::Global;
 
-/// The rows so far, or the first fault.
+/// The rows so far, and the first fault.
 #[derive(Drop)]
 pub(crate) struct Gathered {
     pub(crate) rows: Vec<Row>,
@@ -19,7 +19,7 @@ pub(crate) struct Gathered {
 }
 
 impl Gathered {
-    /// No rows.
+    /// No rows, and no fault.
     pub(crate) fn new(alloc: Global) -> Gathered
         ensures rows { result.rows.items ≡ [] }
         ensures fault { result.fault ≡ None }
@@ -30,7 +30,8 @@ impl Gathered {
         }
     }
 
-    /// Runs a ticket's mutant, unless there was a fault. With no verdicts to ask there was no memory for them.
+    /// Runs a ticket's mutant and adds its row, unless there was a fault before. Where `verdicts` is None, there was no
+    /// memory for it, and the fault is B1.
     pub(crate) fn run(&mut self, alloc: Global, verdicts: &mut Option<Verdicts<'_>>, ticket: Ticket)
         ensures row { (bench : BenchFields) → IfSome verdicts.old (λ verdicts. verdicts ≡ bench)
             → IfNone self.new.fault
@@ -49,7 +50,7 @@ impl Gathered {
         }
     }
 
-    /// Appends a row.
+    /// Adds a row; B1 where there is no memory.
     fn push(&mut self, row: Row)
         requires { self.old.fault ≡ None }
         ensures row { IfNone self.new.fault (self.new.rows.items ≡ self.old.rows.items ++ row ∷ []) }
@@ -60,8 +61,8 @@ impl Gathered {
         }
     }
 
-    /// Appends the rows of a worker, or notes its fault, unless there was one. Want of memory for the rows is noted as
-    /// a fault of the caller's own, too, unless it has one.
+    /// Adds the rows of a worker, or keeps its fault, unless there was a fault before. Want of memory for the rows also
+    /// becomes the caller's own fault, unless it has one.
     pub(crate) fn add(
         &mut self,
         outcome: Result<Vec<Row>, BenchFault>,
@@ -90,7 +91,7 @@ impl Gathered {
         }
     }
 
-    /// Notes a fault, unless there was one.
+    /// Keeps a fault, unless there was one before.
     pub(crate) fn fail(&mut self, fault: BenchFault)
         ensures { MatchOption self.old.fault (self.new.fault ≡ Some fault) (λ first. self.new.fault ≡ Some first) }
     {

@@ -1,4 +1,5 @@
-//! The kill matrix, and the mutation score.
+//! The kill matrix and the mutation score. An entry also says whether its mutant is declared equivalent, so that the
+//! score follows from the entries alone.
 
 ghost use Rattle.std.specs.Prelude.{◌≡◌, ◌<◌, ◌^◌, List, length, vec_len};
 ghost use Rattle.mothra_bench.specs.Matrix.{is_killed, is_equivalent, score_of, counts};
@@ -9,26 +10,26 @@ use f77_meaning::Values;
 use mothra_exchange::Ticket;
 use std::marker::Model;
 
-/// What the tests say of one mutant, and what was declared of it.
+/// Which tests kill a mutant, and whether it is declared equivalent.
 #[derive(Debug, Drop)]
 pub struct Entry {
     /// The mutant.
     pub ticket: Ticket,
-    /// One for each test, in order: whether it kills the mutant.
+    /// For each test, in order, whether it kills the mutant.
     pub kills: Values<bool>,
     /// Whether the mutant is declared equivalent.
     pub declared: bool,
 }
 
 impl Entry {
-    /// Whether a test kills the mutant. It takes no memory.
+    /// Whether a test kills the mutant. The call takes no memory.
     pub fn is_killed(&self) -> bool
         ensures { result ≡ is_killed self.now }
     {
         self.kills.as_slice().iter().any(|kill| *kill)
     }
 
-    /// Whether the mutant is declared equivalent, and survived. It takes no memory.
+    /// Whether the mutant is declared equivalent and survived. The call takes no memory.
     pub fn is_equivalent(&self) -> bool
         ensures { result ≡ is_equivalent self.now }
     {
@@ -36,7 +37,7 @@ impl Entry {
     }
 }
 
-/// One entry for each mutant of a plan, by operator and number. Only `collect` makes one.
+/// The kill matrix: one entry for each mutant of a plan, by operator and number. Only `collect` makes one.
 #[derive(Debug, Drop)]
 pub struct Matrix {
     entries: Vec<Entry>,
@@ -59,7 +60,7 @@ impl Matrix {
         Matrix { entries }
     }
 
-    /// The entries in order. It takes no memory.
+    /// The entries, by operator and number. The call takes no memory.
     pub fn entries(&self) -> &[Entry]
         ensures entries { result.now ≡ self.now }
         ensures few { length self.now < 2 ^ 32 }
@@ -67,8 +68,8 @@ impl Matrix {
         &self.entries
     }
 
-    /// The mutation score in hundredths of a percent, rounded down; none where every mutant is
-    /// equivalent, or there is none (DeMillo, Lipton and Sayward 1978). It takes no memory.
+    /// The mutation score (DeMillo, Lipton and Sayward 1978) in hundredths of a percent, 0 to 10000, rounded
+    /// down. `None` where no mutant counts: there is none, or each is equivalent. The call takes no memory.
     pub fn score(&self) -> Option<u32>
         ensures { result ≡ score_of (counts self.now) }
     {

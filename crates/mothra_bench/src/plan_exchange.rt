@@ -15,8 +15,8 @@ use std::alloc::Global;
 /// How many tickets of an operator may wait in the exchange of a plan.
 pub const MOST_WAITING: u32 = 64;
 
-/// The exchange for the mutants of a plan, in which nothing was offered, and its whole pass. Between any two of its
-/// steps the mutants handed out of each operator are the first of its list.
+/// The exchange for the mutants of a plan, in which nothing was offered, and its first pass, which is whole. Between
+/// any two of its steps the mutants handed out of each operator are the first of the operator's list, in order.
 pub fn exchange_of(
     alloc: Global,
     plan: &Plan,

@@ -16,8 +16,8 @@ use mothra_ops::{Op, Plan, push_name, write_name};
 use mothra_verdicts::{Bench, BenchFault};
 use std::alloc::{AllocError, Global};
 
-/// The report of a matrix: its heading, the numbers of each operator and of all, the score, each
-/// mutant with its kills, the survivors, and the entries that are wrongly declared equivalent.
+/// The report of a matrix: the heading, the counts of each operator and of all, the score, each mutant
+/// with its kills, the survivors, and the mutants that are wrongly declared equivalent.
 pub fn render(alloc: Global, bench: &Bench, matrix: &Matrix) -> Result<String, BenchFault>
     ensures text { IfOk result (λ text. string_bytes text ≡ report_text bench.now matrix.now) }
     ensures memory { IfErr result (λ fault. fault ≡ Memory) }
@@ -104,7 +104,8 @@ fn push_mutants(text: &mut String, plan: &Plan, entries: &[Entry]) -> Result<(),
     Ok(())
 }
 
-/// The line of a mutant, whose name is written in the place of what `name` has.
+/// Adds the line of a mutant. `name` is used for the mutant's name, and what it had is lost: so one string serves all
+/// lines.
 fn push_mutant(
     text: &mut String,
     name: &mut String,

@@ -1,4 +1,5 @@
-//! Rows by their tickets.
+//! Rows by their tickets. Rows come in any order; the map moves them and copies none, so the work of putting them in
+//! order is linear in the rows.
 
 ghost use Rattle.std.specs.Prelude.{◌≡◌, ◌&&◌, ◌==◌, IfOk, IfErr, None, Some, is_none, if◌then◌else◌};
 ghost use Rattle.mothra_codes.specs.Op.{index};
@@ -11,14 +12,14 @@ use mothra_verdicts::{BenchFault, Row};
 use std::alloc::{AllocError, Global};
 use std::collections::HashMap;
 
-/// Rows by operator and number.
+/// Rows by the place of their operator and by their number.
 #[derive(Drop)]
 pub(crate) struct RowMap {
     rows: HashMap<(usize, u32), Row>,
 }
 
 impl RowMap {
-    /// The rows of a list, refused at the first whose ticket stood earlier.
+    /// The map of the rows of a list; B7 at the first row whose ticket an earlier row has.
     pub(crate) fn of(alloc: Global, rows: Vec<Row>) -> Result<RowMap, BenchFault>
         ensures rows { IfOk result (λ map. HasRows map rows.items) }
         ensures refused { IfErr result (λ fault. IsNoRowMap rows.items fault) }
@@ -35,7 +36,7 @@ impl RowMap {
         Ok(map)
     }
 
-    /// Puts a row in. False where its ticket had one.
+    /// Puts a row into the map. False where the map had a row of the same ticket.
     fn put(&mut self, row: Row) -> Result<bool, AllocError>
         ensures new { IfOk result (λ new. new ≡ is_none (ticket_row self.old row.ticket)) }
         ensures rows { IfOk result (λ new. (ticket : Ticket) → ticket_row self.new ticket
@@ -45,7 +46,7 @@ impl RowMap {
         Ok(self.rows.insert(key, row)?.is_none())
     }
 
-    /// Takes the row of a ticket out.
+    /// Takes the row of a ticket out of the map.
     pub(crate) fn take(&mut self, ticket: Ticket) -> Option<Row>
         ensures row { result ≡ ticket_row self.old ticket }
         ensures rows { (other : Ticket) → ticket_row self.new other

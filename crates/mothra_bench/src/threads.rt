@@ -1,4 +1,7 @@
-//! Workers and feeders in threads of their own: what each promises, how it is started and joined.
+//! Workers and feeders in threads of their own: how they are started and joined, and what they promise.
+//!
+//! What a thread did to its pass is known only by its promise, which is the contract of `work` or `feed`. Threads are
+//! started in functions that borrow the scope, since only a scope can lend them the bench.
 
 ghost use Rattle.std.specs.Prelude.{◌≡◌, ◌+◌, ◌++◌, true, IfOk, IfErr};
 ghost use Rattle.mothra_exchange.specs.declared.view.View.{View};
@@ -20,7 +23,7 @@ use std::snapshot::Snapshot;
 use std::sync::Wait;
 use std::thread::{Promise, PromisedHandle, Scope, Threads};
 
-/// What a worker promises of the pass and the rows that it gives back: the contract of `work`.
+/// What a worker promises of the pass and the rows that it returns: the contract of `work`.
 #[derive(Drop)]
 pub(crate) struct WorkerPromise<'a, G: Gate> {
     pub(crate) gate: &'a G,
@@ -34,7 +37,7 @@ impl<'a, G: Gate> Promise<(G::Pass, Result<Vec<Row>, BenchFault>)> for WorkerPro
         × Works G.may_give_up G.keeps_records G.needs_parts p.bench.now (G.view p.pass.value) (G.view r.0) r.1 };
 }
 
-/// What a feeder promises: the contract of `feed`.
+/// What a feeder promises of the pass that it returns: the contract of `feed`.
 #[derive(Drop)]
 pub(crate) struct FeederPromise<'a, G: Gate> {
     pub(crate) gate: &'a G,
@@ -62,7 +65,7 @@ pub(crate) type Feeder<'a, G> = PromisedHandle<
     FeederPromise<'a, G>,
 >;
 
-/// Starts a worker; B2 where no thread can begin.
+/// Starts a worker; B2 where its thread can not begin.
 pub(crate) fn start_worker<'s, E, G: Gate + Sync, R: Threads + Wait + Sync>(
     scope: &Scope<'s, E>,
     rt: &'s R,
@@ -90,7 +93,7 @@ where
     }
 }
 
-/// Starts a feeder; B2 where no thread can begin.
+/// Starts a feeder; B2 where its thread can not begin.
 pub(crate) fn start_feeder<'s, E, G: Gate + Sync, R: Threads + Wait + Sync>(
     scope: &Scope<'s, E>,
     rt: &'s R,

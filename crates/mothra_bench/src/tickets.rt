@@ -24,7 +24,7 @@ pub(crate) fn counts(plan: &Plan) -> [u32; 22]
     counts
 }
 
-/// Appends the tickets of an operator that has so many mutants.
+/// Adds the tickets of an operator with `count` mutants to the list.
 fn push_tickets(tickets: &mut Vec<Ticket>, op: Op, count: u32) -> Result<(), AllocError>
     ensures { OnOk result (tickets.new.items ≡ tickets.old.items ++ definition.tickets op count) }
 {

@@ -1,4 +1,4 @@
-//! Workers: they take tickets, and run their mutants.
+//! Workers take tickets and run their mutants.
 
 ghost use Rattle.std.specs.Prelude.{◌≡◌, ◌⊎◌, true, false, IfOk, IfErr, IfSome, IsSome};
 ghost use Rattle.mothra_codes.specs.declared.op.Op.{Op as OpModel};
@@ -16,19 +16,19 @@ use mothra_verdicts::{Bench, BenchFault, Row, Verdicts};
 use std::alloc::Global;
 use std::sync::Wait;
 
-/// How a take of one operator, or of all, ended.
+/// How a take of one operator, or a round over all, ended.
 #[derive(Clone, Copy, PartialEq, Eq, Drop)]
 enum Turn {
-    /// There is nothing to come.
+    /// All tickets were handed out, and none will come.
     Finished,
-    /// There was nothing.
+    /// No ticket waited, but some may come.
     Idle,
     Ran,
     GaveUp,
 }
 
 impl Turn {
-    /// What a round has come to behind the turn of one operator.
+    /// The round after the turn of one operator.
     fn behind(self, turn: Turn) -> Turn
         ensures finished { result ≡ Turn.Finished → (self ≡ Turn.Finished) × (turn ≡ Turn.Finished) }
         ensures gave_up { result ≡ Turn.GaveUp → (self ≡ Turn.GaveUp) ⊎ (turn ≡ Turn.GaveUp) }
@@ -41,7 +41,7 @@ impl Turn {
     }
 }
 
-/// Tries to take a ticket of an operator, and runs its mutant.
+/// Tries to take a ticket of an operator, and runs its mutant if it got one.
 fn take_turn<G: Gate, R: Wait>(
     rt: &R,
     alloc: Global,
@@ -76,7 +76,7 @@ fn take_turn<G: Gate, R: Wait>(
     }
 }
 
-/// Tries each operator once.
+/// Tries to take a ticket of each operator once.
 fn take_round<G: Gate, R: Wait>(
     rt: &R,
     alloc: Global,
@@ -105,9 +105,9 @@ fn take_round<G: Gate, R: Wait>(
     round
 }
 
-/// Goes round the operators, runs the mutants of the tickets that it takes, and ends when a whole round answered
-/// that all is finished. After a fault of its own it takes on without running, so that feeders can end, and
-/// answers its first fault. Where the gate gives up it ends at once, with B10 where it has no earlier fault.
+/// Goes round the operators and runs the mutants of the tickets that it takes. It ends after a round in which every
+/// operator was finished. After a fault it goes on taking tickets but runs none, so that feeders can end, and answers
+/// its first fault. Where the gate gives up it ends at once, with B10 unless it had a fault before.
 pub fn work<G: Gate, R: Wait>(
     rt: &R,
     alloc: Global,

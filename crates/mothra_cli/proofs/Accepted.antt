@@ -1,4 +1,4 @@
--- Where a command line is taken, its options of numbers have numbers in their bounds.
+-- Where a command line is taken, each option of a number has a number within its bounds.
 use Rattle.std.proofs.Common.{ap₂, lt_of_le_of_lt, ◌≡◌, ◌∙◌, ◌<◌, ◌≤◌, ◌^◌, ◌&&◌, ◌||◌, ℕ, Bool, cond, codes, not, true, false, refl, sym, ap, subst, arith}
 use Rattle.std.proofs.Common.{List, [], ◌∷◌, ◌++◌, fold, find, Option, Some, None, IfSome, option_and_then, option_map, true≢false, lt-ltb, leb-true, bytes_eq}
 use Rattle.std.proofs.lemmas.Bool.{and_parts, or_parts}
@@ -26,7 +26,7 @@ use Rattle.mothra_cli.proofs.OptionRows.{is_required, none_left, same_id, settle
 
 -- ---- after the walk
 
--- a level that is taken passes each of its steps
+-- where a level is taken, each of its parts is
 level_parts : (s : Shape) (words : List Text) → level_fault s [] nothing_held words false [] ≡ []
     → let end = (walk s.rules [] nothing_held words).held in
     (walk_fault s [] (walk_from nothing_held) words ≡ []) × (settle_fault s.rules s.args_override_self end ≡ [])
@@ -87,7 +87,7 @@ module _ (id : Text) (low high : ℕ) where
   needed true false e t = absurd (true≢false e)
   needed false b e t = absurd (true≢false (sym t))
 
-  -- what is required is there where nothing that is required is missing
+  -- where nothing that is required is missing, each required argument is there
   required_row : (c : List Rule) (rows : List Row) → list_any (λ a. a.required && not (is_given a.id rows)) c ≡ false
       → list_any (is_required id) c ≡ true → has_row id rows ≡ true
   required_row [] rows none e = absurd (true≢false (sym e))
@@ -201,7 +201,7 @@ module _ (id : Text) (low high : ℕ) where
       go true here rest f = row_read r.reading r.values small (here refl).0 (here refl).1
       go false here rest f = rest f
 
--- where the words after a subcommand are taken, an option that is required has a number in its bounds
+-- where the words after a subcommand are taken, an option that is required has a number within its bounds
 pub required_number : (s : Shape) (words : List Text) (id : Text) (low high : ℕ) → high < 2 ^ 32 → Each (Serves id low high) s.rules
     → list_any (is_required id) s.rules ≡ true
     → level_fault s [] nothing_held words false [] ≡ [] → HasNumber id low high (rows_after s.rules [] words)
@@ -210,7 +210,7 @@ required_number s words id low high small serves required e =
     let missing = nothing_missing id low high s rows (level_parts s words e).3 in
     number_read id low high rows small (level_fine id low high s words serves e) (required_row id low high s.rules rows missing required)
 
--- and so does one with a default
+-- where the words after a subcommand are taken, an option that has a default has a number within its bounds
 pub default_number : (s : Shape) (words : List Text) (id : Text) (low high : ℕ) → high < 2 ^ 32 → Each (Serves id low high) s.rules
     → list_any (has_default id) s.rules ≡ true
     → level_fault s [] nothing_held words false [] ≡ [] → HasNumber id low high (rows_after s.rules [] words)
@@ -224,7 +224,7 @@ default_number s words id low high small serves given e =
 same_parts : {A B : Type 0} (p q : A × B) → Some p ≡ Some q → (p.0 ≡ q.0) × (p.1 ≡ q.1)
 same_parts p q e = let same : p ≡ q = cc in (ap (λ x. x.0) same, ap (λ x. x.1) same)
 
--- the level of a subcommand that is entered under a name, where each of that name has a property
+-- the subcommand that is entered under a name has a property that each subcommand of that name has
 entered_level : (a : App) (name : Text) (P : Shape → Type 0) → Each (λ s. bytes_eq s.name name ≡ true → P s) a.subs
     → (stop : Option (Text × List Text)) (rows : List Row)
     → entered_fault a stop ≡ [] → entered a stop ≡ Some (name, rows)
@@ -272,7 +272,7 @@ exec_shapes = (
   ),
 )
 
--- a request for `exec` that is taken has both of its numbers
+-- where a request for `exec` is taken, it has both of its numbers
 pub exec_numbers : (words : List Text) (rows : List Row) → fault_of mothra words ≡ [] → subcommand_of mothra words ≡ Some (codes "exec", rows)
     → HasNumber (codes "test") 1 256 rows × HasNumber (codes "steps") 1 1000000 rows
 exec_numbers words rows e is =
@@ -282,7 +282,7 @@ exec_numbers words rows e is =
       subst (HasNumber (codes "steps") 1 1000000) level.4 (default_number level.0 level.1 (codes "steps") 1 1000000 (omega arith) asks.2 asks.3 level.3),
     )
 
--- the number of `list`
+-- the options of `list`
 abbrev IsList : Shape → Type 0
 IsList s = Each (Serves (codes "every") 1 1048575) s.rules × (list_any (has_default (codes "every")) s.rules ≡ true)
 
@@ -296,14 +296,14 @@ list_shapes = (
   ),
 )
 
--- and one for `list` has its number
+-- where a request for `list` is taken, it has its number
 pub list_number : (words : List Text) (rows : List Row) → fault_of mothra words ≡ [] → subcommand_of mothra words ≡ Some (codes "list", rows)
     → HasNumber (codes "every") 1 1048575 rows
 list_number words rows e is =
     let level = accepted_level mothra (codes "list") IsList list_shapes words rows e is in
     subst (HasNumber (codes "every") 1 1048575) level.4 (default_number level.0 level.1 (codes "every") 1 1048575 (omega arith) level.2.0 level.2.1 level.3)
 
--- the numbers of `run`
+-- the options of `run`
 abbrev IsRun : Shape → Type 0
 IsRun s = Each (Serves (codes "every") 1 1048575) s.rules × (list_any (has_default (codes "every")) s.rules ≡ true)
     × Each (Serves (codes "steps") 1 1000000) s.rules × (list_any (has_default (codes "steps")) s.rules ≡ true)
@@ -332,7 +332,7 @@ run_shapes = (
   ),
 )
 
--- and one for `run` has its three
+-- where a request for `run` is taken, it has its three numbers
 pub run_numbers : (words : List Text) (rows : List Row) → fault_of mothra words ≡ [] → subcommand_of mothra words ≡ Some (codes "run", rows)
     → HasNumber (codes "every") 1 1048575 rows × HasNumber (codes "steps") 1 1000000 rows × HasNumber (codes "workers") 1 32 rows
 run_numbers words rows e is =

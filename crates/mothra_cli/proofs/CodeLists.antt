@@ -1,4 +1,4 @@
--- The pieces between the commas of a text are read one by one, each as an operator's code.
+-- The pieces of a text between commas are read one by one, each as an operator's code.
 use Rattle.std.proofs.Common.{◌≡◌, ◌∙◌, ap, refl, sym, ℕ, Bool, true, false, cond, ◌==◌, lit<, List, [], ◌∷◌, ◌++◌, append_assoc}
 use Rattle.std.proofs.Common.{append-nil, Option, Some, None, IfSome, is_some, option_map, filter_map, find, bytes_eq}
 use Rattle.std.specs.Borrow.{Bor}
@@ -61,11 +61,11 @@ piece_refused done piece left is = rw is refl
 
 -- ---- the iterator over them
 
--- one call of it
+-- one call of the iterator
 abbrev Gives : Split ℕ → Option (Bor Text) → Split ℕ → Type 0
 Gives s r t = split_steps FindsChar (λ a b. b ≡ a) s r t
 
--- these operators were read of the text, and the iterator gives the pieces after them
+-- these operators were read from the text, and the iterator gives the pieces after them
 pub record IsReadTo (text : Text) (done : List Op) (s : Split ℕ) : Type 0 where
   pub left : List Text
   pub yields : YieldsList Gives (λ piece. piece.now) s left
@@ -99,7 +99,7 @@ module _ (text : Text) (done : List Op) (s t : Split ℕ) (read : IsReadTo text 
             same = piece_read done first rest op (some_code first op (sym here.0 ∙ is)) ∙ same;
           }
 
-  -- the next piece is no code
+  -- the next piece is no operator's code
   pub stops : (piece : Bor Text) → Gives s (Some piece) t → ((op : Op) → piece.now ≡ code_of op → ⊥)
       → None ≡ operators_of text
   stops piece step none = go read.left read.yields.runs read.same

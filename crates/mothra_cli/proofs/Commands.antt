@@ -1,4 +1,4 @@
--- Each subcommand of the command line asks for something.
+-- Each subcommand that the command line takes is a request, or has a bad list of operators.
 use Rattle.std.proofs.Common.{◌≡◌, ◌≤◌, ◌∙◌, ◌⊎◌, ℕ, inl, inr, ap, sym, subst, true, true≢false, List, [], Option, Some, None, Ok, Err, codes, is_some, IsSome, bytes_eq, refl}
 use Rattle.std.specs.Option.{option_map_or}
 use Rattle.clap.specs.Words.{Row, Shape, Text, fault_of, subcommand_of}
@@ -32,13 +32,13 @@ command_met : (words : List Text) (name : Text) (rows : List Row) → fault_of m
 command_met words name rows taken is =
     (accepted_level mothra name (λ _. IsCommand name) (each_command name) words rows taken is).2
 
--- what the command line takes: a request in its bounds, or operators that are none
+-- what the command line takes: a request whose numbers are within bounds, or a bad list of operators
 abbrev IsAccepted : Meaning → Type 0
 IsAccepted refused = ⊥
 IsAccepted bad_operators = Unit {0}
 IsAccepted (request r) = IsBounded r
 
--- `exec` has both of its numbers
+-- `exec` is a request, since it has both of its numbers
 exec_asks : (words : List Text) (rows : List Row) → fault_of mothra words ≡ []
     → subcommand_of mothra words ≡ Some (codes "exec", rows)
     → IsAccepted (subcommand_meaning (codes "exec", rows))
@@ -48,7 +48,7 @@ exec_asks words rows taken is =
     let steps = numbers.1 in
     rw (test.1, steps.1) (test.2, test.3, steps.2, steps.3)
 
--- `list` has its number
+-- `list` is a request, since it has its number
 list_asks : (words : List Text) (rows : List Row) → fault_of mothra words ≡ []
     → subcommand_of mothra words ≡ Some (codes "list", rows)
     → IsAccepted (subcommand_meaning (codes "list", rows))
@@ -60,7 +60,7 @@ list_asks words rows taken is =
     go None n above below = tt
     go (Some ops) n above below = (above, below)
 
--- `run` has its three numbers
+-- `run` is a request, since it has its three numbers
 run_asks : (words : List Text) (rows : List Row) → fault_of mothra words ≡ []
     → subcommand_of mothra words ≡ Some (codes "run", rows)
     → IsAccepted (subcommand_meaning (codes "run", rows))
@@ -78,7 +78,7 @@ run_asks words rows taken is =
     go None q n w bounds = tt
     go (Some ops) q n w bounds = bounds
 
--- the subcommand that was met asks for something
+-- the subcommand that the words name is a request, or has a bad list of operators
 pub asks : (words : List Text) (met : Option (Text × List Row)) → fault_of mothra words ≡ []
     → met ≡ subcommand_of mothra words → is_some met ≡ true → IsAccepted (option_map_or subcommand_meaning met refused)
 asks words None taken is some = absurd (true≢false (sym some))
@@ -97,7 +97,7 @@ asks words (Some (name, rows)) taken is some = go (command_met words name rows t
     go (inr (inr (inl named))) = at _ named (list_asks words rows taken (renamed _ named))
     go (inr (inr (inr named))) = at _ named (run_asks words rows taken (renamed _ named))
 
--- what was met is what the words are
+-- the meaning of the subcommand that the words name is the meaning of the words
 pub meaning_taken : (words : List Text) (met : Option (Text × List Row)) → fault_of mothra words ≡ []
     → met ≡ subcommand_of mothra words → meaning_of words ≡ option_map_or subcommand_meaning met refused
 unfolding meaning_of

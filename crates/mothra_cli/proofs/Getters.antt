@@ -28,7 +28,7 @@ small_numeral ds e =
 numeral_passes : (ds : List ℕ) → IsNumeral 10 ds × (digits_value 10 ds < 2 ^ 32) → is_small ds ≡ true
 numeral_passes ds h = rw (lt-ltb _ _ h.0.0, digits_pass ds h.0.1, lt-ltb _ _ h.1) refl
 
--- what `get_one` reads at a `u32` is the number of the text
+-- where `get_one` reads a `u32`, it is the number that the text writes
 pub reads_number : {E : Type 0} (G : List ℕ → Result ℕ E → Type 0) (text : List ℕ) (r : Option ℕ)
     → ((u : List ℕ) (x : Result ℕ E) → G u x → ParsesUnsigned 32 10 u x) → ReadsOne G text r → r ≡ number_meant text
 reads_number G text (Some v) parses h =

@@ -1,4 +1,4 @@
--- What the walk over accepted words keeps of an option of one number.
+-- What the walk over words that are taken keeps of an option of one number.
 use Rattle.std.proofs.Common.{ne_eqb, ◌≡◌, ◌<◌, ◌≤◌, ◌+◌, ◌&&◌, ℕ, Bool, cond, not, true, false, zero, suc, refl, ap, subst, arith, List, []}
 use Rattle.std.proofs.Common.{◌∷◌, ◌++◌, length, drop, fold, find, Option, Some, None, IfSome, is_some, option_and_then, lt-ltb, bytes_eq, min}
 use Rattle.std.proofs.lemmas.Slice.Eq.{bytes_eq-Decides}
@@ -40,7 +40,7 @@ each_append : {X : Type 0} (P : X → Type 0) (xs ys : List X) → Each P xs →
 each_append P [] ys a b = b
 each_append P (x ∷ xs) ys a b = (a.0, each_append P xs ys a.1 b)
 
--- what holds of each holds of the one that a search finds
+-- what holds of each item holds of the one that a search finds
 pub found : {X : Type 0} (P : X → Type 0) (p : X → Bool) (xs : List X) → Each P xs → IfSome (find p xs) P
 found P p [] h = tt
 found P p (x ∷ xs) h = go (p x) (found P p xs h.1)
@@ -74,26 +74,26 @@ id_same a = (bytes_eq-Decides a a).1 refl
 
 -- ---- an option of one number
 
--- the first value is a number in the bounds
+-- the first value is a number within the bounds
 abbrev pub IsFirst : ℕ → ℕ → List Text → Type 0
 IsFirst low high [] = ⊥
 IsFirst low high (v ∷ vs) = is_unsigned_in low high v ≡ true
 
--- a row of this id has such a value
+-- a row of this id has such a first value
 abbrev IsFine : Text → ℕ → ℕ → Row → Type 0
 IsFine id low high r = bytes_eq r.id id ≡ true → (r.reading ≡ reading.AsWritten) × IsFirst low high r.values
 
--- each use of the option has a value, which its parser of numbers takes
+-- the option takes a value each time, and a number within the bounds is all that its parser takes
 pub record IsNumber (low high : ℕ) (a : Rule) : Type 0 where
   pub action : action_of a ≡ action.Set
   pub parser : parser_of_value a.parser ≡ parser.Unsigned low high
   pub range : 0 < (unwrap_or_range a.range).start_inclusive
 
--- a rule of this id is one
+-- a rule of this id is that of an option of one number
 abbrev pub Serves : Text → ℕ → ℕ → Rule → Type 0
 Serves id low high a = bytes_eq a.id id ≡ true → IsNumber low high a
 
--- what the option reads is a number in the bounds
+-- the number that is read for the option is within the bounds
 abbrev pub HasNumber : Text → ℕ → ℕ → List Row → Type 0
 HasNumber id low high rows = (n : ℕ) × (option_and_then number_meant (one_of id rows) ≡ Some n) × (low ≤ n) × (n ≤ high)
 
@@ -109,7 +109,7 @@ module _ (low high : ℕ) where
   more_first [] ws h = absurd h
   more_first (v ∷ vs) ws h = h
 
-  -- values that the parser takes begin with a number
+  -- where the parser takes the values, the first is a number within the bounds
   pub first_accepted : (i : Bool) (p : ValueParser) (v : Text) (vs : List Text) → p ≡ parser.Unsigned low high → values_kinds i p (v ∷ vs) ≡ []
       → IsFirst low high (v ∷ vs)
   first_accepted i p v vs is e = subst (λ q. accepts i q v ≡ true) is (accepted i p v (none_left _ _ e).0)
@@ -117,7 +117,7 @@ module _ (low high : ℕ) where
   none_given : (least most : ℕ) → 0 < least → range_kinds least most 0 ≡ [] → ⊥
   none_given least most lt e = some_kind _ _ (rw (lt-ltb 0 least lt) at e)
 
-  -- what a use of the option comes to
+  -- a use of the option that is taken has a number within the bounds
   number_used : (again : Bool) (a : Rule) (values : List Text) (rows : List Row) → IsNumber low high a → use_fault again a values rows ≡ []
       → (action_of a ≡ action.Set) × (reading_by a ≡ reading.AsWritten) × IsFirst low high (values_or_missing a values)
   number_used again a [] rows n e = absurd (none_given _ _ n.range (none_left _ _ e).0)
@@ -154,7 +154,7 @@ module _ (id : Text) (low high : ℕ) where
   count_fine own how s n rows apart h =
       at_fine own (new_count s n) _ rows (λ r fine. (λ e. ((fine e).0, more_first low high r.values _ (fine e).1), tt)) (λ e. absurd (apart e), tt) h
 
-  -- a use keeps the rows fine, whichever argument it is of
+  -- after a use of any argument the rows of this id still have such a first value
   used_fine : (x : ArgAction) (own : Text) (how : Reading) (values : List Text) (rows : List Row)
       → (bytes_eq own id ≡ true → (x ≡ action.Set) × (how ≡ reading.AsWritten) × IsFirst low high values) → Fine rows
       → Fine (used_as x own how values rows)
@@ -228,7 +228,7 @@ module _ (id : Text) (low high : ℕ) (c : List Rule) (again : Bool) (serves : E
           let parts = none_left _ _ f in
           more _ parts.1 (react_fine a [] h serve parts.0 fine)
 
-  -- one character of a bundle, where those after it keep the rows fine
+  -- one character of a bundle, where the characters after it keep the rows so
   step_fine : (o : Option ℕ) (flags : Text) (skip : ℕ) (so_far : Outcome) (h : Held) (after : Text → ℕ → Outcome → Held → Held × Outcome) (fails : Text → ℕ → Held → Kinds)
       → ((rest : Text) (n : ℕ) (x : Outcome) (k : Held) → fails rest n k ≡ [] → Fine id low high k.rows → Fine id low high (after rest n x k).0.rows)
       → bundle_step_fault c again o flags skip h fails ≡ [] → Fine id low high h.rows

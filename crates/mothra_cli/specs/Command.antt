@@ -8,7 +8,7 @@ use Rattle.clap.specs.declared.builder.value_parser.ValueParser.TheVariants.{Uns
 abbrev pub print_shape : Shape
 print_shape = new_shape (codes "print")
 
--- `--test`: the number of a test, which has to be given
+-- `--test`: the number of a test, 1 to 256, which has to be given
 abbrev pub test_rule : Rule
 test_rule = record (new_rule (codes "test")) {
   long = Some (codes "test");
@@ -16,7 +16,7 @@ test_rule = record (new_rule (codes "test")) {
   parser = Some (Unsigned 1 256);
 }
 
--- `--steps`: the limit on steps, 10000 where it is not given
+-- `--steps`: the limit on steps, 1 to 1000000; 10000 where it is not given
 abbrev pub steps_rule : Rule
 steps_rule = record (new_rule (codes "steps")) {
   long = Some (codes "steps");
@@ -32,7 +32,7 @@ exec_shape = record (new_shape (codes "exec")) { rules = test_rule ∷ steps_rul
 abbrev pub ops_rule : Rule
 ops_rule = record (new_rule (codes "ops")) { long = Some (codes "ops") }
 
--- `--every`: one mutant in so many, and each of them where it is not given
+-- `--every`: q, 1 to 1048575, where each q-th mutant is kept, from the first; 1 where it is absent
 abbrev pub every_rule : Rule
 every_rule = record (new_rule (codes "every")) {
   long = Some (codes "every");
@@ -44,7 +44,7 @@ every_rule = record (new_rule (codes "every")) {
 abbrev pub list_shape : Shape
 list_shape = record (new_shape (codes "list")) { rules = ops_rule ∷ every_rule ∷ [] }
 
--- `--workers`: how many threads run the mutants, 2 where it is not given
+-- `--workers`: how many threads run the mutants, 1 to 32; 2 where it is not given
 abbrev pub workers_rule : Rule
 workers_rule = record (new_rule (codes "workers")) {
   long = Some (codes "workers");
@@ -59,7 +59,7 @@ run_shape = record (new_shape (codes "run")) {
       ∷ every_rule ∷ steps_rule ∷ workers_rule ∷ [];
 }
 
--- there is `--version`, a subcommand is needed, and `help` is none
+-- `mothra` without its subcommands: it has `--version`, needs a subcommand, and `help` is none
 abbrev pub bare : App
 bare = record {
   top = record (new_shape (codes "mothra")) {

@@ -1,10 +1,11 @@
--- What is read of a reader that has these bytes left, None where it does not tell them.
+-- What is read from a reader. A reader is given by the bytes that it has left, or None where these
+-- are not known.
 use Rattle.std.specs.Prelude.{◌≡◌, ◌≤◌, ◌<◌, ℕ, Bool, true, false, List, length, Option, Some, None, Result, Ok, Err, ⊤}
 use Rattle.std.specs.Io.KnownBytes.{Consumes, IsAtEnd}
 use Rattle.mothra_cli.specs.declared.input.InputFault.{InputFault}
 use Rattle.mothra_cli.specs.declared.input.InputFault.TheVariants.{Memory, Read}
 
--- how many bytes are read at most: one more than a job may have
+-- the most bytes that are read: one more than a job may have
 abbrev pub limit : ℕ
 limit = 1048577
 
@@ -17,11 +18,11 @@ ReadsUpTo most old new bytes =
 abbrev pub IsRead : ℕ → Option (List ℕ) → Option (List ℕ) → Type 0
 IsRead most old new = (bytes : List ℕ) × ReadsUpTo most old new bytes
 
--- the reader lost no more than `most` bytes, from its front
+-- at most `most` bytes were taken from the front of the reader
 abbrev pub TakesAtMost : ℕ → Option (List ℕ) → Option (List ℕ) → Type 0
 TakesAtMost most old new = (bytes : List ℕ) × (length bytes ≤ most) × Consumes old new bytes
 
--- the bytes are all that the reader has, where it tells them
+-- the bytes are all that the reader has, where these are known
 abbrev pub AreAll : Option (List ℕ) → List ℕ → Type 0
 AreAll None bytes = ⊤
 AreAll (Some left) bytes = bytes ≡ left

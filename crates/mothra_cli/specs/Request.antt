@@ -18,22 +18,22 @@ use Rattle.mothra_cli.specs.declared.request.Request.TheVariants as command
 use Rattle.mothra_cli.specs.declared.request.WordsFault.{WordsFault}
 use Rattle.mothra_cli.specs.declared.request.WordsFault.TheVariants as fault
 
--- What a list of words is, one of three.
+-- the three meanings of a list of words
 pub data Meaning : Type 0 where
-  -- words that the command line refuses, or a call for its help or version
+  -- the command line refuses the words, or they ask for help or the version
   refused : Meaning
-  -- a command whose value of `--ops` is no list of operators' codes
+  -- the words are a command whose value of `--ops` is no list of operators' codes
   bad_operators : Meaning
   request : Request → Meaning
 
--- the number that a text of digits is, where 32 bits hold it
+-- the number that a text of digits writes, where it has at most 32 bits
 abbrev pub number_meant : Text → Option ℕ
 number_meant text =
     let digits = without_leading_plus text in
     if is_numeral digits && nat_lt (digits_value 10 digits) (2 ^ 32)
     then Some (digits_value 10 digits) else None
 
--- the number that an option has, by its name
+-- the number that the option of this name has
 abbrev pub option_number : Text → List Row → Option ℕ
 option_number name rows = option_and_then number_meant (one_of name rows)
 
@@ -41,31 +41,31 @@ option_number name rows = option_and_then number_meant (one_of name rows)
 abbrev pub operators_at : List Row → Option (List Op)
 operators_at rows = option_map_or operators_of (first_of (codes "ops") rows) (Some all_ops)
 
--- `exec` with these numbers, both of which the command line wants
+-- the meaning of `exec` with these numbers, both of which have to be there
 abbrev pub exec_meaning : Option ℕ → Option ℕ → Meaning
 exec_meaning (Some test) (Some steps) = request (command.Exec test steps)
 exec_meaning _ _ = refused
 
--- `list` with these operators and this number, which the command line wants
+-- the meaning of `list` with these operators and this number, which has to be there
 abbrev pub list_meaning : Option (List Op) → Option ℕ → Meaning
 list_meaning None every = bad_operators
 list_meaning (Some operators) (Some every) = request (command.List operators every)
 list_meaning (Some operators) None = refused
 
--- `run` with these operators and these numbers, which the command line wants
+-- the meaning of `run` with these operators and these numbers, which have to be there
 abbrev pub run_meaning : Option (List Op) → Option ℕ → Option ℕ → Option ℕ → Meaning
 run_meaning None every steps workers = bad_operators
 run_meaning (Some operators) (Some every) (Some steps) (Some workers) =
     request (command.Run operators every steps workers)
 run_meaning (Some operators) _ _ _ = refused
 
--- the values of the options of `run`
+-- the meaning of `run` with these options
 abbrev pub run_options : List Row → Meaning
 run_options rows =
     run_meaning (operators_at rows) (option_number (codes "every") rows)
     (option_number (codes "steps") rows) (option_number (codes "workers") rows)
 
--- the subcommand of this name with these values of its options
+-- the meaning of the subcommand of this name with these options
 abbrev pub subcommand_meaning : Text × List Row → Meaning
 subcommand_meaning (name, rows) =
     if bytes_eq name (codes "print") then request command.Print
@@ -80,7 +80,7 @@ subcommand_meaning (name, rows) =
 abbrev pub IsTaken : List Text → Type 0
 IsTaken words = fault_of mothra words ≡ []
 
--- what the words are
+-- the meaning of the words
 unfoldable pub meaning_of : List Text → Meaning
 meaning_of words =
     if is_empty (fault_of mothra words)
@@ -99,7 +99,7 @@ request_of words = request_in (meaning_of words)
 abbrev pub HasBadOperators : List Text → Type 0
 HasBadOperators words = meaning_of words ≡ bad_operators
 
--- the numbers are in the bounds of their options
+-- the numbers of the request are within the bounds of their options
 abbrev pub IsBounded : Request → Type 0
 IsBounded command.Print = ⊤
 IsBounded (command.Exec test steps) = (1 ≤ test) × (test ≤ 256) × (1 ≤ steps) × (steps ≤ 1000000)
@@ -108,17 +108,17 @@ IsBounded (command.Run operators every steps workers) =
     (1 ≤ every)
     × (every ≤ 1048575) × (1 ≤ steps) × (steps ≤ 1000000) × (1 ≤ workers) × (workers ≤ 32)
 
--- memory ran out, or the command line refuses the words by
--- such an error, or answers a call for help or version by it
+-- the error is one by which the command line refuses the words, or answers
+-- a call for help or the version; or it says that memory ran out
 abbrev pub IsRefusalOf : List Text → Error → Type 0
 IsRefusalOf words error = HasKind (fault_of mothra words) error
 
--- why the words are no request, or memory that ran out
+-- the fault says why the words are no request, or that memory ran out
 abbrev pub IsFaultOf : List Text → WordsFault → Type 0
 IsFaultOf words (fault.Refused error) = IsRefusalOf words error
 IsFaultOf words fault.BadOperatorList = HasBadOperators words
 
--- memory ran out
+-- the fault says that memory ran out
 abbrev pub IsMemory : WordsFault → Type 0
 IsMemory (fault.Refused error) = kind_of error ≡ kind.OutOfMemory
 IsMemory fault.BadOperatorList = ⊥

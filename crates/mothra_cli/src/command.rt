@@ -1,4 +1,4 @@
-//! The command line that the program takes: one function for each subcommand and option.
+//! The command line of `mothra`: a function for each subcommand and each option.
 
 ghost use Rattle.std.specs.Prelude.{◌≡◌, IfOk, map, is_some, true, false};
 ghost use Rattle.clap.specs.Words.{app_of, shape_of, rule_of, fault_of, subcommand_rows_of, subcommand_of, FailsBy};
@@ -11,7 +11,7 @@ use clap::{Arg, ArgMatches, Command, Error};
 use std::alloc::{AllocError, Global};
 use std::convert::AsStr;
 
-/// The number of the version: that of the package `mutants`.
+/// The version, which is also that of the package `mutants`.
 pub const VERSION: &str = "0.1.0";
 
 fn print_command<'a>(alloc: Global) -> Command<'a>
@@ -21,7 +21,7 @@ fn print_command<'a>(alloc: Global) -> Command<'a>
     Command::new(alloc, "print").about("Prints the program of the job in fixed form")
 }
 
-/// The program's own command, to which each subcommand is added.
+/// The command `mothra` without its subcommands.
 fn bare_command<'a>(alloc: Global) -> Command<'a>
     ensures app { app_of result ≡ bare }
     ensures globals { (out-Command result).has_globals ≡ false }
@@ -55,7 +55,8 @@ fn steps_option<'a>(alloc: Global) -> Arg<'a>
         .default_value("10000")
 }
 
-/// The option `--ops`.
+/// The option `--ops`: the codes of operators, joined by commas. Its value is one text for `clap`; the codes in it are
+/// read afterwards, so a bad list is reported only where `clap` takes the words.
 pub fn ops_option<'a>(alloc: Global) -> Arg<'a>
     ensures rule { rule_of result ≡ ops_rule }
     ensures global { result.global ≡ false }
@@ -65,7 +66,7 @@ pub fn ops_option<'a>(alloc: Global) -> Arg<'a>
     )
 }
 
-/// The option `--every`.
+/// The option `--every`: 1 to 1,048,575; 1 where it is absent.
 pub fn every_option<'a>(alloc: Global) -> Arg<'a>
     ensures rule { rule_of result ≡ every_rule }
     ensures global { result.global ≡ false }
@@ -139,7 +140,7 @@ fn command<'a>(alloc: Global) -> Result<Command<'a>, AllocError>
     Ok(command)
 }
 
-/// What the words say, or why they are refused. The first word is the program's name.
+/// What `clap` finds in the words, or why it refuses them. The first word is the program's name.
 pub(crate) fn matches_of<'a, S: AsStr>(
     alloc: Global,
     words: &'a [S],

@@ -1,4 +1,4 @@
-//! All that a reader has, up to a limit.
+//! The bytes of a reader, up to a limit.
 
 ghost use Rattle.std.specs.Prelude.{◌≡◌, false, IfOk};
 ghost use Rattle.mothra_cli.specs.Watched.{inside, has_failed};
@@ -8,12 +8,12 @@ use crate::watched::Watched;
 use std::alloc::Global;
 use std::io::Read;
 
-/// How many bytes are read at most: one more than a job may have.
+/// The most bytes that are read: one more than a job may have, so that a larger job shows.
 const LIMIT: usize = 1_048_577;
 
 const CHUNK: usize = 4096;
 
-/// Why the input is not there.
+/// Why the input could not be read.
 #[derive(Debug, Drop, Clone, Copy, PartialEq, Eq)]
 pub enum InputFault {
     /// Memory ran out.
@@ -22,8 +22,8 @@ pub enum InputFault {
     Read,
 }
 
-/// All the bytes that a reader has, or its first 1,048,577. A
-/// read that was interrupted has failed, and is not tried again.
+/// All bytes that a reader has, or its first 1,048,577. A read that was interrupted has
+/// failed; it is not tried again.
 pub fn read_input<R: Read>(alloc: Global, reader: &mut Watched<R>) -> Result<Vec<u8>, InputFault>
     requires { has_failed reader.old ≡ false }
     ensures bytes { IfOk result

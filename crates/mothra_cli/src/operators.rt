@@ -1,4 +1,4 @@
-//! The operators that words choose.
+//! The operators that `--ops` names.
 
 ghost use Rattle.std.specs.Prelude.{◌≡◌, IfOk, Some};
 ghost use Rattle.mothra_codes.specs.Op.{all_ops};
@@ -8,7 +8,7 @@ use mothra_codes::Op;
 use std::alloc::{AllocError, Global};
 use std::marker::Model;
 
-/// The operators that words choose, in the order in which they name them.
+/// The operators that the words name, in the order of the words. One may occur twice.
 #[derive(Debug, Drop)]
 pub struct Operators {
     list: Vec<Op>,
@@ -24,7 +24,7 @@ impl Model for Operators {
 }
 
 impl Operators {
-    /// All operators, in their order.
+    /// All operators, in the order of their codes.
     pub(crate) fn all(alloc: Global) -> Result<Operators, AllocError>
         ensures { IfOk result (λ operators. operators ≡ all_ops) }
     {
@@ -33,7 +33,7 @@ impl Operators {
         })
     }
 
-    /// The operators whose codes the text has between commas.
+    /// The operators whose codes stand in the text, joined by commas. None where a piece between commas is no code.
     pub(crate) fn named(alloc: Global, text: &str) -> Result<Option<Operators>, AllocError>
         ensures { IfOk result (λ operators. operators ≡ operators_of text.now) }
     {
@@ -47,7 +47,7 @@ impl Operators {
         Ok(Some(Operators { list }))
     }
 
-    /// The operators as a slice. It takes no memory.
+    /// The operators as a slice. The call takes no memory.
     pub fn as_slice(&self) -> &[Op]
         ensures { result.now ≡ self.now }
     {

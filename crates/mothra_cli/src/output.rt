@@ -1,4 +1,4 @@
-//! A whole text to a writer.
+//! A whole text is written.
 
 ghost use Rattle.std.specs.Prelude.{◌≡◌, false, is_err, OnOk, OnErr};
 ghost use Rattle.std.specs.Io.KnownBytes.{Appends};
@@ -8,12 +8,12 @@ ghost use Rattle.mothra_cli.specs.Output.{AppendsFront};
 use crate::watched::Watched;
 use std::io::Write;
 
-/// A write failed, or took none of some bytes.
+/// A write failed, or took no byte of some.
 #[derive(Debug, Drop, Clone, Copy, PartialEq, Eq)]
 pub struct OutputFault;
 
-/// Writes the whole text, or a front of it where a write fails or takes no
-/// byte. A write that was interrupted has failed, and is not tried again.
+/// Writes the whole text. Where a write fails or takes no byte, only the text in front of that was
+/// written. A write that was interrupted has failed; it is not tried again.
 pub fn write_whole<W: Write>(writer: &mut Watched<W>, text: &[u8]) -> Result<(), OutputFault>
     requires { has_failed writer.old ≡ false }
     ensures whole { OnOk result (Appends (W.contents (inside writer.old)) (W.contents (inside writer.new)) text.now) }

@@ -1,4 +1,5 @@
-//! What the words ask for.
+//! What the words of the command line ask for. `clap` tests the ranges of numbers and gives the defaults; `request_of`
+//! reads the numbers and has no default of its own, so it can not hide a refusal.
 
 ghost use Rattle.std.specs.Prelude.{◌≡◌, IfErr, IfOk, Ok, OnOk, Some, codes, map};
 ghost use Rattle.std.specs.Option.{option_map_or};
@@ -13,23 +14,24 @@ use clap::{ArgMatches, Error};
 use std::alloc::{AllocError, Global};
 use std::convert::AsStr;
 
-/// A command with its values.
+/// A command with the values of its options.
 #[derive(Debug, Drop)]
 pub enum Request {
-    /// `print`: the program of the job.
+    /// `print`: the program of the job is printed.
     Print,
-    /// `exec`: the number of the test, 1 to 256, and the limit on steps, 1 to 1,000,000.
+    /// `exec`: the program is run on one test, whose number is 1 to 256; the limit on steps is 1 to 1,000,000.
     Exec {
         test: u32,
         steps: u32,
     },
-    /// `list`: the operators, and the step from one mutant of an operator to the next, 1 to 1,048,575.
+    /// `list`: the mutants of these operators. Of each list the items 1, q + 1, 2 q + 1 and so on are kept, where
+    /// `every` is q, 1 to 1,048,575.
     List {
         operators: Operators,
         every: u32,
     },
-    /// `run`: the operators, the step from one mutant of an operator to the next, 1 to 1,048,575,
-    /// the limit on steps, 1 to 1,000,000, and the number of threads that run mutants, 1 to 32.
+    /// `run`: the mutants of these operators, thinned by `every` as in a list; the limit on steps is 1 to
+    /// 1,000,000, and 1 to 32 threads run the mutants.
     Run {
         operators: Operators,
         every: u32,
@@ -38,10 +40,10 @@ pub enum Request {
     },
 }
 
-/// Why words ask for nothing.
+/// Why the words are no request.
 #[derive(Debug, Drop)]
 pub enum WordsFault {
-    /// The command line refuses the words, or they ask for help or the version, or memory ran out: `clap`'s error.
+    /// An error of `clap`: it refuses the words, they ask for help or the version, or memory ran out.
     Refused(Error),
     /// The value of `--ops` is no list of operators' codes joined by commas.
     BadOperatorList,
@@ -68,14 +70,14 @@ impl From<AllocError> for WordsFault {
     }
 }
 
-/// The number that an option has.
+/// The number that the option of this name has; None where it is absent and has no default.
 pub fn number_at(matches: &ArgMatches<'_>, name: &str) -> Option<u32>
     ensures { result ≡ asked.option_number name.now (rows_of (found_of matches.now)) }
 {
     matches.get_one(name)
 }
 
-/// The operators that `--ops` names, or all where it is absent.
+/// The operators that `--ops` names, or all where it is absent. None where its value is no list of codes.
 pub fn operators_at(
     alloc: Global,
     matches: &ArgMatches<'_>,
@@ -88,7 +90,7 @@ pub fn operators_at(
     }
 }
 
-/// What `exec` asks for with these values of its options.
+/// The request of `exec` with these options.
 fn exec_request(matches: &ArgMatches<'_>) -> Option<Request>
     ensures { ReadsRequest (subcommand_meaning (codes "exec", rows_of (found_of matches.now))) (Ok result) }
 {
@@ -98,7 +100,7 @@ fn exec_request(matches: &ArgMatches<'_>) -> Option<Request>
     })
 }
 
-/// What `list` asks for with these values of its options.
+/// The request of `list` with these options.
 fn list_request(alloc: Global, matches: &ArgMatches<'_>) -> Result<Option<Request>, WordsFault>
     ensures { ReadsRequest (subcommand_meaning (codes "list", rows_of (found_of matches.now))) result }
 {
@@ -111,7 +113,7 @@ fn list_request(alloc: Global, matches: &ArgMatches<'_>) -> Result<Option<Reques
     }
 }
 
-/// What `run` asks for with these operators and numbers.
+/// The request of `run` with these operators and numbers.
 fn run_with(
     operators: Operators,
     every: Option<u32>,
@@ -128,7 +130,7 @@ fn run_with(
     })
 }
 
-/// What `run` asks for with these values of its options.
+/// The request of `run` with these options.
 fn run_request(alloc: Global, matches: &ArgMatches<'_>) -> Result<Option<Request>, WordsFault>
     ensures { ReadsRequest (subcommand_meaning (codes "run", rows_of (found_of matches.now))) result }
 {
@@ -143,7 +145,7 @@ fn run_request(alloc: Global, matches: &ArgMatches<'_>) -> Result<Option<Request
     }
 }
 
-/// What the subcommand of this name asks for.
+/// The request of the subcommand of this name with these options.
 fn request_named(
     alloc: Global,
     name: &str,
@@ -160,7 +162,7 @@ fn request_named(
     }
 }
 
-/// What the subcommand that was met asks for.
+/// The request of the subcommand that the words name, with its options.
 fn request_met(alloc: Global, matches: &ArgMatches<'_>) -> Result<Option<Request>, WordsFault>
     ensures { ReadsRequest (option_map_or subcommand_meaning (subcommand_rows_of matches.now) refused) result }
 {
@@ -170,7 +172,7 @@ fn request_met(alloc: Global, matches: &ArgMatches<'_>) -> Result<Option<Request
     }
 }
 
-/// What the words ask for, or why they ask for nothing. The first word is the program's name.
+/// The request that the words are, or why they are none. The first word is the program's name.
 pub fn request_of<S: AsStr>(alloc: Global, words: &[S]) -> Result<Request, WordsFault>
     ensures request { IfOk result (λ r. asked.request_of (map S.text words.now) ≡ Some r) }
     ensures bounds { IfOk result IsBounded }

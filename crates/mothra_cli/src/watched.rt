@@ -1,4 +1,6 @@
-//! A reader or a writer that remembers whether a call has failed.
+//! A reader or a writer that remembers whether a call has failed, so that contracts can speak of it. That the answer of
+//! a call is the answer of the stream inside is tested and not stated: the kit's `Read` and `Write` do not say which
+//! answer a call gives.
 
 ghost use Rattle.std.specs.Prelude.{◌≡◌, ◌||◌, false, is_err};
 ghost use Rattle.std.specs.Io.{ReadsAtMost, WritesAtMost};
@@ -8,7 +10,7 @@ ghost use Rattle.mothra_cli.specs.Watched.{inside, has_failed, took_none};
 use std::io;
 use std::io::{Read, Write};
 
-/// A reader or a writer, and whether a call of it has failed.
+/// A reader or a writer, and whether one of its calls has failed.
 #[derive(Drop)]
 pub struct Watched<T> {
     inner: T,
@@ -16,7 +18,7 @@ pub struct Watched<T> {
 }
 
 impl<T> Watched<T> {
-    /// Watches a reader or a writer. It takes no memory.
+    /// Watches a reader or a writer. The call takes no memory.
     pub fn new(inner: T) -> Watched<T>
         ensures inner { inside result ≡ inner }
         ensures failed { has_failed result ≡ false }
@@ -27,7 +29,7 @@ impl<T> Watched<T> {
         }
     }
 
-    /// Whether a read has failed, or a write has failed or taken none of some bytes. It takes no memory.
+    /// Whether a read has failed, or a write has failed or taken no byte of some. The call takes no memory.
     pub fn failed(&self) -> bool
         ensures { result ≡ has_failed self.now }
     {
@@ -36,7 +38,7 @@ impl<T> Watched<T> {
 }
 
 impl<R: Read> Watched<R> {
-    /// One read of the reader inside, whose answer it gives. A read that was interrupted has failed.
+    /// One read of the reader inside, with its answer. A read that was interrupted has failed.
     pub fn read(&mut self, buf: &mut [u8]) -> io::Result<usize>
         ensures bound { ReadsAtMost result buf.new }
         ensures bytes { ReadConsumes (R.remaining (inside self.old)) (R.remaining (inside self.new)) result buf.new }
@@ -51,7 +53,7 @@ impl<R: Read> Watched<R> {
 }
 
 impl<W: Write> Watched<W> {
-    /// One write of the writer inside, whose answer it gives.
+    /// One write of the writer inside, with its answer.
     pub fn write(&mut self, buf: &[u8]) -> io::Result<usize>
         ensures bound { WritesAtMost result buf.now }
         ensures bytes { WriteAppends (W.contents (inside self.old)) (W.contents (inside self.new)) result buf.now }

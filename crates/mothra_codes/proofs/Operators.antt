@@ -54,7 +54,7 @@ index_below Src = omega arith
 index_below Svr = omega arith
 index_below Uoi = omega arith
 
--- operators with one number are one
+-- two operators with the same number are the same
 pub same_op : (a b : Op) → index a ≡ index b → a ≡ b
 same_op a b e = sym (op_at-index a) ∙ ap op_at e ∙ op_at-index b
 

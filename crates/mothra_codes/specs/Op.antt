@@ -29,11 +29,12 @@ index Src = 19
 index Svr = 20
 index Uoi = 21
 
+-- all operators in their order
 abbrev pub all_ops : List Op
 all_ops = Aar ∷ Abs ∷ Acr ∷ Aor ∷ Asr ∷ Car ∷ Cnr
     ∷ Crp ∷ Csr ∷ Der ∷ Dsa ∷ Glr ∷ Lcr ∷ Ror ∷ Rsr ∷ San ∷ Sar ∷ Scr ∷ Sdl ∷ Src ∷ Svr ∷ Uoi ∷ []
 
--- the code of the operator (King and Offutt 1991)
+-- the operator's code: three letters (King and Offutt 1991)
 abbrev pub code_of : Op → List ℕ
 code_of Aar = codes "AAR"
 code_of Abs = codes "ABS"

@@ -1,4 +1,5 @@
-// The 22 operators, their codes and their order.
+//! The 22 operators, their codes and their order.
+
 ghost use Rattle.std.specs.Prelude.{◌≡◌, ◌<◌, IfSome};
 ghost use Rattle.mothra_codes.specs.Op.{index, code_of};
 
@@ -121,7 +122,7 @@ impl Op {
     /// The operator with this code, letter by letter. Lower case and blanks are no part of a code.
     pub fn of(text: &str) -> Option<Op>
         ensures known { (op : Op) → text.now ≡ code_of op → result ≡ Some op }
-        // So any other text gives `None`.
+        // An operator is found for its own code alone, so any other text gives `None`.
         ensures only { IfSome result (λ op. text.now ≡ code_of op) }
     {
         Op::ALL.iter().copied().find(|op| op.code() == text)

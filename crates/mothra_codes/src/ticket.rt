@@ -1,8 +1,8 @@
-//! The name of one mutant.
+//! The name of a mutant.
 
 use crate::op::Op;
 
-/// Mutant `number` of an operator's list, from 1.
+/// A mutant, named by its operator and its place in that operator's list, from 1.
 #[derive(Clone, Copy, PartialEq, Eq, Hash, Debug, Drop)]
 pub struct Ticket {
     pub op: Op,

@@ -1,4 +1,4 @@
--- Mutants that are added behind those of a list.
+-- Mutants are added at the end of a list.
 use Rattle.std.proofs.Common.{arith, ◌≡◌, ◌<◌, ◌+◌, ◌++◌, ℕ, inl, inr, refl, sym, List, [], ◌∷◌, get_or, subst}
 use Rattle.std.proofs.lemmas.List.Elements.{All-push, All-weaker}
 use Rattle.std.proofs.lemmas.List.Quantifiers.{all_pairs_push}
@@ -10,7 +10,7 @@ use Rattle.mothra_equivalents.specs.code.Equivalents.{AreOf, IsFront}
 use Rattle.mothra_equivalents.specs.Equivalents.{IsNamed}
 use Rattle.mothra_equivalents.specs.declared.equivalents.Equivalent.{Equivalent}
 
--- what is before a number of an operator is before the next one
+-- a ticket before a number of an operator is before the next number
 before_next : (op : Op) (number : ℕ) (t : Ticket) → Before t (ticket op number) → Before t (ticket op (number + 1))
 before_next op number t (inl lower) = inl lower
 before_next op number t (inr (same, less)) = inr (same, omega (arith, less))

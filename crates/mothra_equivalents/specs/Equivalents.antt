@@ -11,23 +11,23 @@ use Rattle.mothra_equivalents.specs.declared.equivalents.Equivalent.{Equivalent}
 use Rattle.mothra_equivalents.specs.declared.why.Why.{Why}
 use Rattle.mothra_equivalents.specs.declared.why.Why.TheVariants as why
 
--- The ticket's mutant is one of the plan. With whatever arguments that fit, and whatever
--- the limit on steps, it comes to what the program comes to where that returns or stops.
+-- The ticket's mutant is one of the plan. For all arguments that fit and any limit on steps,
+-- where the program returns or stops, the mutant has the same outcome.
 pub record IsEquivalentMutant (plan : PlanFields) (ticket : Ticket) : Type 0 where
   pub mutant : MutantFields
   pub is : mutant_of plan ticket.op ticket.number ≡ Some mutant
   pub equivalent : IsEquivalent (program_of plan)
       (patched (program_of plan) mutant.number mutant.statement)
 
--- So it is where the limit spares so many steps: on a test on which the
--- program ends as many steps before the limit, the mutant comes to the same.
+-- The ticket's mutant is one of the plan. Where the program returns or stops at least
+-- `spare` steps before the limit, the mutant has the same outcome.
 pub record IsSparedMutant (plan : PlanFields) (ticket : Ticket) (spare : ℕ) : Type 0 where
   pub mutant : MutantFields
   pub is : mutant_of plan ticket.op ticket.number ≡ Some mutant
   pub spared : IsEquivalentWithin spare (program_of plan)
       (patched (program_of plan) mutant.number mutant.statement)
 
--- what a rule says of the ticket's mutant
+-- what a rule promises of the ticket's mutant
 abbrev pub IsMutantBy : Why → PlanFields → Ticket → Type 0
 IsMutantBy why.Same plan ticket = IsEquivalentMutant plan ticket
 IsMutantBy why.Unread plan ticket = IsEquivalentMutant plan ticket
@@ -35,11 +35,12 @@ IsMutantBy why.Continues plan ticket = IsEquivalentMutant plan ticket
 IsMutantBy (why.Spare spare) plan ticket = IsSparedMutant plan ticket spare
 IsMutantBy why.Unreached plan ticket = IsEquivalentMutant plan ticket
 
--- the mutant is what its rule says
+-- the mutant is as its rule promises
 abbrev pub IsNamed : PlanFields → Equivalent → Type 0
 IsNamed plan equivalent = IsMutantBy equivalent.why plan equivalent.ticket
 
--- mutants that are equivalent, each as its rule says, by operator, then number, each once
+-- the mutants are equivalent, each as its rule promises; they stand by operator, then number, each
+-- once
 pub record AreEquivalents (plan : PlanFields) (list : List Equivalent) : Type 0 where
   pub ordered : AllPairs (λ one other. Before one.ticket other.ticket) list
   pub each : All (IsNamed plan) list

@@ -1,4 +1,4 @@
-//! The mutants of a plan that are proved equivalent.
+//! The mutants of a plan that are proved equivalent, found one by one.
 
 ghost use Rattle.std.specs.Prelude.{◌≡◌, ◌+◌, IfErr, IfOk, OnOk};
 ghost use Rattle.mothra_codes.specs.Op.{index};
@@ -12,17 +12,17 @@ use mothra_codes::{Op, Ticket};
 use mothra_ops::{OpsFault, Plan};
 use std::alloc::Global;
 
-/// A mutant that is proved equivalent: no test can kill it on which the program
-/// returns or stops, by SPARE within as many steps fewer as the rule names.
+/// A mutant that is proved equivalent: no test can kill it on which the program returns or stops. By SPARE-n this
+/// holds only of tests on which the program does so at least n steps before the limit.
 #[derive(Clone, Copy, PartialEq, Eq, Debug, Drop)]
 pub struct Equivalent {
-    /// The mutant, by its number in the plan's list of the operator.
+    /// The mutant; the number is that in the plan's list of the operator, which may be thinned.
     pub ticket: Ticket,
     /// The rule by which it was proved.
     pub why: Why,
 }
 
-/// Adds the operator's mutant of this number, where it is proved equivalent.
+/// Adds the operator's mutant with this number to the list, if it is proved equivalent.
 fn add(
     alloc: Global,
     list: &mut Vec<Equivalent>,
@@ -42,7 +42,7 @@ fn add(
     Ok(())
 }
 
-/// Adds those mutants of the operator that are proved equivalent, of so many.
+/// Adds the mutants of the operator that are proved equivalent to the list; `count` is how many mutants it has.
 fn add_operator(
     alloc: Global,
     list: &mut Vec<Equivalent>,
@@ -61,8 +61,8 @@ fn add_operator(
     Ok(())
 }
 
-/// The mutants of the plan that are proved equivalent, by operator, then number. That a mutant is not among them says
-/// nothing of it.
+/// The mutants of the plan that are proved equivalent, by operator, then number. A mutant that is not among them may
+/// be equivalent, too.
 pub fn equivalents_of(alloc: Global, plan: &Plan) -> Result<Vec<Equivalent>, OpsFault>
     ensures equivalents { IfOk result (λ list. AreEquivalents plan.now list.items) }
     ensures memory { IfErr result (λ fault. fault ≡ Memory) }

@@ -3,16 +3,16 @@
 /// The rule by which a mutant was proved equivalent.
 #[derive(Clone, Copy, PartialEq, Eq, Debug, Drop)]
 pub enum Why {
-    /// The changed statement does what the statement does, wherever
-    /// control comes there and the statement does not fault.
+    /// The changed statement does what the statement does, wherever control comes there and the statement
+    /// does not fail.
     Same,
-    /// What the changed statement leaves otherwise in variables and arrays is not read.
+    /// The changed statement may give variables and arrays other values, but nothing reads these.
     Unread,
-    /// Control comes from the changed statement to where it comes in the program, by as many steps or fewer.
+    /// Control comes from the changed statement to where it comes in the program, by as many steps or by fewer.
     Continues,
-    /// Control comes from the changed statement to where it comes in the program, by so many steps more
-    /// at most: no test kills the mutant on which the program ends as many steps before the limit.
+    /// Control comes from the changed statement to where it comes in the program, by at most n steps more: no
+    /// test kills the mutant on which the program ends at least n steps before the limit.
     Spare(u32),
-    /// Control does not come to the statement.
+    /// Control never comes to the statement.
     Unreached,
 }

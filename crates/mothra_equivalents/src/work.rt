@@ -1,5 +1,5 @@
-//! How much work mutants may take: a program at the limits of the
-//! language is answered within seconds, with fewer of its mutants proved.
+//! How much work the mutants of a plan may take. The work is counted, so a program at the limits of the language has an
+//! answer within seconds, and always the same one, though fewer of its mutants are proved.
 
 use f77_check::Checked;
 use f77_code::Place;
@@ -7,30 +7,30 @@ use f77_facts::entries::Entry;
 use f77_tree::{Form, Stmt, nodes};
 use std::alloc::{AllocError, Global};
 
-/// How much work is done for all mutants of a plan, in facts of slots that are looked at.
+/// The most work for all mutants of a plan, in facts of slots that are looked at.
 const MOST: u64 = 2_000_000_000;
 
-/// How much work a mutant is taken for at least.
+/// The least work that is counted for a mutant.
 const LEAST: u64 = 20_000;
 
-/// For how many facts of slots an inequality of a case is taken, about.
+/// The work that is counted for an inequality of a case, about.
 const FACTS_OF_A_CASE: u64 = 4;
 
-/// How much work may still be done, and how much a mutant of each statement is taken for.
+/// How much work may still be done, and how much is counted for a mutant of each statement.
 #[derive(Drop)]
 pub(crate) struct Work {
     left: u64,
     by_statement: Vec<u64>,
 }
 
-/// Control is at the statement `i`, from 0.
+/// Whether the place is that of the statement `i`, from 0, or of the incrementation of its DO.
 fn is_at(place: Place, i: usize) -> bool {
     match place {
         Place::Execute(own) | Place::Increment(own) => own == i,
     }
 }
 
-/// How many entries tell of the statement `i`, from 0. A statement that has none is taken for one that has one.
+/// How many entries the statement `i`, from 0, has; at least 1.
 fn entries_at(entries: &[Entry], i: usize) -> u64 {
     let mut count: u64 = 0;
     for entry in entries {
@@ -41,14 +41,14 @@ fn entries_at(entries: &[Entry], i: usize) -> u64 {
     count.max(1)
 }
 
-/// How many entries a statement has, about.
+/// How many entries a statement has on average, about.
 fn entries_each(checked: &Checked, entries: &[Entry]) -> u64 {
     let each = entries.len() / checked.count().max(1);
     (each as u64).saturating_add(1)
 }
 
-/// How much work it is to follow other values to where they
-/// would be read, through all statements with an entry for each.
+/// The work of following other values to where they would be read, through
+/// all statements, with one entry for each.
 fn following(checked: &Checked) -> u64 {
     let slots = checked.slots() as u64;
     let statements = checked.count() as u64;
@@ -56,8 +56,8 @@ fn following(checked: &Checked) -> u64 {
     statements.saturating_mul(300).saturating_add(marks)
 }
 
-/// How much work it is to compare a statement of so many nodes at
-/// one entry: each two of them may ask for the facts of all slots.
+/// The work of comparing a statement with `nodes` nodes at one entry: each
+/// two nodes may need the facts of all slots.
 fn comparing(checked: &Checked, nodes: usize) -> u64 {
     let facts = (checked.slots() as u64).saturating_add(64);
     facts
@@ -65,8 +65,8 @@ fn comparing(checked: &Checked, nodes: usize) -> u64 {
         .saturating_mul(nodes as u64)
 }
 
-/// How much work it is to compare a condition with another by linear arithmetic, in a statement of so
-/// many nodes: each two of its relations may make a case, in which as many inequalities are put together.
+/// The work of comparing two conditions by linear arithmetic, in a statement with `nodes` nodes: each
+/// two relations may make a case, in which as many inequalities are put together.
 fn deciding(stmt: &Stmt, nodes: usize) -> u64 {
     match stmt.form() {
         Form::LogicalIf | Form::BlockIf | Form::ElseIf => {
@@ -80,7 +80,7 @@ fn deciding(stmt: &Stmt, nodes: usize) -> u64 {
     }
 }
 
-/// How much work a mutant of the statement is taken for, of which so many entries tell, where others have so many each.
+/// The work that is counted for a mutant of the statement, which has `own` entries, where other statements have `each`.
 fn work_at(
     alloc: Global,
     checked: &Checked,
@@ -97,7 +97,7 @@ fn work_at(
 }
 
 impl Work {
-    /// None of it is done yet, with these entries.
+    /// The work of a program with these entries, before any is done.
     pub(crate) fn of(
         alloc: Global,
         checked: &Checked,
@@ -115,12 +115,12 @@ impl Work {
         })
     }
 
-    /// All that may be done is done.
+    /// Whether all work that may be done is done.
     pub(crate) fn is_done(&self) -> bool {
         self.left == 0
     }
 
-    /// A mutant of the statement of this number, from 1, is judged.
+    /// Counts a mutant of the statement with this number, from 1, which is judged.
     pub(crate) fn spend(&mut self, number: usize) {
         let work = match self.by_statement.get(number.saturating_sub(1)) {
             Some(work) => *work,

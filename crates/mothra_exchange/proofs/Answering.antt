@@ -1,4 +1,4 @@
--- What an answer of the table tells of the numbers that it was given for.
+-- What an answer of the table shows of the numbers that it was given for.
 use Rattle.std.proofs.Common.{◌≡◌, ◌≢◌, ℕ, ◌+◌, ◌<◌, ◌≤◌, Bool, true, false, true≢false, cond, eqb, ltb, not, refl, sym, ◌∙◌, arith, eq-eqb, ne_eqb}
 use Rattle.std.proofs.lemmas.Bool.Decides.{nat_tests}
 use Rattle.mothra_codes.specs.declared.op.Op.{Op}

@@ -61,7 +61,7 @@ begins C counts words e is small = record {
   lives = λ by v f. inl (subst (IsLive counts) (one_view (whole_view counts) v by f) (refl, omega arith, length_looks counts ∙ is));
 }
 
--- where one view has all parts, the others count for nothing
+-- where one view has all shares, the other views add nothing to a total
 none_left : (f : View → ℕ) (views : List View) → total (λ u. u.part) views ≡ 0 → ((by : ℕ) (u : View) → get_elem? views by ≡ some u → u.part ≡ 0 → f u ≡ 0) → total f views ≡ 0
 none_left f [] e h = refl
 none_left f (x ∷ xs) e h = let a = h zero x refl (omega arith) in let b = none_left f xs (omega arith) (λ by u g p. h (suc by) u g p) in omega arith

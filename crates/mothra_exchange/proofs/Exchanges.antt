@@ -49,7 +49,7 @@ pack-injective a b fa fb e =
 once_if_closed-open : (w : Word) (k : ℕ) → w.closed ≡ false → once_if_closed w k ≡ 0
 once_if_closed-open w k e = rw e refl
 
--- what the change adds of its operator, in the view as in the word
+-- the change adds to the view what it adds to the word, for its own operator
 offered_own : (c : ChangeOfTable) (op : Op) (v : View) (w : Word) (k : ℕ)
     → ticket_times (index op) k (view_after c v op w).offered + once_up_to w.offered k ≡ ticket_times (index op) k v.offered + once_up_to (word_after c w).offered k
 offered_own an_offer op v w k =
@@ -77,7 +77,7 @@ closings_own a_close C op v w k may =
     let f = ap one_if (is_closing-own op w.offered k) in
     let g = once_if_closed-open w k may in omega arith
 
--- and nothing of another
+-- the change adds nothing for another operator
 offered_other : (c : ChangeOfTable) (op : Op) (v : View) (w : Word) (i k : ℕ) → i ≢ index op → ticket_times i k (view_after c v op w).offered ≡ ticket_times i k v.offered
 offered_other an_offer op v w i k ne =
     let e = times-more i k v.offered (ticket op (w.offered + 1)) in let f = ap one_if (is_ticket-other op i (w.offered + 1) k ne) in omega arith

@@ -1,4 +1,4 @@
--- A pass is cut in two, and two are made one.
+-- A pass is split in two, and two passes are merged into one.
 use Rattle.std.proofs.Common.{◌≡◌, ◌≢◌, ◌⊎◌, ℕ, zero, suc, ◌+◌, ◌<◌, List, [], ◌∷◌, ◌++◌, length, set, get_or, ◌||◌, Bool, true, false, true≢false, refl, sym, ap, ◌∙◌, subst, ⊎_elim, arith, inl, inr}
 use Rattle.std.specs.Prelude.{slice_index}
 use mathlib.Core.Option.{some, none}
@@ -20,7 +20,7 @@ use Rattle.mothra_exchange.proofs.Counting.{total_set, total_has, total-snoc, ti
 use Rattle.mothra_codes.proofs.Operators.{index_below}
 use Rattle.mothra_exchange.proofs.Steps.{Keeps, op_keeps, lives, turns}
 
--- the word of an operator that was never view_after_load at is below all
+-- the word that a view has of an operator which it never loaded is at most every word
 pub blank : (n : ℕ) (w : Word) → n ≡ 0 → AtMost (first_look n).seen w
 blank n w e = record { count = omega arith; offered = omega arith; handed = omega arith; close = λ c. absurd (true≢false (sym c)) }
 
@@ -85,7 +85,7 @@ greater_at_most a b w p q = record {
       (closed_either a.closed b.closed c);
 }
 
--- what two changes make of a count
+-- a count over the views after two of them have changed
 two : (f : View → ℕ) (views : List View) (id : ℕ) (v m : View) (other : ℕ) (u : View) → get_elem? views id ≡ some v → get_elem? (set views id m) other ≡ some u → f m ≡ f v + f u
     → f spent_view ≡ 0 → total f (set (set views id m) other spent_view) ≡ total f views
 two f views id v m other u at there sum zeroed = let a = total_set f views id v m at in let b = total_set f (set views id m) other u spent_view there in omega arith

@@ -1,4 +1,4 @@
--- What a legal log says as a whole_view.
+-- What holds of a legal log as a whole.
 use Rattle.std.proofs.Common.{◌≡◌, ◌⊎◌, ℕ, zero, suc, ◌+◌, ◌<◌, List, [], ◌∷◌, ◌++◌, length, Bool, true, false}
 use Rattle.std.proofs.Common.{true≢false, cond, ◌||◌, eqb, refl, sym, ap, ◌∙◌, subst, ⊎_elim, arith, inl, inr, ne_eqb, eq-eqb}
 use Rattle.std.specs.Prelude.{slice_index}
@@ -106,7 +106,7 @@ none_after C counts = legal_induction C counts (λ log. (j k : ℕ) (op : Op) (t
         (at_end log e k (Offered t) o))
         (at_end log e j (Closed op) c)
 
--- a log is legal for any counts that the operators have
+-- whether a log is legal depends on the counts of the operators alone
 may_follow : (C : ℕ) (a b : List ℕ) → ((op : Op) → slice_index a (index op) ≡ slice_index b (index op)) → (log : List Event) (e : Event) → MayFollowEvents C a log e → MayFollowEvents C b log e
 may_follow C a b same log (Offered t) m = let s = same t.op in let le = m.1 in (m.0, omega arith, m.2, m.3)
 may_follow C a b same log (Handed t) m = m

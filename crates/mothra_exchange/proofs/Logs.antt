@@ -94,7 +94,7 @@ all_stand C counts op pre (x ∷ xs) all h = subst (AllStand op) (append-cons pr
 pub stands : (C : ℕ) (counts : List ℕ) (op : Op) (log : List Event) (k : ℕ) → IsLegalLog C counts log → 0 < k → k ≤ offers (index op) log → IsOffered (ticket op k) log
 stands C counts op log k h pos le = all_stand C counts op [] log (λ j p l. absurd (omega arith)) h k pos le
 
--- the words of a log that grew
+-- the words of a log with one event more
 word_equal : (a b : Word) → a.count ≡ b.count → a.offered ≡ b.offered → a.handed ≡ b.handed → a.closed ≡ b.closed → a ≡ b
 word_equal a b p q r t = λ i. record { count = p i; offered = q i; handed = r i; closed = t i }
 
@@ -200,7 +200,7 @@ grows C ws log capacity capacity' e w k le may count is bounds one =
       fit = (let r = room_set ws i w count small in let f = k.fit in omega arith);
     }
 
--- what each call leaves
+-- each call keeps the invariant of a state
 pub offer_keeps : (C : ℕ) (ws : List Word) (log log' : List Event) (capacity capacity' : ℕ) (t : Ticket) (i : ℕ) → i ≡ index t.op → KeepsLog C ws log capacity → capacity ≤ capacity'
     → log' ≡ log ++ Offered t ∷ [] → offer_answer C t.number (get_or ws i (opening_word 0)) ≡ Accepted
     → KeepsLog C (set ws i (word_after_offer (get_or ws i (opening_word 0)))) log' capacity'

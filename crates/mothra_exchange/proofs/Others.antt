@@ -1,4 +1,4 @@
--- A try call changes what the view has of its operator alone.
+-- A call changes of a view only what it has of the call's operator.
 use Rattle.std.proofs.Common.{◌≡◌, ◌≢◌, ℕ, ◌+◌, refl, sym, ap, ◌∙◌, subst, arith}
 use Rattle.mothra_codes.specs.declared.op.Op.{Op}
 use Rattle.mothra_codes.specs.Op.{index}
@@ -47,7 +47,7 @@ only_finding op v w = only_look op v _
 not_more : (op o : Op) (n k : ℕ) → o ≢ op → one_if (is_ticket (index o) k (ticket op n)) ≡ 0
 not_more op o n k ne = ap one_if (is_ticket-other op (index o) n k (λ e. ne (same_op o op e)))
 
--- nor is a closing
+-- a closing of op is none of another operator's
 not_closed_more : (op o : Op) (n k : ℕ) → o ≢ op → one_if (closes_operator (index o) k (closing op n)) ≡ 0
 not_closed_more op o n k ne = ap one_if (is_closing-other op (index o) n k (λ e. ne (same_op o op e)))
 
@@ -87,7 +87,7 @@ only_close op v w = record {
   };
 }
 
--- what follows a load
+-- a change that follows a load
 after_load : (op : Op) (v : View) (w : Word) (next new : View) → new ≡ next → ChangesOnly op (view_after_load v (index op) w) next → ChangesOnly op v new
 after_load op v w next new is h = subst (ChangesOnly op v) (sym is) (only_trans op v (view_after_load v (index op) w) next (only_load op v w) h)
 

@@ -1,4 +1,4 @@
--- What an exchange left, from what it told.
+-- What a compare-exchange left, concluded from what it found.
 use Rattle.std.proofs.Common.{◌≡◌, ◌≢◌, ℕ, length, sym, ap, ◌∙◌, subst, ⊎_elim, length-set}
 use mathlib.Core.Option.{none}
 use Rattle.atomic_table.specs.Table.{Me, step}
@@ -14,7 +14,7 @@ use Rattle.mothra_exchange.specs.code.Exchange.{ChangeOfTable, IsNewChange, view
 use Rattle.mothra_exchange.specs.Calls.{LostTo}
 use Rattle.mothra_exchange.proofs.Exchanges.{change_apart}
 
--- in either case
+-- what stays, whether it won or lost
 pub stays : {S : Type 0} (c : ChangeOfTable) (i slots first second found : ℕ) (me new : Me S View) → Exchanges c (step slots i first second none) me found new
     → (new.1 ≡ me.1) × (new.0.part ≡ me.0.part) × (length new.0.looks ≡ length me.0.looks)
 stays {S} c i slots first second found me new told = ⊎_elim
@@ -30,7 +30,7 @@ stays {S} c i slots first second found me new told = ⊎_elim
     ))
     told
 
--- it won where it found what it expected
+-- a compare-exchange won where it found the word that it expected
 pub won : {S : Type 0} (c : ChangeOfTable) (op : Op) (i slots first second found : ℕ) (me new : Me S View) (w : Word) → i ≡ index op → (look_at me.0 (index op)).loaded ≡ w
     → found ≡ first → Exchanges c (step slots i first second none) me found new → IsNewChange c me.0 op w × (new.0 ≡ view_after c me.0 op w)
 won {S} c op i slots first second found me new w here loaded hit told = ⊎_elim
@@ -40,7 +40,7 @@ won {S} c op i slots first second found me new w here loaded hit told = ⊎_elim
     (λ t. absurd (t.2 hit))
     told
 
--- and else it was lost
+-- a compare-exchange lost where it found another word
 pub lost : {S : Type 0} (c : ChangeOfTable) (op : Op) (i slots first second found : ℕ) (me new : Me S View) (w : Word) → i ≡ index op → (look_at me.0 (index op)).loaded ≡ w
     → first ≡ pack w → found ≢ first → Exchanges c (step slots i first second none) me found new → LostTo me.0 op w new.0
 lost {S} c op i slots first second found me new w here loaded is miss told = ⊎_elim

@@ -1,4 +1,4 @@
--- What follows from what the calls say.
+-- What follows from the contracts of the calls.
 use Rattle.std.proofs.Common.{◌≡◌, ◌⊎◌, ℕ, ◌+◌, ◌<◌, length, Bool, true, false, true≢false, cond, eqb, ltb, not, ◌||◌, refl, sym, ap, ◌∙◌, subst, ⊎_elim, arith, eq-eqb, length-set}
 use Rattle.mothra_codes.specs.declared.op.Op.{Op}
 use Rattle.mothra_exchange.specs.declared.word.Word.{Word}
@@ -31,7 +31,7 @@ or_right : (a b : Bool) → b ≡ true → (a || b) ≡ true
 or_right true b e = refl
 or_right false b e = e
 
--- of two words that are at most a third, the greater one is no less than either
+-- where two words are at most a third one, each is at most the greater of the two
 left_below : (a b x : Word) → AtMost a x → AtMost b x → AtMost a (greater_word a b)
 left_below a b x p q = record {
   count = omega arith;

@@ -1,5 +1,5 @@
--- Words that keep the rule show one legal log: each ticket that was handed out is offered and handed out at once, then come the
--- offers of those that wait, then the close.
+-- Words that keep the rule show one legal log: first each ticket that was handed out is offered and handed out at once,
+-- then those that wait are offered, then comes the close.
 use Rattle.std.proofs.Common.{◌≡◌, ◌≢◌, ℕ, zero, suc, ◌+◌, ◌-◌, ◌<◌, ◌≤◌, List, [], ◌∷◌, ◌++◌, Bool, true, false, refl, sym, ap, ◌∙◌, subst, arith}
 use Rattle.std.specs.Prelude.{slice_index}
 use mathlib.Core.Logic.{dite}
@@ -67,7 +67,7 @@ then_closed C counts log op n o h true r =
       others = λ o ne. word-other counts r.more (Closed op) (index o) (λ e. ne (same_op o op e)) ∙ r.others o ne;
     }
 
--- h tickets, each offered and handed out
+-- h tickets, each offered and handed out at once
 all_handed : (C : ℕ) (counts : List ℕ) (log : List Event) (op : Op) (n h : ℕ) → n ≡ slice_index counts (index op) → 0 < C → h ≤ n
     → Reaches C counts log op (numbers n 0 0 false) → Reaches C counts log op (numbers n h h false)
 all_handed C counts log op n zero count pos le r = r
@@ -77,7 +77,7 @@ all_handed C counts log op n (suc h) count pos le r =
     let one = next_offer C counts log op n h h count (omega arith) (omega arith) was in
     subst (λ (k : ℕ). Reaches C counts log op (numbers n k k false)) e (next_hand C counts log op n (h + 1) h (omega arith) one)
 
--- k more that wait
+-- k more tickets, which are offered and wait
 all_waiting : (C : ℕ) (counts : List ℕ) (log : List Event) (op : Op) (n h k : ℕ) → n ≡ slice_index counts (index op) → h + k ≤ n → k ≤ C
     → Reaches C counts log op (numbers n h h false) → Reaches C counts log op (numbers n (h + k) h false)
 all_waiting C counts log op n h zero count le few r = let e : h ≡ h + 0 = omega arith in subst (λ (o : ℕ). Reaches C counts log op (numbers n o h false)) e r

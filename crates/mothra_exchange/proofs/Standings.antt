@@ -1,4 +1,4 @@
--- Counts over the views, read as places: a total of one is one view that has it.
+-- Counts over the views, read as places: where the total is one, exactly one view has the ticket.
 use Rattle.std.proofs.Common.{◌≡◌, ◌≢◌, ◌⊎◌, ℕ, zero, suc, ◌+◌, ◌<◌, ◌≤◌, List, [], ◌∷◌, Bool, true, false, ◌&&◌, refl, sym, ap, ◌∙◌, subst, ⊎_elim, arith, eq-eqb, ne_eqb}
 use Rattle.std.specs.Prelude.{slice_index}
 use mathlib.Core.Option.{some, some-injective}
@@ -53,7 +53,7 @@ are_one_to list op n views h = record {
   no_other = λ k out v at. none_has (λ u. ticket_times (index op) k (list u)) views (h k ∙ ⊎_elim (λ (e : k ≡ 0). once-zero n k e) (λ (lt : n < k). once-past n k lt) out) at.0 v at.1;
 }
 
--- a packed word is that of one record
+-- a packed word stands for one record only
 pub rule_at : (C : ℕ) (counts words : List ℕ) (views : List View) → IsSoundExchange C counts words views → (op : Op) (w : Word) → IsWordOf words op w
     → OpRule C (index op) (slice_index counts (index op)) w views
 rule_at C counts words views h op w is =

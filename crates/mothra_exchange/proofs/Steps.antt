@@ -20,7 +20,7 @@ use Rattle.mothra_exchange.specs.code.Rule.{HoldsRule, Looks}
 use Rattle.mothra_exchange.proofs.Counting.{total_set, AtMost-refl, AtMost-trans, get_or-set_there, get_or-set_else}
 use Rattle.mothra_codes.proofs.Operators.{index_below, same_op}
 
--- what a step of one view on the word w₀, which becomes w, says of its operator
+-- what a step of one view changes for its operator, whose word w₀ becomes w
 pub record Moves (i : ℕ) (w₀ w : Word) (v v' : View) : Type 0 where
   pub taken : (k : ℕ) → ticket_times i k v'.taken + once_up_to w₀.handed k ≡ ticket_times i k v.taken + once_up_to w.handed k
   pub offered : (k : ℕ) → ticket_times i k v'.offered + once_up_to w₀.offered k ≡ ticket_times i k v.offered + once_up_to w.offered k
@@ -33,7 +33,7 @@ pub record Moves (i : ℕ) (w₀ w : Word) (v v' : View) : Type 0 where
 knows_more : (i : ℕ) (v : View) (a b : Word) → Knows i v a → AtMost a b → Knows i v b
 knows_more i v a b h le = (AtMost-trans _ _ _ h.0 le, AtMost-trans _ _ _ h.1 le, AtMost-trans _ _ _ h.2 le)
 
--- one operator's rule after such a step
+-- the rule of the operator holds after such a step
 pub op_moves : (C i n : ℕ) (w₀ w : Word) (views : List View) (by : ℕ) (v v' : View) → get_elem? views by ≡ some v → OpRule C i n w₀ views → InBounds C w → w.count ≡ w₀.count
     → Moves i w₀ w v v' → OpRule C i n w (set views by v')
 op_moves C i n w₀ w views by v v' at h bounds count m = record {
@@ -53,7 +53,7 @@ op_moves C i n w₀ w views by v v' at h bounds count m = record {
       (at_set views by j v' u e);
 }
 
--- what a step of one view leaves as it was of another operator
+-- a step of one view changes nothing that the view has of the operator at place i
 pub record Keeps (i : ℕ) (v v' : View) : Type 0 where
   pub taken : (k : ℕ) → ticket_times i k v'.taken ≡ ticket_times i k v.taken
   pub offered : (k : ℕ) → ticket_times i k v'.offered ≡ ticket_times i k v.offered
@@ -80,7 +80,7 @@ knows_same i v v' look mine theirs w h = (
   subst (λ (l : List Look). AtMost (get_or l i (first_look 0)).seen w) (sym theirs) h.2,
 )
 
--- what a step on op's word leaves as it was
+-- a step on op's word changes nothing that the view has of the other operators
 pub record Apart (op : Op) (v v' : View) : Type 0 where
   pub counts : v'.counts ≡ v.counts
   pub part : v'.part ≡ v.part
@@ -90,7 +90,7 @@ pub record Apart (op : Op) (v v' : View) : Type 0 where
 pub lives : (counts : List ℕ) (v : View) → 0 < v.part → (IsLive counts v) ⊎ (v ≡ spent_view) → IsLive counts v
 lives counts v part known = ⊎_elim (λ (l : IsLive counts v). l) (λ (e : v ≡ spent_view). let none : v.part ≡ 0 = ap (λ (u : View). u.part) e in absurd (omega arith)) known
 
--- the whole_view rule after a step on op's word
+-- the whole rule holds after a step on op's word
 pub turns : {S : Type 0} (C : ℕ) (counts : List ℕ) (s : State S View) (id : ℕ) (v v' : View) (op : Op) (w₀ w : Word) (n : ℕ) → HoldsRule C counts s → get_elem? s.views id ≡ some v
     → 0 < v.part → slice_index s.words (index op) ≡ pack w₀ → n ≡ pack w
     → Apart op v v' → OpRule C (index op) (slice_index counts (index op)) w (set s.views id v')
@@ -115,7 +115,7 @@ turns {S} C counts s id v v' op w₀ w n h at part is new apart own homes = reco
       (at_set s.views id j v' u e);
 }
 
--- a view with another look at op alone
+-- a view in which only the look at op changed
 pub looks_apart : (op : Op) (v : View) (l : Look) → Apart op v (with_look v (index op) l)
 looks_apart op v l = record {
   counts = refl;

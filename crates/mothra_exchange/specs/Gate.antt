@@ -1,4 +1,4 @@
--- What a gate says of the passes that its calls are lent.
+-- What a gate promises of the views of the passes that its calls get.
 use Rattle.std.specs.Prelude.{◌≡◌, ℕ, Bool, true}
 use Rattle.mothra_codes.specs.declared.op.Op.{Op}
 use Rattle.mothra_codes.specs.declared.ticket.Ticket.{Ticket}
@@ -11,7 +11,7 @@ use Rattle.mothra_exchange.specs.declared.answer.Close.{Close}
 use Rattle.mothra_exchange.specs.declared.answer.Close.TheVariants.{GaveUp as CloseGaveUp}
 use Rattle.mothra_exchange.specs.Calls.{OfferDid, TakeDid, CloseDid}
 
--- the counts, the part, the tickets and the closings stay
+-- from v to w neither the counts nor the part, the tickets or the closings changed
 pub record AddsNone (v w : View) : Type 0 where
   pub counts : w.counts ≡ v.counts
   pub part : w.part ≡ v.part
@@ -19,7 +19,7 @@ pub record AddsNone (v w : View) : Type 0 where
   pub offered : w.offered ≡ v.offered
   pub closings : w.closings ≡ v.closings
 
--- GaveUp only where the gate may give up
+-- the answer is GaveUp only where the gate may give up
 abbrev pub MayOffer : Bool → Offer → Type 0
 MayOffer may OfferGaveUp = may ≡ true
 MayOffer may _ = Unit {0}
@@ -32,7 +32,7 @@ abbrev pub MayClose : Bool → Close → Type 0
 MayClose may CloseGaveUp = may ≡ true
 MayClose may _ = Unit {0}
 
--- what a gate that keeps records says: a try call, or giving up, which adds none
+-- what a gate that keeps records promises: a call of the exchange, or giving up, which adds nothing
 abbrev pub OfferKept : ℕ → View → Ticket → Offer → View → Type 0
 OfferKept C v t OfferGaveUp w = AddsNone v w
 OfferKept C v t a w = OfferDid C v t a w

@@ -1,4 +1,4 @@
--- The words of the laws: where a ticket stands among the views of an exchange.
+-- Definitions of the laws: where a ticket stands among the views of an exchange.
 use Rattle.std.specs.Prelude.{◌≡◌, ◌≢◌, ◌⊎◌, ℕ, ◌<◌, ◌≤◌, true, List, [], ◌∷◌, ◌++◌, slice_index}
 use mathlib.Core.Option.{some}
 use lib.ListN.{get_elem?}
@@ -22,35 +22,35 @@ IsWordOf words op w = FitsWord w × (slice_index words (index op) ≡ pack w)
 abbrev pub IsOneOfViews : List View → View → Type 0
 IsOneOfViews views v = (by : ℕ) × (get_elem? views by ≡ some v)
 
--- what `often` counts stands in exactly one view, and there once
+-- what `often` counts occurs in exactly one view, and there once
 abbrev pub StandsInOne : (View → ℕ) → List View → Type 0
 StandsInOne often views = (by : ℕ) × (v : View) × (get_elem? views by ≡ some v) × (often v ≡ 1)
     × ((other : ℕ) (u : View) → get_elem? views other ≡ some u → other ≢ by → often u ≡ 0)
 
--- it stands in no view
+-- what `often` counts occurs in no view
 abbrev pub StandsInNone : (View → ℕ) → List View → Type 0
 StandsInNone often views = (v : View) → IsOneOfViews views v → often v ≡ 0
 
--- the operator's numbers in a list of each view are 1 to n, each in exactly one
+-- the numbers of the operator that occur in the views' lists are 1 to n, each in exactly one view
 pub record AreOneTo (list : View → List Ticket) (op : Op) (n : ℕ) (views : List View) : Type 0 where
   pub each : (k : ℕ) → 0 < k → k ≤ n → StandsInOne (λ v. ticket_times (index op) k (list v)) views
   pub no_other : (k : ℕ)
       → (k ≡ 0) ⊎ (n < k) → StandsInNone (λ v. ticket_times (index op) k (list v)) views
 
--- of one operator, whose word is w: the tickets taken are 1 to h, each in exactly
--- one view, and those offered 1 to o; where it is closed its closing stands in
--- exactly one view, with as many offered as now, so that none was accepted after it
+-- for an operator whose word is w: the tickets taken are 1 to `handed`, each in exactly
+-- one view, and those offered 1 to `offered`; where the operator is closed, its closing is in
+-- exactly one view, with as many offered as now, so no ticket was accepted after it
 pub record IsInOrder (op : Op) (w : Word) (views : List View) : Type 0 where
   pub taken : AreOneTo (λ v. v.taken) op w.handed views
   pub offered : AreOneTo (λ v. v.offered) op w.offered views
   pub closed : w.closed ≡ true
       → StandsInOne (λ v. times_closed (index op) w.offered v.closings) views
 
--- every operator has a word and is in order
+-- every operator has a word, and its tickets and closing are in order
 abbrev pub AreViewsInOrder : List ℕ → List View → Type 0
 AreViewsInOrder words views = (op : Op) → (w : Word) × IsWordOf words op w × IsInOrder op w views
 
--- the two views have the same of the operator
+-- the two views have the same look, tickets and closings of the operator
 pub record HaveSame (op : Op) (v w : View) : Type 0 where
   pub look : look_at w (index op) ≡ look_at v (index op)
   pub taken : (k : ℕ) → ticket_times (index op) k w.taken ≡ ticket_times (index op) k v.taken
@@ -58,7 +58,7 @@ pub record HaveSame (op : Op) (v w : View) : Type 0 where
   pub closings : (k : ℕ)
       → times_closed (index op) k w.closings ≡ times_closed (index op) k v.closings
 
--- from v to w nothing changed but what the view has of op
+-- from v to w nothing changed but what the view has of the operator op
 pub record ChangesOnly (op : Op) (v w : View) : Type 0 where
   pub counts : w.counts ≡ v.counts
   pub part : w.part ≡ v.part

@@ -1,4 +1,4 @@
--- What a clause says of the locked form.
+-- The parts of a locked exchange that clauses speak of.
 use Rattle.std.specs.Prelude.{ℕ, List}
 use Rattle.mothra_exchange.specs.declared.word.Word.{Word}
 use Rattle.mothra_exchange.specs.declared.log.Event.{Event}

@@ -17,16 +17,19 @@ use Rattle.mothra_exchange.specs.declared.answer.Close.{Close}
 use Rattle.mothra_exchange.specs.declared.answer.Close.TheVariants.{Done}
 use Rattle.mothra_codes.specs.Ticket.{one_if}
 
+-- what one event adds to the number of tickets that were offered of the operator at the place i
 abbrev pub offers_in : ℕ → Event → ℕ
 offers_in i (Offered t) = one_if (index t.op == i)
 offers_in i (Handed t) = 0
 offers_in i (Closed op) = 0
 
+-- what one event adds to the number of tickets that were handed out of the operator at the place i
 abbrev pub hands_in : ℕ → Event → ℕ
 hands_in i (Offered t) = 0
 hands_in i (Handed t) = one_if (index t.op == i)
 hands_in i (Closed op) = 0
 
+-- the event closes the operator at the place i
 abbrev pub closes_in : ℕ → Event → Bool
 closes_in i (Offered t) = false
 closes_in i (Handed t) = false
@@ -37,17 +40,18 @@ abbrev pub offers : ℕ → List Event → ℕ
 offers i [] = 0
 offers i (e ∷ es) = offers_in i e + offers i es
 
--- how many were handed out
+-- how many tickets of the operator at the place i were handed out
 abbrev pub hands : ℕ → List Event → ℕ
 hands i [] = 0
 hands i (e ∷ es) = hands_in i e + hands i es
 
--- whether it was closed
+-- whether the operator at the place i was closed
 abbrev pub closes : ℕ → List Event → Bool
 closes i [] = false
 closes i (e ∷ es) = closes_in i e || closes i es
 
--- the numbers of a log; a packed word shows the log where it packs these
+-- the numbers of the operator at the place i in a log; a packed word
+-- shows the log where it packs these
 abbrev pub word_of : List ℕ → List Event → ℕ → Word
 word_of counts log i = record {
   count = slice_index counts i;
@@ -60,7 +64,7 @@ word_of counts log i = record {
 abbrev pub IsOffered : Ticket → List Event → Type 0
 IsOffered t log = (j : ℕ) × (get_elem? log j ≡ some (Offered t))
 
--- e may come after these events, where C tickets of an operator may be offered and not handed out
+-- the event may come after the log, where C tickets of an operator may wait
 abbrev pub MayFollowEvents : ℕ → List ℕ → List Event → Event → Type 0
 MayFollowEvents C counts log (Offered t) =
     (t.number ≡ offers (index t.op) log + 1)
@@ -70,16 +74,17 @@ MayFollowEvents C counts log (Offered t) =
 MayFollowEvents C counts log (Handed t) = (t.number ≡ hands (index t.op) log + 1) × IsOffered t log
 MayFollowEvents C counts log (Closed op) = closes (index op) log ≡ false
 
--- the events es may come one by one after the log
+-- the events may come one by one after the log
 abbrev pub IsLegalAfter : ℕ → List ℕ → List Event → List Event → Type 0
 IsLegalAfter C counts log [] = Unit {0}
 IsLegalAfter C counts log (e ∷ es) =
     MayFollowEvents C counts log e × IsLegalAfter C counts (log ++ e ∷ []) es
 
+-- the events of the log may come one by one in a new exchange
 abbrev pub IsLegalLog : ℕ → List ℕ → List Event → Type 0
 IsLegalLog C counts log = IsLegalAfter C counts [] log
 
--- the log after a call: its one event where the answer is Accepted, Taken or Done, else none
+-- the log after a call: one event more where the answer is Accepted, Taken or Done, else the same
 abbrev pub log_after_offer : List Event → Ticket → Offer → List Event
 log_after_offer log t Accepted = log ++ Offered t ∷ []
 log_after_offer log t _ = log
@@ -92,12 +97,13 @@ abbrev pub log_after_close : List Event → Op → Close → List Event
 log_after_close log op Done = log ++ Closed op ∷ []
 log_after_close log op _ = log
 
+-- the number of the ticket that the event hands out, if it is one of the operator at the place i
 abbrev pub taken_of : ℕ → Event → List ℕ
 taken_of i (Offered t) = []
 taken_of i (Handed t) = if index t.op == i then t.number ∷ [] else []
 taken_of i (Closed op) = []
 
--- the numbers handed out of the operator at the place i, in order
+-- the numbers of the tickets of the operator at the place i that were handed out, in order
 abbrev pub taken_in : ℕ → List Event → List ℕ
 taken_in i [] = []
 taken_in i (e ∷ es) = taken_of i e ++ taken_in i es

@@ -7,13 +7,13 @@ use Rattle.mothra_codes.specs.Ticket.{ticket_times}
 use Rattle.mothra_exchange.specs.Word.{AtMost}
 use Rattle.mothra_exchange.specs.View.{times_closed, look_at, united_view}
 
--- the view shows that the operator is closed and all that was offered is handed out
+-- the view saw that the operator is closed and all its offered tickets are handed out
 abbrev pub IsOver : View → Op → Type 0
 IsOver v op = ((look_at v (index op)).seen.closed ≡ true)
     × ((look_at v (index op)).seen.handed ≡ (look_at v (index op)).seen.offered)
 
--- of one operator: what either side saw is seen, what either side saw
--- to be over stays over, both saw one close, and the two are disjoint
+-- what holds of one operator when w is merged into v: the merged view saw what either saw, what
+-- was over for either is over, both saw one close, and no ticket or closing is in both
 pub record MergesAt (v w : View) (op : Op) : Type 0 where
   pub left_seen : AtMost (look_at v (index op)).seen (look_at (united_view v w) (index op)).seen
   pub right_seen : AtMost (look_at w (index op)).seen (look_at (united_view v w) (index op)).seen
@@ -28,5 +28,6 @@ pub record MergesAt (v w : View) (op : Op) : Type 0 where
   pub closings : (k : ℕ)
       → times_closed (index op) k v.closings + times_closed (index op) k w.closings ≤ 1
 
+-- what holds of all operators when w is merged into v
 abbrev pub MergesWell : View → View → Type 0
 MergesWell v w = (op : Op) → MergesAt v w op

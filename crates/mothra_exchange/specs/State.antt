@@ -1,5 +1,5 @@
--- What a state keeps: its numbers are those of its
--- legal log, and each event that can come has room.
+-- The invariant of a state: its log is legal, its numbers are those of
+-- the log, and there is room for each event that can come.
 use Rattle.std.specs.Prelude.{◌≡◌, ℕ, ◌+◌, ◌*◌, ◌≤◌, List, [], ◌∷◌, map, length}
 use Rattle.mothra_codes.specs.declared.op.Op.{Op}
 use Rattle.mothra_codes.specs.Op.{index}
@@ -17,7 +17,7 @@ pub record History : Type 0 where
 abbrev pub history : List ℕ → List Event → History
 history counts events = record { counts = counts; events = events }
 
--- an operator's numbers
+-- the numbers of an operator in the log
 abbrev pub numbers_at : History → Op → Word
 numbers_at h op = word_of h.counts h.events (index op)
 
@@ -29,18 +29,21 @@ Tallies h words = (op : Op) → operator_word words op ≡ numbers_at h op
 abbrev pub used_by : Word → ℕ
 used_by w = w.offered + w.handed + bit w.closed
 
+-- how many events all operators have had
 abbrev pub words_used : List Word → ℕ
 words_used [] = 0
 words_used (w ∷ ws) = used_by w + words_used ws
 
--- how many events can come: each ticket is offered and handed out, and each operator is closed
+-- how many events a log can have: each ticket is offered and handed out, each operator is closed
 abbrev pub room : List Word → ℕ
 room [] = 0
 room (w ∷ ws) = (2 * w.count + 1) + room ws
 
+-- how many tickets each operator has
 abbrev pub counts_of : List Word → List ℕ
 counts_of ws = map (λ (w : Word). w.count) ws
 
+-- the words are those of the log, which is legal, and there is room for each event that can come
 pub record KeepsLog (C : ℕ) (words : List Word) (events : List Event) (capacity : ℕ) : Type 0 where
   pub legal : IsLegalLog C (counts_of words) events
   pub shows : (op : Op) → operator_word words op ≡ word_of (counts_of words) events (index op)

@@ -1,4 +1,4 @@
--- One operator's numbers n, o, h and c, and the word that packs them.
+-- The numbers of an operator, and the word that packs them.
 use Rattle.std.specs.Prelude.{◌≡◌, ℕ, ◌+◌, ◌*◌, ◌^◌, ◌≤◌, Bool, true, false, ◌||◌, max}
 use Rattle.mothra_exchange.specs.declared.word.Word.{Word}
 
@@ -6,7 +6,7 @@ use Rattle.mothra_exchange.specs.declared.word.Word.{Word}
 abbrev pub largest_count : ℕ
 largest_count = 1048575
 
--- how many numbers a field of the word can hold
+-- how many numbers a field of the packed word can hold
 abbrev pub field : ℕ
 field = largest_count + 1
 
@@ -14,28 +14,30 @@ abbrev pub bit : Bool → ℕ
 bit true = 1
 bit false = 0
 
+-- the four numbers in one: `offered` in the second field of 20 bits, `handed` in the third, then
+-- a bit for `closed`
 abbrev pub pack : Word → ℕ
 pack w = w.count + field * w.offered + field ^ 2 * w.handed + field ^ 3 * bit w.closed
 
--- each number is at most the largest count, so that none runs into the next
+-- each number is at most the largest count, so that none runs into the next field
 abbrev pub FitsWord : Word → Type 0
 FitsWord w = (w.count ≤ largest_count) × (w.offered ≤ largest_count) × (w.handed ≤ largest_count)
 
--- the numbers that a legal log can have whose bound is C
+-- the numbers that an operator can have in a legal log, where C tickets may wait
 pub record InBounds (C : ℕ) (w : Word) : Type 0 where
   pub handed : w.handed ≤ w.offered
   pub offered : w.offered ≤ w.count
   pub waiting : w.offered ≤ w.handed + C
   pub count : w.count ≤ largest_count
 
--- field by field, and where a is closed no more was offered
+-- each number of a is at most that of b, and where a is closed so is b, with as many offered
 pub record AtMost (a b : Word) : Type 0 where
   pub count : a.count ≤ b.count
   pub offered : a.offered ≤ b.offered
   pub handed : a.handed ≤ b.handed
   pub close : a.closed ≡ true → (b.closed ≡ true) × (b.offered ≡ a.offered)
 
--- the greater of two words, field by field
+-- the greater of each two numbers of two words
 abbrev pub greater_word : Word → Word → Word
 greater_word a b = record {
   count = max a.count b.count;
@@ -44,6 +46,7 @@ greater_word a b = record {
   closed = a.closed || b.closed;
 }
 
+-- an operator with n tickets, before anything is offered
 abbrev pub opening_word : ℕ → Word
 opening_word n = record { count = n; offered = 0; handed = 0; closed = false }
 

@@ -1,21 +1,21 @@
-//! What the calls of an exchange answer.
+//! The answers of an exchange to an offer, a take and a close.
 
 use mothra_codes::Ticket;
 
-/// The answer to an offer. The refusals are tested in the order in which they stand here.
+/// The answer to an offer. Where several refusals would do, the first in this order is given.
 #[derive(Clone, Copy, PartialEq, Eq, Debug, Drop)]
 pub enum Offer {
     /// The operator is closed.
     Closed,
     /// The number is above the operator's count.
     PastEnd,
-    /// Another number's turn: that of the variant, one above the last that was accepted.
+    /// Another number has to be offered next: this one, which is one above the last that was accepted.
     OutOfTurn(u32),
-    /// As many tickets of the operator wait as may wait.
+    /// As many tickets of the operator wait to be taken as may wait.
     Full,
-    /// The word changed between the load and the exchange: the offer may be tried again.
+    /// Another pass changed the word between the load and the compare-exchange. The offer may be tried again.
     Busy,
-    /// The ticket waits to be taken.
+    /// The ticket was accepted, and waits to be taken.
     Accepted,
     /// The gate answers no more. The exchanges of this crate never say so.
     GaveUp,
@@ -24,13 +24,13 @@ pub enum Offer {
 /// The answer to a take.
 #[derive(Clone, Copy, PartialEq, Eq, Debug, Drop)]
 pub enum Take {
-    /// The operator is closed, and all that was offered is handed out.
+    /// The operator is closed, and all its offered tickets are handed out: there will be no more.
     Finished,
-    /// No ticket waits now.
+    /// No ticket of the operator waits now, but more may be offered.
     Empty,
-    /// The word changed between the load and the exchange: the take may be tried again.
+    /// Another pass changed the word between the load and the compare-exchange. The take may be tried again.
     Busy,
-    /// The next ticket, which is handed out to nobody else.
+    /// The next ticket of the operator. No other call gets it.
     Taken(Ticket),
     /// The gate answers no more. The exchanges of this crate never say so.
     GaveUp,
@@ -39,9 +39,9 @@ pub enum Take {
 /// The answer to a close.
 #[derive(Clone, Copy, PartialEq, Eq, Debug, Drop)]
 pub enum Close {
-    /// The operator was closed before.
+    /// The operator had been closed before.
     Already,
-    /// The word changed between the load and the exchange: the close may be tried again.
+    /// Another pass changed the word between the load and the compare-exchange. The close may be tried again.
     Busy,
     /// This call closed the operator.
     Done,

@@ -1,4 +1,4 @@
-//! The try calls of the word form: each is one load and at most one compare-exchange.
+//! The calls of a `TableExchange`: each is one load and at most one compare-exchange.
 
 ghost use Rattle.std.specs.Prelude.{◌≡◌};
 ghost use Rattle.mothra_codes.specs.Op.{index};
@@ -16,7 +16,7 @@ use crate::word::Word;
 use mothra_codes::{Op, Ticket};
 
 impl<const C: u32> TableExchange<C> {
-    /// Offers a ticket. It tries once, waits for nobody and takes no memory.
+    /// Offers a ticket. The call tries once, never waits and takes no memory.
     pub fn try_offer(&self, pass: &mut Pass, ticket: Ticket) -> Offer
         requires { IsPassOf self.now pass.old }
         ensures own { IsPassOf self.now pass.new }
@@ -26,7 +26,7 @@ impl<const C: u32> TableExchange<C> {
         self.answer_offer(pass, ticket, word)
     }
 
-    /// Takes the next ticket of an operator. It tries once, waits for nobody and takes no memory.
+    /// Takes the next ticket of an operator. The call tries once, never waits and takes no memory.
     pub fn try_take(&self, pass: &mut Pass, op: Op) -> Take
         requires { IsPassOf self.now pass.old }
         ensures own { IsPassOf self.now pass.new }
@@ -36,7 +36,7 @@ impl<const C: u32> TableExchange<C> {
         self.answer_take(pass, op, word)
     }
 
-    /// Closes an operator. It tries once, waits for nobody and takes no memory.
+    /// Closes an operator. The call tries once, never waits and takes no memory.
     pub fn try_close(&self, pass: &mut Pass, op: Op) -> Close
         requires { IsPassOf self.now pass.old }
         ensures own { IsPassOf self.now pass.new }
@@ -46,7 +46,7 @@ impl<const C: u32> TableExchange<C> {
         self.answer_close(pass, op, word)
     }
 
-    // The first half of each try call: one load, which the pass notes.
+    // The first half of each call: one load, which the view of the pass notes.
     pub(crate) fn load(&self, pass: &mut Pass, op: Op) -> Word
         requires { IsPassOf self.now pass.old }
         ensures own { IsPassOf self.now pass.new }
@@ -61,7 +61,7 @@ impl<const C: u32> TableExchange<C> {
         )
     }
 
-    // The second half: the answer for the word that the pass loaded last.
+    // The second half of an offer: the answer for the word that the pass loaded last.
     pub(crate) fn answer_offer(&self, pass: &mut Pass, ticket: Ticket, word: Word) -> Offer
         requires own { IsPassOf self.now pass.old }
         requires loaded { HasLoaded C (view_of pass.old) (index ticket.op) word }
@@ -83,7 +83,7 @@ impl<const C: u32> TableExchange<C> {
         }
     }
 
-    // The second half of a take.
+    // The second half of a take: the answer for the word that the pass loaded last.
     pub(crate) fn answer_take(&self, pass: &mut Pass, op: Op, word: Word) -> Take
         requires own { IsPassOf self.now pass.old }
         requires loaded { HasLoaded C (view_of pass.old) (index op) word }
@@ -105,7 +105,7 @@ impl<const C: u32> TableExchange<C> {
         }
     }
 
-    // The second half of a close.
+    // The second half of a close: the answer for the word that the pass loaded last.
     pub(crate) fn answer_close(&self, pass: &mut Pass, op: Op, word: Word) -> Close
         requires own { IsPassOf self.now pass.old }
         requires loaded { HasLoaded C (view_of pass.old) (index op) word }

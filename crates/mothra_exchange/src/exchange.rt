@@ -1,4 +1,4 @@
-//! One exchange of an operator's word, for an offer, a take or a close.
+//! The compare-exchange of an operator's word, for an offer, a take or a close.
 
 ghost use Rattle.std.specs.Prelude.{◌≡◌, true, false};
 ghost use Rattle.mothra_codes.specs.Op.{index};
@@ -14,7 +14,7 @@ use atomic_table::Play;
 use mothra_codes::Op;
 use std::marker::PhantomData;
 
-/// What an exchange changes where it wins.
+/// What a compare-exchange changes where it wins: it offers, takes or closes.
 pub(crate) trait Changes {
     ghost change: { ChangeOfTable };
 }
@@ -43,6 +43,7 @@ impl Changes for AClose {
     ghost change = { a_close };
 }
 
+/// What a compare-exchange for this change shows, whether it wins or loses.
 pub(crate) struct ExchangePlay<P> {
     change: PhantomData<P>,
 }
@@ -54,8 +55,8 @@ impl<P: Changes> Play<(), View> for ExchangePlay<P> {
 }
 
 impl<const C: u32> TableExchange<C> {
-    // Puts the next word in the place of the one that the pass loaded last, and says whether that
-    // stood there still.
+    // Puts the next word in the place of the one that the pass loaded last, if that one still stands
+    // there. The result says whether it did.
     pub(crate) fn exchange<P: Changes>(
         &self,
         pass: &mut Pass,

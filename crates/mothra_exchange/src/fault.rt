@@ -1,4 +1,4 @@
-//! Why an exchange could not be made.
+//! Why an exchange can not be made.
 
 ghost use Rattle.std.specs.Prelude.{IfNone, IfSome};
 ghost use Rattle.mothra_exchange.specs.Fault.{AllCountsFit, IsFaultOfCounts};
@@ -7,18 +7,18 @@ use crate::word::LARGEST_COUNT;
 use mothra_codes::Op;
 use thiserror::Error;
 
-/// Why an exchange could not be made.
+/// Why an exchange can not be made.
 #[derive(Clone, Copy, PartialEq, Eq, Debug, Drop, Error)]
 pub enum ExchangeFault {
-    /// X1: there is no memory for it.
+    /// X1: there is no memory for the exchange.
     #[error("X1: no memory for the exchange")]
     Memory,
-    /// X2: this operator's count is above 1,048,575, and no earlier one's is.
+    /// X2: the count of this operator is above 1,048,575, and that of no earlier operator is.
     #[error("X2: operator {} has more than {} mutants", .0.code(), LARGEST_COUNT)]
     CountTooLarge(Op),
 }
 
-// The first operator whose count no word holds.
+// The first operator whose count is too large for its word.
 pub(crate) fn first_too_large(counts: &[u32; 22]) -> Option<Op>
     ensures none { IfNone result (AllCountsFit counts.now) }
     ensures first { IfSome result (λ op. IsFaultOfCounts counts.now (ExchangeFault.CountTooLarge op)) }

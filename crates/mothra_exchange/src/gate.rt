@@ -1,4 +1,4 @@
-//! What offers and takes go through.
+//! The gate: what feeders offer to and workers take from.
 
 ghost use Rattle.std.specs.Prelude.{◌≡◌, ℕ, ◌+◌, ◌<◌, Bool, true};
 ghost use Rattle.mothra_exchange.specs.declared.view.View.{View};
@@ -12,31 +12,31 @@ use crate::tally::Tally;
 use mothra_codes::{Op, Ticket};
 use std::sync::Wait;
 
-/// What feeders and workers go through: an exchange, or a wrapper round one. Whoever calls it has
-/// a pass. Offer, take and close may wait.
+/// An exchange, or a wrapper around one. Each caller has a pass. Offer, take and close may wait.
 pub trait Gate {
-    /// What a caller acts with. It belongs to one gate, and each thread has its own.
+    /// What a caller acts with. A pass belongs to one gate, and each thread has its own. A pass that is dropped keeps
+    /// its view: its tickets stay counted, and no other pass is whole again.
     type Pass;
 
-    // The pass is of this gate.
+    // The pass belongs to this gate.
     ghost is_pass: { Self → Self.Pass → Type 0 };
 
     // What the pass has done and seen.
     ghost view: { Self.Pass → View };
 
-    // The gate keeps records: the views say what its passes did.
+    // Whether the gate keeps records, so that the view of a pass says what the pass did and saw.
     ghost keeps_records: { Bool };
 
-    // A pass is split only while it has two shares. A wrapper that keeps no records passes this on.
+    // Whether a pass has to have two shares to be split. A wrapper that keeps no records may hand this on.
     ghost needs_parts: { Bool };
 
-    // Some call may answer that it gave up.
+    // Whether a call may answer that it gave up. What it had looked at before is left open then.
     ghost may_give_up: { Bool };
 
-    // How many tickets of an operator may wait.
+    // How many tickets of an operator may wait to be taken.
     ghost bound: { ℕ };
 
-    /// A second pass, for another thread. It has offered, taken and closed nothing.
+    /// A second pass, for another thread. The new pass has offered, taken and closed nothing.
     fn split(&self, pass: &mut Self::Pass) -> Self::Pass
         requires own { is_pass self.now pass.old }
         requires part { needs_parts ≡ true → 1 < (view pass.old).part }
@@ -47,7 +47,7 @@ pub trait Gate {
             → (view pass.new ≡ view_after_split (view pass.old))
             × (view result ≡ split_off_view (view pass.old)) };
 
-    /// Takes in another pass, with all that it has done.
+    /// Merges another pass into this one, with all that it has done.
     fn merge(&self, pass: &mut Self::Pass, other: Self::Pass)
         requires own { is_pass self.now pass.old × is_pass self.now other }
         ensures own { is_pass self.now pass.new }
@@ -84,7 +84,8 @@ pub trait Gate {
         ensures records { keeps_records ≡ true
             → CloseKept bound (view pass.old) op result (view pass.new) };
 
-    /// Ends the exchange. Passes that were not merged into this one are of no more use.
+    /// Ends the exchange. Any pass will do, also one that is not whole; passes that were not merged into it are of no
+    /// more use.
     fn finish(self, pass: Self::Pass) -> Tally
         requires own { is_pass self pass }
         ensures records { keeps_records ≡ true → EndsAsViews bound (view pass) result };

@@ -1,5 +1,5 @@
-//! What follows from the definitions, for every log, every call and every state of an exchange. Each
-//! function is its contract: it has nothing to do.
+//! Theorems about the definitions, for every log, every call and every state of an exchange. Each is the
+//! contract of a function that does nothing.
 
 ghost use Rattle.std.specs.Prelude.{◌≡◌, ◌≢◌, ◌⊎◌, ℕ, ◌+◌, ◌<◌, ◌≤◌, true, false, List, slice_index};
 ghost use mathlib.Core.Option.{some};
@@ -28,7 +28,7 @@ ghost use Rattle.mothra_exchange.specs.Log.{offers, hands, taken_in, one_to};
 ghost use Rattle.mothra_exchange.specs.Law.{IsWordOf, IsOneOfViews, StandsInOne, StandsInNone, AreOneTo, ChangesOnly};
 ghost use Rattle.mothra_exchange.specs.Law.{BetweenSteps, InLegalLogs, IsShownInLog, ShowsNext, ShowOneLog, ShowsLog};
 
-/// In a legal log the tickets of an operator are handed out in order, each once.
+/// In a legal log the tickets of an operator are handed out in order from 1, each once.
 pub fn handed_in_order()
     ensures { InLegalLogs (λ C counts log. (op : Op) → taken_in (index op) log ≡ one_to (hands (index op) log)) }
 {}
@@ -40,16 +40,16 @@ pub fn none_offered_after_close()
         → t.op ≡ op → offer < close) }
 {}
 
-/// In a legal log no more is handed out than offered, no more offered than there is, and no more
-/// than the bound waits.
+/// In a legal log no more tickets of an operator are handed out than were offered, no more are offered
+/// than there are, and no more wait than may wait.
 pub fn legal_logs_stay_in_bounds()
     ensures handed { InLegalLogs (λ C counts log. (op : Op) → hands (index op) log ≤ offers (index op) log) }
     ensures offered { InLegalLogs (λ C counts log. (op : Op) → offers (index op) log ≤ slice_index counts (index op)) }
     ensures waiting { InLegalLogs (λ C counts log. (op : Op) → offers (index op) log ≤ hands (index op) log + C) }
 {}
 
-/// Where a word shows a legal log, the word after a winning step shows that log with the step's
-/// event at its end, and that log is legal.
+/// Where a word shows a legal log, the word after a step that wins shows that log with the event of the
+/// step at its end, and the longer log is legal.
 pub fn words_follow_the_log()
     ensures offer { InLegalLogs (λ C counts log. (op : Op) (k : ℕ) (w : Word) → IsShownInLog counts log op w
         → offer_answer C k w ≡ Accepted
@@ -62,20 +62,20 @@ pub fn words_follow_the_log()
         → ShowsNext C counts log (Closed op) op (word_after_close w)) }
 {}
 
-/// Between any two steps the numbers taken of an operator are 1 to the number handed out, and each
-/// stands in exactly one view.
+/// Between any two steps the tickets taken of an operator are those from 1 to the number handed out, and
+/// each stands in exactly one view.
 pub fn taken_are_one_to_handed()
     ensures { BetweenSteps (λ C views op w. AreOneTo (λ v. v.taken) op w.handed views) }
 {}
 
-/// Between any two steps the numbers offered of an operator are 1 to the number offered, and each
-/// stands in exactly one view.
+/// Between any two steps the tickets offered of an operator are those from 1 to the number offered, and
+/// each stands in exactly one view.
 pub fn offered_are_one_to_offered()
     ensures { BetweenSteps (λ C views op w. AreOneTo (λ v. v.offered) op w.offered views) }
 {}
 
-/// Between any two steps a closed operator has its one closing in exactly one view, with the number
-/// offered then and now, and an open one has none.
+/// Between any two steps the one closing of a closed operator stands in exactly one view, with the number
+/// that was offered then and is now. An open operator has no closing.
 pub fn closed_once()
     ensures closed { BetweenSteps (λ C views op w. w.closed ≡ true
         → StandsInOne (λ v. times_closed (index op) w.offered v.closings) views) }
@@ -83,7 +83,7 @@ pub fn closed_once()
         → StandsInNone (λ v. times_closed (index op) k v.closings) views) }
 {}
 
-/// Between any two steps each operator has a word, in bounds, with the count of every view that is
+/// Between any two steps each operator has a word within bounds. Its count is that in every view that is
 /// not spent.
 pub fn words_stay_in_bounds()
     ensures word { (C : ℕ) (counts words : List ℕ) (views : List View) → IsSoundExchange C counts words views
@@ -94,8 +94,8 @@ pub fn words_stay_in_bounds()
         → slice_index v.counts (index op) ≡ w.count) }
 {}
 
-/// Where a ticket may wait, the words show a legal log between any two steps, one log for all
-/// operators, and so does each word that a call loads.
+/// Where a ticket may wait, the words of all operators show one legal log between any two steps, and each
+/// word that a call loads shows a legal log.
 pub fn words_show_a_legal_log()
     ensures words { (C : ℕ) (counts words : List ℕ) (views : List View) → IsSoundExchange C counts words views → 0 < C
         → ShowOneLog C counts words views }
@@ -103,8 +103,8 @@ pub fn words_show_a_legal_log()
         → ShowsLog C v.counts op w }
 {}
 
-/// Between any two steps no number of a word is below what any view saw of it. Where a view saw it
-/// closed, it is closed, and as much is offered as then: what is offered stays from the close on.
+/// Between any two steps no number of a word is below what any view saw of it. Where a view saw the
+/// operator closed, it is closed, and no ticket was accepted since.
 pub fn words_never_fall()
     ensures seen { BetweenSteps (λ C views op w. (v : View) → IsOneOfViews views v
         → AtMost (look_at v (index op)).seen w) }
@@ -115,8 +115,8 @@ pub fn words_never_fall()
         → total (λ v. v.part) views ≡ whole_part }
 {}
 
-/// A take that answers number k found k - 1 handed out, and a pass that saw an operator closed gets
-/// no ticket of it accepted.
+/// A take that gets ticket k found k - 1 handed out. An operator that a pass saw closed accepts no
+/// ticket from that pass.
 pub fn answers_follow_the_word()
     ensures take { (C : ℕ) (v : View) (op : Op) (t : Ticket) (new : View) → TakeDid C v op (Taken t) new
         → (t.op ≡ op) × ((look_at new (index op)).loaded.handed + 1 ≡ t.number) }
@@ -124,7 +124,7 @@ pub fn answers_follow_the_word()
         → (look_at v (index t.op)).seen.closed ≡ false }
 {}
 
-/// A try call leaves the counts, the part and all that the view has of other operators.
+/// A call on one operator changes neither the counts, nor the part, nor what the view has of the others.
 pub fn calls_change_one_operator()
     ensures offer { (C : ℕ) (v : View) (t : Ticket) (a : Offer) (new : View)
         → OfferDid C v t a new → ChangesOnly t.op v new }
@@ -134,8 +134,9 @@ pub fn calls_change_one_operator()
         → CloseDid C v op a new → ChangesOnly op v new }
 {}
 
-/// An operator that a pass saw to be over, closed with nothing left, stays so: a take answers
-/// Finished, and each pass of a split or a merge sees it too. A take that answers Finished saw it.
+/// An operator is over where it is closed and no ticket waits. Once a pass saw that, its takes answer
+/// Finished, and both passes after a split, and the pass after a merge, saw it too. A take that answers
+/// Finished saw it.
 pub fn stays_over()
     ensures take { (C : ℕ) (v : View) (op : Op) (a : Take) (new : View)
         → TakeDid C v op a new → IsOver v op → a ≡ Finished }

@@ -1,7 +1,7 @@
 //! The exchange through which feeders hand the tickets of mutants to workers: for each operator a
 //! line of numbers from 1, offered in order, taken in order, each once, and closed once.
 //!
-//! It stands in two forms that answer alike. `LockedExchange` is one lock round a log. In
+//! There are two forms, which give the same answers. `LockedExchange` is one lock around a log. In
 //! `TableExchange` each operator is one packed word, and each call is one load and at most one
 //! compare-exchange.
 #![tactic(auto)]

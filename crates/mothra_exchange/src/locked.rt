@@ -1,4 +1,4 @@
-//! The exchange under one lock.
+//! The plain form of the exchange: a log behind one lock.
 
 ghost use Rattle.std.specs.Prelude.{◌≡◌, ◌≢◌, [], IfOk, IfErr, OnOk, true, false};
 ghost use Rattle.mothra_exchange.specs.View.{spent_view};
@@ -19,16 +19,17 @@ use mothra_codes::{Op, Ticket};
 use std::alloc::Global;
 use std::sync::{Mutex, Wait};
 
-/// The exchange as one lock round a `State`: whenever the lock is free, its events are a legal log.
-/// It keeps no records, and never answers Busy.
+/// The exchange as one lock around a `State`: whenever the lock is free, its events are a legal log.
+/// It keeps no records and never answers Busy.
 #[derive(Drop)]
 pub struct LockedExchange<const C: u32> {
-    // For `finish` alone. No clause knows what lies in a lock, so the counts of the state are not known to be these.
+    // Used by `finish` alone. No clause can say what lies in a lock, so it has to compare the counts of the state
+    // with these.
     counts: [u32; 22],
     state: Mutex<State<C>>,
 }
 
-/// A pass of a `LockedExchange`, which knows nothing.
+/// A pass of a `LockedExchange`. It carries nothing.
 #[derive(Drop)]
 pub struct LockedPass;
 
@@ -51,8 +52,8 @@ impl<const C: u32> LockedExchange<C> {
     }
 }
 
-// The numbers of the state's log. A state of other counts, which none puts into the lock, counts as one with an empty
-// log for those given.
+// The numbers of the state's log. Nobody puts a state of other counts into the lock; if one came out of it, it would
+// be answered as an empty log for the counts given.
 fn tally_of<const C: u32>(state: State<C>, counts: [u32; 22]) -> Tally
     ensures own { state.entry.counts ≡ counts → Tallies state.entry result }
     ensures other { state.entry.counts ≢ counts → Tallies (history counts []) result }
@@ -91,7 +92,7 @@ impl<const C: u32> Gate for LockedExchange<C> {
 
     fn merge(&self, _pass: &mut LockedPass, _other: LockedPass) {}
 
-    // The answer of the table for the numbers of a legal log, so never Busy.
+    // The clause `answer` has no case Busy: the answer is that of the table for the numbers of some legal log.
     fn offer<R: Wait>(&self, rt: &R, _pass: &mut LockedPass, ticket: Ticket) -> Offer
         ensures gives_up { MayOffer false result }
         ensures records { false ≡ true → OfferKept C spent_view ticket result spent_view }
@@ -119,7 +120,7 @@ impl<const C: u32> Gate for LockedExchange<C> {
         self.state.lock(rt).close(op)
     }
 
-    // Some legal log for the counts given has the numbers of the tally.
+    // The numbers of the tally are those of some legal log for the counts given.
     fn finish(self, _pass: LockedPass) -> Tally
         ensures records { false ≡ true → EndsAsViews C spent_view result }
         ensures log { TalliesLog C (counts_given self.entry) result }

@@ -1,8 +1,8 @@
-//! What happens in an exchange.
+//! The events of an exchange.
 
 use mothra_codes::{Op, Ticket};
 
-/// One change of an exchange.
+/// A change of an exchange.
 #[derive(Clone, Copy, PartialEq, Eq, Debug, Drop)]
 pub enum Event {
     /// The ticket was offered and accepted.

@@ -1,4 +1,4 @@
-//! A pass loads a word, another pass changes it, and the exchange of the first is lost.
+//! Tests of lost races: a pass loads a word, another pass changes it, and the compare-exchange of the first fails.
 
 ghost use Rattle.std.specs.Prelude.{◌≡◌};
 ghost use Rattle.mothra_exchange.specs.Table.{IsPassOf};

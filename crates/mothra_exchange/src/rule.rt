@@ -1,4 +1,9 @@
-//! The rule that the words and the views keep, and what each kind of step tells.
+//! The rule that words and views keep between any two steps, and what a step of each kind shows the pass that makes
+//! it. An operator is named by its place, 0 to 21, since a step of `atomic_table` knows the place of its word.
+//!
+//! A load changes no word. An offer, a take or a close that wins changes the word of one operator and adds one event.
+//! A compare-exchange that loses changes what the pass has seen and nothing else. A split shares out one view, and a
+//! join unites two.
 
 use crate::view::View;
 use atomic_table::{Join, Play, Split, TableRule};
@@ -15,6 +20,7 @@ impl<const C: u32> TableRule<(), View, [u32; 22]> for Bound<C> {
     ghost first = { whole_view };
 }
 
+/// What a load of a word shows.
 pub(crate) struct LoadPlay<const C: u32>;
 
 impl<const C: u32> Play<(), View> for LoadPlay<C> {
@@ -23,6 +29,7 @@ impl<const C: u32> Play<(), View> for LoadPlay<C> {
     ghost then = { Looks C };
 }
 
+/// What the load that ends a merge shows.
 pub(crate) struct SettlePlay<const C: u32>;
 
 impl<const C: u32> Play<(), View> for SettlePlay<C> {
@@ -31,6 +38,7 @@ impl<const C: u32> Play<(), View> for SettlePlay<C> {
     ghost then = { Settles C };
 }
 
+/// How views are split and joined.
 pub(crate) struct Sharing;
 
 impl Split<View> for Sharing {

@@ -1,4 +1,9 @@
-//! A pass is split in two, and two are merged into one.
+//! A pass is split in two, and two passes are merged into one: a join, then a load.
+//!
+//! A join compares two views, and can not show how they stand to the words. So it keeps what both passes had seen
+//! (`mine`, `theirs`), and the rule says that these looks, too, are at most the words. The load that follows concerns
+//! the whole table, so it shows for all operators that both passes saw words of one legal log. It is not counted as a
+//! load of an operator.
 
 ghost use Rattle.std.specs.Prelude.{◌≡◌, ◌<◌};
 ghost use Rattle.mothra_exchange.specs.View.{view_after_split, split_off_view, united_view};
@@ -9,7 +14,7 @@ use crate::rule::{SettlePlay, Sharing};
 use crate::table::{Pass, TableExchange};
 
 impl<const C: u32> TableExchange<C> {
-    // A pass with one share of the pass that is lent.
+    // A new pass, which gets one share of the old one.
     pub(crate) fn split_pass(&self, pass: &mut Pass) -> Pass
         requires own { IsPassOf self.now pass.old }
         requires part { 1 < (view_of pass.old).part }
@@ -22,8 +27,7 @@ impl<const C: u32> TableExchange<C> {
         }
     }
 
-    // The join alone tells nothing of the words. The load after it shows that what both passes
-    // had seen are words of one legal log.
+    // A join shows nothing of the words. The load after it shows that both passes had seen words of one legal log.
     pub(crate) fn merge_pass(&self, pass: &mut Pass, other: Pass)
         requires own { IsPassOf self.now pass.old × IsPassOf self.now other }
         ensures own { IsPassOf self.now pass.new }

@@ -1,4 +1,4 @@
-//! The exchange that one caller at a time changes, with its log.
+//! The exchange with its log, for one caller at a time.
 
 ghost use Rattle.std.specs.Prelude.{◌≡◌, ◌↔◌, [], map, IfOk, IfErr, OnOk, IsTrue, vec_capacity};
 ghost use Rattle.mothra_exchange.specs.Word.{opening_word};
@@ -16,9 +16,8 @@ use mothra_codes::{Op, Ticket};
 use std::alloc::Global;
 use std::marker::Model;
 
-/// The exchange for one caller at a time, with its log. Up to `C` tickets of an operator wait, 1 to
-/// 1,048,575. Its calls never answer Busy.
-/// A contract sees the counts and the events.
+/// The exchange with its log, for one caller at a time. Up to `C` tickets of an operator may wait,
+/// 1 to 1,048,575. Its calls never answer Busy. A contract sees the counts and the events.
 #[derive(Drop)]
 pub struct State<const C: u32> {
     words: [Word; 22],
@@ -33,7 +32,7 @@ impl<const C: u32> Model for State<C> {
     ghost invariant = { λ s. KeepsLog C s.words s.log.items (vec_capacity s.log) };
 }
 
-// Each operator's numbers with nothing offered.
+// The numbers of each operator before anything is offered.
 pub(crate) fn opening_state(counts: &[u32; 22]) -> [Word; 22]
     ensures { result ≡ map opening_word counts.now }
 {
@@ -56,7 +55,7 @@ fn have_counts(words: &[Word; 22], counts: &[u32; 22]) -> bool
     true
 }
 
-// How many events can come.
+// How many events a log for these counts can have.
 fn room_of(counts: &[u32; 22]) -> usize
     requires { AllCountsFit counts.now }
     ensures { result ≡ room (map opening_word counts.now) }
@@ -69,8 +68,8 @@ fn room_of(counts: &[u32; 22]) -> usize
 }
 
 impl<const C: u32> State<C> {
-    /// An empty log for these counts, in the order of the operators, and room for every event that
-    /// can come.
+    /// An empty log for these counts, which stand in the order of the operators. The memory for every
+    /// event that can come is taken here.
     pub fn new(alloc: Global, counts: [u32; 22]) -> Result<State<C>, ExchangeFault>
         ensures empty { IfOk result (λ s. s ≡ history counts []) }
         ensures fits { OnOk result (AllCountsFit counts) }
@@ -88,14 +87,14 @@ impl<const C: u32> State<C> {
         }
     }
 
-    // Whether these are the counts.
+    // Whether the exchange was made for these counts.
     pub(crate) fn has_counts(&self, counts: &[u32; 22]) -> bool
         ensures { IsTrue result ↔ (self.now.counts ≡ counts.now) }
     {
         have_counts(&self.words, counts)
     }
 
-    // The numbers of the log.
+    // The numbers of each operator in the log.
     pub(crate) fn into_tally(self) -> Tally
         ensures shows { Tallies self.entry result }
         ensures legal { IsLegalLog C self.entry.counts self.entry.events }
@@ -112,7 +111,7 @@ impl<const C: u32> State<C> {
         self.log.as_slice()
     }
 
-    /// Offers a ticket. Only an accepted one is logged.
+    /// Offers a ticket. Only an accepted ticket is logged.
     pub fn offer(&mut self, ticket: Ticket) -> Offer
         ensures legal { IsLegalLog C self.old.counts self.old.events }
         ensures answer { result ≡ offer_answer C ticket.number (numbers_at self.old ticket.op) }

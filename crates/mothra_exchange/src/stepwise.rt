@@ -1,4 +1,5 @@
-//! What holds between any two steps of an exchange.
+//! What holds between any two steps of an exchange. Other crates cite it through the trait here and not by the rule: a
+//! clause that names the rule alone does not see the bound of the exchange.
 
 ghost use Rattle.std.specs.Prelude.{ℕ, List};
 ghost use Rattle.mothra_exchange.specs.declared.view.View.{View as ViewModel};
@@ -9,9 +10,9 @@ use crate::table::TableExchange;
 use crate::view::View;
 use atomic_table::TableRule;
 
-/// An exchange that changes in single steps: what its type keeps between any two of them.
+/// An exchange that changes in single steps, and what its type keeps between any two of them.
 pub trait Stepwise {
-    // This holds of the words and of the views between any two steps.
+    // A property of the words and of the views that holds between any two steps of this exchange.
     ghost between: { Self → (List ℕ → List ViewModel → Type 0) → Type 0 };
 }
 

@@ -1,4 +1,4 @@
-//! The word form: how it begins and ends.
+//! The exchange of packed words: how it is made, and how it ends.
 
 ghost use Rattle.std.specs.Prelude.{◌≡◌, ◌<◌, [], length, IfOk, IfErr, OnOk};
 ghost use Rattle.mothra_exchange.specs.View.{whole_view};
@@ -15,7 +15,7 @@ use crate::word::Word;
 use atomic_table::{Seat, Table, TableRule};
 use std::alloc::Global;
 
-/// The exchange in which each operator is one packed word. Up to `C` tickets of an operator wait, 1 to
+/// The exchange in which each operator is one packed word. Up to `C` tickets of an operator may wait, 1 to
 /// 1,048,575.
 #[derive(Drop)]
 pub struct TableExchange<const C: u32> {
@@ -24,7 +24,7 @@ pub struct TableExchange<const C: u32> {
     ghost slots: { table.shared.table_id.slots ≡ 0 },
 }
 
-/// A pass of one `TableExchange`. It takes no memory.
+/// A pass of a `TableExchange`. It takes no memory.
 #[derive(Drop)]
 pub struct Pass {
     pub(crate) seat: Seat<(), View>,
@@ -33,7 +33,7 @@ pub struct Pass {
     ghost looks_at_each: { length seat.me.0.looks ≡ 22 },
 }
 
-// Each word with nothing offered: the count itself.
+// The word of each operator before anything is offered, which is the count itself.
 fn opening_words(counts: &[u32; 22]) -> [u64; 22]
     ensures { result ≡ counts.now }
 {
@@ -47,8 +47,8 @@ fn opening_words(counts: &[u32; 22]) -> [u64; 22]
 impl<const C: u32> TableExchange<C> {
     ghost use Rattle.mothra_exchange.specs.Table.{view_of, IsPassOf, BetweenStepsOf};
 
-    /// An exchange with these counts, in the order of the operators, in which nothing was offered,
-    /// and its whole pass.
+    /// An exchange with these counts, in the order of the operators, in which nothing was offered, and
+    /// its first pass, which is whole.
     pub fn new(alloc: Global, counts: [u32; 22]) -> Result<(TableExchange<C>, Pass), ExchangeFault>
         ensures own { IfOk result (λ r. IsPassOf r.0 r.1) }
         ensures view { IfOk result (λ r. view_of r.1 ≡ whole_view counts) }
@@ -70,7 +70,7 @@ impl<const C: u32> TableExchange<C> {
         }
     }
 
-    // The numbers that the words end with.
+    // The numbers of each operator at the end.
     pub(crate) fn close_all(self, pass: Pass) -> Tally
         requires { IsPassOf self pass }
         ensures { EndsAsViews C (view_of pass) result }

@@ -1,4 +1,4 @@
-//! The word form as a gate.
+//! The exchange of packed words as a gate.
 
 use crate::answer::{Close, Offer, Take};
 use crate::gate::Gate;

@@ -8,7 +8,7 @@ use crate::word::Word;
 use mothra_codes::Op;
 use std::marker::Model;
 
-/// Each operator's numbers at the end of an exchange. Only finishing an exchange makes one.
+/// The numbers of each operator at the end of an exchange. Only `finish` of an exchange makes one.
 #[derive(Drop)]
 pub struct Tally {
     pub(crate) words: [Word; 22],

@@ -1,4 +1,5 @@
-//! One operator's numbers, and the word that packs them.
+//! The numbers of an operator, and the 64-bit word that packs them. Both forms of the exchange have their answers from
+//! here; of packed words only the rule speaks.
 
 ghost use Rattle.std.specs.Prelude.{◌≡◌};
 ghost use Rattle.mothra_exchange.specs.declared.word.Word.{Word};
@@ -8,8 +9,8 @@ ghost use Rattle.mothra_exchange.specs.Answer as table;
 use crate::answer::{Close, Offer, Take};
 use mothra_codes::{Op, Ticket};
 
-/// How many tickets an operator has, how many were offered, how many were handed out, and whether
-/// it is closed.
+/// How many tickets an operator has, how many were offered, how many were handed out, and whether the operator is
+/// closed.
 #[derive(Clone, Copy, Drop)]
 pub struct Word {
     pub count: u32,
@@ -21,7 +22,8 @@ pub struct Word {
 /// The largest count of an operator.
 pub(crate) const LARGEST_COUNT: u32 = 1_048_575;
 
-// How many numbers a field of the packed word can hold, and where the fields begin.
+// How many numbers a field of the packed word can hold: a count takes 20 bits. The three constants after it say where
+// the other fields begin.
 const FIELD: u64 = LARGEST_COUNT as u64 + 1;
 
 const OFFERED: u64 = FIELD;
@@ -31,7 +33,7 @@ const HANDED: u64 = FIELD * FIELD;
 const CLOSED: u64 = FIELD * FIELD * FIELD;
 
 impl Word {
-    /// The word of an operator with this count in a new exchange.
+    /// The numbers of an operator with this count in a new exchange.
     pub fn opening(count: u32) -> Word
         ensures { result ≡ opening_word count }
     {
@@ -66,7 +68,7 @@ impl Word {
         }
     }
 
-    /// The answer to an offer of this number, where `bound` tickets may wait.
+    /// The answer to an offer of ticket `number`, where `bound` tickets may wait.
     pub fn offer_answer(self, number: u32, bound: u32) -> Offer
         requires { InBounds bound self }
         ensures { result ≡ table.offer_answer bound number self }
@@ -86,7 +88,7 @@ impl Word {
         Offer::Accepted
     }
 
-    /// The answer to a take.
+    /// The answer to a take of the next ticket of the operator.
     pub fn take_answer(self, op: Op) -> Take
         requires { FitsWord self }
         ensures { result ≡ table.take_answer op self }

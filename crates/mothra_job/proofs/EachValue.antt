@@ -1,4 +1,4 @@
--- What each value of a list is, from one of them on.
+-- The values of a list are read one by one.
 use Rattle.std.proofs.Common.{◌≡◌, ◌∙◌, ap, refl, sym, ℕ, suc, ◌+◌, ◌<◌, ◌≤◌, List, [], ◌∷◌, ◌++◌, length, drop, get_or, drop-cons, add-one, append_assoc, append-nil, Option, Some, None, option_map}
 use Rattle.std.proofs.lemmas.List.{drop_all}
 use Rattle.serde_json.specs.Data.{Data}
@@ -6,7 +6,7 @@ use Rattle.serde_json.specs.View.{view, items_view}
 use Rattle.serde_json.specs.declared.value.Value.{Value}
 use Rattle.mothra_job.specs.Suite.{each}
 
--- what each of the values is, behind these
+-- the items that were read, followed by what the other values are
 abbrev behind : {A : Type 0} → List A → (Data → Option A) → List Value → Option (List A)
 behind before read values = option_map (λ xs. before ++ xs) (each read (items_view values))
 
@@ -27,7 +27,7 @@ split : (values : List Value) (i : ℕ) (value : Value) → i < length values �
     → drop i values ≡ value ∷ drop (i + 1) values
 split values i value within at = rw add-one (drop-cons values i value within ∙ ap (λ v. v ∷ drop (suc i) values) (sym at))
 
--- one value more is read
+-- one more value is read
 pub each_more : {A : Type 0} (read : Data → Option A) (values : List Value) (i : ℕ) (value : Value) (before : List A) (x : A) {all : Option (List A)}
     → i < length values → value ≡ get_or values i value → read (view value) ≡ Some x
     → option_map (λ xs. before ++ xs) (each read (items_view (drop i values))) ≡ all
@@ -35,7 +35,7 @@ pub each_more : {A : Type 0} (read : Data → Option A) (values : List Value) (i
 each_more read values i value before x within at is so_far =
     first read before x value (drop (i + 1) values) is ∙ ap (behind before read) (sym (split values i value within at)) ∙ so_far
 
--- a value that is none of them
+-- a value that can not be read
 pub each_stopped : {A : Type 0} (read : Data → Option A) (values : List Value) (i : ℕ) (value : Value) (before : List A) {all : Option (List A)}
     → i < length values → value ≡ get_or values i value → read (view value) ≡ None
     → option_map (λ xs. before ++ xs) (each read (items_view (drop i values))) ≡ all → None ≡ all

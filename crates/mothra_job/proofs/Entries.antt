@@ -102,7 +102,7 @@ named_complete text t names =
     ap₂ (λ o n. option_and_then (λ op. if_named text (ticket op n)) o) front back
     ∙ rw (le-leb 1 t.number names.1, le-leb t.number 1048575 names.2, same) refl
 
--- what finds each mutant that the text names, and no other
+-- a search that finds each mutant which the text names, and no other, is the definition
 pub is_named : (text : List ℕ) (r : Option Ticket) → ((t : Ticket) → Names text t → r ≡ Some t) → IfSome r (Names text) → r ≡ named text
 is_named text (Some t) known only = sym (named_complete text t only)
 is_named text None known only = go (named text) refl

@@ -1,5 +1,5 @@
--- The mutants that a job declares equivalent: each by
--- the code of its operator, one blank and its number.
+-- The mutants that a job declares equivalent: each is named by the
+-- code of its operator, one blank and its number.
 use Rattle.std.specs.Prelude.{ℕ, ◌&&◌, nat_le, not, List, ◌++◌, codes, drop, filter, filter_map, map, take}
 use Rattle.std.specs.Prelude.{Option, Some, None, if◌then◌else◌, is_some, option_and_then}
 use Rattle.std.specs.Fmt.{decimal}
@@ -19,7 +19,7 @@ use Rattle.mothra_codes.specs.declared.ticket.Ticket.{Ticket}
 abbrev pub ticket_text : Ticket → List ℕ
 ticket_text t = code_of t.op ++ (codes " " ++ decimal t.number)
 
--- this mutant, where the text names it
+-- the mutant, where the text names it and its number is one that a list may have
 abbrev pub if_named : List ℕ → Ticket → Option Ticket
 if_named text t =
     if (nat_le 1 t.number && nat_le t.number 1048575) && bytes_eq (ticket_text t) text
@@ -34,11 +34,11 @@ named text = option_and_then (λ op. if_named text (ticket op (digits_value 10 (
 abbrev pub ticket_of_value : Data → Option Ticket
 ticket_of_value value = option_and_then named (as_str value)
 
--- the mutants that values name
+-- the mutants that the entries name
 abbrev pub tickets_named : List Data → List Ticket
 tickets_named values = filter_map ticket_of_value values
 
--- J5 of each value that names no mutant, by its number; that of the first is given
+-- J5 for each entry that names no mutant, in order; the first entry has the number `first`
 abbrev pub entry_faults : ℕ → List Data → List JobFault
 entry_faults first values =
     map (λ numbered. Equivalent numbered.0) (filter

@@ -1,8 +1,8 @@
--- What is told of several faults: the first of them.
+-- Of several faults the first is reported.
 use Rattle.std.specs.Prelude.{List, [], ◌∷◌, Option, Some, None, Result, Ok, Err}
 use Rattle.mothra_job.specs.declared.job.JobFault.{JobFault}
 
--- the fault of what is not there
+-- the fault, where there is no value
 abbrev pub absent : {A : Type 0} → JobFault → Option A → List JobFault
 absent fault None = fault ∷ []
 absent fault (Some x) = []

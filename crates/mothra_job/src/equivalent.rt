@@ -15,10 +15,10 @@ use mothra_codes::{Op, Ticket};
 use serde_json::Value;
 use std::alloc::Global;
 
-// As many mutants as the list of an operator may have.
+// The most mutants that the list of an operator may have.
 const MOST_MUTANTS: u32 = 1_048_575;
 
-/// The number of a mutant that the digits write, without a sign or a leading zero.
+/// The number of a mutant, 1 to 1,048,575, written in digits without a sign or a leading zero.
 fn number(digits: &str) -> Option<u32>
     ensures known { (n : ℕ) → 1 ≤ n → n ≤ 1048575 → digits.now ≡ decimal n → result ≡ Some n }
     ensures only { IfSome result (λ n. (digits.now ≡ decimal n) × (1 ≤ n) × (n ≤ 1048575)) }
@@ -33,7 +33,7 @@ fn number(digits: &str) -> Option<u32>
     Some(number)
 }
 
-/// The mutant that a text names.
+/// The mutant that a text names: the code of its operator, one blank and its number.
 fn named(text: &str) -> Option<Ticket>
     ensures known { (t : Ticket) → Names text.now t → result ≡ Some t }
     ensures only { IfSome result (Names text.now) }
@@ -44,14 +44,14 @@ fn named(text: &str) -> Option<Ticket>
     Some(Ticket { op, number })
 }
 
-/// The mutant that an entry names.
+/// The mutant that an entry of the list names; None where the entry is no such text.
 fn entry(value: &Value) -> Option<Ticket>
     ensures { result ≡ definition.ticket_of_value (value_of value.now) }
 {
     named(value.as_str()?)
 }
 
-/// The mutants that the values name, or J5 at the first that names none.
+/// The mutants that the entries name; J5 at the first entry that names none.
 pub(crate) fn equivalent(alloc: Global, values: &[Value]) -> Result<Values<Ticket>, JobFault>
     ensures { let entries = map value_of values.now in
         (result ≡ fault_or (entry_faults 1 entries) (tickets_named entries)) ⊎ (result ≡ Err Memory) }

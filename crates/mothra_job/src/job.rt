@@ -1,4 +1,4 @@
-//! Jobs, read from a JSON text (RFC 8259).
+//! A job is read from a JSON text (RFC 8259).
 
 ghost use Rattle.std.specs.Prelude.{◌≡◌, ◌⊎◌, ◌<◌, Err, Some, find, length, map, not, option_map, string_bytes};
 ghost use Rattle.std.specs.BTreeMap.{keys};
@@ -22,7 +22,7 @@ use std::alloc::{AllocError, AllocFailed, Global};
 use std::marker::Model;
 use thiserror::Error;
 
-/// What a command works on.
+/// What a command works on: a source, its tests and the mutants that are declared equivalent.
 #[derive(Drop)]
 pub struct Job {
     source: String,
@@ -40,28 +40,28 @@ impl Model for Job {
 }
 
 impl Job {
-    /// The source in fixed form, whose lines may be any. It takes no memory.
+    /// The text of the source, which may be any text. The call takes no memory.
     pub fn source(&self) -> &str
         ensures { result.now ≡ self.now.source }
     {
         self.source.as_str()
     }
 
-    /// The tests, at most 256, in order: each is the values of dummy arguments. It takes no memory.
+    /// The tests, at most 256, in order. Each is a list of values of dummy arguments. The call takes no memory.
     pub fn suite(&self) -> &[Values<Arg>]
         ensures { result.now ≡ self.now.suite }
     {
         self.suite.as_slice()
     }
 
-    /// The mutants that are declared equivalent, in order. It takes no memory.
+    /// The mutants that are declared equivalent, in the order of the job. The call takes no memory.
     pub fn equivalent(&self) -> &[Ticket]
         ensures { result.now ≡ self.now.equivalent }
     {
         self.equivalent.as_slice()
     }
 
-    /// The tests and the mutants that are declared equivalent, given away. It takes no memory.
+    /// Gives away the tests and the mutants that are declared equivalent. The call takes no memory.
     pub fn into_lists(self) -> (Values<Values<Arg>>, Values<Ticket>)
         ensures suite { result.0 ≡ self.suite }
         ensures equivalent { result.1 ≡ self.equivalent }
@@ -69,7 +69,7 @@ impl Job {
         (self.suite, self.equivalent)
     }
 
-    /// The values of the test of this number, where there is one. The first is number 1. It takes no memory.
+    /// The values of the test with this number, from 1; None where there is none. The call takes no memory.
     pub fn test(&self, number: u32) -> Option<&[Arg]>
         ensures { option_map (λ values. values.now) result ≡ test_at self.now.suite number }
     {
@@ -80,24 +80,24 @@ impl Job {
     }
 }
 
-/// Why bytes are no job.
+/// Why the bytes are no job.
 #[derive(Debug, Drop, Error)]
 pub enum JobFault {
     /// J1: memory ran out.
     #[error("memory ran out")]
     Memory,
-    /// J2: no JSON text, or no object at its top.
+    /// J2: the bytes are no JSON text, or its value is no object.
     #[error("the job is no JSON object")]
     NotJson,
     /// J3: `source` is absent or no text, `suite` or `equivalent` is no list, or this key is unknown.
     #[error("a key of the job is absent, unknown or of the wrong kind")]
     Key(Key),
-    /// J4: the test of this number, from 1, is no list of numbers of the INTEGER range, truth values, and lists of
-    /// either that are not empty.
+    /// J4: the test with this number, from 1, is no list of values. A value is a number of the INTEGER range, a truth
+    /// value, or a list of one kind of these that is not empty.
     #[error("number {0} of the tests is no list of values of dummy arguments")]
     Suite(u32),
-    /// J5: the entry of this number, from 1, of the mutants that are declared equivalent is no text of an operator's
-    /// code, one blank, and a number 1 to 1048575 without leading zeros.
+    /// J5: the entry with this number, from 1, of the list `equivalent` is no text of an operator's code, one blank,
+    /// and a number 1 to 1048575 without leading zeros.
     #[error("entry {0} of the declared equivalents is no name of a mutant")]
     Equivalent(usize),
     /// J6: there are more than 256 tests.
@@ -106,7 +106,7 @@ pub enum JobFault {
     /// J7: the job has more than 1,048,576 bytes.
     #[error("the job has more than 1048576 bytes")]
     TooLarge,
-    /// J8: the suite has no test of this number.
+    /// J8: the suite has no test with this number.
     #[error("the suite has fewer than {0} tests")]
     NoTest(u32),
 }
@@ -129,12 +129,12 @@ impl<T: Drop> From<AllocFailed<T>> for JobFault {
 
 const MOST_BYTES: usize = 1_048_576;
 
-/// The job that the bytes are.
+/// Reads a job.
 ///
-/// Of several faults the first in this order is told: J7, J2, J3 at `source`, J3 at `suite`, J3 at `equivalent`, J3 at
-/// the first unknown key by its bytes, J6, J4 at the first test, J5 at the first entry. J8 is of the command `exec`
-/// alone. Of a key that stands twice the last value counts. A job without `suite` has no test, and one without
-/// `equivalent` declares no mutant.
+/// Of several faults the first in this order is reported: J7, J2, J3 at `source`, J3 at `suite`, J3 at `equivalent`, J3
+/// at an unknown key (the first in the order of bytes), J6, J4 at the first test, J5 at the first entry. J8 does not
+/// come here: the command `exec` has it. Where a key stands twice, its last value counts. A job without `suite` has no
+/// test, and one without `equivalent` declares no mutant.
 pub fn read_job(alloc: Global, bytes: &[u8]) -> Result<Job, JobFault>
     ensures job { (result ≡ job_of bytes.now) ⊎ (result ≡ Err JobFault.Memory) }
     ensures too_large { 1048576 < length bytes.now → result ≡ Err JobFault.TooLarge }
@@ -148,7 +148,7 @@ pub fn read_job(alloc: Global, bytes: &[u8]) -> Result<Job, JobFault>
     }
 }
 
-/// Want of memory, or no JSON text.
+/// An error of the JSON reader as a fault: J1 where memory ran out, else J2.
 fn fault_of(error: &serde_json::Error) -> JobFault
     ensures { (IsMemory error.now × (result ≡ JobFault.Memory))
         ⊎ ((¬ IsMemory error.now) × (result ≡ JobFault.NotJson)) }
@@ -160,7 +160,7 @@ fn fault_of(error: &serde_json::Error) -> JobFault
     }
 }
 
-/// The job that a value is.
+/// The job that a JSON value is.
 fn job_in(alloc: Global, value: &Value) -> Result<Job, JobFault>
     ensures { let json = Some (value_of value.now) in
         (result ≡ fault_or (value_faults json) (job_fields json)) ⊎ (result ≡ Err JobFault.Memory) }
@@ -184,7 +184,7 @@ fn source_in(value: &Value) -> Option<&str>
     value.get("source")?.as_str()
 }
 
-/// The values of the list at a key: none where there is no such key.
+/// The values of the list at a key, which is empty where the key is absent. None where the value is no list.
 fn values_at<'a>(value: &'a Value, key: &str) -> Option<&'a [Value]>
     ensures { option_map (λ values. map value_of values.now) result
         ≡ listed_values (get key.now (value_of value.entry.now)) }
@@ -195,7 +195,7 @@ fn values_at<'a>(value: &'a Value, key: &str) -> Option<&'a [Value]>
     }
 }
 
-/// The job with this source, these tests and the mutants that the values name.
+/// The job with this source, these tests and the mutants that the entries name.
 fn with_suite(
     alloc: Global,
     source: &str,
@@ -217,7 +217,8 @@ fn with_suite(
     }
 }
 
-/// The job with this source, the tests that the values are, and the mutants that the entries name.
+/// The job with this source, the tests that the values are, and the mutants that the entries name. J6 and J4 come
+/// before J5.
 fn with_lists(
     alloc: Global,
     source: &str,
@@ -235,7 +236,7 @@ fn with_lists(
     }
 }
 
-/// The job with this source, these tests and these entries, where no key is unknown.
+/// The job with the values of the three keys, unless one is absent or of the wrong kind, or another key is there.
 fn with_members(
     alloc: Global,
     source: Option<&str>,
@@ -265,14 +266,14 @@ fn with_members(
     }
 }
 
-/// A job has this key.
+/// Whether a job may have this key.
 fn is_known(key: &str) -> bool
     ensures { result ≡ definition.is_known key.now }
 {
     key == "source" || key == "suite" || key == "equivalent"
 }
 
-/// The first key by its bytes that a job does not have.
+/// The first key, in the order of bytes, that a job may not have.
 fn unknown_key(members: &Map<String, Value>) -> Option<&String>
     ensures { option_map (λ s. s.now) result
         ≡ find (λ k. not (definition.is_known (string_bytes k))) (keys members.now) }
@@ -280,7 +281,7 @@ fn unknown_key(members: &Map<String, Value>) -> Option<&String>
     members.keys().find(|key| !is_known(key.as_str()))
 }
 
-/// The fault of a key.
+/// J3 at a key, or J1 where there is no memory for its name.
 fn key_fault(alloc: Global, key: &str) -> JobFault
     ensures { (result ≡ JobFault.Key key.now) ⊎ (result ≡ JobFault.Memory) }
 {

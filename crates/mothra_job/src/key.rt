@@ -1,10 +1,11 @@
-//! Names of the members of a job.
+//! Names of members of a job. `Key` is a type of its own, which contracts see as the bytes of the name, so that answers
+//! of `read_job` can be compared as values.
 
 ghost use Rattle.std.specs.Prelude.{◌≡◌, string_bytes};
 
 use std::marker::Model;
 
-/// The name of a member of a job: any text, the empty one too.
+/// The name of a member of a job: any text, also an empty one.
 #[derive(Debug, Drop)]
 pub struct Key {
     name: String,
@@ -19,21 +20,21 @@ impl Model for Key {
 }
 
 impl Key {
-    /// The key of this name. It takes no memory.
+    /// The key of this name. The call takes no memory.
     pub fn new(name: String) -> Key
         ensures { result ≡ string_bytes name }
     {
         Key { name }
     }
 
-    /// The name. It takes no memory.
+    /// The name. The call takes no memory.
     pub fn as_str(&self) -> &str
         ensures { result.now ≡ self.now }
     {
         self.name.as_str()
     }
 
-    /// The name, given back. It takes no memory.
+    /// Gives the name back. The call takes no memory.
     pub fn into_string(self) -> String
         ensures { string_bytes result ≡ self }
     {

@@ -15,7 +15,7 @@ use std::alloc::{AllocError, Global};
 
 const MOST_TESTS: usize = 256;
 
-/// The number of the INTEGER range that a value is.
+/// The INTEGER that a value is, from -2147483648 to 2147483647.
 fn integer(value: &Value) -> Option<i32>
     ensures { result ≡ definition.integer (value_of value.now) }
 {
@@ -26,7 +26,7 @@ fn integer(value: &Value) -> Option<i32>
     Some(number as i32)
 }
 
-/// The numbers that the values are, if each is one.
+/// The numbers that the values are; None where one is no INTEGER.
 fn integers(alloc: Global, values: &[Value]) -> Result<Option<Values<i32>>, AllocError>
     ensures { IfOk result (λ numbers. numbers ≡ each definition.integer (items_view values.now)) }
 {
@@ -40,7 +40,7 @@ fn integers(alloc: Global, values: &[Value]) -> Result<Option<Values<i32>>, Allo
     Ok(Some(Values::new(numbers)))
 }
 
-/// The truth values that the values are, if each is one.
+/// The truth values that the values are; None where one is none.
 fn truths(alloc: Global, values: &[Value]) -> Result<Option<Values<bool>>, AllocError>
     ensures { IfOk result (λ truths. truths ≡ each as_bool (items_view values.now)) }
 {
@@ -54,7 +54,7 @@ fn truths(alloc: Global, values: &[Value]) -> Result<Option<Values<bool>>, Alloc
     Ok(Some(Values::new(truths)))
 }
 
-/// The elements of an array, if there are any and all are of one kind.
+/// The array with these elements; None where there are none, or not all are of one kind.
 fn elements(alloc: Global, values: &[Value]) -> Result<Option<Arg>, AllocError>
     ensures { IfOk result (λ argument. argument ≡ definition.array_of_items (items_view values.now)) }
 {
@@ -67,7 +67,7 @@ fn elements(alloc: Global, values: &[Value]) -> Result<Option<Arg>, AllocError>
     }
 }
 
-/// The value of a dummy argument that a value stands for.
+/// The value of a dummy argument that a JSON value is.
 fn argument(alloc: Global, value: &Value) -> Result<Option<Arg>, AllocError>
     ensures { IfOk result (λ argument. argument ≡ definition.argument (value_of value.now)) }
 {
@@ -83,7 +83,7 @@ fn argument(alloc: Global, value: &Value) -> Result<Option<Arg>, AllocError>
     }
 }
 
-/// The arguments that the values stand for, if each stands for one.
+/// The values of dummy arguments that the JSON values are; None where one is none.
 fn arguments(alloc: Global, values: &[Value]) -> Result<Option<Values<Arg>>, AllocError>
     ensures { IfOk result (λ arguments. arguments ≡ each definition.argument (items_view values.now)) }
 {
@@ -97,7 +97,7 @@ fn arguments(alloc: Global, values: &[Value]) -> Result<Option<Values<Arg>>, All
     Ok(Some(Values::new(arguments)))
 }
 
-/// The test that a value is.
+/// The test that a JSON value is.
 fn test(alloc: Global, value: &Value) -> Result<Option<Values<Arg>>, AllocError>
     ensures { IfOk result (λ test. test ≡ definition.test (value_of value.now)) }
 {
@@ -107,7 +107,7 @@ fn test(alloc: Global, value: &Value) -> Result<Option<Values<Arg>>, AllocError>
     }
 }
 
-/// The tests that the values are, or J4 at the first that is none.
+/// The tests that the values are; J4 at the first value that is none.
 fn tests(alloc: Global, values: &[Value]) -> Result<Values<Values<Arg>>, JobFault>
     requires { length values.now ≤ 256 }
     ensures { let suite = map value_of values.now in
@@ -123,7 +123,7 @@ fn tests(alloc: Global, values: &[Value]) -> Result<Values<Values<Arg>>, JobFaul
     Ok(Values::new(tests))
 }
 
-/// The suite that the values are: J6 where there are more than 256, before J4.
+/// The suite of the tests that the values are; J6 where there are more than 256, before J4.
 #[tactic(auto, using(crate::proofs::Suites::too_many, crate::proofs::Suites::few_enough))]
 pub(crate) fn suite(alloc: Global, values: &[Value]) -> Result<Values<Values<Arg>>, JobFault>
     ensures { let suite = map value_of values.now in

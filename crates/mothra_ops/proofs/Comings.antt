@@ -1,4 +1,4 @@
--- How far a list has come, step by step.
+-- A list of edits that is being made, step by step.
 use Rattle.std.proofs.Common.{arith, ◌≡◌, ◌<◌, ◌≤◌, ◌+◌, ℕ, zero, suc, length, List, [], ◌∷◌, ◌++◌, refl, Some, ap, sym, ◌∙◌, subst, inl, inr, get_or}
 use Rattle.std.specs.Prelude.{◌⊎◌}
 use Rattle.f77_tree.specs.Node.{NodeOf, nodes_of}
@@ -22,7 +22,7 @@ use Rattle.mothra_codes.specs.declared.op.Op.{Op}
 use Rattle.mothra_ops.proofs.Cursor.{edit_at, kept, passed_by, first_rank, next_node, next_statement, starts, ends}
 use Rattle.mothra_ops.proofs.Members.{own_op, rank_first, statement_first, statement_last, position_last, rank_last, member_here, mutant_here}
 
--- what adding an edit does to a list that holds others
+-- adding an edit to a list that holds others gives one that holds it behind them
 abbrev pub Adds : Listing → Listing → Edit → Type 0
 Adds old new edit = (whole : List Edit) → HoldsEdits old whole → HoldsEdits new (whole ++ edit ∷ [])
 
@@ -30,7 +30,7 @@ abbrev pub Overflows : Listing → Edit → Type 0
 Overflows old edit = (whole : List Edit) → HoldsEdits old whole
     → (old.limits.kept < length (thinned old.every (whole ++ edit ∷ []))) ⊎ (old.limits.whole < length (whole ++ edit ∷ []))
 
--- ranks are counted from 1
+-- a list that has come to rank 0 has come to rank 1, since ranks are counted from 1
 pub come_first : (l : Listing) (program : List LineFields) (s p : ℕ) → HasCome l program s p 0 → HasCome l program s p 1
 come_first l program s p come = record {
   limits = come.limits;
@@ -121,7 +121,7 @@ come_to_end l program s past come = record {
   counted = come.holds.whole;
 }
 
--- why there is no list, of other words for the operator and for how many are kept
+-- a fault for which there is no list, where the operator and q are named by equal terms
 pub no_list_of : (op other : Op) (program : List LineFields) (q r : ℕ) (fault : OpsFault) → other ≡ op → r ≡ q → IsNoList other program r fault → IsNoList op program q fault
 no_list_of op other program q r fault same every told =
     subst (λ (o : Op). IsNoList o program q fault) same (subst (λ (n : ℕ). IsNoList other program n fault) every told)

@@ -1,4 +1,4 @@
--- A list of edits as far as it has come: those with a property that stand before a place.
+-- A list of edits that has come to a place: it has those with a property that stand before the place.
 use Rattle.std.proofs.Common.{arith, ◌≡◌, ◌<◌, ◌+◌, ℕ, length, List, [], ◌∷◌, ◌++◌, refl, ap, sym, ◌∙◌, subst, inl, inr, get_or}
 use Rattle.std.specs.Prelude.{◌⊎◌, Contains}
 use Rattle.std.proofs.lemmas.Bool.{cases_lt}
@@ -28,7 +28,7 @@ below_next s p r e (inl h) = inl h
 below_next s p r e (inr (h, inl g)) = inr (h, inl g)
 below_next s p r e (inr (h, inr (g, f))) = inr (h, inr (g, omega (arith, f)))
 
--- at most this one is new
+-- one rank further, the edit of that rank is the only new one
 below_last : (op : Op) (s p r : ℕ) (e : Edit) → e.op ≡ op → Below s p (r + 1) e → Below s p r e ⊎ (e ≡ edit_at op s p r)
 below_last op s p r e own (inl h) = inl (inl h)
 below_last op s p r e own (inr (h, inl g)) = inl (inr (h, inl g))
@@ -42,7 +42,7 @@ below_last op s p r e own (inr (h, inr (g, f))) = elim (cases_lt e.rank r) [
       ∙ ap (λ (x : ℕ). record { op = op; statement = s; position = p; rank = x }) same)
 ]
 
--- the same property in other words
+-- a list by one property is a list by a property that holds of the same edits
 lists_same : (P Q : Edit → Type 0) (xs : List Edit) → Lists P xs → ((e : Edit) → P e → Q e) → ((e : Edit) → Q e → P e) → Lists Q xs
 lists_same P Q xs l there back = record {
   ordered = l.ordered;
@@ -75,13 +75,13 @@ module _ (op : Op) (P : Edit → Type 0) (own : (e : Edit) → P e → e.op ≡ 
         | inr new ↦ absurd (isnt (subst P new h.0))
       ])
 
--- from one place on to another, where none stands between them
+-- a list moves from one place to another where no edit stands between them
 pub moved : (P : Edit → Type 0) (xs : List Edit) (s p r t q u : ℕ) → Lists (Ahead P s p r) xs → ((e : Edit) → P e → Below s p r e → Below t q u e)
     → ((e : Edit) → P e → Below t q u e → Below s p r e) → Lists (Ahead P t q u) xs
 moved P xs s p r t q u l there back =
     lists_same (Ahead P s p r) (Ahead P t q u) xs l (λ e h. (h.0, there e h.0 h.1)) (λ e h. (h.0, back e h.0 h.1))
 
--- on to the first rank, where none is 0
+-- a list moves to the first rank of a node, since no rank is 0
 pub first_rank : (P : Edit → Type 0) (xs : List Edit) (s p : ℕ) → Lists (Ahead P s p 0) xs → ((e : Edit) → P e → 0 < e.rank) → Lists (Ahead P s p 1) xs
 first_rank P xs s p l ranks = moved P xs s p 0 s p 1 l there back where
   there : (e : Edit) → P e → Below s p 0 e → Below s p 1 e
@@ -94,7 +94,7 @@ first_rank P xs s p l ranks = moved P xs s p 0 s p 1 l there back where
   back e h (inr (b, inl g)) = inr (b, inl g)
   back e h (inr (b, inr (g, f))) = let some : 0 < e.rank = ranks e h in absurd (omega (arith, some, f))
 
--- on to the next node, where no rank is left
+-- a list moves to the next node, where no rank is left
 pub next_node : (P : Edit → Type 0) (xs : List Edit) (s p r : ℕ) → Lists (Ahead P s p r) xs
     → ((e : Edit) → P e → e.statement ≡ s → e.position ≡ p → e.rank < r) → Lists (Ahead P s (p + 1) 0) xs
 next_node P xs s p r l last = moved P xs s p r s (p + 1) 0 l there back where
@@ -111,7 +111,7 @@ next_node P xs s p r l last = moved P xs s p r s (p + 1) 0 l there back where
     | inr more ↦ let same : e.position ≡ p = omega (arith, g, more) in inr (b, inr (same, last e h b same))
   ]
 
--- on to the next statement, where no node is left
+-- a list moves to the next statement, where no node is left
 pub next_statement : (P : Edit → Type 0) (xs : List Edit) (s p : ℕ) → Lists (Ahead P s p 0) xs
     → ((e : Edit) → P e → e.statement ≡ s → e.position < p) → Lists (Ahead P (s + 1) 0 0) xs
 next_statement P xs s p l last = moved P xs s p 0 (s + 1) 0 0 l there back where

@@ -1,4 +1,4 @@
--- What an edit makes, by what its operator gives its node.
+-- What an edit makes, concluded from what its operator gives for its node.
 use Rattle.std.proofs.Common.{arith, ◌≡◌, ◌<◌, ◌≤◌, ◌-◌, ◌∙◌, List, [], map, length, get_or, Option, Some, None, refl, ap, sym, inl, inr}
 use Rattle.std.specs.Prelude.{◌⊎◌, option_map, slice_get}
 use Rattle.std.specs.Option.{option_and_then, option_map_or}
@@ -48,7 +48,7 @@ module _ (pools : PoolFields) (lines : List Line) (edit : Edit) where
     given_nowhere : slice_get (nodes_of (statement_of line.stmt)) edit.position ≡ None → given ≡ []
     given_nowhere none = of_line ∙ ap (λ (o : Option NodeOf). option_map_or (gives edit.op pools (statement_of line.stmt)) o []) none
 
-    -- what is given with the edit's rank is put in the place of the node
+    -- the node given with the edit's rank is put in the place of the old node
     given_made : (new : NodeOf) → numbered given edit.rank ≡ Some new → made pools (map line_of lines) edit ≡ Some (changed (statement_of line.stmt) edit.position new)
     given_made new is = by (slice_get (nodes_of (statement_of line.stmt)) edit.position) refl
       where
@@ -64,7 +64,7 @@ module _ (pools : PoolFields) (lines : List Line) (edit : Edit) where
         by (Some node) e = no_new pools lines edit line at node e (sym (ap (λ (ns : List NodeOf). numbered ns edit.rank) (given_there node e)) ∙ none)
         by None e = no_node pools lines edit line at e
 
-  -- where nothing is given with the edit's rank, it makes nothing
+  -- where nothing is given with the edit's rank, the edit makes nothing
   ungiven_unmade : numbered given edit.rank ≡ None → made pools (map line_of lines) edit ≡ None
   ungiven_unmade none = by (line_at lines edit.statement) refl
     where
@@ -72,7 +72,7 @@ module _ (pools : PoolFields) (lines : List Line) (edit : Edit) where
       by (Some line) e = not_made line e none
       by None e = none_made e
 
-  -- what is given with the edit's rank, it puts into the statement that stands there
+  -- the edit puts the node given with its rank into the statement that stands there
   given_puts : (new : NodeOf) → numbered given edit.rank ≡ Some new → (s : Statement) → HasStatement (map line_of lines) edit.statement s
       → made pools (map line_of lines) edit ≡ Some (changed s edit.position new)
   given_puts new at s has = by (line_at lines edit.statement) refl
@@ -83,7 +83,7 @@ module _ (pools : PoolFields) (lines : List Line) (edit : Edit) where
           given_made line e new at ∙ ap (λ (t : Statement). Some (changed t edit.position new)) same
       by None e = absurd (none-some s (sym (ap (option_map (λ (l : LineFields). l.stmt)) (of_none e)) ∙ has))
 
--- the same of the replacements that were given, by pools of other words
+-- what the edit makes, concluded from the list of replacements, where the pools are named by equal terms
 module _ (pools wanted : PoolFields) (lines : List Line) (edit : Edit) (items : List Replacement) (drawn : pools ≡ wanted)
     (is : map replacement_of items ≡ given_at pools (map line_of lines) edit.op edit.statement edit.position) where
   pub replacement_puts : (new : Replacement) → 1 ≤ edit.rank → edit.rank ≤ length items → new ≡ get_or items (edit.rank - 1) new

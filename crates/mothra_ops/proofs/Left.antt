@@ -1,4 +1,4 @@
--- Lists that are the same behind so many items.
+-- Lists that are the same from the item after the n-th on.
 use Rattle.std.proofs.Common.{arith, ◌≡◌, ◌∙◌, ◌+◌, ◌-◌, ◌<◌, ℕ, zero, suc, List, [], ◌∷◌, ap, drop, refl, sym}
 use Rattle.std.specs.Prelude.{slice_get}
 use Rattle.mothra_ops.specs.Edits.{numbered}
@@ -9,7 +9,7 @@ item_behind [] (suc n) k j e = refl
 item_behind (x ∷ xs) (suc n) k zero e = absurd (omega (arith, e))
 item_behind (x ∷ xs) (suc n) k (suc j) e = item_behind xs n k j (omega (arith, e))
 
--- two lists that are the same behind so many items
+-- two lists that are the same after their first n items
 module _ {X : Type 0} (xs ys : List X) (n : ℕ) (same : drop n xs ≡ drop n ys) where
   pub numbered_behind : (r : ℕ) → n < r → numbered xs r ≡ numbered ys r
   numbered_behind zero behind = absurd (omega arith)

@@ -1,4 +1,4 @@
--- What an edit makes, by the line, the node and the replacement that are found.
+-- What an edit makes, concluded from the line, the node and the replacement that are found.
 use Rattle.std.proofs.Common.{arith, ◌≡◌, ◌<◌, ◌≤◌, ◌-◌, ◌+◌, ℕ, zero, suc, length, List, map, drop, set, refl, Option, Some, None, ap, sym, ◌∙◌, inl, inr, get_or}
 use Rattle.std.specs.Prelude.{◌⊎◌, option_map, slice_get}
 use Rattle.std.specs.Option.{option_and_then}
@@ -43,7 +43,7 @@ next_numbered replacements k new low is =
     let e : k ≡ k + 1 - 1 = omega arith in
     item_numbered replacements (k + 1) new (omega arith) (omega (arith, low)) (is ∙ ap (λ (j : ℕ). get_or replacements j new) e)
 
--- the same of nodes and of lines
+-- the node of a statement at a place, and the line of a program with a number
 pub node_listed : (nodes : List Node) (s : Statement) (k : ℕ) (node : Node) → map node_of nodes ≡ nodes_of s → k < length nodes → node ≡ get_or nodes k node
     → slice_get (nodes_of s) k ≡ Some (node_of node)
 node_listed nodes s k node all low is =
@@ -55,7 +55,7 @@ line_has lines k line low is =
     ap (λ (j : ℕ). option_map (λ (l : LineFields). l.stmt) (numbered (map line_of lines) j)) e
     ∙ ap (option_map (λ (l : LineFields). l.stmt)) (slice_get-map line_of lines k ∙ ap (option_map line_of) (slice_get_read lines (length lines) k line refl low is))
 
--- what an operator gives, of other words for it and for the pools
+-- what an operator gives, where it and the pools are named by equal terms
 module _ (op other : Op) (pools wanted : PoolFields) (s : Statement) (node : NodeOf) (replacements : List Replacement) (same : other ≡ op) (drawn : pools ≡ wanted)
     (given : map replacement_of replacements ≡ gives op pools s node) where
   pub the_given : gives other wanted s node ≡ map replacement_of replacements
@@ -64,7 +64,7 @@ module _ (op other : Op) (pools wanted : PoolFields) (s : Statement) (node : Nod
   pub given_many : length (gives other wanted s node) ≡ length replacements
   given_many = ap length the_given ∙ length-map replacements replacement_of
 
--- what an operator gives, where those before a rank were changed
+-- what an operator gives with a rank, where the replacements before that rank may have changed
 pub left_next : (op other : Op) (pools wanted : PoolFields) (s : Statement) (node : NodeOf) (replacements : List Replacement) (k : ℕ) (new : Replacement)
     → other ≡ op → pools ≡ wanted → drop k (map replacement_of replacements) ≡ drop k (gives op pools s node) → k < length replacements → new ≡ get_or replacements k new
     → numbered (gives other wanted s node) (k + 1) ≡ Some (replacement_of new)
@@ -79,7 +79,7 @@ left_more given replacements k new left =
     ap (drop (k + 1)) (map-set replacement_of replacements k new) ∙ drop-set-lt (k + 1) (map replacement_of replacements) k (replacement_of new) after
     ∙ sym (drop-drop 1 k (map replacement_of replacements)) ∙ ap (drop 1) left ∙ drop-drop 1 k given
 
--- where the statement has no node, and where the operator puts nothing of the rank
+-- an edit makes nothing where the statement has no such node, or the operator gives nothing with the rank
 module _ (pools : PoolFields) (lines : List Line) (edit : Edit) (line : Line) (at : line_at lines edit.statement ≡ Some line) where
   of_line : numbered (map line_of lines) edit.statement ≡ Some (line_of line)
   of_line = line_numbered lines edit.statement ∙ ap (option_map line_of) at

@@ -1,4 +1,4 @@
--- What an edit makes of a legal program may stand there.
+-- What an edit makes of a statement of a legal program may stand in its place.
 use Rattle.std.proofs.Common.{◌≡◌, ◌≤◌, ◌-◌, ℕ, zero, suc, List, [], ◌∷◌, Bool, true, false, true≢false, Some, None, refl, sym, ap, ◌∙◌, subst, arith, if◌then◌else◌}
 use Rattle.std.specs.Prelude.{◌↔◌, ◌&&◌, not, slice_get}
 use Rattle.std.specs.List.{All}
@@ -36,7 +36,7 @@ counted : (program : List LineFields) (number : ℕ) (line : LineFields) → num
 counted program zero line at = absurd (none-some line at)
 counted program (suc k) line at = let e : suc k - 1 ≡ k = omega arith in (omega arith, ap (slice_get program) e ∙ at)
 
--- what stands in the place of a whole statement is of its group
+-- a statement that is put in the place of a whole statement is of its group
 abbrev IsOfGroup : Statement → NodeOf → Type 0
 IsOfGroup s new = group_of (statement_or s new) ≡ group_of s
 

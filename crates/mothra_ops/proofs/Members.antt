@@ -1,4 +1,4 @@
--- The members of an operator's list: what their places are, and which edit of a place is one.
+-- The members of an operator's list: where they stand, and which edits are members.
 use Rattle.std.proofs.Common.{arith, ◌≡◌, ◌<◌, ◌≤◌, ◌+◌, ℕ, zero, suc, length, List, refl, Option, Some, None, ap, sym, ◌∙◌, subst, inl, inr}
 use Rattle.std.specs.Prelude.{option_map, slice_get}
 use Rattle.std.specs.Option.{option_and_then}
@@ -16,7 +16,7 @@ use Rattle.mothra_ops.specs.declared.edit.Edit.{Edit}
 use Rattle.mothra_codes.specs.declared.op.Op.{Op}
 use Rattle.mothra_ops.proofs.Cursor.{edit_at}
 
--- a number from 1 on
+-- the number of an item is 1 at least and the length of the list at most
 number_within : {X : Type 0} (xs : List X) (k : ℕ) (x : X) → numbered xs k ≡ Some x → (0 < k) × (k ≤ length xs)
 number_within xs zero x e = absurd (none-some x e)
 number_within xs (suc k) x e = let low : k < length xs = slice_get_within xs k x e in (omega arith, omega (arith, low))
@@ -25,7 +25,7 @@ some_of : {A B : Type 0} (f : A → B) (o : Option A) (y : B) (P : Type 0) → o
 some_of f None y P e next = absurd (none-some y e)
 some_of f (Some x) y P e next = next x refl (same_Some (f x) y e)
 
--- the steps of an edit that is made
+-- the line, the site and the new node of an edit that makes a statement
 pub record Steps (pools : PoolFields) (program : List LineFields) (e : Edit) (statement : Statement) : Type 0 where
   pub line : LineFields
   pub site : Site Statement

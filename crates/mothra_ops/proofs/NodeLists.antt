@@ -11,7 +11,7 @@ use Rattle.f77_program.specs.declared.program.Line.{Line}
 use Rattle.mothra_ops.specs.Edits.{numbered}
 use Rattle.mothra_ops.specs.code.Original.{AreNodesOf, HasStatement, nodes_at}
 
--- the list that is found for a number
+-- the list that is found for a number has the nodes of the statement with that number
 pub list_found : (program : List LineFields) (lists : List (Vec Node Global)) (number : ℕ) → AreNodesOf program lists → 1 ≤ number
     → option_map (λ (list : Vec Node Global). map node_of list.items) (slice_get lists (number - 1)) ≡ nodes_at program number
 list_found program lists zero is some = absurd (omega (arith, some))
@@ -21,7 +21,7 @@ list_found program lists (suc k) is some =
     ∙ sym (slice_get-map (λ (list : Vec Node Global). map node_of list.items) lists k) ∙ ap (λ (ns : List (List NodeOf)). slice_get ns k) is
     ∙ slice_get-map (λ (l : LineFields). nodes_of l.stmt) program k
 
--- by the statement that is known to stand there
+-- the nodes at a number are those of the statement that is known to stand there
 nodes_of_statement : (program : List LineFields) (number : ℕ) (s : Statement) → HasStatement program number s → nodes_at program number ≡ Some (nodes_of s)
 nodes_of_statement program number s has = by (numbered program number) has
   where

@@ -1,4 +1,4 @@
--- The mutants of a plan by number.
+-- The mutants of a plan, found by their numbers.
 use Rattle.std.proofs.Common.{arith, ltb, ◌≡◌, ◌≤◌, ◌-◌, ◌∙◌, ℕ, zero, suc, List, [], length, map, get_or, Option, Some, None, refl, sym, ap, subst}
 use Rattle.std.specs.Prelude.{IfSome, is_some, slice_get}
 use Rattle.std.specs.Borrow.{Bor}
@@ -27,7 +27,7 @@ pub at_number : {X : Type 0} (P : X → Type 0) (xs : List X) (k : ℕ) (x : X) 
 at_number P xs zero x all at = absurd (none-some x at)
 at_number P xs (suc k) x all at = at_place P xs k x all at
 
--- what is found at a number, as it is read
+-- what the code finds at a place is the item of the list at that place
 found_at : {X : Type 0} (xs : List X) (k : ℕ) (found : Option (Bor X)) → is_some found ≡ ltb k (length xs)
     → IfSome found (λ (x : Bor X). x.now ≡ get_or xs k x.now) → option_map (λ (x : Bor X). x.now) found ≡ slice_get xs k
 found_at xs k (Some x) there is = sym (slice_get_read xs (length xs) k x.now refl (ltb-true k (length xs) (sym there)) is)

@@ -1,10 +1,10 @@
--- Lists of edits in order: there is one with given members, and none of more.
+-- Lists of edits in order: only one has given members, and none that has no others is longer.
 use Rattle.std.proofs.Common.{◌≡◌, ◌≤◌, zero, suc, length, List, [], ◌∷◌, refl, sym, ◌∙◌, subst, arith, inl, inr}
 use Rattle.std.specs.Prelude.{◌⊎◌, AllPairs, Contains}
 use Rattle.mothra_ops.specs.declared.edit.Edit.{Edit}
 use Rattle.mothra_ops.specs.Edits.{BeforeEdit, Lists}
 
--- no edit is before itself, and of two only one is before the other
+-- no edit is before itself, and of two edits only one is before the other
 not_before_itself : (e : Edit) → ¬ (BeforeEdit e e)
 not_before_itself e (inl less) = absurd (omega (arith, less))
 not_before_itself e (inr (same, inl less)) = absurd (omega (arith, less))
@@ -19,7 +19,7 @@ not_both a b (inr (h, inl i)) (inr (g, inr (j, _))) = absurd (omega (arith, i, j
 not_both a b (inr (h, inr (i, _))) (inr (g, inl j)) = absurd (omega (arith, i, j))
 not_both a b (inr (h, inr (i, k))) (inr (g, inr (j, l))) = absurd (omega (arith, k, l))
 
--- what a list has behind its first
+-- an item of the rest of a list is one of the list
 in_rest : (x : Edit) (xs : List Edit) (e : Edit) → Contains xs e → Contains (x ∷ xs) e
 in_rest x xs e (k, low, at) = (suc k, omega (arith, low), at)
 
@@ -39,7 +39,7 @@ rest_ordered x xs pairs i j d one two = pairs (suc i) (suc j) d (omega (arith, o
 first_before : (x : Edit) (xs : List Edit) → AllPairs BeforeEdit (x ∷ xs) → (e : Edit) → Contains xs e → BeforeEdit x e
 first_before x xs pairs e (k, low, at) = subst (BeforeEdit x) at (pairs 0 (suc k) e (omega arith) (omega (arith, low)))
 
--- an ordered list within another is no longer
+-- an ordered list whose members another one has is no longer than that one
 pub no_longer : (some whole : List Edit) → AllPairs BeforeEdit some → AllPairs BeforeEdit whole → ((e : Edit) → Contains some e → Contains whole e)
     → length some ≤ length whole
 no_longer [] whole one other within = omega arith
@@ -58,7 +58,7 @@ no_longer (x ∷ xs) (y ∷ ys) one other within =
           ]
     ]
 
--- two ordered lists with the same members are one
+-- two ordered lists with the same members are the same
 pub one_of : (one other : List Edit) → AllPairs BeforeEdit one → AllPairs BeforeEdit other → ((e : Edit) → Contains one e → Contains other e)
     → ((e : Edit) → Contains other e → Contains one e) → one ≡ other
 one_of [] [] ordered too there back = refl

@@ -26,7 +26,7 @@ use Rattle.mothra_codes.specs.declared.op.Op.TheVariants.{Aar}
 use Rattle.mothra_codes.proofs.Operators.{same_op, index_below, op_at-index}
 use Rattle.mothra_ops.proofs.Numbered.{seen}
 
--- the list of an operator that is asked for
+-- the list is that of an operator that is asked for
 pub record IsListOf (ops : List Op) (program : List LineFields) (every : ℕ) (list : Listing) : Type 0 where
   pub asked : Contains ops list.op
   pub counted : IsCountedList list.op program every (edits_in list) list.whole
@@ -34,12 +34,12 @@ pub record IsListOf (ops : List Op) (program : List LineFields) (every : ℕ) (l
 abbrev pub is_of : Op → Listing → Bool
 is_of op list = eqb (index list.op) (index op)
 
--- the operator is one of these
+-- the list of operators has this one
 abbrev pub is_named : List Op → Op → Bool
 is_named [] op = false
 is_named (o ∷ os) op = cond (eqb (index o) (index op)) true (is_named os op)
 
--- the lists of the operators that are asked for, of the first so many
+-- the lists are those of the operators that are asked for, among the first `count`
 pub record HasLists (ops : List Op) (program : List LineFields) (every count : ℕ) (lists : List Listing) : Type 0 where
   pub own : All (IsListOf ops program every) lists
   pub operators : map (λ (list : Listing). list.op) lists ≡ filter (is_named ops) (take count all_ops)
@@ -57,7 +57,7 @@ pub find_fields : (op : Op) (lists : List Listing)
 find_fields op [] = refl
 find_fields op (list ∷ lists) = find_step op list lists (is_of op list) (find_fields op lists)
 
--- what a test finds passes it
+-- a list that was found for an operator is its list and has the property
 pub record IsFound (P : Listing → Type 0) (op : Op) (list : Listing) : Type 0 where
   pub holds : P list
   pub own : list.op ≡ op
@@ -101,7 +101,7 @@ no_lists ops program every = record {
 itself : (a b : ℕ) → a ≡ b → eqb a b ≡ true
 itself a b e = grind (arith, nat_tests)
 
--- whether an operator is named is whether it is one of the list
+-- `is_named` says whether the operator is in the list
 named_first : (o op : Op) (rest b : Bool) → eqb (index o) (index op) ≡ b → o ≡ op → cond b true rest ≡ true
 named_first o op rest true t same = refl
 named_first o op rest false t same = absurd (true≢false (sym (itself (index o) (index op) (ap index same)) ∙ t))
@@ -129,7 +129,7 @@ not_named : (b : Bool) → (b ≡ true → ⊥) → b ≡ false
 not_named true isnt = absurd (isnt refl)
 not_named false isnt = refl
 
--- the operators of the lists, with one more and with none
+-- the operators of the lists after one more operator, which is asked for or not
 module _ (ops : List Op) (count : ℕ) (lists : List Listing) (own : Op) (at : index own ≡ count)
     (before : map (λ (list : Listing). list.op) lists ≡ filter (is_named ops) (take count all_ops)) where
   there : op_at count ≡ own
@@ -209,7 +209,7 @@ none_more ops program every count lists own at other has = record {
   complete = λ op below asked. passed ops count lists own op at other asked has.complete (one_further count (index op) below (cases_lt (index op) count));
 }
 
--- the list of an operator that has one
+-- where a list is found for an operator, it is its list
 one_of : (ops : List Op) (program : List LineFields) (every : ℕ) (lists : List Listing) (op : Op) (answer : Option Listing)
     → All (IsListOf ops program every) lists → find (is_of op) lists ≡ answer → is_some answer ≡ true
     → (list : Listing) × (find (is_of op) lists ≡ Some list) × IsFound (IsListOf ops program every) op list
@@ -232,7 +232,7 @@ no_plan ops program every count lists op (TooMany other) at has asked told = rec
   others = λ third third_asked less. too_long_next ops program every count lists other third (ap index told.0 ∙ at) has third_asked less;
 }
 
--- the plan that is made of them
+-- the plan that is made of the lists
 some_map : {X Y : Type 0} (f : X → Y) (x : Option X) → is_some (option_map f x) ≡ is_some x
 some_map f (Some x) = refl
 some_map f None = refl
@@ -305,7 +305,7 @@ pub fields_found : (op : Op) (lists : List Listing) (answer : Option (Bor Listin
     → option_map (λ (list : Bor Listing). list_fields list.now) answer ≡ find (λ fields. eqb (index fields.op) (index op)) (map list_fields lists)
 fields_found op lists answer e = seen list_fields answer ∙ ap (option_map list_fields) e ∙ find_fields op lists
 
--- what holds of each list holds of the one that is found
+-- what holds of each list holds of one that is found
 pub holds_of_found : (P : Listing → Type 0) (op : Op) (lists : List Listing) (answer : Option (Bor Listing)) → All P lists
     → option_map (λ (list : Bor Listing). list.now) answer ≡ find (is_of op) lists → IfSome answer (λ (list : Bor Listing). P list.now)
 holds_of_found P op lists (Some list) all e = (found P op lists list.now all (sym e)).holds

@@ -1,4 +1,4 @@
--- A list of which each q-th item is kept, with one item more.
+-- A list of which each q-th item is kept, and one more item.
 use Rattle.std.proofs.Common.{◌≡◌, ◌≢◌, ◌+◌, ◌%◌, ℕ, suc, false, List, [], ◌∷◌, ◌++◌, length, map, filter, ap, ◌∙◌, arith}
 use Rattle.std.specs.Prelude.{◌==◌, cond}
 use Rattle.std.specs.List.{enumerate_from}
@@ -26,12 +26,12 @@ module _ {X : Type 0} (q : ℕ) (xs : List X) (x : X) where
       ∙ ap (map (λ (numbered : ℕ × X). numbered.1)) (filter-append (λ (numbered : ℕ × X). numbered.0 % q == 0) (enumerate_from 0 xs) ((length xs, x) ∷ []))
       ∙ map-append (λ (numbered : ℕ × X). numbered.1) (filter (λ (numbered : ℕ × X). numbered.0 % q == 0) (enumerate_from 0 xs)) (cond (length xs % q == 0) ((length xs, x) ∷ []) [])
 
-  -- it is kept behind a number of items that q divides
+  -- the item is kept if q divides the number of items before it
   pub thinned_kept : length xs % q ≡ 0 → thinned q (xs ++ x ∷ []) ≡ thinned q xs ++ x ∷ []
   thinned_kept none =
       one_more ∙ ap (λ (m : ℕ). thinned q xs ++ map (λ (numbered : ℕ × X). numbered.1) (cond (m == 0) ((length xs, x) ∷ []) [])) none
 
-  -- and not behind another
+  -- the item is passed over if q does not divide the number of items before it
   pub thinned_passed : length xs % q ≢ 0 → thinned q (xs ++ x ∷ []) ≡ thinned q xs
   thinned_passed some =
       one_more ∙ ap (λ b. thinned q xs ++ map (λ (numbered : ℕ × X). numbered.1) (cond b ((length xs, x) ∷ []) [])) (not_zero (length xs % q) some)

@@ -9,11 +9,11 @@ use Rattle.std.proofs.lemmas.Bool.{cases_lt}
 use Rattle.std.proofs.lemmas.Bool.Decides.{nat_tests}
 use Rattle.mothra_ops.specs.Edits.{thinned}
 
--- the items behind n others, thinned
+-- the items of a list that follows n others, thinned
 abbrev from : {X : Type 0} → ℕ → ℕ → List X → List X
 from q n xs = map (λ numbered. numbered.1) (filter (λ numbered. numbered.0 % q == 0) (enumerate_from n xs))
 
--- behind n items the next that is kept is the c-th
+-- after n items the next item that is kept is the c-th
 record At (q n c : ℕ) : Type 0 where
   rounds : ℕ
   over : ℕ
@@ -113,7 +113,7 @@ thinned_items q xs k some =
     let e : k * q + 0 ≡ k * q = omega arith in
     items_from q 0 0 xs k some start ∙ ap (slice_get xs) e
 
--- a list that is no longer is thinned to one that is no longer
+-- of two lists, the one that is no longer than the other is no longer when both are thinned
 pub thinned_within : {X : Type 0} (q : ℕ) (xs ys : List X) → 1 ≤ q → length xs ≤ length ys → length (thinned q xs) ≤ length (thinned q ys)
 thinned_within {X = X} q xs ys some shorter = by (length (thinned q xs)) refl
   where

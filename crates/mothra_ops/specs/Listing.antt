@@ -11,11 +11,11 @@ use Rattle.mothra_ops.specs.declared.mutant.Mutant.{Mutant}
 abbrev pub longest : Limits
 longest = record { kept = most_edits; whole = most_whole }
 
--- what makes its mutants
+-- the edits of the mutants of a list
 abbrev pub edits_in : Listing → List Edit
 edits_in listing = map (λ (mutant : Mutant). mutant.edit) listing.mutants.items
 
--- it has the mutants of the edits of this whole list, thinned, and the number of these
+-- the listing has the mutants of the edits of this whole list, thinned, and counts the whole list
 pub record HoldsEdits (listing : Listing) (list : List Edit) : Type 0 where
   pub edits : edits_in listing ≡ thinned listing.every list
   pub whole : listing.whole ≡ length list

@@ -19,7 +19,8 @@ pub record ListFields : Type 0 where
   pub edits : List Edit
   pub whole : ℕ
 
--- the checked program, which of each list is kept, and the lists in the order of the operators
+-- the checked program, q where each q-th item of a list is kept, and the lists in the order of the
+-- operators
 pub record PlanFields : Type 0 where
   pub checked : CheckedFields
   pub every : ℕ
@@ -44,7 +45,7 @@ asked plan op = is_some (list_of_operator plan op)
 abbrev pub edits_of : PlanFields → Op → List Edit
 edits_of plan op = option_map_or (λ list. list.edits) (list_of_operator plan op) []
 
--- the length of its whole list
+-- the length of the operator's whole list
 abbrev pub whole_of : PlanFields → Op → ℕ
 whole_of plan op = option_map_or (λ list. list.whole) (list_of_operator plan op) 0
 
@@ -52,8 +53,8 @@ whole_of plan op = option_map_or (λ list. list.whole) (list_of_operator plan op
 unfoldable pub HasOneEach : PlanFields → Type 0
 HasOneEach plan = map (λ list. list.op) plan.lists ≡ filter (asked plan) all_ops
 
--- what each plan is: one list for each operator asked
--- for, in their order, and each of them its program's
+-- the invariant of a plan: one list for each operator asked for, in the
+-- order of the operators, and each is the operator's list for the program
 pub record IsPlan (plan : PlanFields) : Type 0 where
   pub some : 1 ≤ plan.every
   pub operators : HasOneEach plan
@@ -69,7 +70,7 @@ pub record IsFirstTooLong (ops : List Op) (program : List LineFields) (every : �
   pub others : (other : Op) → Contains ops other
       → index other < index op → (edits : List Edit) × IsList other program every edits
 
--- why there is no plan
+-- the faults for which there is no plan
 abbrev pub IsNoPlan : List Op → List LineFields → ℕ → OpsFault → Type 0
 IsNoPlan ops program every Memory = ⊤
 IsNoPlan ops program every NotASite = ⊥

@@ -13,11 +13,11 @@ use mothra_replacements::OpsFault;
 use std::alloc::Global;
 use std::marker::Model;
 
-/// The nodes of the statements of these lines, found once: mutants are asked for edit by edit.
+/// The nodes of the statements of these lines. They are found once, since mutants are asked for edit by edit.
 #[derive(Drop)]
 pub(crate) struct NodeLists<'a> {
     lines: &'a [Shared<Line>],
-    /// Of each line in turn.
+    /// The nodes of each line, in the order of the lines.
     lists: Vec<Vec<Node<'a>>>,
 }
 
@@ -51,7 +51,8 @@ impl<'a> NodeLists<'a> {
         Ok(NodeLists { lines, lists })
     }
 
-    /// The nodes of the statement of this number, in the order of their positions, where a line has the number.
+    /// The nodes of the statement with this number, from 1, in the order of their positions; None where there is no
+    /// such line.
     pub(crate) fn at<'s>(&'s self, number: usize) -> Option<&'s [Node<'a>]>
     where
         'a: 's,
@@ -66,7 +67,7 @@ impl<'a> NodeLists<'a> {
         }
     }
 
-    /// The node at this position of that statement.
+    /// The node at this position, from 0, of the statement with this number, from 1; None where there is none.
     pub(crate) fn node(&self, number: usize, position: usize) -> Option<Node<'a>>
         ensures node { option_map node_of result
             ≡ option_and_then (λ list. slice_get list position) (nodes_at (map line_of self.now) number) }

@@ -1,8 +1,8 @@
-//! Sites.
+//! A site: a node of a statement, with its place in the program.
 
 use f77_tree::{Node, Stmt};
 
-/// A node of a statement of a program, in the place of which an operator puts others.
+/// A node of a statement of a program, for which operators give other nodes.
 #[derive(Clone, Copy, Drop)]
 pub(crate) struct Site<'a> {
     /// The number of the statement, from 1.

@@ -1,4 +1,4 @@
--- Numbers that are sorted, and each kept once, ascend; and no other list that ascends has the same numbers.
+-- A sorted list that has each number once ascends, and no other list that ascends has the same numbers.
 use Rattle.std.proofs.Common.{◌≡◌, ◌<◌, ◌≤◌, ◌+◌, ℕ, zero, suc, List, [], ◌∷◌, Bool, true, false, refl, sym, ap, ◌∙◌, ◌&&◌, ◌||◌, map, arith, Option, Some, None}
 use Rattle.std.proofs.Math.Dec.{T}
 use Rattle.std.specs.List.{AllByRecursion, list_any, dedup, range_with_len}
@@ -58,7 +58,7 @@ same_mark (Some u) (Some v) e = refl
 found : (q : ℕ) (ns : List ℕ) → is_some (find nat_cmp q (rows_of ns)) ≡ has q ns
 found q ns = is_some-find nat_cmp q (rows_of ns) ∙ ap (has q) (rows_keys ns)
 
--- two lists that rise are one where they have the same numbers
+-- two ascending lists that have the same numbers are the same
 pub one_list : (ns ms : List ℕ) → Rises ns → Rises ms → ((q : ℕ) → has q ns ≡ has q ms) → ns ≡ ms
 one_list ns ms up above same =
     let rows : rows_of ns ≡ rows_of ms

@@ -20,7 +20,7 @@ use Rattle.mothra_replacements.specs.Pools.{Reference, as_tree, same_reference, 
 use Rattle.mothra_replacements.specs.Pools.{reference_of}
 use Rattle.mothra_replacements.specs.Replacements.{as_variable, is_element, is_constant, drawn, kind_of_expression, others}
 
--- each as its expression does
+-- references are compared as their expressions are
 pub reference_equiv : IsEquivalence same_reference
 reference_equiv = record {
   refl = λ r. tree_equiv.refl (as_tree r);
@@ -64,7 +64,7 @@ apart_from_constant kinds (Tree.Not u) h rs = absurd (true≢false (sym h))
 apart_from_constant kinds (Tree.Binary o a b) h rs = absurd (true≢false (sym h))
 apart_from_constant kinds (Tree.ZeroPush u) h rs = absurd (true≢false (sym h))
 
--- the references of the kind of a constant
+-- no reference of a constant's kind is that constant, so none is left out
 pub references_apart : (kinds : Symbol → Kind) (t : Tree) (kind : Kind) → kind ≡ kind_of_expression kinds t → is_constant t ≡ true → (rs : List Reference)
     → map as_tree (filter (λ r. same_kind (kinds r.name) kind) rs) ≡ drawn is_constant kinds (map as_tree rs) t
 references_apart kinds t kind k h rs =

@@ -1,4 +1,4 @@
--- Lists that a loop makes of what passes a test.
+-- Lists that a loop makes of the items that pass a test.
 use Rattle.std.proofs.Common.{◌≡◌, ◌<◌, ◌≤◌, ◌+◌, ◌∷◌, ◌++◌, [], ℕ, List, Bool, true, false, cond, length, map, filter, take, get_or, refl, sym, ap, ◌∙◌}
 use Rattle.std.proofs.lemmas.List.{take_more, take_all, map-append, append-nil}
 use Rattle.std.proofs.lemmas.List.Elements.{filter-append}
@@ -10,7 +10,7 @@ module _ {X V : Type 0} (p : X → Bool) (f : X → V) where
       ap (λ ys. map f (filter p ys)) (take_more xs i d lt ∙ ap (λ y. take i xs ++ y ∷ []) (sym at))
       ∙ (ap (map f) (filter-append p (take i xs) (x ∷ [])) ∙ map-append f (filter p (take i xs)) (filter p (x ∷ [])))
 
-  -- what an item that passes is seen as is pushed
+  -- an item that passes is pushed, as what g makes of it
   pub pushed : {W : Type 0} (g : W → V) (xs : List X) (i : ℕ) {x : X} (d : X) {w : W} (old : List W) {new : List W} → x ≡ get_or xs i d → i < length xs
       → p x ≡ true → g w ≡ f x → map g old ≡ map f (filter p (take i xs)) → new ≡ old ++ w ∷ [] → map g new ≡ map f (filter p (take (i + 1) xs))
   pushed g xs i d {w} old at lt passes is e n =
@@ -29,7 +29,7 @@ module _ {X V : Type 0} (p : X → Bool) (f : X → V) where
       by true = refl
       by false = refl
 
-  -- the end, where the test is one of what the items are seen as
+  -- at the end of the loop, where the test p asks q of what f makes of an item
   pub passed : {W : Type 0} (g : W → V) (xs : List X) (i : ℕ) (old : List W) (q : V → Bool) → ((x : X) → q (f x) ≡ p x) → length xs ≤ i
       → map g old ≡ map f (filter p (take i xs)) → map g old ≡ filter q (map f xs)
   passed g xs i old q same le e = e ∙ (ap (λ ys. map f (filter p ys)) (take_all i xs le) ∙ sym (filter_map-is q xs same))

@@ -1,4 +1,4 @@
--- What an operator puts in the place of a node of a formed statement is formed.
+-- An operator puts in the place of a node of a formed statement what is formed itself.
 use Rattle.std.proofs.Common.{◌≡◌, ℕ, zero, suc, ◌+◌, List, [], ◌∷◌, ◌++◌, Bool, true, false, filter, map, refl, if◌then◌else◌}
 use Rattle.std.specs.Prelude.{not, nat_eq, nat_le, nat_lt, ◌&&◌}
 use Rattle.std.specs.List.{All}
@@ -51,7 +51,7 @@ two_trees t u f g = All-cons IsFormedTree t (u ∷ []) f (one_tree u g)
 three_trees : (t u v : Tree) → formed is_symbolic t ≡ true → formed is_symbolic u ≡ true → formed is_symbolic v ≡ true → AllFormed (t ∷ (u ∷ (v ∷ [])))
 three_trees t u v f g h = All-cons IsFormedTree t (u ∷ (v ∷ [])) f (two_trees u v g h)
 
--- what a test chooses
+-- a property of all of either list holds of all of the list that a test chooses
 pub chosen : {X : Type 0} (P : X → Type 0) (b : Bool) (xs ys : List X) → All P xs → All P ys → All P (if b then xs else ys)
 chosen P true xs ys one other = one
 chosen P false xs ys one other = other
@@ -80,7 +80,7 @@ of_elements_formed give r all = chosen IsFormedReference (are_some r.subscripts)
 of_scalars_formed : (give : Reference → List Reference) (r : Reference) → AllReferences (give r) → AllReferences (of_scalars give r)
 of_scalars_formed give r all = chosen IsFormedReference (are_some r.subscripts) [] (give r) (All-nil IsFormedReference) all
 
--- with and without subscripts
+-- a name that is not a function's is no call, with subscripts and without
 no_function : (name : Symbol) (items : Trees) → IsNoFunction name → is_call name items ≡ false
 no_function name Trees.None own = refl
 no_function name (Trees.Then t ts) own = own
@@ -133,7 +133,7 @@ operands_formed a b first second = two_trees a b first second
 truths_formed : AllFormed truths
 truths_formed = two_trees (Tree.Truth true) (Tree.Truth false) refl refl
 
--- nodes
+-- what may be put in the place of a node
 abbrev pub IsFit : NodeOf → Type 0
 IsFit node = is_fit node ≡ true
 

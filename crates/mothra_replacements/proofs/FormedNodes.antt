@@ -26,7 +26,7 @@ use Rattle.f77_legal.proofs.Among.{all_once}
 use Rattle.f77_legal.proofs.Rules.{keeps_every_rule}
 use Rattle.f77_legal.proofs.Symbols.{or_false}
 
--- what such a node is
+-- the node is one of a statement that some text spells
 abbrev pub node_formed : NodeOf → Bool
 node_formed (NodeOf.Itself s) = statement_formed is_symbolic s
 node_formed (NodeOf.Target name items) = is_symbolic name && all_formed is_symbolic items

@@ -20,7 +20,7 @@ use Rattle.f77_legal.proofs.Among.{once_all}
 use Rattle.mothra_replacements.specs.Pools.{PoolFields, Reference, array_reference, as_tree, constant, each_once, executable_nodes, pools_of, same_reference, scalar}
 use Rattle.mothra_replacements.proofs.FormedNodes.{IsFormedLine, IsFormedNode, IsFormedTree, IsNamed, IsNoFunction, both_parts, lines_formed, nodes_formed, symbols_named, symbols_no_functions}
 
--- some text spells it
+-- some text spells the reference
 abbrev pub IsFormedReference : Reference → Type 0
 IsFormedReference r = IsFormedTree (as_tree r)
 

@@ -121,7 +121,7 @@ module _ (node : NodeOf) (fit : is_fit node ≡ true) where
       (All-map FormedTarget (site_within (λ others. (name, others))) (item_sites items)
       (All-weaker FormedItems (λ site. FormedTarget (site_within (λ others. (name, others)) site)) (λ site h. (is, h.0)) (item_sites items) (items_put items all)))
 
-  -- a list, of which each item is put so
+  -- a list with something put in the place of one of its items
   module _ {X : Type 0} (test : X → Bool) (of : X → List (Site X))
       (each : (x : X) → test x ≡ true → All (λ site. test (site.1 node) ≡ true) (of x)) where
     abbrev FormedList : Site (List X) → Type 0
@@ -151,7 +151,7 @@ module _ (node : NodeOf) (fit : is_fit node ≡ true) where
       values_put : (v : Value) → any_value v ≡ true → All (λ site. any_value (site.1 node) ≡ true) (value_sites v)
       values_put v h = always (λ site. any_value (site.1 node) ≡ true) (value_sites v) (λ site. refl)
 
-  -- a statement
+  -- a statement stays formed, and of the same form, whatever fits is put at its sites
   abbrev pub Keeps : Statement → Site Statement → Type 0
   Keeps s site = (statement_formed is_symbolic (site.1 node) ≡ true) × (form_of (site.1 node) ≡ form_of s)
 
@@ -160,7 +160,7 @@ module _ (node : NodeOf) (fit : is_fit node ≡ true) where
   inner_by (NodeOf.Itself other) s h is f = and_true (is_action other) (statement_formed is_symbolic other) h
   inner_by _ s h is f = (is, f)
 
-  -- of a statement that has expressions in one place
+  -- a statement that has expressions in one place
   by_trees : (s : Statement) (whole : Tree → Statement) (t : Tree) → formed is_symbolic t ≡ true
       → ((u : Tree) → formed is_symbolic u ≡ true → (statement_formed is_symbolic (whole u) ≡ true) × (form_of (whole u) ≡ form_of s))
       → All (Keeps s) (map (site_within whole) (tree_sites t))
@@ -168,7 +168,7 @@ module _ (node : NodeOf) (fit : is_fit node ≡ true) where
       All-map (Keeps s) (site_within whole) (tree_sites t)
       (All-weaker FormedTree (λ site. Keeps s (site_within whole site)) (λ site h. kept (site.1 node) h) (tree_sites t) (tree_put t f))
 
-  -- and of one that has labels, which are of any size
+  -- a statement that has labels, which may be of any size
   by_labels : (s : Statement) (whole : ℕ → Statement) (label : ℕ)
       → ((l : ℕ) → (statement_formed is_symbolic (whole l) ≡ true) × (form_of (whole l) ≡ form_of s)) → All (Keeps s) (map (site_within whole) (label_sites label))
   by_labels s whole label kept = each_mapped (Keeps s) (site_within whole) (label_sites label) (λ site. kept (site.1 node))

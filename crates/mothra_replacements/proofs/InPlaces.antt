@@ -1,4 +1,4 @@
--- What operators put in the place of a reference, in the place of what has none, and as other sorts of nodes.
+-- What operators put in the place of references and of other nodes.
 use Rattle.std.proofs.Common.{◌≡◌, ◌≢◌, ◌∷◌, [], List, Bool, true, false, true≢false, map, refl, ap, ◌∙◌}
 use Rattle.std.specs.Prelude.{not, if◌then◌else◌}
 use Rattle.f77_tree.specs.Node.{NodeOf}
@@ -16,14 +16,14 @@ use Rattle.mothra_codes.specs.declared.op.Op.{Op}
 use Rattle.mothra_codes.specs.declared.op.Op.TheVariants.{Aar, Abs, Acr, Aor, Asr, Car, Cnr, Crp, Csr}
 use Rattle.mothra_codes.specs.declared.op.Op.TheVariants.{Lcr, Ror, Rsr, San, Sar, Scr, Sdl, Src, Svr, Uoi}
 
--- what is drawn in the place of an element, and of a scalar
+-- what an operator of elements gives an element, and an operator of scalars a scalar
 pub at_element : (give : Reference → List Reference) (r : Reference) → is_element (as_tree r) ≡ true → give r ≡ of_elements give r
 at_element give r h = rw h refl
 
 pub at_scalar : (give : Reference → List Reference) (r : Reference) → is_element (as_tree r) ≡ false → give r ≡ of_scalars give r
 at_scalar give r h = rw h refl
 
--- nothing in the place of an element, and nothing in the place of a scalar, by the operators that have no sites there
+-- an operator of scalars gives an element nothing, and an operator of elements gives a scalar nothing
 no_scalar_at : (give : Reference → List Reference) (r : Reference) → is_element (as_tree r) ≡ true → [] ≡ of_scalars give r
 no_scalar_at give r h = rw h refl
 
@@ -46,7 +46,7 @@ nothing_in_scalar Sar pools r h a s = no_element_at (other_references pools.kind
 nothing_in_scalar Svr pools r h a s = absurd (s refl)
 nothing_in_scalar _ pools r h a s = refl
 
--- nothing in the place of an expression that is no reference
+-- nothing stands in the place of an expression that is no reference
 pub nowhere : (give : Reference → List Reference) (t : Tree) → is_element t ≡ false → is_scalar t ≡ false → [] ≡ in_places give (NodeOf.Part t)
 nowhere give (Tree.Reference name Trees.None) e s = absurd (true≢false s)
 nowhere give (Tree.Reference name (Trees.Then t ts)) e s = absurd (true≢false e)
@@ -71,7 +71,7 @@ pub of_variable : (pools : PoolFields) (name : Symbol) (xs : List Ref)
     → map as_variable (map reference_of xs) ≡ replacements Svr pools (NodeOf.Named name)
 of_variable pools name xs e = ap (map as_variable) e
 
--- nothing in the place of a declared name
+-- no operator puts anything in the place of a declared name
 pub of_declared : (op : Op) (pools : PoolFields) (d : DeclFields) → [] ≡ replacements op pools (NodeOf.Declared d)
 of_declared Aar pools d = refl
 of_declared _ pools d = refl

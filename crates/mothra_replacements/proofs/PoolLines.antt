@@ -1,4 +1,4 @@
--- The pools of a program: what a table of names tells.
+-- The pools of a program, found in its table of names.
 use Rattle.std.proofs.Common.{◌≡◌, ◌∷◌, [], ℕ, List, not, filter, refl, sym, ap, ◌∙◌}
 use Rattle.std.specs.Prelude.{is_some}
 use Rattle.std.specs.List.{filter_map}
@@ -37,7 +37,7 @@ drawn_from kinds bounds scalars arrays references constants ordered = record {
   labels = ordered;
 }
 
--- what the table of a program's names tells
+-- what is known of a table of the program's names
 module _ (names : Names) (program : List LineFields) (is : IsNameTable names program) where
   pub scalars_are : filter (λ name. not (is_some (some_items (array_bounds names name)))) (keys names.facts) ≡ filter (λ name. not (is_array program name)) (symbols program)
   scalars_are = λ i. filter (λ name. not (is_some (some_items (same_bounds names program is i name)))) (keys_are names program is i)

@@ -1,4 +1,4 @@
--- Lists of what comes first, as loops make them.
+-- Lists that keep each item once, where it comes first, as loops make them.
 use Rattle.std.proofs.Common.{◌≡◌, ◌<◌, ◌+◌, ◌∷◌, ◌++◌, [], ℕ, List, Bool, true, false, not, Option, Some, None, length, take, get_or, refl, sym, ap, ◌∙◌, if◌then◌else◌}
 use Rattle.std.specs.Prelude.{map, filter}
 use Rattle.std.specs.Cmp.{IsEquivalence}
@@ -9,14 +9,14 @@ use Rattle.std.proofs.lemmas.Map.Views.{any-filter_same}
 use Rattle.mothra_replacements.specs.Pools.{each_once}
 
 module _ {X : Type 0} (same : X → X → Bool) (laws : IsEquivalence same) where
-  -- what is not the same as x is the same as none of those that are
+  -- an item that is the same as q differs from x where q does
   other_than : (q x k : X) → same q x ≡ false → same q k ≡ true → not (same x k) ≡ true
   other_than q x k apart alike = ap not (laws.symm x k ∙ (sym (laws.congr q k x alike) ∙ apart))
 
   abbrev without : X → List X → List X
   without x xs = filter (λ other. not (same x other)) xs
 
-  -- each item once are the same items
+  -- the list with each item once has the items of the list
   pub any_once : (q : X) (xs : List X) → list_any (same q) (each_once same xs) ≡ list_any (same q) xs
   any_once q [] = refl
   any_once q (x ∷ xs) = by (same q x) refl (any_once q xs)
@@ -26,7 +26,7 @@ module _ {X : Type 0} (same : X → X → Bool) (laws : IsEquivalence same) wher
       by true e rest = rw e refl
       by false e rest = rw e (any-filter_same (same q) (λ other. not (same x other)) true (λ k f. other_than q x k e f) (each_once same xs) ∙ rest)
 
-  -- one more item: it goes last, where it is not there
+  -- one more item: it goes to the end, unless the list has it
   abbrev with_new : List X → X → List X
   with_new xs x = if list_any (same x) xs then each_once same xs else each_once same xs ++ x ∷ []
 
@@ -45,7 +45,7 @@ module _ {X : Type 0} (same : X → X → Bool) (laws : IsEquivalence same) wher
           let g : same y x ≡ false = laws.symm y x ∙ f in
           rw (rest, e, f) (ap (λ z. y ∷ z) (filter-append (λ other. not (same y other)) (each_once same ys) (x ∷ []) ∙ rw g refl))
 
-  -- a list of what h gives of the first items, each once, and one item more
+  -- the list of what h gives of the first nodes, each once, and one node more
   module _ {N : Type 0} (h : N → Option X) (ns : List N) (n : N) where
     more : filter_map h (ns ++ n ∷ []) ≡ filter_map h ns ++ cons_option (h n) []
     more = filter_map-append h ns (n ∷ [])
@@ -64,12 +64,12 @@ module _ {X : Type 0} (same : X → X → Bool) (laws : IsEquivalence same) wher
         → each_once same (filter_map h (ns ++ n ∷ [])) ≡ each_once same (filter_map h ns) ++ x ∷ []
     new_more x some new = let e = sym (any_once x (filter_map h ns)) ∙ new in one_more x some ∙ rw e refl
 
-  -- a search among what is seen by g
+  -- a search in a list of items, each compared as what g makes of it
   pub any_seen : {W : Type 0} (g : W → X) (w : W) (xs : List W) → list_any (λ known. same (g known) (g w)) xs ≡ list_any (same (g w)) (map g xs)
   any_seen g w [] = refl
   any_seen g w (x ∷ xs) = rw (laws.symm (g x) (g w), any_seen g w xs) refl
 
-  -- the steps of a loop over nodes, each seen by v; what is listed is seen by g
+  -- the steps of a loop over nodes: v gives the value of a node, and g that of an item in the list
   module _ {M N W : Type 0} (h : N → Option X) (v : M → N) (g : W → X) (ms : List M) (i : ℕ) {m : M} (d : M) (old : List W)
       (at : m ≡ get_or ms i d) (lt : i < length ms) (is : map g old ≡ each_once same (filter_map h (map v (take i ms)))) where
     step : map v (take (i + 1) ms) ≡ map v (take i ms) ++ v m ∷ []

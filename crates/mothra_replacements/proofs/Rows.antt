@@ -1,4 +1,4 @@
--- Worked rows.
+-- Examples of the definition `replacements`, worked out.
 use Rattle.std.proofs.Common.{◌≡◌, ℕ, List, [], ◌∷◌, map, refl}
 use Rattle.std.specs.Prelude.{codes, pos, negsuc}
 use Rattle.f77_tree.specs.Node.{NodeOf}
@@ -74,7 +74,7 @@ crp = refl
 crp_top : replacements Crp pools (NodeOf.Part (Tree.Number 2147483647)) ≡ map NodeOf.Part (Tree.Number 2147483646 ∷ [])
 crp_top = refl
 
--- a constant above the largest INTEGER, which only a program that was made of lines has
+-- a constant above the largest INTEGER: no text gives a program one, but lines that a caller puts together may have it
 crp_above : replacements Crp pools (NodeOf.Part (Tree.Number 2147483648)) ≡ map NodeOf.Part (Tree.Number 2147483647 ∷ [])
 crp_above = refl
 
@@ -124,7 +124,7 @@ rsr = refl
 sdl : replacements Sdl pools (NodeOf.Itself (Statement.Goto 10)) ≡ NodeOf.Itself Statement.Continue ∷ []
 sdl = refl
 
--- what ROR exchanges are the relational operators, and all of them
+-- ROR exchanges the relational operators, and all of them
 relational : (op : Operator) → is_in relations op ≡ is_relation op
 relational operator.Less = refl
 relational _ = refl

@@ -18,7 +18,7 @@ use Rattle.f77_tree.specs.declared.tree.Ref.{Ref}
 use Rattle.f77_legal.specs.NameTable.{kind_at, array_bounds}
 use Rattle.mothra_replacements.specs.declared.pools.Pools.{Pools}
 
--- a scalar or an array element: a name with subscripts, of which a scalar has none
+-- a scalar or an array element: a name and its subscripts; a scalar has none
 pub record Reference : Type 0 where
   pub name : Symbol
   pub subscripts : Trees
@@ -31,7 +31,7 @@ as_tree reference = Tree.Reference reference.name reference.subscripts
 abbrev pub scalar : Symbol → Reference
 scalar name = record { name = name; subscripts = Trees.None }
 
--- the same name with the same subscripts
+-- two references with the same name and the same subscripts
 abbrev pub same_reference : Reference → Reference → Bool
 same_reference one other =
     bytes_eq one.name other.name && same_trees one.subscripts other.subscripts
@@ -46,7 +46,7 @@ abbrev pub largest_of : List ℕ → ℕ
 largest_of [] = 0
 largest_of (n ∷ ns) = if nat_le n (largest_of ns) then largest_of ns else n
 
--- these numbers ascending, each once: of all up to the largest those that are among them
+-- these numbers in ascending order, each once: of all up to the largest, those that are among them
 abbrev pub ascending : List ℕ → List ℕ
 ascending ns = filter (λ n. list_any (nat_eq n) ns) (range_with_len 0 (largest_of ns + 1))
 
@@ -55,7 +55,8 @@ abbrev pub executable_nodes : List LineFields → List NodeOf
 executable_nodes program =
     flat_map (λ line. if is_executable_statement line.stmt then nodes_of line.stmt else []) program
 
--- an array element, also where it is assigned to
+-- the reference of a node that is an array element, in an expression
+-- or on the left side of an assignment
 abbrev pub array_reference : NodeOf → Option Reference
 array_reference (NodeOf.Target name (Trees.Then t ts)) =
     Some (record { name = name; subscripts = Trees.Then t ts })
@@ -63,7 +64,7 @@ array_reference (NodeOf.Part (Tree.Reference name (Trees.Then t ts))) =
     Some (record { name = name; subscripts = Trees.Then t ts })
 array_reference _ = None
 
--- a constant
+-- the expression of a node that is a constant
 abbrev pub constant : NodeOf → Option Tree
 constant (NodeOf.Part (Tree.Number n)) = Some (Tree.Number n)
 constant (NodeOf.Part (Tree.Truth b)) = Some (Tree.Truth b)
@@ -93,14 +94,14 @@ pools_of program = record {
   labels = ascending (labels program);
 }
 
--- what a reference of the program stands for
+-- the value of a `Ref`, as definitions see it
 abbrev pub reference_of : Ref → Reference
 reference_of reference = record {
   name = (reference_fields reference).0;
   subscripts = trees (reference_fields reference).1;
 }
 
--- what pools of the program stand for
+-- the value of `Pools`, as definitions see it
 abbrev pub pool_fields : Pools → PoolFields
 pool_fields pools = record {
   kinds = kind_at pools.names;

@@ -26,7 +26,7 @@ use Rattle.mothra_codes.specs.declared.op.Op.{Op}
 use Rattle.mothra_codes.specs.declared.op.Op.TheVariants.{Aar, Abs, Acr, Aor, Asr, Car, Cnr, Crp, Csr, Der, Dsa}
 use Rattle.mothra_codes.specs.declared.op.Op.TheVariants.{Glr, Lcr, Ror, Rsr, San, Sar, Scr, Sdl, Src, Svr, Uoi}
 
--- the kind of an expression, where names are of these kinds
+-- the kind of an expression, where the names have these kinds
 abbrev pub kind_of_expression : (Symbol → Kind) → Tree → Kind
 kind_of_expression kinds (Tree.Number n) = Integer
 kind_of_expression kinds (Tree.Truth b) = Logical
@@ -37,7 +37,7 @@ kind_of_expression kinds (Tree.Not t) = Logical
 kind_of_expression kinds (Tree.Binary op a b) = result_kind op
 kind_of_expression kinds (Tree.ZeroPush t) = Integer
 
--- there are subscripts: an array element has some, a scalar has none
+-- a list of subscripts that is not empty: that of an array element
 abbrev pub are_some : Trees → Bool
 are_some Trees.None = false
 are_some (Trees.Then t ts) = true
@@ -64,7 +64,8 @@ others kinds pool t = filter
     (λ u. same_kind (kind_of_expression kinds u) (kind_of_expression kinds t)
     && not (same_tree u t)) pool
 
--- these in the place of what passes a test, and nothing elsewhere
+-- each other expression of a pool, of the same kind, where the expression
+-- passes a test; nothing elsewhere
 abbrev pub drawn : (Tree → Bool) → (Symbol → Kind) → List Tree → Tree → List Tree
 drawn is_site kinds pool t = if is_site t then others kinds pool t else []
 
@@ -80,7 +81,7 @@ is_comparable pools name other =
     same_kind (pools.kinds other) (pools.kinds name)
     && (length (pools.bounds other) == length (pools.bounds name) && not (bytes_eq other name))
 
--- CNR: each other such array, with the same subscripts
+-- CNR: each other array of the same kind and number of bounds, with the same subscripts
 abbrev pub comparable : PoolFields → Reference → List Reference
 comparable pools reference =
     map (λ other. record { name = other; subscripts = reference.subscripts })
@@ -90,11 +91,11 @@ comparable pools reference =
 abbrev pub absolute_value : Tree → Tree
 absolute_value t = Tree.Call Iabs (Trees.Then t Trees.None)
 
--- ABS: the absolute value, its negative, and the trap where it is zero
+-- ABS: the absolute value, its negative, and ZPUSH, which fails where the value is zero
 abbrev pub absolute : Tree → List Tree
 absolute t = absolute_value t ∷ (Tree.Signed Minus (absolute_value t) ∷ (Tree.ZeroPush t ∷ []))
 
--- UOI: the negative, one more and one less; the negation
+-- UOI: of INTEGER the negative, plus 1 and minus 1; of LOGICAL the negation
 abbrev pub with_unary : Kind → Tree → List Tree
 with_unary Integer t =
     Tree.Signed Minus t ∷ (Tree.Binary operator.Add t (Tree.Number 1)
@@ -124,7 +125,8 @@ is_in group op = list_any (λ o. same_operator o op) group
 abbrev pub exchanged : List Operator → Operator → Tree → Tree → List Tree
 exchanged group op a b = map (λ o. Tree.Binary o a b) (filter (λ o. not (same_operator o op)) group)
 
--- AOR, LCR and ROR: the others of the group, and behind them what else may stand there
+-- AOR, LCR and ROR: the operation with each other operator of its group,
+-- then what `more` gives
 abbrev pub with_group : List Operator → (Tree → Tree → List Tree) → Tree → List Tree
 with_group group more (Tree.Binary op a b) =
     if is_in group op then exchanged group op a b ++ more a b else []
@@ -138,22 +140,22 @@ operands a b = a ∷ (b ∷ [])
 abbrev pub truths : List Tree
 truths = Tree.Truth true ∷ (Tree.Truth false ∷ [])
 
--- one more, where it is in the range of INTEGER
+-- the number plus one, unless that is above the largest INTEGER
 abbrev pub raised : ℕ → List Tree
 raised n = if nat_lt n largest_integer then Tree.Number (n + 1) ∷ [] else []
 
--- one less, where it is in the range of INTEGER: below 0 a sign before 1
+-- the number less one, unless that is above the largest INTEGER; of 0 it is a sign before 1
 abbrev pub lowered : ℕ → List Tree
 lowered zero = Tree.Signed Minus (Tree.Number 1) ∷ []
 lowered (suc n) = if nat_le n largest_integer then Tree.Number n ∷ [] else []
 
--- CRP: one more and one less, none above the largest INTEGER; the other truth value
+-- CRP: the number plus one and less one, none above the largest INTEGER; the other truth value
 abbrev pub altered : Tree → List Tree
 altered (Tree.Number n) = raised n ++ lowered n
 altered (Tree.Truth b) = Tree.Truth (not b) ∷ []
 altered _ = []
 
--- in the place of an expression
+-- what an operator gives for an expression, as nodes; nothing for another node
 abbrev pub in_parts : (Tree → List Tree) → NodeOf → List NodeOf
 in_parts gives (NodeOf.Part t) = map NodeOf.Part (gives t)
 in_parts gives _ = []
@@ -166,7 +168,7 @@ as_target reference = NodeOf.Target reference.name reference.subscripts
 abbrev pub as_variable : Reference → NodeOf
 as_variable reference = NodeOf.Named reference.name
 
--- in the place of a reference, also of a target
+-- what an operator gives for a reference, in an expression or as a target; nothing for another node
 abbrev pub in_places : (Reference → List Reference) → NodeOf → List NodeOf
 in_places gives (NodeOf.Part (Tree.Reference name items)) =
     map NodeOf.Part (map as_tree (gives (record { name = name; subscripts = items })))
@@ -174,22 +176,22 @@ in_places gives (NodeOf.Target name items) =
     map as_target (gives (record { name = name; subscripts = items }))
 in_places gives _ = []
 
--- also in the place of a DO variable, which is a scalar
+-- what an operator gives for a reference, also for a DO variable, which is a scalar
 abbrev pub in_variables : (Reference → List Reference) → NodeOf → List NodeOf
 in_variables gives (NodeOf.Named name) = map as_variable (gives (scalar name))
 in_variables gives node = in_places gives node
 
--- in the place of an expression that is no constant
+-- what an operator gives for an expression that is no constant; nothing for another node
 abbrev pub in_computed : (Tree → List Tree) → NodeOf → List NodeOf
 in_computed gives = in_parts (λ t. if is_constant t then [] else gives t)
 
--- DSA: one more and one less, within the largest constant either way; the other truth value
+-- DSA: the number plus one and less one, from -2147483647 to 2147483647; the other truth value
 abbrev pub next_constants : Constant → List Constant
 next_constants (Constant.Number z) = map Constant.Number
     (filter (λ w. nat_le (nat_abs w) largest_integer) ((z +ℤ pos 1) ∷ ((z -ℤ pos 1) ∷ [])))
 next_constants (Constant.Truth b) = Constant.Truth (not b) ∷ []
 
--- in the place of a value of DATA, as many times
+-- DSA, for a value of DATA, with the same repetition; nothing for another node
 abbrev pub in_values : NodeOf → List NodeOf
 in_values (NodeOf.Initial value) =
     map (λ constant. NodeOf.Initial (record { times = value.times; constant = constant }))
@@ -209,26 +211,27 @@ is_replaceable_action Form.Continue = false
 is_replaceable_action Form.Trap = false
 is_replaceable_action form = forms.acts form
 
--- RSR and SAN: also a CONTINUE
+-- RSR and SAN: a statement that SDL replaces, or a CONTINUE
 abbrev pub acts_or_continues : Form → Bool
 acts_or_continues Form.Continue = true
 acts_or_continues form = is_replaceable_action form
 
--- another statement in the place of one of such a form
+-- a new statement for one of such a form, unless it is the same statement
 abbrev pub in_statements : (Form → Bool) → Statement → NodeOf → List NodeOf
 in_statements is_site new (NodeOf.Itself s) =
     if is_site (form_of s) && not (same_statement new s) then NodeOf.Itself new ∷ [] else []
 in_statements is_site new _ = []
 
--- in the place of an array element alone
+-- what an operator gives for an array element; nothing for a scalar
 abbrev pub of_elements : (Reference → List Reference) → Reference → List Reference
 of_elements gives r = if are_some r.subscripts then gives r else []
 
--- in the place of a scalar alone
+-- what an operator gives for a scalar; nothing for an array element
 abbrev pub of_scalars : (Reference → List Reference) → Reference → List Reference
 of_scalars gives r = if are_some r.subscripts then [] else gives r
 
--- what the operators that put references in the place of references put there
+-- AAR, ASR, CNR, SAR and SVR: the references that an operator gives for a
+-- reference; none by another operator
 abbrev pub in_place : Op → PoolFields → Reference → List Reference
 in_place Aar pools = of_elements (other_references pools.kinds pools.references)
 in_place Asr pools = of_scalars (other_references pools.kinds pools.references)
@@ -237,7 +240,7 @@ in_place Sar pools = of_elements (other_references pools.kinds (map scalar pools
 in_place Svr pools = of_scalars (other_references pools.kinds (map scalar pools.scalars))
 in_place _ pools = λ r. []
 
--- what each operator puts in the place of a node, in the order of the ranks
+-- what each operator puts in the place of a node, in the order of its list
 abbrev pub replacements : Op → PoolFields → NodeOf → List NodeOf
 replacements Aar pools = in_places (in_place Aar pools)
 replacements Abs pools = in_computed
@@ -274,8 +277,8 @@ abbrev pub is_preset : Form → Bool
 is_preset Form.Preset = true
 is_preset _ = false
 
--- The statements in which an operator has sites: executable ones, and of DSA those
--- of DATA; of the two that exchange labels DER has the DOs, and GLR the others.
+-- The statements in which an operator has sites: the DATA statements for DSA, the DOs
+-- for DER, all other executable ones for GLR, and every executable one for the rest.
 abbrev pub stands_in : Op → Statement → Bool
 stands_in Der s = is_loop_form (form_of s)
 stands_in Dsa s = is_preset (form_of s)

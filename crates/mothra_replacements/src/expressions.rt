@@ -74,7 +74,7 @@ fn is_another(operator: Operator, other: Operator) -> bool
     operator != other
 }
 
-/// The expression with each other operator of the group, in its order.
+/// The operation with each other operator of the group, in the order of the group.
 fn exchanged(
     alloc: Global,
     group: &[Operator],
@@ -95,7 +95,7 @@ fn exchanged(
     Ok(list)
 }
 
-/// Puts the operands behind the others.
+/// Adds copies of the two operands to the end of the list.
 fn add_operands(list: &mut Vec<Expr>, left: &Expr, right: &Expr) -> Result<(), OpsFault>
     ensures added { OnOk result (map tree_of list.new.items
         ≡ map tree_of list.old.items ++ operands (tree_of left.now) (tree_of right.now)) }
@@ -106,7 +106,7 @@ fn add_operands(list: &mut Vec<Expr>, left: &Expr, right: &Expr) -> Result<(), O
     Ok(())
 }
 
-/// Puts the truth values behind the others.
+/// Adds `.TRUE.` and `.FALSE.` to the end of the list.
 fn add_truths(list: &mut Vec<Expr>) -> Result<(), OpsFault>
     ensures added { OnOk result (map tree_of list.new.items ≡ map tree_of list.old.items ++ truths) }
     ensures memory { IfErr result (λ fault. fault ≡ Memory) }
@@ -116,7 +116,7 @@ fn add_truths(list: &mut Vec<Expr>) -> Result<(), OpsFault>
     Ok(())
 }
 
-/// The other arithmetic operators, and each operand alone.
+/// AOR: the operation with each other arithmetic operator, then each operand alone.
 pub(crate) fn arithmetic(alloc: Global, expr: &Expr) -> Result<Vec<Expr>, OpsFault>
     ensures list { IfOk result
         (λ list. map tree_of list.items ≡ model.with_group model.arithmetic_operators operands (tree_of expr.now)) }
@@ -132,7 +132,7 @@ pub(crate) fn arithmetic(alloc: Global, expr: &Expr) -> Result<Vec<Expr>, OpsFau
     }
 }
 
-/// The other relational operators, and the truth values.
+/// ROR: the comparison with each other relational operator, then `.TRUE.` and `.FALSE.`.
 pub(crate) fn relational(alloc: Global, expr: &Expr) -> Result<Vec<Expr>, OpsFault>
     ensures list { IfOk result
         (λ list. map tree_of list.items ≡ model.with_group model.relations (λ a b. truths) (tree_of expr.now)) }
@@ -148,7 +148,7 @@ pub(crate) fn relational(alloc: Global, expr: &Expr) -> Result<Vec<Expr>, OpsFau
     }
 }
 
-/// The other logical connectors, each operand alone, and the truth values.
+/// LCR: the expression with each other logical connector, then each operand alone, then `.TRUE.` and `.FALSE.`.
 pub(crate) fn logical(alloc: Global, expr: &Expr) -> Result<Vec<Expr>, OpsFault>
     ensures list { IfOk result (λ list. map tree_of list.items
         ≡ model.with_group model.connectors (λ a b. operands a b ++ truths) (tree_of expr.now)) }
@@ -173,7 +173,8 @@ fn negated(alloc: Global, expr: Expr) -> Result<Expr, OpsFault>
     Ok(Expr::Signed(Sign::Minus, Box::new(alloc, expr)?))
 }
 
-/// Puts one less behind the others, where INTEGER has it: below 0 it is a sign before 1.
+/// Adds the number less one to the end of the list, unless that is above the largest INTEGER. Less than 0 is -1: a
+/// sign before the constant 1.
 fn add_lowered(alloc: Global, list: &mut Vec<Expr>, number: u32) -> Result<(), OpsFault>
     ensures added { OnOk result (map tree_of list.new.items ≡ map tree_of list.old.items ++ model.lowered number) }
     ensures memory { IfErr result (λ fault. fault ≡ Memory) }
@@ -186,7 +187,7 @@ fn add_lowered(alloc: Global, list: &mut Vec<Expr>, number: u32) -> Result<(), O
     Ok(())
 }
 
-/// The constants next to a constant: one more and one less, none above the largest INTEGER; the other truth value.
+/// CRP: a number plus one and less one, where these are not above the largest INTEGER; the other truth value.
 pub(crate) fn altered(alloc: Global, expr: &Expr) -> Result<Vec<Expr>, OpsFault>
     ensures list { IfOk result (λ list. map tree_of list.items ≡ model.altered (tree_of expr.now)) }
     ensures memory { IfErr result (λ fault. fault ≡ Memory) }
@@ -205,7 +206,7 @@ pub(crate) fn altered(alloc: Global, expr: &Expr) -> Result<Vec<Expr>, OpsFault>
     Ok(list)
 }
 
-/// IABS of a copy of the expression (table 5 of ANSI X3.9-1978).
+/// IABS of a copy of the expression (ANSI X3.9-1978, table 5).
 fn absolute_value(alloc: Global, expr: &Expr) -> Result<Expr, OpsFault>
     ensures made { IfOk result (λ made. tree_of made ≡ model.absolute_value (tree_of expr.now)) }
     ensures memory { IfErr result (λ fault. fault ≡ Memory) }
@@ -214,7 +215,7 @@ fn absolute_value(alloc: Global, expr: &Expr) -> Result<Expr, OpsFault>
     Ok(Expr::Call(Intrinsic::Iabs, arguments))
 }
 
-/// The absolute value, its negative, and the trap where it is zero.
+/// ABS: the absolute value, its negative, and ZPUSH, which fails where the value is zero.
 pub(crate) fn absolute(alloc: Global, expr: &Expr) -> Result<Vec<Expr>, OpsFault>
     ensures list { IfOk result (λ list. map tree_of list.items ≡ model.absolute (tree_of expr.now)) }
     ensures memory { IfErr result (λ fault. fault ≡ Memory) }
@@ -226,7 +227,7 @@ pub(crate) fn absolute(alloc: Global, expr: &Expr) -> Result<Vec<Expr>, OpsFault
     Ok(list)
 }
 
-/// The operator between a copy of the expression and 1.
+/// A copy of the expression and 1, with the operator between them.
 fn with_one(alloc: Global, operator: Operator, expr: &Expr) -> Result<Expr, OpsFault>
     ensures made { IfOk result (λ made. tree_of made ≡ Tree.Binary operator (tree_of expr.now) (Tree.Number 1)) }
     ensures memory { IfErr result (λ fault. fault ≡ Memory) }
@@ -234,7 +235,7 @@ fn with_one(alloc: Global, operator: Operator, expr: &Expr) -> Result<Expr, OpsF
     between(alloc, operator, expr, &Expr::Number(1))
 }
 
-/// The negative, one more and one less; `.NOT.` before a LOGICAL expression.
+/// UOI: an INTEGER expression with a minus sign, plus 1 and minus 1; a LOGICAL one with `.NOT.`.
 pub(crate) fn with_unary(alloc: Global, kind: Kind, expr: &Expr) -> Result<Vec<Expr>, OpsFault>
     ensures list { IfOk result (λ list. map tree_of list.items ≡ model.with_unary kind (tree_of expr.now)) }
     ensures memory { IfErr result (λ fault. fault ≡ Memory) }

@@ -1,4 +1,4 @@
-//! What keeps edits from being answered.
+//! Why a list of edits, or the program that an edit makes, can not be given.
 
 ghost use Rattle.std.specs.Prelude.{◌≡◌};
 ghost use Rattle.f77_legal.specs.declared.fault.CheckFault.TheVariants as check;
@@ -9,16 +9,16 @@ use mothra_codes::Op;
 use std::alloc::{AllocError, AllocFailed};
 use thiserror::Error;
 
-/// Why there is no list or no program.
+/// Why there is no list of edits, or no program for an edit.
 #[derive(Clone, Copy, Debug, PartialEq, Eq, Drop, Error)]
 pub enum OpsFault {
     /// No memory was left.
     #[error("out of memory")]
     Memory,
-    /// The edit is none of its operator's.
+    /// The operator does not give this edit.
     #[error("no such edit")]
     NotASite,
-    /// The operator has more edits than a list holds.
+    /// The operator has more edits than a list may have.
     #[error("too many edits of one operator")]
     TooMany(Op),
 }
@@ -39,7 +39,8 @@ impl<T: Drop> From<AllocFailed<T>> for OpsFault {
     }
 }
 
-/// The fault of a check that can have no other.
+/// Want of memory in a check, as a fault of the operators. A caller shows that no other fault of the check can come,
+/// so that none is reported as another.
 pub fn memory_fault(found: CheckFault) -> OpsFault
     requires { found ≡ check.Memory }
     ensures { result ≡ fault.Memory }

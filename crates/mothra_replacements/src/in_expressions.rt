@@ -1,4 +1,4 @@
-//! What operators put in the place of an expression.
+//! What each operator puts in the place of an expression.
 
 ghost use Rattle.std.specs.Prelude.{◌≡◌, [], map, if◌then◌else◌, IfOk, IfErr};
 ghost use Rattle.f77_tree.specs.Node.{NodeOf};
@@ -41,7 +41,7 @@ fn is_scalar(expr: &Expr) -> bool
     }
 }
 
-/// The constants in the place of an array element.
+/// CAR: the constants that may stand in the place of an array element.
 fn constants_for_element(
     alloc: Global,
     pools: &Pools<'_>,
@@ -58,7 +58,7 @@ fn constants_for_element(
     }
 }
 
-/// The constants in the place of a scalar.
+/// CSR: the constants that may stand in the place of a scalar.
 fn constants_for_scalar(
     alloc: Global,
     pools: &Pools<'_>,
@@ -75,7 +75,7 @@ fn constants_for_scalar(
     }
 }
 
-/// The other constants in the place of a constant.
+/// SRC: the other constants that may stand in the place of a constant.
 fn constants_for(alloc: Global, pools: &Pools<'_>, expr: &Expr) -> Result<Vec<Expr>, OpsFault>
     ensures list { IfOk result (λ list. map tree_of list.items
         ≡ drawn model.is_constant (pool_fields pools.now).kinds (pool_fields pools.now).constants (tree_of expr.now)) }
@@ -88,7 +88,7 @@ fn constants_for(alloc: Global, pools: &Pools<'_>, expr: &Expr) -> Result<Vec<Ex
     }
 }
 
-/// The array references of the kind of a constant.
+/// ACR: the array references of the kind of a constant.
 fn references_for(alloc: Global, pools: &Pools<'_>, expr: &Expr) -> Result<Vec<Expr>, OpsFault>
     ensures list { IfOk result (λ list. map tree_of list.items
         ≡ drawn model.is_constant (pool_fields pools.now).kinds (map as_tree (pool_fields pools.now).references)
@@ -103,7 +103,7 @@ fn references_for(alloc: Global, pools: &Pools<'_>, expr: &Expr) -> Result<Vec<E
     }
 }
 
-/// The scalars of the kind of a constant.
+/// SCR: the scalars of the kind of a constant.
 fn scalars_for(alloc: Global, pools: &Pools<'_>, expr: &Expr) -> Result<Vec<Expr>, OpsFault>
     ensures list { IfOk result (λ list. map tree_of list.items
         ≡ drawn model.is_constant (pool_fields pools.now).kinds
@@ -118,7 +118,7 @@ fn scalars_for(alloc: Global, pools: &Pools<'_>, expr: &Expr) -> Result<Vec<Expr
     }
 }
 
-/// The absolute values of an INTEGER expression that is no constant.
+/// ABS, for an INTEGER expression that is no constant.
 fn absolutes(alloc: Global, pools: &Pools<'_>, expr: &Expr) -> Result<Vec<Expr>, OpsFault>
     ensures list { IfOk result (λ list. map tree_of list.items ≡ (if model.is_constant (tree_of expr.now) then []
         else (if same_kind Integer (model.kind_of_expression (pool_fields pools.now).kinds (tree_of expr.now))
@@ -135,7 +135,7 @@ fn absolutes(alloc: Global, pools: &Pools<'_>, expr: &Expr) -> Result<Vec<Expr>,
     }
 }
 
-/// What a sign makes of an expression that is no constant.
+/// UOI, for an expression that is no constant.
 fn unaries(alloc: Global, pools: &Pools<'_>, expr: &Expr) -> Result<Vec<Expr>, OpsFault>
     ensures list { IfOk result (λ list. map tree_of list.items ≡ (if model.is_constant (tree_of expr.now) then []
         else model.with_unary (model.kind_of_expression (pool_fields pools.now).kinds (tree_of expr.now))
@@ -149,7 +149,7 @@ fn unaries(alloc: Global, pools: &Pools<'_>, expr: &Expr) -> Result<Vec<Expr>, O
     }
 }
 
-/// What the operator puts in the place of the expression, in the order of the ranks.
+/// What the operator puts in the place of the expression, in the order of `replacements`.
 pub(crate) fn in_expression(
     alloc: Global,
     op: Op,

@@ -18,7 +18,7 @@ use f77_tree::{Expr, Name, Ref, Replacement};
 use mothra_codes::Op;
 use std::alloc::Global;
 
-/// What an operator that puts references in the place of others puts in the place of an array element.
+/// The references that AAR, CNR or SAR puts in the place of an array element; none by any other operator.
 fn in_element(alloc: Global, op: Op, pools: &Pools<'_>, own: &Ref) -> Result<Vec<Ref>, OpsFault>
     requires { model.is_element (as_tree (reference_of own.now)) ≡ true }
     ensures list { IfOk result
@@ -33,7 +33,7 @@ fn in_element(alloc: Global, op: Op, pools: &Pools<'_>, own: &Ref) -> Result<Vec
     }
 }
 
-/// The same in the place of a scalar.
+/// The references that ASR or SVR puts in the place of a scalar; none by any other operator.
 fn in_scalar(alloc: Global, op: Op, pools: &Pools<'_>, own: &Ref) -> Result<Vec<Ref>, OpsFault>
     requires { model.is_element (as_tree (reference_of own.now)) ≡ false }
     ensures list { IfOk result
@@ -47,7 +47,7 @@ fn in_scalar(alloc: Global, op: Op, pools: &Pools<'_>, own: &Ref) -> Result<Vec<
     }
 }
 
-/// The same in the place of any reference.
+/// The references that the operator puts in the place of a reference.
 fn in_place(alloc: Global, op: Op, pools: &Pools<'_>, own: &Ref) -> Result<Vec<Ref>, OpsFault>
     ensures list { IfOk result
         (λ list. map reference_of list.items ≡ in_place op (pool_fields pools.now) (reference_of own.now)) }
@@ -60,7 +60,7 @@ fn in_place(alloc: Global, op: Op, pools: &Pools<'_>, own: &Ref) -> Result<Vec<R
     }
 }
 
-/// The same in the place of an expression.
+/// The references that the operator puts in the place of an expression, which has to be a reference itself.
 #[tactic(auto, using(crate::proofs::InPlaces::nowhere))]
 pub(crate) fn in_place_of(
     alloc: Global,
@@ -78,7 +78,7 @@ pub(crate) fn in_place_of(
     }
 }
 
-/// What the operator puts in the place of the reference that an assignment assigns to.
+/// What the operator puts in the place of the left side of an assignment.
 #[tactic(auto, using(crate::proofs::InPlaces::of_target))]
 pub(crate) fn in_target(
     alloc: Global,

@@ -1,4 +1,4 @@
-//! What operators put in the place of a constant, a scalar or an array reference: other ones of the program.
+//! Constants, scalars and array references of the program that may stand in the place of one: those of its kind.
 
 ghost use Rattle.std.specs.Prelude.{◌≡◌, ◌&&◌, not, map, filter, IfOk, IfErr};
 ghost use Rattle.f77_tree.specs.Comparing.{same_tree, same_kind};
@@ -15,7 +15,7 @@ use crate::pools::Pools;
 use f77_tree::{Expr, Kind, Name, Ref};
 use std::alloc::Global;
 
-/// Whether the reference is an array element, and no scalar.
+/// Whether the reference is an array element and not a scalar.
 #[tactic(auto, using(crate::proofs::Elements::with_some, crate::proofs::Elements::with_none))]
 pub(crate) fn is_element(reference: &Ref) -> bool
     ensures { result ≡ model.is_element (as_tree (reference_of reference.now)) }
@@ -62,7 +62,7 @@ pub(crate) fn references_of_kind(
     Ok(list)
 }
 
-/// Whether another reference may be drawn in the place of this one.
+/// Whether a reference may stand in the place of `own`: it has the same kind and differs.
 fn is_drawn(pools: &Pools<'_>, reference: &Ref, own: &Ref) -> bool
     ensures { result ≡ (same_kind ((pool_fields pools.now).kinds (reference_of reference.now).name)
         ((pool_fields pools.now).kinds (reference_of own.now).name)
@@ -71,7 +71,7 @@ fn is_drawn(pools: &Pools<'_>, reference: &Ref, own: &Ref) -> bool
     pools.names.kind(&reference.name) == pools.names.kind(&own.name) && *reference != *own
 }
 
-/// The array references of the kind of this reference, but for itself.
+/// The array references of the same kind as `own`, without `own` itself.
 #[tactic(auto, using(crate::proofs::Filters::passed))]
 pub(crate) fn other_references(
     alloc: Global,
@@ -118,7 +118,7 @@ pub(crate) fn scalars_of_kind(
     Ok(list)
 }
 
-/// Whether the scalar of this name may be drawn in the place of the reference.
+/// Whether the scalar of this name may stand in the place of `own`: it has the same kind and differs.
 #[tactic(auto, using(crate::proofs::Elements::other_scalar))]
 fn is_drawn_scalar(pools: &Pools<'_>, name: &Name, own: &Ref) -> bool
     ensures { result ≡ (same_kind ((pool_fields pools.now).kinds name.now)
@@ -128,7 +128,7 @@ fn is_drawn_scalar(pools: &Pools<'_>, name: &Name, own: &Ref) -> bool
     pools.names.kind(name) == pools.names.kind(&own.name) && (*name != own.name || is_element(own))
 }
 
-/// The scalars of the kind of this reference, but for itself.
+/// The scalars of the same kind as `own`, without `own` itself.
 #[tactic(auto, using(crate::proofs::Filters::passed))]
 pub(crate) fn other_scalars(
     alloc: Global,
@@ -148,7 +148,7 @@ pub(crate) fn other_scalars(
     Ok(list)
 }
 
-/// Whether another expression may be drawn in the place of this one.
+/// Whether a constant may stand in the place of `own`: it has the same kind and differs.
 fn is_drawn_constant(pools: &Pools<'_>, constant: &Expr, own: &Expr) -> bool
     ensures { result ≡ (same_kind (model.kind_of_expression (pool_fields pools.now).kinds (tree_of constant.now))
         (model.kind_of_expression (pool_fields pools.now).kinds (tree_of own.now))
@@ -157,7 +157,7 @@ fn is_drawn_constant(pools: &Pools<'_>, constant: &Expr, own: &Expr) -> bool
     kind_in(&pools.names, constant) == kind_in(&pools.names, own) && *constant != *own
 }
 
-/// The constants of the kind of this expression, but for itself.
+/// The constants of the same kind as `own`, without `own` itself.
 #[tactic(auto, using(crate::proofs::Filters::passed))]
 pub(crate) fn other_constants(
     alloc: Global,
@@ -177,7 +177,7 @@ pub(crate) fn other_constants(
     Ok(list)
 }
 
-/// Whether the array may stand in the place of another one: it has its kind and its number of bounds.
+/// Whether another array may stand in the place of the array `name`: it has the same kind and as many bounds.
 fn is_comparable(pools: &Pools<'_>, name: &Name, other: &Name) -> bool
     ensures { result ≡ model.is_comparable (pool_fields pools.now) name.now other.now }
 {
@@ -186,7 +186,7 @@ fn is_comparable(pools: &Pools<'_>, name: &Name, other: &Name) -> bool
         && *other != *name
 }
 
-/// A name with the subscripts of the reference.
+/// The name with a copy of the subscripts of `own`.
 #[tactic(auto, using(crate::proofs::Elements::renamed))]
 fn renamed(name: &Name, own: &Ref) -> Result<Ref, OpsFault>
     ensures made { IfOk result (λ made. reference_of made
@@ -199,7 +199,7 @@ fn renamed(name: &Name, own: &Ref) -> Result<Ref, OpsFault>
     })
 }
 
-/// The reference to each array that may stand in the place of this one, with the same subscripts.
+/// CNR: each array that may stand in the place of that of `own`, with the same subscripts.
 pub(crate) fn with_subscripts(
     alloc: Global,
     pools: &Pools<'_>,

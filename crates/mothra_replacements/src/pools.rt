@@ -1,4 +1,4 @@
-//! What the operators draw from.
+//! The pools: the names, references, constants and labels of a program from which the operators draw.
 
 ghost use Rattle.std.specs.Prelude.{◌≡◌, not, is_some, map, filter, IfOk, IfErr, option_map};
 ghost use Rattle.std.specs.List.{filter_map};
@@ -24,7 +24,7 @@ use f77_program::Line;
 use f77_tree::{Expr, Name, Node, Ref, Shared, nodes};
 use std::alloc::Global;
 
-/// What the operators draw from: the names of a program with their kinds and bounds, its scalars and arrays, its array
+/// What the operators draw from: the names of a program with their kinds and bounds, its scalars, its arrays, its array
 /// references, its constants and its labels.
 #[derive(Drop)]
 pub struct Pools<'a> {
@@ -37,7 +37,8 @@ pub struct Pools<'a> {
     pub references: Vec<&'a Ref>,
     /// The constants of executable statements, each once, in order of first occurrence.
     pub constants: Vec<&'a Expr>,
-    /// The labels that stand on statements, ascending.
+    /// The labels that stand on statements, ascending, each once. Some may be labels to which a jump may not go: the
+    /// legality of the changed program decides that.
     pub labels: Vec<u32>,
 }
 
@@ -62,7 +63,7 @@ fn has_bounds(names: &Names, name: &Name) -> bool
     !names.bounds(name).is_empty()
 }
 
-/// The names of a table in its order: those without bounds, and those with bounds.
+/// The names without bounds, and those with bounds, both in the order of the table.
 fn scalars_and_arrays(alloc: Global, names: &Names) -> Result<(Vec<Name>, Vec<Name>), OpsFault>
     ensures scalars { IfOk result (λ lists. lists.0.items
         ≡ filter (λ name. not (is_some (some_items (array_bounds names.now name)))) (keys names.now.facts)) }
@@ -82,7 +83,7 @@ fn scalars_and_arrays(alloc: Global, names: &Names) -> Result<(Vec<Name>, Vec<Na
     Ok((scalars, arrays))
 }
 
-/// The array references among the nodes, each once, where it comes first.
+/// The array references among the nodes, each once, in order of first occurrence.
 fn references<'a>(alloc: Global, nodes: &[Node<'a>]) -> Result<Vec<&'a Ref>, OpsFault>
     ensures references { IfOk result (λ list. map (λ reference. reference_of reference.now) list.items
         ≡ each_once same_reference (filter_map array_reference (map node_of nodes.now))) }
@@ -99,6 +100,7 @@ fn references<'a>(alloc: Global, nodes: &[Node<'a>]) -> Result<Vec<&'a Ref>, Ops
     Ok(list)
 }
 
+/// The array element that a node is, in an expression or as a target.
 fn array_reference(node: Node<'_>) -> Option<&Ref>
     ensures { option_map (λ reference. reference_of reference.now) result ≡ model.array_reference (node_of node.entry) }
 {
@@ -110,6 +112,7 @@ fn array_reference(node: Node<'_>) -> Option<&Ref>
     }
 }
 
+/// The constant that a node is.
 fn constant(node: Node<'_>) -> Option<&Expr>
     ensures { option_map (λ expr. tree_of expr.now) result ≡ model.constant (node_of node.entry) }
 {
@@ -122,7 +125,7 @@ fn constant(node: Node<'_>) -> Option<&Expr>
     }
 }
 
-/// The constants among the nodes, each once, where it comes first.
+/// The constants among the nodes, each once, in order of first occurrence.
 fn constants<'a>(alloc: Global, nodes: &[Node<'a>]) -> Result<Vec<&'a Expr>, OpsFault>
     ensures constants { IfOk result (λ list. map (λ expr. tree_of expr.now) list.items
         ≡ each_once same_tree (filter_map constant (map node_of nodes.now))) }
@@ -139,7 +142,7 @@ fn constants<'a>(alloc: Global, nodes: &[Node<'a>]) -> Result<Vec<&'a Expr>, Ops
     Ok(list)
 }
 
-/// Sorts labels, and keeps each once.
+/// Sorts the labels and keeps each once.
 fn sort(labels: &mut Vec<u32>)
     ensures { labels.new.items ≡ ascending labels.old.items }
 {
@@ -147,7 +150,7 @@ fn sort(labels: &mut Vec<u32>)
     labels.dedup();
 }
 
-/// The table of the names of these lines, and its names without bounds and those with bounds, each in its order.
+/// The table of the names of these lines; its names without bounds, and those with bounds, in the order of the table.
 fn names(alloc: Global, lines: &[Shared<Line>]) -> Result<(Names, Vec<Name>, Vec<Name>), OpsFault>
     ensures table { IfOk result (λ names. IsNameTable names.0 (map line_of lines.now)) }
     ensures scalars { IfOk result (λ names. names.1.items
@@ -164,7 +167,7 @@ fn names(alloc: Global, lines: &[Shared<Line>]) -> Result<(Names, Vec<Name>, Vec
     Ok((names, scalars, arrays))
 }
 
-/// The array references and the constants of the executable statements, each once, where it comes first.
+/// The array references and the constants of the executable statements, each once, in order of first occurrence.
 fn references_and_constants<'a>(
     alloc: Global,
     lines: &'a [Shared<Line>],
@@ -182,7 +185,7 @@ fn references_and_constants<'a>(
 }
 
 impl<'a> Pools<'a> {
-    /// What the operators draw from in a program of these lines, on which these labels stand.
+    /// The pools of the program of these lines. `labels` has the labels that stand on its statements, in any order.
     pub fn of(
         alloc: Global,
         lines: &'a [Shared<Line>],

@@ -1,4 +1,4 @@
-//! Lists of what operators put in the place of nodes, as nodes.
+//! Lists of expressions, references, labels and constants, made into lists of replacements of nodes.
 
 ghost use Rattle.std.specs.Prelude.{◌≡◌, map, IfOk, IfErr};
 ghost use Rattle.f77_tree.specs.Node.{NodeOf};
@@ -26,6 +26,7 @@ pub(crate) fn expressions(alloc: Global, list: Vec<Ref>) -> Result<Vec<Expr>, Op
     Ok(made)
 }
 
+/// The expressions as new expressions.
 pub(crate) fn in_parts(alloc: Global, list: Vec<Expr>) -> Result<Vec<Replacement>, OpsFault>
     ensures made { IfOk result (λ made. map replacement_of made.items ≡ map NodeOf.Part (map tree_of list.items)) }
     ensures memory { IfErr result (λ fault. fault ≡ Memory) }
@@ -37,6 +38,7 @@ pub(crate) fn in_parts(alloc: Global, list: Vec<Expr>) -> Result<Vec<Replacement
     Ok(made)
 }
 
+/// The references as new targets of assignments.
 pub(crate) fn in_targets(alloc: Global, list: Vec<Ref>) -> Result<Vec<Replacement>, OpsFault>
     ensures made { IfOk result (λ made. map replacement_of made.items ≡ map as_target (map reference_of list.items)) }
     ensures memory { IfErr result (λ fault. fault ≡ Memory) }
@@ -48,6 +50,7 @@ pub(crate) fn in_targets(alloc: Global, list: Vec<Ref>) -> Result<Vec<Replacemen
     Ok(made)
 }
 
+/// The names of the references as new DO variables.
 #[tactic(auto, using(crate::proofs::Elements::named))]
 pub(crate) fn in_variables(alloc: Global, list: Vec<Ref>) -> Result<Vec<Replacement>, OpsFault>
     ensures made { IfOk result (λ made. map replacement_of made.items ≡ map as_variable (map reference_of list.items)) }
@@ -60,6 +63,7 @@ pub(crate) fn in_variables(alloc: Global, list: Vec<Ref>) -> Result<Vec<Replacem
     Ok(made)
 }
 
+/// The labels as new labels.
 pub(crate) fn in_labels(alloc: Global, list: Vec<u32>) -> Result<Vec<Replacement>, OpsFault>
     ensures made { IfOk result (λ made. map replacement_of made.items ≡ map NodeOf.Labelled list.items) }
     ensures memory { IfErr result (λ fault. fault ≡ Memory) }
@@ -71,7 +75,7 @@ pub(crate) fn in_labels(alloc: Global, list: Vec<u32>) -> Result<Vec<Replacement
     Ok(made)
 }
 
-/// Constants of DATA, each so many times.
+/// The constants as values of DATA, each repeated `times` times.
 pub(crate) fn in_values(
     alloc: Global,
     times: u32,

@@ -1,4 +1,5 @@
-//! What each operator puts in the place of a node.
+//! The table of the operators: `gives` says what each operator puts in the place of a node, in the order of
+//! `replacements` (`specs/Replacements.antt`). The rank of an edit is a place in such a list, from 1.
 
 ghost use Rattle.std.specs.Prelude.{◌≡◌, ◌∷◌, [], not, map, if◌then◌else◌, IfOk, IfErr};
 ghost use Rattle.f77_tree.specs.Statement.{same_statement, statement_of};
@@ -45,7 +46,7 @@ fn stands_in(op: Op, stmt: &Stmt) -> bool
     }
 }
 
-/// The new statement, where another one stands.
+/// The new statement, or nothing where it equals the old one.
 fn exchanged(alloc: Global, new: Stmt, stmt: &Stmt) -> Result<Vec<Replacement>, OpsFault>
     ensures list { IfOk result (λ list. map replacement_of list.items
         ≡ (if not (same_statement (statement_of new) (statement_of stmt.now))
@@ -110,7 +111,7 @@ fn in_value(alloc: Global, op: Op, value: &Value) -> Result<Vec<Replacement>, Op
     }
 }
 
-/// What the operator puts in the place of a node, in a statement where it has sites.
+/// What the operator puts in the place of a node of a statement in which it has sites.
 #[tactic(auto, using(crate::proofs::InPlaces::of_declared))]
 fn at_node(
     alloc: Global,
@@ -136,7 +137,7 @@ fn at_node(
     }
 }
 
-/// What the operator puts in the place of the node of the statement, in the order of the ranks.
+/// What the operator puts in the place of this node of the statement, in the order of `replacements`.
 pub fn gives(
     alloc: Global,
     op: Op,

@@ -9,10 +9,10 @@ use crate::fault::OpsFault;
 use f77_tree::{Constant, Form, LARGEST_INTEGER, Stmt, Value};
 use std::alloc::Global;
 
-/// The largest INTEGER that DATA gives, and the size of the least one.
+/// The largest number that a value of DATA may have; the least is its negative.
 const LARGEST: i32 = LARGEST_INTEGER as i32;
 
-/// Whether a statement of this form does something that may be left out.
+/// SDL: whether a CONTINUE may stand in the place of a statement of this form.
 pub(crate) fn acts(form: Form) -> bool
     ensures { result ≡ model.is_replaceable_action form }
 {
@@ -23,13 +23,14 @@ pub(crate) fn acts(form: Form) -> bool
     }
 }
 
+/// RSR and SAN: whether a RETURN, or a trap, may stand in the place of a statement of this form.
 pub(crate) fn acts_or_continues(form: Form) -> bool
     ensures { result ≡ model.acts_or_continues form }
 {
     matches!(form, Form::Continue) || acts(form)
 }
 
-/// Each other label.
+/// The labels without `own`.
 pub(crate) fn other_labels(alloc: Global, labels: &[u32], own: u32) -> Result<Vec<u32>, OpsFault>
     ensures list { IfOk result (λ list. list.items ≡ filter (λ other. not (nat_eq other own)) labels.now) }
     ensures memory { IfErr result (λ fault. fault ≡ Memory) }
@@ -43,7 +44,7 @@ pub(crate) fn other_labels(alloc: Global, labels: &[u32], own: u32) -> Result<Ve
     Ok(list)
 }
 
-/// The constants of DATA next to this one: one more and one less, within the range; the other truth value.
+/// DSA: a number plus one and less one, where these are in the range; the other truth value.
 pub(crate) fn next_constants(alloc: Global, constant: Constant) -> Result<Vec<Constant>, OpsFault>
     ensures list { IfOk result (λ list. list.items ≡ next_constants constant) }
     ensures memory { IfErr result (λ fault. fault ≡ Memory) }

@@ -1,4 +1,4 @@
--- Declared entries noted in order.
+-- Declared entries are added to the set in order.
 use Rattle.std.proofs.Common.{◌≡◌, ◌+◌, ◌<◌, ◌≤◌, ◌^◌, ◌⊎◌, ◌++◌, ◌∷◌, ℕ, List, [], true, length, take, drop, get_or, sym, ap, subst, arith, inl, inr}
 use Rattle.std.specs.Prelude.{Contains}
 use Rattle.std.proofs.lemmas.List.{length-take-le, take_all, get_or_default}
@@ -13,7 +13,7 @@ use Rattle.mothra_verdicts.specs.declared.equivalents.Noted.{Noted}
 use Rattle.mothra_verdicts.specs.declared.equivalents.Noted.TheVariants.{Fine, Unknown, Twice}
 use Rattle.mothra_verdicts.proofs.BenchTests.{cut_at, next_taken}
 
--- fine entries, and the set of them
+-- the entries are fine, and the keys are their set
 pub record AreNoted (plan : PlanFields) (entries keys : List Ticket) : Type 0 where
   pub fine : AreFine plan entries
   pub named : AreNamed entries keys
@@ -30,7 +30,7 @@ none_noted plan keys empty = record {
   };
 }
 
--- an entry that names another mutant than those before it
+-- an entry that names a mutant which none of those before it names
 another : (plan : PlanFields) (entries : List Ticket) (entry : Ticket) → (asked plan entry.op ≡ true → ¬ (Contains entries entry))
     → (k : ℕ) (d : Ticket) → k < length entries → asked plan (get_or entries k d).op ≡ true → ¬ (get_or entries k d ≡ entry)
 another plan entries entry new k d within of same =
@@ -43,7 +43,7 @@ fine_more plan entries entry fine known new = record {
   once = all_pairs_push (λ one other. asked plan one.op ≡ true → ¬ (one ≡ other)) entries entry fine.once (another plan entries entry new);
 }
 
--- the set of them with an entry more
+-- the set of the entries with one entry more
 there : (entries keys : List Ticket) (entry one : Ticket) → AreNamed entries keys → (Contains keys one ⊎ (entry ≡ one)) → Contains (entries ++ entry ∷ []) one
 there entries keys entry one named (inl has) = Contains-append_left entries (entry ∷ []) one ((named.same one).0 has)
 there entries keys entry one named (inr same) = subst (Contains (entries ++ entry ∷ [])) same (Contains-push entries entry)

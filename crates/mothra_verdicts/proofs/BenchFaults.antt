@@ -1,4 +1,4 @@
--- Why there is no bench.
+-- The faults for which there is no bench.
 use Rattle.std.proofs.Common.{ℕ, List}
 use Rattle.std.specs.Prelude.{All}
 use Rattle.f77_meaning.specs.declared.argument.Arg.{Arg}

@@ -1,4 +1,4 @@
--- Tests on which the program is run in order.
+-- The program is run on the tests of a bench in order.
 use Rattle.std.proofs.Common.{◌≡◌, ◌∙◌, ◌+◌, ◌<◌, ◌≤◌, ◌++◌, ◌∷◌, ◌↔◌, ℕ, Bool, true, false, true≢false, IsTrue, List, [], None, length, map, take, drop, get_or, sym, ap, subst, arith}
 use Rattle.std.specs.Prelude.{All}
 use Rattle.std.proofs.lemmas.List.{take-append-drop, take_all, take_more, drop_more, length-take-le}
@@ -20,11 +20,11 @@ pub cut_at : {X : Type 0} (xs : List X) (i : ℕ) (x : X) → i < length xs → 
 cut_at xs i x within is =
     sym (take-append-drop i xs) ∙ ap (λ rest. take i xs ++ rest) (drop_more xs i x within ∙ ap (λ y. y ∷ drop (i + 1) xs) (sym is))
 
--- with an item more
+-- the first items of a list, with one item more
 pub next_taken : {X : Type 0} (xs : List X) (i : ℕ) (x : X) → i < length xs → x ≡ get_or xs i x → take (i + 1) xs ≡ take i xs ++ x ∷ []
 next_taken xs i x within is = take_more xs i x within ∙ ap (λ y. take i xs ++ y ∷ []) (sym is)
 
--- the first item that does not hold
+-- the first item of which the property does not hold
 pub first_not : {X : Type 0} (P : X → Type 0) (xs : List X) (i : ℕ) (x : X) → i < length xs → x ≡ get_or xs i x → All P (take i xs) → ¬ (P x)
     → IsFirstNot P xs (i + 1)
 first_not P xs i x within is hold fails = record {
@@ -37,16 +37,16 @@ first_not P xs i x within is hold fails = record {
   fails = fails;
 }
 
--- one more that holds
+-- one more item of which the property holds
 pub one_more : {X : Type 0} (P : X → Type 0) (xs : List X) (i : ℕ) (x : X) → i < length xs → x ≡ get_or xs i x → All P (take i xs) → P x
     → All P (take (i + 1) xs)
 one_more P xs i x within is hold holds = All-more P xs i x within hold (subst P is holds)
 
--- all, once none is left out
+-- the property holds of all items, once none is left
 pub none_left : {X : Type 0} (P : X → Type 0) (xs : List X) (i : ℕ) → length xs ≤ i → All P (take i xs) → All P xs
 none_left P xs i end hold = subst (All P) (take_all i xs end) hold
 
--- the courses of a program on one test more
+-- the runs of a program on one test more
 pub course_more : (checked : CheckedFields) (steps : ℕ) (tests : List (List Arg)) (outcomes : List Outcome) (visits : List Visits) (i : ℕ) (test : List Arg)
     (outcome : Outcome) (noted : Visits) → i < length tests → test ≡ get_or tests i test → AreCourses checked steps (take i tests) outcomes visits
     → IsOutcomeOf (map line_of checked.program) test steps outcome → IsProgramEnd outcome → IsFollowed checked test steps noted
@@ -71,7 +71,7 @@ pub test_fits : (shapes : List Shape) (tests : List (List Arg)) (i : ℕ) (test 
 test_fits shapes tests i test within is all =
     subst (λ arguments. refusal shapes arguments ≡ None) (sym is) (All-get_or (λ arguments. refusal shapes arguments ≡ None) tests i test within all)
 
--- on each of them it ends
+-- where all outcomes are ends, the program ends on each test
 pub ends_all : (program : List LineFields) (steps : ℕ) (tests : List (List Arg)) (outcomes : List Outcome) → AreOutcomes program steps tests outcomes
     → All IsProgramEnd outcomes → All (EndsOn program steps) tests
 ends_all program steps [] [] are end = All-nil (EndsOn program steps)
@@ -81,12 +81,12 @@ ends_all program steps (test ∷ tests) (outcome ∷ outcomes) are end =
     All-cons (EndsOn program steps) test tests (outcome, are.0, All-head IsProgramEnd outcome outcomes end)
     (ends_all program steps tests outcomes are.1 (All-tail IsProgramEnd outcome outcomes end))
 
--- it does not end where its one outcome is no end
+-- where the only outcome is no end, the program does not end on the test
 pub never_ends : (program : List LineFields) (steps : ℕ) (test : List Arg) (outcome : Outcome)
     → ((other : Outcome) → IsOutcomeOf program test steps other → other ≡ outcome) → ¬ (IsProgramEnd outcome) → ¬ (EndsOn program steps test)
 never_ends program steps test outcome only other ends = other (subst IsProgramEnd (only ends.0 ends.1) ends.2)
 
--- what a test says that decides a fact
+-- where a truth value says whether P holds, P holds if it is true
 pub passed : {P : Type 0} (answer : Bool) → (IsTrue answer ↔ P) → answer ≡ true → P
 passed answer decides is = decides.0 is
 

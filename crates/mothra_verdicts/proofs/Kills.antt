@@ -1,4 +1,4 @@
--- Which tests kill a mutant, and that it is told in one way.
+-- Which tests kill a mutant, and that there is only one answer.
 use Rattle.std.proofs.Common.{◌≡◌, ◌∙◌, ℕ, List, [], ◌∷◌, Bool, true, false, true≢false, not, refl, sym, subst}
 use Rattle.std.specs.Bool.{Decides}
 use Rattle.std.proofs.lemmas.Option.{same_Some}
@@ -11,14 +11,14 @@ use Rattle.mothra_codes.specs.declared.ticket.Ticket.{Ticket}
 use Rattle.mothra_verdicts.specs.Bench.{BenchFields}
 use Rattle.mothra_verdicts.specs.Verdict.{IsAlone, IsKill, IsVerdict, killed, mutated, survived}
 
--- the outcome is another one, or it is the same
+-- a test kills a mutant just if the outcomes differ
 pub is_kill : (program mutant : List LineFields) (arguments : List Arg) (steps : ℕ) (outcome other : Outcome) (same : Bool) → Decides same (outcome ≡ other)
     → IsOutcomeOf program arguments steps outcome → IsOutcomeOf mutant arguments steps other → IsKill program mutant arguments steps (not same)
 is_kill program mutant arguments steps outcome other true decides own changed =
     survived own (subst (IsOutcomeOf mutant arguments steps) (sym (decides.0 refl)) changed)
 is_kill program mutant arguments steps outcome other false decides own changed = killed own changed (λ same. true≢false (sym (decides.1 same)))
 
--- a test kills a mutant or does not
+-- a test can not both kill a mutant and not kill it
 one_kill : OneAnswer → (program mutant : List LineFields) (arguments : List Arg) (steps : ℕ) (one other : Bool) → IsKill program mutant arguments steps one
     → IsKill program mutant arguments steps other → one ≡ other
 one_kill answer program mutant arguments steps _ _ (killed own changed apart) (killed own' changed' apart') = refl
@@ -40,7 +40,7 @@ one_row answer program mutant steps (arguments ∷ tests) (kill ∷ kills) (othe
     let rest : kills ≡ others = one_row answer program mutant steps tests kills others is.1 are.1 in
     λ k. here k ∷ rest k
 
--- a mutant has one verdict at most
+-- a mutant has at most one verdict
 pub one_verdict : OneAnswer → (bench : BenchFields) (ticket : Ticket) (kills others : List Bool) → IsVerdict bench ticket kills → IsVerdict bench ticket others
     → kills ≡ others
 one_verdict answer bench ticket kills others is are =

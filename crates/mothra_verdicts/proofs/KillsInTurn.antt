@@ -1,4 +1,4 @@
--- The tests of a bench, one after another.
+-- A mutant is run on the tests of a bench, one after another.
 use Rattle.std.proofs.Common.{inl, inr, arith, ◌≡◌, ◌+◌, ◌<◌, ℕ, zero, suc, Bool, List, [], ◌∷◌, ◌++◌, length, take, Some, refl, sym, subst}
 use Rattle.std.specs.Prelude.{slice_get}
 use Rattle.std.specs.List.{AllZip}
@@ -9,7 +9,7 @@ use Rattle.f77_meaning.specs.declared.argument.Arg.{Arg}
 use Rattle.mothra_verdicts.specs.Verdict.{IsAlone, IsKill}
 use Rattle.mothra_verdicts.proofs.BenchTests.{next_taken}
 
--- the items of one place of two lists
+-- the items at the same place of two lists
 pub paired : {A B : Type 0} (R : A → B → Type 0) (xs : List A) (ys : List B) (i : ℕ) (x : A) → AllZip R xs ys → slice_get xs i ≡ Some x
     → (y : B) × (slice_get ys i ≡ Some y) × R x y
 paired R [] ys i x all at = absurd (cc (at))
@@ -17,7 +17,7 @@ paired R (z ∷ xs) [] i x all at = absurd all
 paired R (z ∷ xs) (y ∷ ys) zero x all at = (y, refl, subst (λ a. R a y) (same_Some z x at) all.0)
 paired R (z ∷ xs) (y ∷ ys) (suc i) x all at = paired R xs ys i x all.1 at
 
--- one test more, of which it is told by its place
+-- one more test, which is found by its place
 pub alone_next : (program mutant : List LineFields) (steps : ℕ) (tests : List (List Arg)) (kills : List Bool) (i : ℕ) (kill : Bool) → i < length tests
     → IsAlone program mutant steps (take i tests) kills
     → ((arguments : List Arg) → slice_get tests i ≡ Some arguments → IsKill program mutant arguments steps kill)

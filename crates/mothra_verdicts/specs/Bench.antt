@@ -1,5 +1,5 @@
--- A bench: a plan, the tests that its mutants are run
--- on, and what the program itself comes to on each.
+-- A bench: a plan, the tests on which its mutants are run,
+-- and the outcome of the program itself on each.
 use Rattle.std.specs.Prelude.{◌≡◌, ◌≢◌, ◌+◌, ◌≤◌, ⊤, ℕ, true, List, ◌∷◌, ◌++◌, length, All, AllPairs, Contains, None}
 use Rattle.std.specs.List.{AllZip}
 use Rattle.f77_program.specs.Program.{LineFields}
@@ -28,7 +28,7 @@ pub record BenchFields : Type 0 where
 abbrev pub most_tests : ℕ
 most_tests = 256
 
--- the values of a test are those of the program's dummy arguments
+-- the values fit the dummy arguments of the program
 abbrev pub FitsProgram : List LineFields → List Arg → Type 0
 FitsProgram program arguments = refusal (shapes program) arguments ≡ None
 
@@ -43,7 +43,7 @@ abbrev pub AreOutcomes : List LineFields → ℕ → List (List Arg) → List Ou
 AreOutcomes program steps tests outcomes =
     AllZip (λ arguments outcome. IsOutcomeOf program arguments steps outcome) tests outcomes
 
--- the program ends on the test within so many steps
+-- the program returns or stops on the test within the limit on steps
 abbrev pub EndsOn : List LineFields → ℕ → List Arg → Type 0
 EndsOn program steps arguments =
     (outcome : Outcome) × IsOutcomeOf program arguments steps outcome × IsProgramEnd outcome
@@ -60,7 +60,7 @@ pub record AreFine (plan : PlanFields) (entries : List Ticket) : Type 0 where
   pub known : All (IsKnownEntry plan) entries
   pub once : AllPairs (λ one other. asked plan one.op ≡ true → one ≢ other) entries
 
--- what each bench is
+-- the invariant of a bench
 pub record IsBench (bench : BenchFields) : Type 0 where
   pub few : length bench.tests ≤ most_tests
   pub fit : All (FitsProgram (program_of bench.plan)) bench.tests
@@ -68,7 +68,7 @@ pub record IsBench (bench : BenchFields) : Type 0 where
   pub end : All IsProgramEnd bench.outcomes
   pub declared : AreFine bench.plan bench.declared
 
--- item number n, from 1, is the first of the list that does not hold
+-- item number n, from 1, is the first of which P does not hold
 pub record IsFirstNot {X : Type 0} (P : X → Type 0) (xs : List X) (n : ℕ) : Type 0 where
   pub before : List X
   pub item : X
@@ -78,7 +78,7 @@ pub record IsFirstNot {X : Type 0} (P : X → Type 0) (xs : List X) (n : ℕ) : 
   pub hold : All P before
   pub fails : ¬ (P item)
 
--- Entry number n, from 1, is the first that is not fine behind those before it: it names no mutant.
+-- Entry number n, from 1, is the first that is not fine: it names no mutant.
 pub record IsUnknownEntry (plan : PlanFields) (entries : List Ticket) (n : ℕ) : Type 0 where
   pub before : List Ticket
   pub entry : Ticket
@@ -88,8 +88,8 @@ pub record IsUnknownEntry (plan : PlanFields) (entries : List Ticket) (n : ℕ) 
   pub fine : AreFine plan before
   pub unknown : ¬ (IsKnownEntry plan entry)
 
--- Entry number n, from 1, is the first that is not fine behind
--- those before it: it names a mutant that one of them names.
+-- Entry number n, from 1, is the first that is not fine: it
+-- names a mutant that an earlier entry names.
 pub record IsEntryTwice (plan : PlanFields) (entries : List Ticket) (n : ℕ) : Type 0 where
   pub before : List Ticket
   pub entry : Ticket
@@ -101,8 +101,8 @@ pub record IsEntryTwice (plan : PlanFields) (entries : List Ticket) (n : ℕ) : 
   pub known : IsKnownEntry plan entry
   pub twice : Contains before entry
 
--- Why there is no bench: the first test that does not fit; else the
--- first on which the program does not end; else the first entry.
+-- The faults for which there is no bench: want of memory; the first test that does not fit; else
+-- the first test on which the program does not end; else the first entry that is not fine.
 abbrev pub IsNoBench : PlanFields → List (List Arg) → ℕ → List Ticket → BenchFault → Type 0
 IsNoBench plan tests steps declared fault.Memory = ⊤
 IsNoBench plan tests steps declared (fault.TestShape test) =
@@ -118,7 +118,7 @@ IsNoBench plan tests steps declared (fault.EquivalentTwice entry) =
     × All (EndsOn (program_of plan) steps) tests × IsEntryTwice plan declared entry
 IsNoBench plan tests steps declared _ = ⊥
 
--- whether the mutant is declared equivalent, by its number in the whole list
+-- the mutant is declared equivalent, by its number in the whole list
 abbrev pub IsDeclared : BenchFields → Ticket → Type 0
 IsDeclared bench one =
     Contains bench.declared (ticket one.op (original_number bench.plan.every one.number))

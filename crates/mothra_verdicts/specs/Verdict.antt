@@ -16,8 +16,8 @@ use Rattle.mothra_verdicts.specs.Bench.{BenchFields}
 use Rattle.mothra_verdicts.specs.declared.fault.BenchFault.{BenchFault}
 use Rattle.mothra_verdicts.specs.declared.fault.BenchFault.TheVariants as fault
 
--- Whether a test kills the mutant: its outcome, kind
--- and values, is another than that of the program.
+-- Whether a test kills the mutant: its outcome is another one
+-- than that of the program, by its kind or by a value.
 pub data IsKill (program mutant : List LineFields) (arguments : List Arg) (steps : ℕ) : Bool
     → Type 0 where
   killed : {outcome other : Outcome}
@@ -27,7 +27,7 @@ pub data IsKill (program mutant : List LineFields) (arguments : List Arg) (steps
       → IsOutcomeOf program arguments steps outcome → IsOutcomeOf mutant arguments steps outcome
       → IsKill program mutant arguments steps false
 
--- one truth value for each test
+-- for each test, whether it kills the mutant
 abbrev pub IsAlone : List LineFields → List LineFields → ℕ → List (List Arg) → List Bool → Type 0
 IsAlone program mutant steps tests kills =
     AllZip (λ arguments kill. IsKill program mutant arguments steps kill) tests kills
@@ -40,19 +40,19 @@ mutated program mutant = patched program mutant.number mutant.statement
 abbrev pub HasMutant : PlanFields → Ticket → Type 0
 HasMutant plan ticket = (1 ≤ ticket.number) × (ticket.number ≤ length (edits_of plan ticket.op))
 
--- item k of the operator's list, counted from 1: what ticket k of the operator stands for
+-- item k of the operator's list, counted from 1: ticket k of the operator means this item
 abbrev pub item_of : PlanFields → Op → ℕ → Option Edit
 item_of plan op k = numbered (edits_of plan op) k
 
--- the kills are those of the ticket's mutant, run alone on each test
+-- the kills are the verdict of running the ticket's mutant alone on each test
 pub record IsVerdict (bench : BenchFields) (ticket : Ticket) (kills : List Bool) : Type 0 where
   pub mutant : MutantFields
   pub is : mutant_of bench.plan ticket.op ticket.number ≡ Some mutant
   pub alone : IsAlone (program_of bench.plan) (mutated (program_of bench.plan) mutant)
       bench.steps bench.tests kills
 
--- the kills are those of the mutant that the item makes
--- which the ticket stands for, run alone on each test
+-- the kills are the verdict of running alone, on each test, the mutant
+-- which the item of the ticket makes
 pub record IsItemVerdict (bench : BenchFields) (ticket : Ticket) (kills : List Bool) : Type 0 where
   pub edit : Edit
   pub item : item_of bench.plan ticket.op ticket.number ≡ Some edit
@@ -61,7 +61,7 @@ pub record IsItemVerdict (bench : BenchFields) (ticket : Ticket) (kills : List B
   pub alone : IsAlone (program_of bench.plan) (mutated (program_of bench.plan) mutant)
       bench.steps bench.tests kills
 
--- why there is no verdict: B8 where the plan has no such mutant
+-- the faults for which there is no verdict: want of memory, or B8 where the plan has no such mutant
 abbrev pub IsNoVerdict : PlanFields → Ticket → BenchFault → Type 0
 IsNoVerdict plan ticket fault.Memory = ⊤
 IsNoVerdict plan ticket (fault.Stranger other) = (other ≡ ticket) × ¬ (HasMutant plan ticket)

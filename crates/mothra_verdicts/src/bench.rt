@@ -1,4 +1,4 @@
-//! A bench: a plan with the tests that its mutants are run on.
+//! A bench: a plan with the tests on which its mutants are run.
 
 ghost use Rattle.std.specs.Prelude.{◌≡◌, ◌↔◌, ◌≤◌, length, IfOk, IfErr, IsTrue};
 ghost use Rattle.std.specs.Coded.{codes};
@@ -24,21 +24,21 @@ use mothra_ops::Plan;
 use std::alloc::Global;
 use std::marker::Model;
 
-/// A plan, the tests that its mutants are run on, the limit on
+/// A plan, the tests on which its mutants are run, the limit on
 /// steps of each run, and the mutants that are declared equivalent.
 ///
-/// It holds what the program itself comes to on each test, and where control was on the way:
-/// so a mutant is run from where it parts from the program, and not at all where it does not.
+/// It keeps the outcome of the program itself on each test, and where control came on the way:
+/// so a mutant is run from where it parts from the program, and not at all where it does not part.
 #[derive(Drop)]
 pub struct Bench {
     plan: Plan,
     tests: Values<Values<Arg>>,
     steps: u32,
     outcomes: Values<Outcome>,
-    /// For each test, where control was in the run of the program.
+    /// For each test, where control came in the run of the program.
     visits: Vec<Visits>,
     declared: Values<Ticket>,
-    /// The set of the declared ones.
+    /// The mutants that are declared equivalent, as a set.
     named: IndexSet<Ticket>,
 }
 
@@ -75,12 +75,12 @@ impl Model for Bench {
 }
 
 impl Bench {
-    /// The bench of a plan, its tests, the limit on steps, and the mutants that are declared
-    /// equivalent, with their numbers in the whole lists. The program is run once on every test.
+    /// Makes a bench. The mutants that are declared equivalent have their numbers in the whole
+    /// lists. The program is run once on every test.
     ///
-    /// Of several faults the first in this order is told: B3 over all tests, B4
-    /// over all tests, then the declared entries in order, B5 before B6 for one
-    /// entry. Entries of operators that the plan was not asked for are passed over.
+    /// Of several faults the first in this order is reported: B3 for all tests, B4 for all
+    /// tests, then B5 or B6 at the first declared entry that has one, B5 before B6. Entries
+    /// of operators that the plan was not asked for are passed over.
     pub fn new(
         alloc: Global,
         plan: Plan,
@@ -112,7 +112,7 @@ impl Bench {
         })
     }
 
-    /// The plan. It takes no memory.
+    /// The plan. The call takes no memory.
     pub fn plan(&self) -> &Plan
         ensures plan { result.now ≡ self.now.plan }
         ensures bench { IsBench self.now }
@@ -120,7 +120,7 @@ impl Bench {
         &self.plan
     }
 
-    /// The values that each test gives to the dummy arguments, in order. It takes no memory.
+    /// The tests, in order: the values that each gives to the dummy arguments. The call takes no memory.
     pub fn tests(&self) -> &[Values<Arg>]
         ensures tests { result.now ≡ self.now.tests }
         ensures bench { IsBench self.now }
@@ -128,14 +128,14 @@ impl Bench {
         self.tests.as_slice()
     }
 
-    /// The limit on steps, of the program and of each mutant. It takes no memory.
+    /// The limit on steps, of the program and of each mutant. The call takes no memory.
     pub fn steps(&self) -> u32
         ensures { result ≡ self.now.steps }
     {
         self.steps
     }
 
-    /// What the program comes to on each test, in order. It takes no memory.
+    /// The outcome of the program on each test, in order. The call takes no memory.
     pub fn outcomes(&self) -> &[Outcome]
         ensures outcomes { result.now ≡ self.now.outcomes }
         ensures bench { IsBench self.now }
@@ -143,7 +143,7 @@ impl Bench {
         self.outcomes.as_slice()
     }
 
-    /// For each test, where control was in the run of the program. It takes no memory.
+    /// For each test, where control came in the run of the program. The call takes no memory.
     pub(crate) fn visits(&self) -> &[Visits]
         ensures visits { AreFollowedOn self.now.plan.checked self.now.steps self.now.tests result.now }
         ensures bench { IsBench self.now }
@@ -151,7 +151,8 @@ impl Bench {
         &self.visits
     }
 
-    /// Whether the mutant is declared equivalent, by its number in the whole list. It takes no memory.
+    /// Whether the mutant is declared equivalent. `ticket` has its number in the plan's list, which may be thinned. The
+    /// call takes no memory.
     pub fn is_declared(&self, ticket: Ticket) -> bool
         ensures { IsTrue result ↔ IsDeclared self.now ticket }
     {
@@ -165,7 +166,7 @@ impl Bench {
     }
 }
 
-/// The number in the whole list of the item of this number in the list of which each such item is kept.
+/// The number in the whole list of an item of a list thinned by `every`, from its number there.
 fn original_number(every: u32, number: u32) -> u64
     ensures { result ≡ numbers.original_number every number }
 {

@@ -13,14 +13,14 @@ use mothra_codes::Ticket;
 use mothra_ops::Plan;
 use std::alloc::Global;
 
-/// What is told of a declared entry behind those before it.
+/// What holds of a declared entry, given those before it.
 #[derive(Clone, Copy, Drop)]
 enum Noted {
-    /// It names another mutant than they do, or is of an operator that the plan was not asked for.
+    /// The entry names a mutant that none of those names, or is of an operator that the plan was not asked for.
     Fine,
-    /// It names no mutant.
+    /// The entry names no mutant.
     Unknown,
-    /// It names a mutant that one of them names.
+    /// The entry names a mutant that one of those names.
     Twice,
 }
 
@@ -31,7 +31,7 @@ fn is_there(plan: &Plan, entry: Ticket) -> bool
     1 <= entry.number && entry.number <= plan.whole(entry.op)
 }
 
-/// Puts an entry to those that are named; whether it was one of them.
+/// Adds an entry to the set. The result says whether the set had it before.
 fn name(named: &mut IndexSet<Ticket>, entry: Ticket) -> Result<bool, BenchFault>
     ensures before { IfOk result (λ before. IsTrue before ↔ Contains named.old.keys entry) }
     ensures named { OnOk result (AddsTicket named.old.keys entry named.new.keys) }
@@ -41,7 +41,7 @@ fn name(named: &mut IndexSet<Ticket>, entry: Ticket) -> Result<bool, BenchFault>
     Ok(!is_new)
 }
 
-/// Notes a declared entry; what is told of it behind those that are noted.
+/// Adds a declared entry to the set. The result says what holds of it, given those before it.
 fn note(plan: &Plan, named: &mut IndexSet<Ticket>, entry: Ticket) -> Result<Noted, BenchFault>
     ensures noted { IfOk result (λ noted. IsNoted plan.now named.old.keys entry noted) }
     ensures named { OnOk result (AddsTicket named.old.keys entry named.new.keys) }
@@ -62,7 +62,7 @@ fn note(plan: &Plan, named: &mut IndexSet<Ticket>, entry: Ticket) -> Result<Note
     }
 }
 
-/// The mutants that are named. Of the first entry that is not fine B5 is told, else B6.
+/// The set of the declared entries. B5 or B6 at the first entry that is not fine, B5 before B6.
 pub(crate) fn named_by(
     alloc: Global,
     plan: &Plan,

@@ -1,4 +1,4 @@
-//! What keeps a bench, a verdict, a matrix or a report from being answered.
+//! Why there is no bench, verdict, matrix or report.
 
 ghost use Rattle.std.specs.Prelude.{◌≡◌};
 ghost use Rattle.mothra_verdicts.specs.declared.fault.BenchFault.TheVariants as fault;
@@ -31,7 +31,7 @@ pub enum BenchFault {
     /// B7: the mutant has two rows.
     #[error("a mutant has two rows")]
     Double(Ticket),
-    /// B8: the plan has no such mutant, or its row has not a truth value for each test.
+    /// B8: the plan has no such mutant, or its row does not have a truth value for each test.
     #[error("a row is of no mutant of the plan")]
     Stranger(Ticket),
     /// B9: the mutant has no row, or was not handed out.

@@ -1,4 +1,5 @@
-//! Which tests kill a mutant.
+//! Which tests kill a mutant. A run is only asked whether it has the program's outcome, so no list of values is made
+//! for a mutant. Nor is it asked whether arguments fit: no operator changes the SUBROUTINE statement or a declaration.
 
 ghost use Rattle.std.specs.Prelude.{◌≡◌, ◌<◌, List, length, map, slice_get, Some, None, All, IfOk, IfErr};
 ghost use Rattle.f77_program.specs.Program.{line_of};
@@ -17,7 +18,7 @@ use f77_meaning::Values;
 use f77_run::{ChangedRunner, Runner};
 use std::alloc::Global;
 
-/// Whether the test of this number, from 0, kills the mutant, which is run from where it parts from the program.
+/// Whether the test with this number, from 0, kills the mutant, which is run from where it parts from the program.
 fn kill(bench: &Bench, mutant: &mut ChangedRunner<'_>, test: usize) -> Result<bool, BenchFault>
     requires within { test < length bench.now.tests }
     requires program { mutant.old.checked ≡ bench.now.plan.checked }
@@ -35,7 +36,7 @@ fn kill(bench: &Bench, mutant: &mut ChangedRunner<'_>, test: usize) -> Result<bo
     }
 }
 
-/// Which tests of the bench kill the mutant, test by test: the one that the changed program of the runs is.
+/// For each test of the bench, in order, whether it kills the mutant: the changed program of `mutant`.
 pub(crate) fn kills_of(
     alloc: Global,
     bench: &Bench,
@@ -54,7 +55,7 @@ pub(crate) fn kills_of(
     Ok(Values::new(kills))
 }
 
-/// Whether the test of this number, from 0, kills the mutant, which is run from the start.
+/// Whether the test with this number, from 0, kills the mutant, which is run from the start.
 fn kill_from_start(bench: &Bench, mutant: &mut Runner<'_>, test: usize) -> Result<bool, BenchFault>
     requires within { test < length bench.now.tests }
     requires fit { All (λ arguments. refusal mutant.old.arguments arguments ≡ None) bench.now.tests }
@@ -70,7 +71,7 @@ fn kill_from_start(bench: &Bench, mutant: &mut Runner<'_>, test: usize) -> Resul
     }
 }
 
-/// Which tests of the bench kill the mutant, test by test.
+/// For each test of the bench, in order, whether it kills the mutant. All runs begin at the start.
 fn kills_in_turn(
     alloc: Global,
     bench: &Bench,
@@ -88,7 +89,7 @@ fn kills_in_turn(
     Ok(Values::new(kills))
 }
 
-/// Which tests of the bench kill the mutant, whose runs all begin at the start.
+/// For each test of the bench, in order, whether it kills this mutant, a whole program. All runs begin at the start.
 pub(crate) fn kills_from_start(
     alloc: Global,
     bench: &Bench,

@@ -1,4 +1,4 @@
-//! Verdicts: which tests kill a mutant. A `Bench` holds a plan, its tests and what the program itself comes to on each;
+//! Verdicts: which tests kill a mutant. A `Bench` has a plan, its tests, and the outcome of the program itself on each;
 //! `verdict_of` gives the verdict of one mutant, and `Verdicts::row` that of one mutant after another.
 #![tactic(auto)]
 

@@ -1,4 +1,4 @@
-//! The program itself on the tests of a bench.
+//! Runs of the program itself on the tests of a bench.
 
 ghost use Rattle.std.specs.Prelude.{◌≡◌, ◌↔◌, All, IsTrue, None, IfOk, IfErr, IfSome, IfNone, map};
 ghost use Rattle.f77_program.specs.Program.{line_of};
@@ -18,7 +18,7 @@ use f77_run::{Course, Runner, Visits, fit};
 use mothra_ops::Plan;
 use std::alloc::Global;
 
-/// How many numbers the steps that are kept may have in all: each takes 16 bytes at most, all of them 32 MiB.
+/// How many numbers may be kept of the runs in all. Each takes 16 bytes at most, so all take 32 MiB at most.
 const ROOM: usize = 2_097_152;
 
 /// The shapes of the program's dummy arguments.
@@ -26,12 +26,12 @@ fn dummies(plan: &Plan) -> &[Shape]
     ensures { result.now ≡ shapes (program_of plan.now) }
 {
     let checked = plan.program();
-    // That its shapes are those of its program is told with the program.
+    // This call is for the proof: its contract says that the shapes are those of the program.
     let _ = checked.program();
     checked.arguments()
 }
 
-/// Whether the values are those of the dummy arguments.
+/// Whether the values fit the dummy arguments.
 fn fits(plan: &Plan, test: &Values<Arg>) -> bool
     ensures { IsTrue result ↔ FitsProgram (program_of plan.now) test.now }
 {
@@ -42,7 +42,7 @@ fn fits(plan: &Plan, test: &Values<Arg>) -> bool
     }
 }
 
-/// The number, from 1, of the first test whose values are not those of the dummy arguments.
+/// The number, from 1, of the first test whose values do not fit the dummy arguments.
 pub(crate) fn first_misfit(plan: &Plan, tests: &[Values<Arg>]) -> Option<usize>
     ensures fit { IfNone result (All (FitsProgram (program_of plan.now)) tests.now) }
     ensures misfit { IfSome result (λ test. IsFirstNot (FitsProgram (program_of plan.now)) tests.now test) }
@@ -72,7 +72,7 @@ fn is_end(outcome: &Outcome) -> bool
     }
 }
 
-/// The course of the program on a test; none where it neither returns nor stops.
+/// The run of the program on a test: its outcome and where control came. None where it neither returns nor stops.
 fn course_on(
     alloc: Global,
     original: &mut Runner<'_>,
@@ -103,15 +103,15 @@ fn course_on(
     }
 }
 
-/// What the program comes to on tests, and where it was, test by test.
+/// The outcomes of the program on tests, and where control came, test by test.
 #[derive(Drop)]
 pub(crate) struct Courses {
     pub(crate) outcomes: Vec<Outcome>,
-    /// For each test, where control was.
+    /// For each test, where control came.
     pub(crate) visits: Vec<Visits>,
 }
 
-/// The courses of the program on tests, on each of which it is run once.
+/// Runs the program once on each test. B4 at the first test on which it neither returns nor stops.
 fn courses_in_turn(
     alloc: Global,
     original: &mut Runner<'_>,
@@ -136,8 +136,7 @@ fn courses_in_turn(
     Ok(Courses { outcomes, visits })
 }
 
-/// The courses of the program on tests, on each of which it is run once. B4 is told of the first on which it neither
-/// returns nor stops.
+/// Runs the program of the plan once on each test. B4 at the first test on which it neither returns nor stops.
 pub(crate) fn courses_on(
     alloc: Global,
     plan: &Plan,
@@ -150,7 +149,7 @@ pub(crate) fn courses_on(
     ensures refused { IfErr result (λ fault. IsNoRun (program_of plan.now) steps tests.now fault) }
 {
     let checked = plan.program();
-    // That its shapes are those of its program is told with the program.
+    // This call is for the proof: its contract says that the shapes are those of the program.
     let _ = checked.program();
     match Runner::of(alloc, checked) {
         Ok(mut original) => courses_in_turn(alloc, &mut original, tests, steps),

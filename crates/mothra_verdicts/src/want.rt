@@ -1,4 +1,4 @@
-//! Want of memory in the crates below, where no other fault of theirs can come.
+//! Want of memory in the crates below, as a fault of this one. Callers show that no other fault can come.
 
 ghost use Rattle.std.specs.Prelude.{◌≡◌};
 ghost use Rattle.f77_legal.specs.declared.fault.CheckFault.TheVariants as check;
@@ -9,7 +9,7 @@ use crate::fault::BenchFault;
 use f77_legal::CheckFault;
 use f77_meaning::RunFault;
 
-/// Of a run whose arguments fit.
+/// The fault of a run whose arguments fit.
 pub(crate) fn of_run(fault: RunFault) -> BenchFault
     requires { fault ≡ run.Memory }
     ensures { result ≡ Memory }
@@ -20,7 +20,7 @@ pub(crate) fn of_run(fault: RunFault) -> BenchFault
     }
 }
 
-/// Of a legal program.
+/// The fault of a check of a program that is legal.
 pub(crate) fn of_check(fault: &CheckFault) -> BenchFault
     requires { fault.now ≡ check.Memory }
     ensures { result ≡ Memory }

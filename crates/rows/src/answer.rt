@@ -1,4 +1,4 @@
-//! The answer to a row.
+//! The answer to a row: the exit status, and what the program writes.
 
 use anyhow::Result;
 use equivalents_app::tell;
@@ -8,7 +8,7 @@ use std::str::from_utf8;
 use std::sync::Wait;
 use std::thread::Threads;
 
-/// The status with which the program ends that gives such an answer.
+/// The exit status of a program that gives such an answer, as a digit.
 fn exit_status(status: Status) -> char {
     match status {
         Status::Report | Status::Help => '0',
@@ -17,7 +17,8 @@ fn exit_status(status: Status) -> char {
     }
 }
 
-/// Calls the program that the first of the words names on a job, and hands out what it writes.
+/// Calls the program that the first word names, with the job as its standard input. What it writes is put into
+/// `written`.
 fn call(
     rt: &(impl AllocGlobal + Threads + Wait + Sync),
     words: &str,
@@ -33,12 +34,12 @@ fn call(
     }
 }
 
-/// What stands in front of the line at this place of an answer.
+/// The blanks in front of a line of an answer; the first line, at place 0, has one.
 fn front(place: usize) -> &'static str {
     if place == 0 { " " } else { "   " }
 }
 
-/// Appends a text: its first line behind the exit status, each other line behind blanks.
+/// Adds a text to the answers. Its first line stands behind the exit status, each other line behind blanks.
 fn push_text(answers: &mut String, status: char, text: &str) -> Result<(), AllocError> {
     answers.push(status)?;
     answers.push(':')?;
@@ -53,7 +54,7 @@ fn push_text(answers: &mut String, status: char, text: &str) -> Result<(), Alloc
     Ok(())
 }
 
-/// Appends the answer to these words and this job.
+/// Adds the answer to these words and this job.
 pub(crate) fn push_answer(
     rt: &(impl AllocGlobal + Threads + Wait + Sync),
     words: &str,

@@ -1,4 +1,4 @@
-//! A block of a table: a title, words, sources, and rows that call a program.
+//! A block of a table: a title, then words, sources, and rows. Each row is a call of a program.
 
 use crate::answer::push_answer;
 use crate::job::job_of;
@@ -7,14 +7,14 @@ use std::alloc::{AllocError, Global};
 use std::sync::Wait;
 use std::thread::Threads;
 
-/// What holds for the next row of a block.
+/// What the next row of a block uses: the words and the source above it.
 #[derive(Drop)]
 pub(crate) struct Block<'a> {
-    /// The words of the call, between blanks.
+    /// The words of the call, separated by blanks.
     words: &'a str,
     /// The lines of the source.
     lines: Vec<&'a str>,
-    /// Whether the source has a row: the next line of a source then begins another one.
+    /// Whether a row has used the source: then the next line of a source begins another one.
     has_row: bool,
 }
 
@@ -39,7 +39,7 @@ impl<'a> Block<'a> {
         push_line(answers, title)
     }
 
-    /// Takes a line of a source.
+    /// Adds a line to the source, or begins another source with it.
     fn push_source(&mut self, line: &'a str) -> Result<(), AllocError> {
         if self.has_row {
             self.lines.clear();
@@ -49,7 +49,7 @@ impl<'a> Block<'a> {
         Ok(())
     }
 
-    /// Answers the row that stands in this line and has this job.
+    /// Answers the row of this line, which has this job.
     fn push_row(
         &mut self,
         rt: &(impl AllocGlobal + Threads + Wait + Sync),
@@ -62,7 +62,8 @@ impl<'a> Block<'a> {
         push_answer(rt, self.words, job, answers)
     }
 
-    /// Takes a line of a table. Its first character says what it is.
+    /// Reads a line of a table. Its first character says what it is: `#` a title, `$` words, `>` a row with statements
+    /// and tests, `!` a row that is the text of a job; any other line is a line of a source.
     pub(crate) fn take(
         &mut self,
         rt: &(impl AllocGlobal + Threads + Wait + Sync),

@@ -4,10 +4,10 @@ use anyhow::Result;
 use std::alloc::{AllocError, Global};
 use std::fmt::Write;
 
-/// The cells of a row. One that it leaves out has no text.
+/// The cells of a row. A cell that the row leaves out is empty.
 #[derive(Drop)]
 struct Cells<'a> {
-    /// Statements with `; ` between.
+    /// Statements, separated by `; `.
     statements: &'a str,
     /// The suite, in JSON.
     suite: &'a str,
@@ -16,7 +16,7 @@ struct Cells<'a> {
 }
 
 impl<'a> Cells<'a> {
-    /// The cells of a row, which stand between ` | `.
+    /// The cells of a row, separated by ` | `.
     fn of(row: &'a str) -> Cells<'a> {
         let mut cells = Cells {
             statements: "",
@@ -29,7 +29,8 @@ impl<'a> Cells<'a> {
         cells
     }
 
-    /// Takes a cell: statements, or else the suite, or else the declared equivalents.
+    /// Puts a cell in its place: a list in JSON is the suite, or the declared equivalents if there is a suite; any
+    /// other cell is statements.
     fn take(&mut self, cell: &'a str) {
         if !cell.starts_with('[') {
             self.statements = cell;
@@ -41,7 +42,7 @@ impl<'a> Cells<'a> {
     }
 }
 
-/// A statement's label, if it has one, and what follows it.
+/// The label of a statement, which may be empty, and the rest.
 fn labelled(statement: &str) -> (&str, &str) {
     let (first, others) = statement.split_once(' ').unwrap_or((statement, ""));
     if first.bytes().all(|byte| byte.is_ascii_digit()) {
@@ -51,7 +52,7 @@ fn labelled(statement: &str) -> (&str, &str) {
     }
 }
 
-/// Appends a line for each statement, in fixed form.
+/// Adds a line in fixed form for each statement.
 fn push_statements(source: &mut String, statements: &str) -> Result<(), AllocError> {
     for statement in statements.split("; ") {
         let (label, others) = labelled(statement);
@@ -60,7 +61,7 @@ fn push_statements(source: &mut String, statements: &str) -> Result<(), AllocErr
     Ok(())
 }
 
-/// Appends a line of a source. The statements of the row, if it has some, stand in place of the line `?`.
+/// Adds a line to the source. The statements of the row take the place of the line `?`.
 fn push_line(source: &mut String, line: &str, statements: &str) -> Result<(), AllocError> {
     if line != "?" {
         writeln!(source, "{line}")
@@ -71,7 +72,8 @@ fn push_line(source: &mut String, line: &str, statements: &str) -> Result<(), Al
     }
 }
 
-/// The source with the statements of a row. Where none of its lines is `?` and the row has some, they are the source.
+/// The source of these lines, with the statements of the row in the place of `?`. Where the row has statements and no
+/// line is `?`, the statements are the whole source.
 fn source_of(alloc: Global, lines: &[&str], statements: &str) -> Result<String, AllocError> {
     let mut source = String::new(alloc);
     if !statements.is_empty() && !lines.contains(&"?") {
@@ -84,7 +86,7 @@ fn source_of(alloc: Global, lines: &[&str], statements: &str) -> Result<String, 
     Ok(source)
 }
 
-/// Appends a member of the job, if it has a text.
+/// Adds a member to the job, if it has a text.
 fn push_member(job: &mut String, key: &str, text: &str) -> Result<(), AllocError> {
     if text.is_empty() {
         Ok(())
@@ -93,7 +95,7 @@ fn push_member(job: &mut String, key: &str, text: &str) -> Result<(), AllocError
     }
 }
 
-/// The job of a row below these lines of a source, in JSON.
+/// The job of a row, in JSON. `lines` are the lines of the source above the row.
 pub(crate) fn job_of(alloc: Global, lines: &[&str], row: &str) -> Result<String> {
     let cells = Cells::of(row);
     let source = source_of(alloc, lines, cells.statements)?;

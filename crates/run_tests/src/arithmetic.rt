@@ -1,6 +1,6 @@
-//! Operations on values, each as its definition has it: exact numbers, and then the range
-//! (f77_values/specs/Number.antt). An `i64` holds all exact numbers here but powers, where
-//! numbers that it does not hold are out of the range like those that stand for them.
+//! Operations on values, each as its definition has it: the exact number, then the test against the range
+//! (f77_actions/specs/Number.antt). An `i64` holds all exact numbers here but powers; a power that saturates is out of
+//! the range, as the exact one is.
 
 use f77_run::Fault;
 use f77_tree::{Intrinsic, Operator};
@@ -30,8 +30,8 @@ fn modulus(a: i32, b: i32) -> Result<i32, Fault> {
     }
 }
 
-/// `exact_power`: one factor after another. Those of -1 come in pairs,
-/// and any other base that is left is out of the range after 32.
+/// `exact_power`: one factor after another. The factors of -1 come in pairs, and after 32 factors any other base that
+/// is left is out of the range.
 fn exact_power(a: i64, factors: u32) -> i64 {
     let factors = match a {
         1 => 0,
@@ -83,7 +83,7 @@ pub(crate) fn arithmetic(operator: Operator, a: i32, b: i32) -> Result<i32, Faul
     }
 }
 
-/// `related` (f77_meaning/specs/Value.antt; 6.3), where the operator is a relation.
+/// `related` (f77_meaning/specs/Value.antt; 6.3). None where the operator is no relation.
 pub(crate) fn related(operator: Operator, a: i32, b: i32) -> Option<bool> {
     match operator {
         Operator::Less => Some(a < b),
@@ -112,7 +112,7 @@ pub(crate) fn connected(operator: Operator, a: bool, b: bool) -> bool {
     }
 }
 
-/// `trip_count` (11.10.3): the passes of a DO, none where the number is negative.
+/// `trip_count` (11.10.3): 0 where the number is negative.
 pub(crate) fn trip_count(first: i32, last: i32, step: i32) -> u64 {
     let span = i64::from(last) - i64::from(first) + i64::from(step);
     match span.checked_div(i64::from(step)) {

@@ -1,14 +1,14 @@
-//! Numbers as by chance: a linear congruential generator, so that a seed gives the same in each run.
+//! Numbers made by chance: a linear congruential generator, so a seed gives the same numbers in each run.
 
 #[derive(Drop)]
 pub(crate) struct Chance {
     state: u64,
-    /// Whether what is made is to fail often.
+    /// Whether the program that is made is to fail often.
     bold: bool,
 }
 
 impl Chance {
-    /// Every fourth seed is bold.
+    /// A generator with this seed. Every fourth one is bold.
     pub(crate) fn new(seed: u64) -> Chance {
         Chance {
             state: seed.wrapping_mul(0x9e37_79b9_7f4a_7c15),
@@ -16,7 +16,7 @@ impl Chance {
         }
     }
 
-    /// A number below this one, 0 where that is 0.
+    /// A number below `n`, or 0 where `n` is 0.
     pub(crate) fn below(&mut self, n: usize) -> usize {
         self.state = self
             .state
@@ -26,8 +26,8 @@ impl Chance {
         number.checked_rem(n).unwrap_or(0)
     }
 
-    /// One of the texts with `|` between them: of those before ` ! `, where there are
-    /// others behind it, or as often one of these where what is made is bold.
+    /// One of the texts with `|` between them. Where ` ! ` stands among them, the texts before it are used; a bold
+    /// generator uses those behind it half of the time.
     pub(crate) fn word(&mut self, texts: &'static str) -> &'static str {
         let is_bold = self.bold && self.below(2) == 0;
         let texts = match texts.split_once(" ! ") {

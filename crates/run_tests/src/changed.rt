@@ -1,5 +1,6 @@
-//! Programs with one statement changed. A case is a program, a change, and rows of arguments, a limit on steps, and the
-//! answer: the outcome of the changed program, or whether that is noticed, by a run that begins where the two part.
+//! Programs with one statement changed. A case is a program, a change, and rows: arguments, a limit on steps and an
+//! answer. The answer is the outcome of the changed program, or whether the change is noticed by a run that begins
+//! where the two runs part.
 
 use crate::runs::{Run, assert_outcome, halves, run_of};
 use f77_check::Checked;
@@ -10,8 +11,8 @@ use samples::{changed, checked, held, holder, number_and_text};
 use std::process::Abort;
 use std::test::Fail;
 
-/// Whether the outcome is another one with the change, None where it does not stand alone: other statements
-/// would do something else too. The states of the program's own run hold so many values at most.
+/// Whether the outcome with the change is another one. None where the changed statement alone does not decide. `room`
+/// limits how many numbers are kept of the program's own run.
 fn is_noticed(
     rt: &impl AllocGlobal,
     old: &Checked,
@@ -43,7 +44,7 @@ fn word_of(noticed: Option<bool>) -> &'static str {
     }
 }
 
-/// The answer to a change, with so much room.
+/// The answer to a change, with this room.
 fn answer(
     rt: &impl AllocGlobal,
     old: &Checked,
@@ -61,7 +62,7 @@ fn outcome(rt: &impl AllocGlobal, checked: &Checked, row: &Run<'_>) -> Result<Ou
     Ok(run(rt.alloc(), checked, &row.arguments, row.steps)?)
 }
 
-/// The answer by the outcomes of the two programs, each run from its start.
+/// The answer from the outcomes of the two programs, each run from its start.
 fn answer_by_runs(
     rt: &impl AllocGlobal,
     old: &Checked,
@@ -72,7 +73,7 @@ fn answer_by_runs(
     Ok(word_of(Some(!same)))
 }
 
-/// It is the same answer with no state, with one or a few, and with all that may be kept.
+/// The answer is the same if no state is kept, if one or a few are, and if all are.
 fn assert_answers(
     rt: &(impl AllocGlobal + Abort),
     old: &Checked,

@@ -1,4 +1,4 @@
-//! Programs with one statement changed to what no text has: TRAP, ZPUSH or a constant that is too large.
+//! Programs with one statement changed to one that no text has: TRAP, ZPUSH or a constant that is too large.
 
 use crate::chance::Chance;
 use f77_check::Checked;
@@ -11,7 +11,7 @@ fn pushed(alloc: Global, expr: &Expr) -> Result<Expr, AllocError> {
     Ok(Expr::ZeroPush(Box::new(alloc, expr.clone()?)?))
 }
 
-/// What stands in the place of a statement.
+/// The statement that is put in the place of another.
 fn changed(alloc: Global, chance: &mut Chance, stmt: &Stmt) -> Result<Stmt, AllocError> {
     match (stmt, chance.below(4)) {
         (Stmt::Assign { target, value }, 0 | 1) => Ok(Stmt::Assign {
@@ -26,7 +26,7 @@ fn changed(alloc: Global, chance: &mut Chance, stmt: &Stmt) -> Result<Stmt, Allo
     }
 }
 
-/// The program with a change of one statement, where there is a legal one.
+/// The program with one statement changed, if that is legal.
 pub(crate) fn with_change(
     alloc: Global,
     chance: &mut Chance,

@@ -1,4 +1,4 @@
-//! Outcomes of the model and of `run`.
+//! Comparing the outcomes of the model and of `run`.
 
 use crate::model::outcome;
 use crate::unit::Unit;
@@ -7,7 +7,7 @@ use f77_meaning::{Arg, Outcome};
 use f77_run::run;
 use std::test::Fail;
 
-/// `run` comes to this outcome within so many steps.
+/// `run` has this outcome within this limit on steps.
 fn assert_run(
     rt: &impl AllocGlobal,
     name: &str,
@@ -23,7 +23,7 @@ fn assert_run(
     Err(Fail::new(format_args!("{name}: within {steps} steps {outcome:?} in place of {want:?}")))
 }
 
-/// `run` comes to this outcome within the limit, and in no step less than the model makes.
+/// `run` has this outcome within the limit, and within the steps that the model makes, but not within one step less.
 fn assert_runs(
     rt: &impl AllocGlobal,
     name: &str,
@@ -42,7 +42,7 @@ fn assert_runs(
     assert_run(rt, name, checked, arguments, fewer, &Outcome::StepLimit)
 }
 
-/// The outcome of the model, to which `run` comes too.
+/// The outcome of the model, which is that of `run` too.
 pub(crate) fn agreed(
     rt: &impl AllocGlobal,
     name: &str,

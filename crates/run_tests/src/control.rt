@@ -1,10 +1,10 @@
-//! Where control may go: labels, the ranges of DOs, and the branches
-//! of blocks. All is looked up in the statements at each use.
+//! Where control may go: labels, the ranges of DOs, and the branches of blocks. All is looked up in the statements at
+//! each use.
 
 use crate::unit::Unit;
 use f77_tree::Stmt;
 
-/// `place_of` (f77_legal/specs/Labels.antt; 3.4): the statement that bears the label.
+/// `label_place` (f77_legal/specs/Labels.antt; 3.4): the first statement with the label.
 pub(crate) fn place_of(unit: &Unit<'_>, label: u32) -> Option<usize> {
     unit.lines.iter().position(|line| line.label == Some(label))
 }
@@ -30,8 +30,8 @@ pub(crate) fn is_left(unit: &Unit<'_>, i: usize, j: usize, d: usize) -> bool {
     range_holds(unit, d, i) && !range_holds(unit, d, j)
 }
 
-/// `is_level` (f77_legal/specs/Blocks.antt; 11.6.1): between `i` and
-/// `j`, which stands behind it, each block that opens is closed.
+/// `is_level` (f77_legal/specs/Blocks.antt; 11.6.1): `j` stands behind `i`, and between them each block that opens is
+/// closed.
 fn is_level(unit: &Unit<'_>, i: usize, j: usize) -> bool {
     let mut opened: usize = 0;
     let mut closed: usize = 0;
@@ -62,8 +62,8 @@ pub(crate) fn branch_end(unit: &Unit<'_>, i: usize) -> Option<usize> {
     })
 }
 
-/// `behind` (f77_legal/specs/Blocks.antt; 11.6 to 11.9): the next statement,
-/// or the END IF of the block where the next one begins a branch.
+/// `statement_behind` (f77_legal/specs/Blocks.antt; 11.6 to 11.9): the next statement, or the END IF of the block where
+/// the next one begins a branch.
 pub(crate) fn behind(unit: &Unit<'_>, i: usize) -> Option<usize> {
     let next = i.saturating_add(1);
     match unit.statement(next) {

@@ -1,5 +1,6 @@
-//! The values of expressions (f77_meaning/specs/Value.antt). Each operand is evaluated, from left to right, before its
-//! operator is applied, and the first fault is the expression's: a `?` is `given` of f77_values/specs/Value.antt.
+//! The values of expressions (f77_meaning/specs/Value.antt). All operands are evaluated, from left to right, before the
+//! operator is applied, and the first fault is that of the expression: a `?` is `given` of
+//! f77_actions/specs/Value.antt.
 
 use crate::arithmetic::{arithmetic, called, connected, in_range, is_relation, related};
 use crate::store::Store;
@@ -7,7 +8,7 @@ use crate::unit::{Halt, Unit};
 use f77_run::{Fault, Value};
 use f77_tree::{Expr, Kind, Ref, Sign};
 
-/// `element` (f77_values/specs/Value.antt; 5.2.4, 5.4): the place from 0, the first subscript varying fastest.
+/// `element` (f77_actions/specs/Value.antt; 5.2.4, 5.4): the place from 0, the first subscript varying fastest.
 fn element(bounds: &[u32], subscripts: &[i32]) -> Result<usize, Fault> {
     if bounds.len() != subscripts.len() {
         return Err(Fault::BadSubscript);
@@ -25,7 +26,7 @@ fn element(bounds: &[u32], subscripts: &[i32]) -> Result<usize, Fault> {
     Ok(place)
 }
 
-/// `whole` (f77_values/specs/Value.antt; 2.11).
+/// `whole` (f77_actions/specs/Value.antt; 2.11): the value of an INTEGER element.
 pub(crate) fn whole(value: Option<Value>) -> Result<i32, Fault> {
     match value {
         Some(Value::Number(number)) => Ok(number),
@@ -33,7 +34,7 @@ pub(crate) fn whole(value: Option<Value>) -> Result<i32, Fault> {
     }
 }
 
-/// `logic` (f77_values/specs/Value.antt; 2.11).
+/// `logic` (f77_actions/specs/Value.antt; 2.11): the value of a LOGICAL element.
 pub(crate) fn logic(value: Option<Value>) -> Result<bool, Fault> {
     match value {
         Some(Value::Truth(truth)) => Ok(truth),
@@ -69,12 +70,12 @@ pub(crate) fn number(unit: &Unit<'_>, s: &Store, expr: &Expr) -> Result<i32, Hal
             let b = number(unit, s, right)?;
             Ok(arithmetic(*operator, a, b)?)
         }
-        // of mutants alone: `pushed`
+        // In mutants alone: `pushed`.
         Expr::ZeroPush(operand) => match number(unit, s, operand)? {
             0 => Err(Halt::from(Fault::Trapped)),
             value => Ok(value),
         },
-        // of no legal program
+        // In no legal program.
         Expr::Truth(_) | Expr::Not(_) => Err(Halt::from(Fault::Undefined)),
     }
 }
@@ -90,7 +91,7 @@ fn numbers(unit: &Unit<'_>, s: &Store, items: &[Expr]) -> Result<Vec<i32>, Halt>
     Ok(values)
 }
 
-/// `place`: of the element that a reference names (5.3).
+/// `place`: the place of the element that a reference names (5.3).
 pub(crate) fn place(unit: &Unit<'_>, s: &Store, reference: &Ref) -> Result<usize, Halt> {
     let subscripts = numbers(unit, s, &reference.subscripts)?;
     Ok(element(unit.bounds_of(&reference.name), &subscripts)?)
@@ -114,18 +115,18 @@ pub(crate) fn truth(unit: &Unit<'_>, s: &Store, expr: &Expr) -> Result<bool, Hal
             let b = number(unit, s, right)?;
             Ok(related(*operator, a, b).unwrap_or(false))
         }
-        // 6.4: both operands, also where one would do
+        // 6.4: both operands are evaluated, also where one would do.
         Expr::Binary(operator, left, right) => {
             let a = truth(unit, s, left)?;
             let b = truth(unit, s, right)?;
             Ok(connected(*operator, a, b))
         }
-        // of no legal program
+        // In no legal program.
         _ => Err(Halt::from(Fault::Undefined)),
     }
 }
 
-/// `value`: of an expression of this kind.
+/// `value`: the value of an expression of this kind.
 pub(crate) fn value(unit: &Unit<'_>, s: &Store, kind: Kind, expr: &Expr) -> Result<Value, Halt> {
     match kind {
         Kind::Integer => Ok(Value::Number(number(unit, s, expr)?)),

@@ -1,4 +1,4 @@
-//! Programs made by chance: `run` comes to what the model comes to.
+//! Programs made by chance: `run` has the outcome that the model has.
 
 use crate::chance::Chance;
 use crate::changes::with_change;
@@ -21,7 +21,7 @@ fn program(alloc: Global, seed: u64) -> Result<Program, Fail> {
     Ok(parse(alloc, &cards)?)
 }
 
-/// A limit on steps: most often one that a run keeps. `run` goes by code from 256 steps on.
+/// A limit on steps. Most runs end within it.
 fn limit(chance: &mut Chance) -> u32 {
     let limit = match chance.below(10) {
         0 => chance.below(12),
@@ -32,7 +32,7 @@ fn limit(chance: &mut Chance) -> u32 {
     u32::try_from(limit).unwrap_or(u32::MAX)
 }
 
-/// The outcome on arguments, written as words, to which both come.
+/// The outcome with these arguments, written as words, which model and `run` share.
 fn compared(
     rt: &impl AllocGlobal,
     seed: u64,
@@ -70,7 +70,7 @@ fn compare_runs(
     Ok(())
 }
 
-/// Runs of the program of a seed, and of one with a change, where they are legal.
+/// Compares runs of the program of a seed, and of one with a change, where these are legal.
 fn compare_seed(rt: &impl AllocGlobal, tally: &mut Tally) -> Result<(), Fail> {
     let mut chance = Chance::new(tally.seed);
     let program = program(rt.alloc(), tally.seed)?;
@@ -84,7 +84,7 @@ fn compare_seed(rt: &impl AllocGlobal, tally: &mut Tally) -> Result<(), Fail> {
     }
 }
 
-/// The programs of 150 seeds.
+/// Compares the programs of 150 seeds.
 fn compare_seeds(rt: &(impl AllocGlobal + Abort), first: u64) -> Result<(), Fail> {
     let mut tally = Tally::new(rt.alloc());
     for seed in first..first.saturating_add(150) {

@@ -1,4 +1,4 @@
-//! Programs made by chance: DOs and blocks are opened and closed, and in them stand statements of each kind. Jumps lead
+//! Programs made by chance. DOs and blocks are opened and closed, and statements of each kind stand in them. Jumps lead
 //! to the terminal statement of the innermost DO, or to statements outside of all. I, J and L are the variables of DOs.
 
 use crate::chance::Chance;
@@ -25,7 +25,7 @@ const DOS: [&str; 3] = ["DO @ I=g,hj", "DO @ J=g,hj", "DO @ L=g,hj"];
 
 const TERMINALS: &str = "CONTINUE|CONTINUE|CONTINUE|v=e|v=e|IF (q) s|GO TO (@,903),K";
 
-/// What is open: a DO, by the label of its terminal statement, or a block, which may have had its ELSE.
+/// A DO or a block that is open: a DO with the label of its terminal statement, a block with whether it had its ELSE.
 #[derive(Clone, Copy, Drop)]
 enum Open {
     Loop(u32),
@@ -52,7 +52,7 @@ impl Draft {
         Ok(())
     }
 
-    /// A DO, where one has a variable left. It may end where the innermost one does.
+    /// Begins a DO, if a variable is left for one. It may end where the innermost one does.
     fn begin_loop(&mut self) -> Result<(), AllocError> {
         let loops = self
             .open
@@ -71,7 +71,7 @@ impl Draft {
         self.add(None, text)
     }
 
-    /// The end of what is innermost. All DOs with one terminal statement end together.
+    /// Ends what is innermost. All DOs with one terminal statement end together.
     fn end(&mut self) -> Result<(), AllocError> {
         match self.open.last().copied() {
             Some(Open::Loop(label)) => {
@@ -88,7 +88,7 @@ impl Draft {
         }
     }
 
-    /// The end of what is innermost, or another branch of it.
+    /// Ends what is innermost, or begins another branch of it.
     fn end_or_branch(&mut self) -> Result<(), AllocError> {
         match (self.open.last().copied(), self.chance.below(3)) {
             (Some(Open::Block(false)), 1) => self.add(None, "ELSE IF (c) THEN"),
@@ -116,7 +116,7 @@ impl Draft {
         }
     }
 
-    /// So many statements, or more: all that is open is ended.
+    /// Adds `count` statements, and then ends all that is open.
     fn statements(&mut self, count: usize) -> Result<(), AllocError> {
         for _ in 0..count {
             self.statement()?;
@@ -139,7 +139,7 @@ impl Draft {
     }
 }
 
-/// The text of this seed.
+/// The text for this seed.
 fn of_seed(texts: &[&'static str; 3], seed: u64) -> &'static str {
     match texts.get((seed % 3) as usize) {
         Some(text) => *text,
@@ -147,7 +147,7 @@ fn of_seed(texts: &[&'static str; 3], seed: u64) -> &'static str {
     }
 }
 
-/// Values of dummy arguments of a seed's program, as words.
+/// Values of the dummy arguments of a seed's program, as words.
 pub(crate) fn arguments_text(
     alloc: Global,
     chance: &mut Chance,
@@ -156,7 +156,7 @@ pub(crate) fn arguments_text(
     replaced(alloc, chance, of_seed(&ARGUMENTS, seed), 0)
 }
 
-/// The cards of a seed's program.
+/// The cards of the program of a seed.
 pub(crate) fn cards(alloc: Global, seed: u64) -> Result<Vec<Card>, AllocError> {
     let mut draft = Draft {
         alloc,

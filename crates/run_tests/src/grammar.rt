@@ -3,9 +3,9 @@
 use crate::chance::Chance;
 use std::alloc::{AllocError, Global};
 
-// A letter, the texts for which it stands, and behind ` ! ` those of bold programs: e is a value, c a condition, s a
-// statement that may stand in a logical IF, g, h and j are the parameters of a DO, l is a label, p the values of DATA,
-// y and z are arguments. `@` stands for the label of a DO.
+// Each row has a letter and the texts for which it stands, and behind ` ! ` those of bold programs. e is a value, c a
+// condition, s a statement that may stand in a logical IF, g, h and j are the parameters of a DO, l is a label, p the
+// values of DATA, y and z are arguments. `@` stands for the label of a DO.
 const RULES: &str = "
 a MA(i)|MB(i,i)
 b o+o|o+o|o-o|o-o|o*d|o/d|MOD(o,d)|o**d|n**d|-o
@@ -45,7 +45,7 @@ fn texts_for(letter: char) -> &'static str {
     ""
 }
 
-/// The text with each letter replaced once. `@` is the label.
+/// The text with each letter replaced once, and with the label for `@`.
 pub(crate) fn replaced(
     alloc: Global,
     chance: &mut Chance,
@@ -63,7 +63,7 @@ pub(crate) fn replaced(
     Ok(made)
 }
 
-/// The text with no letter left: none stands for a text of more than ten levels.
+/// The text without letters. Ten rounds are enough: no letter stands for a text of more levels.
 pub(crate) fn expanded(
     alloc: Global,
     chance: &mut Chance,

@@ -1,6 +1,6 @@
-//! Programs whose outcomes are known from the rules of the language. A case is a program and the rows below it; a row
-//! is arguments, a limit on steps, and the outcome to which all come: the model, `run`, and a runner of all the rows,
-//! each run of which is as if it were the first.
+//! Programs whose outcomes are known from the rules of the language. A case is a program and the rows below it. A row
+//! is arguments, a limit on steps, and the outcome that all have: the model, `run`, and one runner that makes the runs
+//! of all rows, each as if it were the first.
 
 use crate::comparing::agreed;
 use crate::runs::{Run, assert_outcome, halves, outcome_of, run_of};
@@ -10,7 +10,7 @@ use f77_run::{Runner, run};
 use samples::{checked, parts};
 use std::test::Fail;
 
-/// Neither the model nor a course finds that a run has no end: they make no longer one.
+/// The longest run of the model and of `course`, neither of which finds that a run never ends.
 const MOST: u32 = 1_000;
 
 fn outcome(rt: &impl AllocGlobal, checked: &Checked, row: &Run<'_>) -> Result<Outcome, Fail> {
@@ -26,7 +26,7 @@ fn assert_run(rt: &impl AllocGlobal, checked: &Checked, row: &Run<'_>) -> Result
     assert_outcome(rt, row, &outcome)
 }
 
-/// The outcome of the course of the run. No state is kept.
+/// Compares the outcome that `course` gives. No state is kept.
 fn assert_course(
     rt: &impl AllocGlobal,
     runner: &mut Runner<'_>,
@@ -50,7 +50,7 @@ fn comes_to(
     Ok(runner.comes_to(&row.arguments, row.steps, &outcome))
 }
 
-/// The outcome is told from that of another row, but where the two have one.
+/// `comes_to` says no for the outcome of another row, unless the two outcomes are equal.
 fn assert_told(
     rt: &impl AllocGlobal,
     runner: &mut Runner<'_>,
@@ -80,7 +80,7 @@ fn assert_row(
     Ok(())
 }
 
-/// The rows of one program in this order, and then in the other.
+/// Compares the rows of one program in their order, and then in the opposite one.
 fn assert_rows(
     rt: &impl AllocGlobal,
     checked: &Checked,

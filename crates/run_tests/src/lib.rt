@@ -1,7 +1,7 @@
 //! Tests of the public calls that run programs, and a plain model of runs to which `run` is held. The model is the
-//! definitions of `f77_run` as a slow interpreter: it looks up names and labels in the statements at each step, and
-//! has no slots and no code. The comment at each case names the definition that it is read off, and the section of
-//! ANSI X3.9-1978.
+//! definitions of `f77_meaning` as a slow interpreter: it looks up names and labels in the statements at each step, and
+//! has no slots and no code. The comment at each case names the definition that it follows, and the section of ANSI
+//! X3.9-1978.
 #![tactic(auto)]
 
 #[cfg(test)]

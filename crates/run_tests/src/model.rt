@@ -1,5 +1,5 @@
-//! Runs of the model: where a run starts (f77_meaning/specs/Start.antt), how it ends
-//! (f77_meaning/specs/Outcome.antt), and what is told of that (f77_meaning/specs/Interpreter.antt).
+//! Runs of the model: where a run starts (f77_meaning/specs/Start.antt), how it ends (f77_meaning/specs/Outcome.antt),
+//! and the outcome for that (f77_meaning/specs/Interpreter.antt).
 
 use crate::expressions::{logic, whole};
 use crate::statements::{Config, Place, step};
@@ -10,7 +10,7 @@ use f77_run::{Fault, Finish, Value};
 use f77_tree::{Constant, DataGroup, Kind, Name, Stmt, nodes};
 use std::alloc::{AllocError, Global};
 
-/// `values_in`: the elements of an argument.
+/// `values_in`: the values of an argument, element by element.
 fn values_in(alloc: Global, argument: &Arg) -> Result<Vec<Option<Value>>, AllocError> {
     match argument {
         Arg::Int(number) => [Some(Value::Number(*number))].to_vec(alloc),
@@ -28,7 +28,7 @@ fn values_in(alloc: Global, argument: &Arg) -> Result<Vec<Option<Value>>, AllocE
     }
 }
 
-/// `start_values` of the dummy arguments (15.9): the values given.
+/// `start_values` of the dummy arguments (15.9): they get the values that are given.
 fn add_dummies(unit: &Unit<'_>, s: &mut Store, arguments: &[Arg]) -> Result<(), Halt> {
     for (name, argument) in unit.dummies().iter().zip(arguments) {
         s.add(name, values_in(unit.alloc, argument)?)?;
@@ -36,7 +36,7 @@ fn add_dummies(unit: &Unit<'_>, s: &mut Store, arguments: &[Arg]) -> Result<(), 
     Ok(())
 }
 
-/// Each other name that a statement mentions has elements without a value.
+/// `start_values` of other names: the elements of each name that a statement has get no value.
 fn add_names(unit: &Unit<'_>, s: &mut Store, stmt: &Stmt) -> Result<(), Halt> {
     for node in nodes(unit.alloc, stmt)? {
         if let Some(name) = node.name() {
@@ -46,7 +46,7 @@ fn add_names(unit: &Unit<'_>, s: &mut Store, stmt: &Stmt) -> Result<(), Halt> {
     Ok(())
 }
 
-/// The constant of this number from 0 in a group, repeats counted (9.1).
+/// The constant with this number, counted from 0, in a group with repeats counted (9.1).
 fn constant(group: &DataGroup, n: usize) -> Option<Value> {
     let mut left = n;
     for value in &group.values {
@@ -62,7 +62,7 @@ fn constant(group: &DataGroup, n: usize) -> Option<Value> {
     None
 }
 
-/// The elements of a name of a group get the constants from this one on.
+/// Gives the elements of a name of a group the constants from this one on.
 fn preset_name(unit: &Unit<'_>, s: &mut Store, group: &DataGroup, name: &Name, first: usize) {
     for k in 0..unit.elements(name) {
         if let Some(value) = constant(group, first.saturating_add(k)) {
@@ -71,8 +71,8 @@ fn preset_name(unit: &Unit<'_>, s: &mut Store, group: &DataGroup, name: &Name, f
     }
 }
 
-/// `presets_of` (f77_check/specs/Start.antt; section 9): the
-/// elements of all names of a group, in order, get its constants.
+/// `presets_of` (f77_check/specs/Start.antt; section 9): the elements of all names of a group get its constants, in
+/// order.
 fn preset(unit: &Unit<'_>, s: &mut Store, group: &DataGroup) {
     let mut first: usize = 0;
     for name in &group.names {
@@ -90,7 +90,7 @@ fn preset_all(unit: &Unit<'_>, s: &mut Store, stmt: &Stmt) {
     }
 }
 
-/// `start_values`.
+/// `start_values` of all names.
 fn start_values(unit: &Unit<'_>, arguments: &[Arg]) -> Result<Store, Halt> {
     let mut s = Store::new(unit.alloc);
     add_dummies(unit, &mut s, arguments)?;
@@ -122,7 +122,7 @@ fn starts(unit: &Unit<'_>, arguments: &[Arg]) -> Result<Config, Halt> {
     })
 }
 
-/// What a dummy argument holds.
+/// The value of a dummy argument.
 fn argument(unit: &Unit<'_>, s: &Store, name: &Name) -> Result<Arg, Halt> {
     let is_array = !unit.bounds_of(name).is_empty();
     let elements = s.elements(name).iter();
@@ -151,7 +151,7 @@ fn arguments(unit: &Unit<'_>, s: &Store) -> Result<Values<Arg>, Halt> {
     Ok(Values::new(arguments))
 }
 
-/// `told`.
+/// `told_outcome`: the outcome of a run that failed.
 fn told(fault: Fault) -> Outcome {
     match fault {
         Fault::Overflow => Outcome::Overflow,
@@ -164,7 +164,7 @@ fn told(fault: Fault) -> Outcome {
     }
 }
 
-/// `Tells`.
+/// `Tells`: the outcome for an end.
 fn tells(unit: &Unit<'_>, finish: Finish, s: &Store) -> Result<Outcome, Halt> {
     match finish {
         Finish::Returned => Ok(Outcome::Returned(arguments(unit, s)?)),
@@ -174,7 +174,7 @@ fn tells(unit: &Unit<'_>, finish: Finish, s: &Store) -> Result<Outcome, Halt> {
     }
 }
 
-/// `IsOutcome`: how a run ends within a limit on steps, and how many it makes.
+/// `IsOutcome`: how a run ends within a limit on steps, and how many steps it makes.
 fn ends(unit: &Unit<'_>, c: &mut Config, steps: u32) -> Result<(Finish, u32), Halt> {
     for made in 0..steps {
         match step(unit, c) {
@@ -186,7 +186,7 @@ fn ends(unit: &Unit<'_>, c: &mut Config, steps: u32) -> Result<(Finish, u32), Ha
     Ok((Finish::StepLimit, steps))
 }
 
-/// `IsOutcomeOf`: the outcome of the run with these arguments within so many steps, and how many it makes.
+/// `IsOutcomeOf`: the outcome of the run with these arguments within this limit, and how many steps it makes.
 pub(crate) fn outcome(
     unit: &Unit<'_>,
     arguments: &[Arg],

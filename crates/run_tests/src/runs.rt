@@ -4,7 +4,7 @@ use f77_meaning::{Arg, Outcome, Values};
 use samples::{arguments, parts};
 use std::test::Fail;
 
-/// What a row asks: a run with these arguments, for so many steps at most.
+/// What a row asks for: a run with these arguments and this limit on steps.
 #[derive(Drop)]
 pub(crate) struct Run<'a> {
     pub(crate) row: &'a str,
@@ -13,7 +13,7 @@ pub(crate) struct Run<'a> {
     pub(crate) answer: &'a str,
 }
 
-/// The parts before and behind a mark.
+/// The texts before and behind a mark.
 pub(crate) fn halves<'a>(text: &'a str, mark: &str) -> Result<(&'a str, &'a str), Fail> {
     match text.split_once(mark) {
         Some(halves) => Ok(halves),
@@ -35,7 +35,7 @@ pub(crate) fn run_of<'a>(rt: &impl AllocGlobal, row: &'a str) -> Result<Run<'a>,
     })
 }
 
-/// An outcome without values.
+/// An outcome without values, by its name.
 fn named(name: &str) -> Result<Outcome, Fail> {
     match name {
         "Overflow" => Ok(Outcome::Overflow),
@@ -49,7 +49,7 @@ fn named(name: &str) -> Result<Outcome, Fail> {
     }
 }
 
-/// An outcome, written as `Returned 2 3`, `Stopped 2 3`, or its name.
+/// An outcome, written as `Returned 2 3`, `Stopped 2 3`, or as its name alone.
 pub(crate) fn outcome_of(rt: &impl AllocGlobal, text: &str) -> Result<Outcome, Fail> {
     match text.split_once(' ') {
         Some(("Returned", words)) => Ok(Outcome::Returned(Values::new(arguments(rt, words)?))),

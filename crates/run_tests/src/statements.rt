@@ -22,7 +22,7 @@ pub(crate) struct Turn {
     step: i32,
 }
 
-/// `Config`: where control is, what names hold, and for each statement what it has left where it is an active DO.
+/// `Config`: the place of control, the values of names, and for each statement its turn if it is an active DO.
 #[derive(Drop)]
 pub(crate) struct Config {
     pub(crate) place: Place,
@@ -46,7 +46,7 @@ impl Config {
     }
 }
 
-/// `IsInnermost` (11.10.6): the last DO that is active and ends at `t`.
+/// `IsInnermost` (11.10.6): the last active DO that ends at `t`.
 fn innermost(unit: &Unit<'_>, c: &Config, t: usize) -> Option<usize> {
     for d in (0..unit.lines.len()).rev() {
         if c.turn(d).is_some() && terminal(unit, d) == Some(t) {
@@ -56,7 +56,7 @@ fn innermost(unit: &Unit<'_>, c: &Config, t: usize) -> Option<usize> {
     None
 }
 
-/// `GoesOn` (11.10.6, 11.6 to 11.9): from the statement `t`, which did not jump.
+/// `GoesOn` (11.10.6, 11.6 to 11.9): control goes on from statement `t`, which did not jump.
 fn goes_on(unit: &Unit<'_>, c: &mut Config, t: usize) -> Result<(), Halt> {
     c.place = match innermost(unit, c, t) {
         Some(d) => Place::Increment(d),
@@ -65,7 +65,7 @@ fn goes_on(unit: &Unit<'_>, c: &mut Config, t: usize) -> Result<(), Halt> {
     Ok(())
 }
 
-/// `Jumps` (11.1, 11.10.2): from the statement `i` to the one with the label, which may leave ranges of DOs.
+/// `Jumps` (11.1, 11.10.2): a jump from statement `i` to the statement with the label. It may leave ranges of DOs.
 fn jumps(unit: &Unit<'_>, c: &mut Config, i: usize, label: u32) -> Result<(), Halt> {
     let j = place_of(unit, label).ok_or(Halt::Nowhere)?;
     for d in 0..unit.lines.len() {
@@ -77,7 +77,7 @@ fn jumps(unit: &Unit<'_>, c: &mut Config, i: usize, label: u32) -> Result<(), Ha
     Ok(())
 }
 
-/// `Passes` (11.10.4): the DO `d` has so many passes to make.
+/// `Passes` (11.10.4): the DO `d` has so many passes left.
 fn passes(unit: &Unit<'_>, c: &mut Config, d: usize, passes: u64, step: i32) -> Result<(), Halt> {
     if passes == 0 {
         c.set_turn(d, None);
@@ -89,7 +89,7 @@ fn passes(unit: &Unit<'_>, c: &mut Config, d: usize, passes: u64, step: i32) -> 
     Ok(())
 }
 
-/// `Begins` (11.10.3): with an initial, a terminal and an incrementation parameter.
+/// `Begins` (11.10.3): the DO `d` begins with these parameters.
 fn begins(
     unit: &Unit<'_>,
     c: &mut Config,
@@ -106,7 +106,8 @@ fn begins(
     passes(unit, c, d, trip_count(first, last, step), step)
 }
 
-/// The case `Loop` of `Executes` (11.10.3): the parameters are evaluated in order, the third 1 where none is written.
+/// The case `Loop` of `Executes` (11.10.3): the parameters are evaluated in order. The third is 1 where none is
+/// written.
 fn executes_do(unit: &Unit<'_>, c: &mut Config, d: usize, stmt: &Stmt) -> Result<(), Halt> {
     match stmt {
         Stmt::Loop {
@@ -128,7 +129,7 @@ fn executes_do(unit: &Unit<'_>, c: &mut Config, d: usize, stmt: &Stmt) -> Result
     }
 }
 
-/// The case `Assign` of `Executes` (10.1, 10.2): the place of the target before the value.
+/// The case `Assign` of `Executes` (10.1, 10.2): the place of the target comes before the value.
 fn assigns(
     unit: &Unit<'_>,
     c: &mut Config,
@@ -142,7 +143,7 @@ fn assigns(
     goes_on(unit, c, i)
 }
 
-/// `numbered` (f77_code/specs/Choice.antt; 11.2): the label of this number, counted from 1.
+/// `item_chosen` (f77_code/specs/Choice.antt; 11.2): the label with this number, counted from 1.
 fn numbered(labels: &[u32], number: i32) -> Option<u32> {
     match usize::try_from(i64::from(number) - 1) {
         Ok(n) => labels.get(n).copied(),
@@ -155,7 +156,7 @@ fn transfers(unit: &Unit<'_>, c: &mut Config, i: usize, stmt: &Stmt) -> Result<(
     match stmt {
         // 11.1
         Stmt::Goto { label } => jumps(unit, c, i, *label),
-        // 11.2: with no label of this number nothing more is done
+        // 11.2: where no label has this number, nothing more is done.
         Stmt::ComputedGoto { labels, value } => {
             let number = number(unit, &c.values, value)?;
             match numbered(labels, number) {
@@ -181,7 +182,7 @@ fn transfers(unit: &Unit<'_>, c: &mut Config, i: usize, stmt: &Stmt) -> Result<(
     }
 }
 
-/// `Executes`: the statement `i` is executed, or the one inside it where it is a logical IF.
+/// `Executes`: statement `i` is executed, or the statement inside it if it is a logical IF.
 fn executes(unit: &Unit<'_>, c: &mut Config, i: usize, stmt: &Stmt) -> Result<(), Halt> {
     match stmt {
         Stmt::Assign { target, value } => assigns(unit, c, i, target, value),
@@ -199,7 +200,7 @@ fn executes(unit: &Unit<'_>, c: &mut Config, i: usize, stmt: &Stmt) -> Result<()
                 goes_on(unit, c, i)
             }
         }
-        // 11.6, 11.7: `Skips`, to the next ELSE IF, ELSE or END IF
+        // 11.6, 11.7: `Skips`, to the next ELSE IF, ELSE or END IF.
         Stmt::BlockIf { condition } | Stmt::ElseIf { condition } => {
             if truth(unit, &c.values, condition)? {
                 goes_on(unit, c, i)
@@ -215,14 +216,14 @@ fn executes(unit: &Unit<'_>, c: &mut Config, i: usize, stmt: &Stmt) -> Result<()
         Stmt::Return | Stmt::End => Err(Halt::Ends(Finish::Returned)),
         // 11.12
         Stmt::Stop => Err(Halt::Ends(Finish::Stopped)),
-        // of mutants alone
+        // In mutants alone.
         Stmt::Trap => Err(Halt::from(Fault::Trapped)),
-        // no other statement is executed
+        // No other statement is executed.
         _ => Err(Halt::Nowhere),
     }
 }
 
-/// `Increments` (11.10.7): the DO `d`, whose variable and passes change by one step.
+/// `Increments` (11.10.7): the DO `d` is incremented. Its variable and its passes change.
 fn increments(unit: &Unit<'_>, c: &mut Config, d: usize, turn: Turn) -> Result<(), Halt> {
     match unit.statement(d)? {
         Stmt::Loop { variable, .. } => {
@@ -235,7 +236,7 @@ fn increments(unit: &Unit<'_>, c: &mut Config, d: usize, turn: Turn) -> Result<(
     }
 }
 
-/// `Step` and `StepAt`: the configuration becomes the one that it leads to, or the run ends.
+/// `Step` and `StepAt`: the configuration becomes the next one, or the run ends.
 pub(crate) fn step(unit: &Unit<'_>, c: &mut Config) -> Result<(), Halt> {
     match c.place {
         Place::Execute(i) => executes(unit, c, i, unit.statement(i)?),

@@ -1,12 +1,11 @@
-//! What names hold: for each the values of its elements, or that one has none
-//! (`Store` of f77_meaning/specs/Value.antt).
+//! The values of names: each element has a value or none (`Store` of f77_meaning/specs/Value.antt).
 
 use crate::unit::Halt;
 use f77_run::Value;
 use f77_tree::Name;
 use std::alloc::Global;
 
-/// A name with its elements: a variable has one, of an array the first subscript varies fastest (5.2.4).
+/// A name with its elements. A variable has one; in an array the first subscript varies fastest (5.2.4).
 #[derive(Drop)]
 struct Held {
     name: Name,
@@ -25,7 +24,7 @@ impl Store {
         }
     }
 
-    /// The name gets these elements, where it has none yet.
+    /// Gives the name these elements, unless it has some.
     pub(crate) fn add(&mut self, name: &Name, elements: Vec<Option<Value>>) -> Result<(), Halt> {
         if self.elements(name).is_empty() {
             let name = *name;
@@ -44,7 +43,7 @@ impl Store {
         &[]
     }
 
-    /// The value of the element `k` from 0, where it has one.
+    /// The value of element `k`, counted from 0, if it has one.
     pub(crate) fn element(&self, name: &Name, k: usize) -> Option<Value> {
         match self.elements(name).get(k) {
             Some(value) => *value,
@@ -52,7 +51,7 @@ impl Store {
         }
     }
 
-    /// `put` (f77_meaning/specs/Value.antt; 10.1).
+    /// `store_with` (f77_meaning/specs/Value.antt; 10.1): the element gets this value.
     pub(crate) fn put(&mut self, name: &Name, k: usize, value: Value) {
         for held in self.names.iter_mut() {
             if held.name == *name {

@@ -1,4 +1,4 @@
-//! What came up in the programs and their runs.
+//! What has come up in the programs and their runs.
 
 use f77_meaning::Outcome;
 use f77_program::Program;
@@ -8,16 +8,16 @@ use std::process::Abort;
 
 #[derive(Drop)]
 pub(crate) struct Tally {
-    /// The seed of the program that is run.
+    /// The seed of the program that is being run.
     pub(crate) seed: u64,
     programs: u32,
-    /// How often each outcome came.
+    /// How often each outcome came up.
     outcomes: [u32; 10],
-    /// The forms of statements, each once.
+    /// The forms of statements that came up, each once.
     forms: Vec<Form>,
 }
 
-/// Each outcome has a place.
+/// The place of an outcome in the list of counts.
 fn place(outcome: &Outcome) -> usize {
     match outcome {
         Outcome::Returned(_) => 0,
@@ -64,7 +64,7 @@ impl Tally {
         Ok(())
     }
 
-    /// There were so many programs, statements of each form, and each outcome so often.
+    /// There were at least so many programs, statements of each form, and each outcome so often.
     pub(crate) fn assert_least(&self, rt: &impl Abort, programs: u32, often: u32) {
         let outcomes = self.outcomes;
         assert!(rt; self.programs >= programs, "{} programs", self.programs);

@@ -8,17 +8,17 @@ use std::alloc::{AllocError, AllocFailed, Global};
 /// A legal program. Its statements are numbered from 0.
 #[derive(Drop)]
 pub(crate) struct Unit<'a> {
-    /// What lists take memory from.
+    /// The allocator for lists.
     pub(crate) alloc: Global,
     pub(crate) lines: &'a [Shared<Line>],
 }
 
-/// What comes in place of a value or of a next step.
+/// Why there is no value or no next step.
 #[derive(Debug, Drop)]
 pub(crate) enum Halt {
     /// The run ends (`Ends` of f77_meaning/specs/Step.antt).
     Ends(Finish),
-    /// The definitions lead nowhere, to which no legal program comes.
+    /// The definitions lead nowhere. No legal program comes to this.
     Nowhere,
     /// Memory ran out.
     Memory,
@@ -43,13 +43,13 @@ impl<T: Drop> From<AllocFailed<T>> for Halt {
     }
 }
 
-/// What a declaration says of a name.
+/// The declaration of a name, if it is among these.
 fn declared<'a>(items: &'a [Decl], name: &Name) -> Option<&'a Decl> {
     items.iter().find(|item| item.name == *name)
 }
 
 impl<'a> Unit<'a> {
-    /// `statement_at` (f77_legal/specs/Labels.antt).
+    /// `nth_statement` (f77_legal/specs/Labels.antt).
     pub(crate) fn statement(&self, i: usize) -> Result<&'a Stmt, Halt> {
         match self.lines.get(i) {
             Some(line) => Ok(&line.stmt),
@@ -68,7 +68,7 @@ impl<'a> Unit<'a> {
         }
     }
 
-    /// `kind_of` (f77_legal/specs/Names.antt; 4.1.2, 8.4): INTEGER where no type statement names it.
+    /// `kind_of` (f77_legal/specs/Names.antt; 4.1.2, 8.4): INTEGER where no type statement has the name.
     pub(crate) fn kind_of(&self, name: &Name) -> Kind {
         for line in self.lines {
             if let Stmt::Declare { kind, items } = &line.stmt {
@@ -80,7 +80,7 @@ impl<'a> Unit<'a> {
         Kind::Integer
     }
 
-    /// `bounds_of` (f77_legal/specs/Names.antt; 8.1, 8.4): none for a variable.
+    /// `bounds_of` (f77_legal/specs/Names.antt; 8.1, 8.4): a variable has none.
     pub(crate) fn bounds_of(&self, name: &Name) -> &'a [u32] {
         for line in self.lines {
             let item = match &line.stmt {
@@ -95,7 +95,7 @@ impl<'a> Unit<'a> {
         &[]
     }
 
-    /// `elements` (f77_legal/specs/Presets.antt; 5.2.3): the product of the bounds, 1 for a variable.
+    /// `element_count` (f77_legal/specs/Presets.antt; 5.2.3): the product of the bounds, 1 for a variable.
     pub(crate) fn elements(&self, name: &Name) -> usize {
         let mut product: usize = 1;
         for bound in self.bounds_of(name) {

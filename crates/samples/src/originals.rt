@@ -1,4 +1,4 @@
-//! Programs that several tables change.
+//! Programs that several tables use.
 
 pub const ADD: &str = "SUBROUTINE ADD(I,J,K); K=I+J; END";
 

@@ -5,7 +5,7 @@ use f77_check::{CheckFault, Checked};
 use f77_syntax::{Program, Stmt};
 use std::test::Fail;
 
-/// A program that holds the statement of this text.
+/// A program that has the statement of this text.
 pub fn holder(rt: &impl AllocGlobal, text: &str) -> Result<Program, Fail> {
     if text == "END" {
         return program(rt, "SUBROUTINE Z; END");
@@ -18,7 +18,7 @@ pub fn holder(rt: &impl AllocGlobal, text: &str) -> Result<Program, Fail> {
     program(rt, statements.as_str())
 }
 
-/// The statement of this text in the program that holds it.
+/// The statement of this text, in the program that `holder` made for it.
 pub fn held<'a>(holder: &'a Program, text: &str) -> Result<&'a Stmt, Fail> {
     let number = if text.starts_with("SUBROUTINE") { 1 } else { 2 };
     match holder.line(number) {
@@ -27,7 +27,7 @@ pub fn held<'a>(holder: &'a Program, text: &str) -> Result<&'a Stmt, Fail> {
     }
 }
 
-/// The number and the text of a change.
+/// The number and the statement of a change.
 pub fn number_and_text(change: &str) -> Result<(usize, &str), Fail> {
     match change.split_once(' ') {
         Some((number, text)) => Ok((number.parse()?, text)),
@@ -35,7 +35,7 @@ pub fn number_and_text(change: &str) -> Result<(usize, &str), Fail> {
     }
 }
 
-/// What `patched` answers, None where the statement does not fit.
+/// The answer of `patched`. None where the statement does not fit.
 pub fn patched(old: &Checked, number: usize, stmt: &Stmt) -> Option<Result<Checked, CheckFault>> {
     if !old.fits(number, stmt) {
         return None;
@@ -43,7 +43,7 @@ pub fn patched(old: &Checked, number: usize, stmt: &Stmt) -> Option<Result<Check
     Some(old.patched(number, stmt))
 }
 
-/// What `patched` answers to a change.
+/// The answer of `patched` to a change.
 fn answer(
     rt: &impl AllocGlobal,
     old: &Checked,
@@ -55,7 +55,7 @@ fn answer(
     Ok(patched(old, number, stmt))
 }
 
-/// The program with a change that is legal.
+/// The program after a change, which has to be legal.
 pub fn changed(rt: &impl AllocGlobal, old: &Checked, change: &str) -> Result<Checked, Fail> {
     match answer(rt, old, change)? {
         Some(new) => Ok(new?),

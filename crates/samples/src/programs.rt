@@ -1,4 +1,4 @@
-//! Programs that were checked.
+//! Checked programs.
 
 use crate::sources::program;
 use f77_check::{Checked, check};

@@ -1,10 +1,10 @@
-//! Programs from their statements.
+//! Programs made from their statements.
 
 use f77_source::read_form;
 use f77_syntax::{Program, parse};
 use std::test::Fail;
 
-/// The text before, this text so many times, the text behind.
+/// The text `front`, the text `part` so many times, and the text `back`.
 pub fn repeated(
     rt: &impl AllocGlobal,
     front: &str,
@@ -20,7 +20,7 @@ pub fn repeated(
     Ok(text)
 }
 
-/// The label of a statement, or no text, and the rest.
+/// The label of a statement, which may be empty, and the rest.
 fn label_and_rest(statement: &str) -> (&str, &str) {
     match statement.split_once(' ') {
         Some((label, rest)) if label.parse::<u32>().is_ok() => (label, rest),
@@ -28,7 +28,7 @@ fn label_and_rest(statement: &str) -> (&str, &str) {
     }
 }
 
-/// The lines in fixed form of statements with `; ` between them, each with its label, if any, and a blank before it.
+/// The lines in fixed form of statements with `; ` between them. A statement may have a label and a blank before it.
 pub fn source(rt: &impl AllocGlobal, statements: &str) -> Result<String, Fail> {
     let mut lines = String::new(rt.alloc());
     for statement in statements.split("; ") {

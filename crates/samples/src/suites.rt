@@ -1,10 +1,10 @@
-//! Test suites, written as words.
+//! Suites of tests, written as words.
 
 use crate::words::arguments;
 use f77_meaning::{Arg, Values};
 use std::test::Fail;
 
-/// One test: no arguments where there is no word.
+/// One test. It has no arguments where there is no word.
 fn test(rt: &impl AllocGlobal, words: &str) -> Result<Values<Arg>, Fail> {
     if words.is_empty() {
         return Ok(Values::new(Vec::new(rt.alloc())));
@@ -17,7 +17,7 @@ fn add_test(rt: &impl AllocGlobal, suite: &mut Vec<Values<Arg>>, words: &str) ->
     Ok(suite.push(test)?)
 }
 
-/// Tests, each ended by `;`, as `2 3 0; (1,2) true;`.
+/// A suite of tests, each ended by `;`, such as `2 3 0; (1,2) true;`.
 pub fn suite(rt: &impl AllocGlobal, tests: &str) -> Result<Values<Values<Arg>>, Fail> {
     if tests.is_empty() {
         return Ok(Values::new(Vec::new(rt.alloc())));
@@ -28,7 +28,7 @@ pub fn suite(rt: &impl AllocGlobal, tests: &str) -> Result<Values<Values<Arg>>, 
     }
 }
 
-/// Tests with `;` between them.
+/// A suite of tests with `;` between them.
 fn ended(rt: &impl AllocGlobal, tests: &str) -> Result<Values<Values<Arg>>, Fail> {
     let mut suite = Vec::new(rt.alloc());
     for words in tests.split(';') {

@@ -1,4 +1,4 @@
-//! Texts that are compared. Where two differ the test fails, and tells both.
+//! Texts that are compared. Where two differ, the test fails and shows both.
 
 use std::test::Fail;
 
@@ -6,7 +6,8 @@ fn other(text: &str, want: &str, case: &str) -> Fail {
     Fail::new(format_args!("{case:?} gives {text:?} in place of {want:?}"))
 }
 
-/// The text is this one, and it could be made.
+/// Compares a text with the one that is wanted. The text may be one that could not be made, so that no text has to live
+/// in a test: its drop on each way would have to be proved.
 pub fn expect(made: Result<String, Fail>, want: &str, case: &str) -> Result<(), Fail> {
     let text = made?;
     if text.as_str() == want {

@@ -52,7 +52,7 @@ fn variable(word: &str) -> Result<Arg, Fail> {
     }
 }
 
-/// An argument written as `5`, `true`, `(1,2)` or `(true,false)`.
+/// An argument, written as `5`, `true`, `(1,2)` or `(true,false)`.
 fn argument(rt: &impl AllocGlobal, word: &str) -> Result<Arg, Fail> {
     match word.strip_prefix('(') {
         Some(words) => array(rt, words.trim_end_matches(')')),
@@ -65,7 +65,7 @@ fn add_argument(rt: &impl AllocGlobal, arguments: &mut Vec<Arg>, word: &str) -> 
     Ok(arguments.push(argument)?)
 }
 
-/// The arguments with blanks between them.
+/// Arguments with blanks between them.
 pub fn arguments(rt: &impl AllocGlobal, words: &str) -> Result<Vec<Arg>, Fail> {
     let mut arguments = Vec::new(rt.alloc());
     for word in words.split(' ') {

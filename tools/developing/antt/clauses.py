@@ -1,4 +1,4 @@
-"""The clauses of the crates: which of them are promises to other crates, and which definitions each cites."""
+"""The clauses of the crates: which of them are promises to other crates, and which definitions each of them cites."""
 
 import re
 from collections.abc import Callable, Iterator
@@ -11,8 +11,8 @@ from developing.antt.repository import LIBRARY, Node, Repository, Scope
 from developing.antt.uses import uses_in
 from developing.antt.visible import TYPE, Source, sources_of, visible_in
 
-# The kinds of clauses, in this order: what the programs and their calls promise, what others do, what an impl gives as
-# a proof, and what only the crate itself is told.
+# The kinds of clauses, in this order: what the programs and their calls promise, what other calls promise, what an impl
+# gives as a proof, and what only the crate itself sees.
 CALLED, PUBLIC, LAWS, CODE = "program", "public", "laws", "code"
 # Members of an impl that are proofs, or serve them.
 PROVED = {"coded", "laws", "inverse", "inverse_ok", "size_decreases"}

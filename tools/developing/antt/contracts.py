@@ -1,7 +1,7 @@
 """The contracts of a file of code, as its text has them.
 
-Nothing is proved or compiled: a call is what begins with `fn`, and a clause what stands behind `requires` or `ensures`
-in its contract.
+Nothing is proved or compiled: a call is what begins with `fn`, and a clause what follows `requires` or `ensures` in its
+contract.
 """
 
 import re
@@ -11,17 +11,17 @@ from typing import NamedTuple
 # The text of each clause by its name.
 Clauses = dict[str, str]
 
-# What begins a block of methods or a type, a method in it or a function, a clause, and a ghost value.
+# The beginnings of a block of methods or a type, of a method in it or a function, of a clause, and of a ghost value.
 OWNER = re.compile(r"(?:pub(?:\(crate\))? )?(?:impl|trait|struct|enum)\b.*")
 CALL = re.compile(r"( *)(pub )?(?:pub\(crate\) )?(?:const )?fn (\w+)")
 CLAUSE = re.compile(r"^ *(requires|ensures)\*? *(\w*) *\{", re.M)
 GHOST = re.compile(r"^ *ghost (\w+)(?::| =) \{", re.M)
-# The name of a clause that has none, since its call has no other.
+# The name of a clause that has none, which is the only one of its call.
 ALONE = {"ensures": "its clause", "requires": "its condition"}
 
 
 class Part(NamedTuple):
-    """Of a file a type or a block of methods, which has no name here, or a call, with the head of its block."""
+    """A part of a file: a type or a block of methods, which has no name here, or a call, with the head of its block."""
 
     line: int
     head: str

@@ -24,7 +24,7 @@ def names_by_class(reached: Reached, file: File) -> dict[str, list[str]]:
 
 
 def faults_of(file: File, names: Mapping[str, Sequence[str]], is_cited: bool) -> Iterator[str]:
-    """What is to be said of a file with these names by class, where another file of specs/ cites it or not."""
+    """What is wrong with a file that has these names by class, and is cited by another file of specs/ or not."""
     is_in_code, home = FOLDER in file.path.parts[3:-1], f"crates/{file.crate}/specs/"
 
     def listed(*kinds: str) -> str:

@@ -8,7 +8,7 @@ from developing.antt.clauses import CALLED, CODE, LAWS, PUBLIC, Crate, calls_of,
 from developing.antt.repository import Definition, Node, Repository, citations_of
 
 PROOFS, NOTHING = "proofs", "nothing"
-# The classes, each of which has what those before it do not reach; and those that a reader of public contracts meets.
+# The classes: each has what those before it do not reach. And the classes that a reader of public contracts meets.
 CLASSES = (CALLED, PUBLIC, LAWS, CODE, PROOFS, NOTHING)
 OPEN = {CALLED, PUBLIC, LAWS}
 
@@ -28,7 +28,7 @@ class Reached(NamedTuple):
 
 
 def closure(graph: Mapping[Node, set[Node]], start: Iterable[Node]) -> set[Node]:
-    """All that is cited from here on, with what is cited first."""
+    """All that is cited from these on, directly or through others, with these themselves."""
     reached, ahead = set(start), list(start)
     while ahead:
         fresh = graph.get(ahead.pop(), set()) - reached
@@ -52,7 +52,7 @@ def reach(root: Path) -> Reached:
     for file in repository.of("specs"):
         graph |= citations_of(repository, file)
     for crate in crates:
-        # What a type says of its values is reached with the type.
+        # What a type says of its values is reached where the type is.
         graph |= crate.types
     starts = {kind: {node for crate in crates for each in crate.clauses if each.kind == kind for node in each.nodes}
               for kind in CLASSES[:4]}  # fmt: skip

@@ -10,10 +10,10 @@ from developing.antt.crates import read_crates
 from developing.antt.units import Unit, units_in
 from developing.antt.uses import Use, uses_in
 
-# What Rattle makes of the types of a crate stands in these modules of its specs/.
+# The modules of the specs/ of a crate in which Rattle puts what it makes of the crate's types.
 MADE = ("declared", "contracts")
 LIBRARY = "Rattle"
-# A word, with a path before it; behind a dot it is a field, and no name. Texts and comments have no words.
+# A word, with a path before it. After a dot it is a field and no name. Texts and comments have no words.
 LETTERS = r"[^\s(){}\[\];,@\"«».|]+"
 WORD = re.compile(rf"(?<!\.)(?<![^\s(){{}}\[\];,@\"«»|]){LETTERS}(?:\.{LETTERS})*")
 NOISE = re.compile(r'"(?:[^"\\]|\\.)*"|(?:(?<=\s)|^)--(?=\s|-|$).*', re.M)
@@ -76,7 +76,7 @@ class Repository:
         return (file for file in self.files.values() if file.folder == folder)
 
     def named(self, path: str) -> set[Node]:
-        """What a whole path stands for, of what the repository has: definitions, or a type of its crates."""
+        """What a whole path stands for in the repository: definitions, or a type of its crates."""
         parts = path.split(".")
         if parts[0] != LIBRARY or len(parts) < 4 or parts[1] not in self.crates:
             return set()
@@ -91,7 +91,7 @@ class Repository:
 
 class Scope:
     """What the words of a text stand for, by its imports and by the definitions of its own file. A name that the text
-    binds itself is not told from one that it cites: the names of definitions are words that nobody binds."""
+    binds itself counts as one that it cites: nobody binds words that are names of definitions."""
 
     def __init__(self, repository: Repository, uses: Iterable[Use], own: File | None = None) -> None:
         self.repository = repository

@@ -11,15 +11,15 @@ BLOCK = re.compile(rf"{MARKS}(?:mutual|module _.*)$")
 FAMILY = re.compile(rf"{MARKS}(data|record) (\S+)")
 SIGNATURE = re.compile(rf"{MARKS}(?:ruleset )?(\S+)(?: \{{[^}}]*\}})? :(?= |$)")
 FIXITY = re.compile(r"infix[lr]? ")
-# What a family has: the names of its cases, and what is derived of it.
+# The parts of a family: the names of its cases, and what is derived from it.
 CASES = re.compile(r"  (?!--)(\S+(?: \S+)*?) :(?= |$)")
 DERIVED = re.compile(r"  deriving \S+ as (\S+)")
 HEAD = re.compile(r"(?:pub )?mod ")
 
 
 class Unit(NamedTuple):
-    """A definition, or a block of them: its names, those of the cases of its families, its place and its lines, the
-    comment above it among them."""
+    """A definition, or a block of them: its names, those of the cases of its families, its place, and its lines with
+    the comment above it."""
 
     names: list[str]
     cases: list[str]
@@ -52,7 +52,8 @@ def names_of(lines: Sequence[str]) -> tuple[list[str], list[str]]:
 
 
 def starts_in(lines: Sequence[str]) -> Iterator[int]:
-    """Where definitions begin: with the comments above them, of which those above a case belong to what is before."""
+    """Where definitions begin: at the comments above them. A comment above a case belongs to the definition of the
+    case."""
     comment: int | None = None
     is_fixed = False
     for at, line in enumerate(lines):
@@ -65,7 +66,7 @@ def starts_in(lines: Sequence[str]) -> Iterator[int]:
 
 
 def units_of(lines: Sequence[str], first: int) -> Iterator[Unit]:
-    """The definitions of the lines of a text, from one line on."""
+    """The definitions in the lines of a text, from the line `first` on."""
     starts = [first + at for at in starts_in(lines[first:])]
     for start, end in zip(starts, [*starts[1:], len(lines)]):
         block = list(lines[start:end])
@@ -75,7 +76,7 @@ def units_of(lines: Sequence[str], first: int) -> Iterator[Unit]:
 
 
 def units_in(text: str) -> list[Unit]:
-    """The definitions of a file, in order: they stand behind its comment, its imports and its modules."""
+    """The definitions of a file, in order. They come after its comment, its imports and its modules."""
     lines = text.split("\n")
     heads = [at + 1 for at, line in enumerate(lines) if HEAD.match(line)]
     heads += [text.count("\n", 0, use.end) + 1 for use in uses_in(text) if not use.indent]

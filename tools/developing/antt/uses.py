@@ -1,4 +1,4 @@
-"""The imports of a text: which name stands there for which module, and which for an item of one."""
+"""The imports of a text: which names stand for modules, and which for items of modules."""
 
 import re
 from collections.abc import Iterator
@@ -8,8 +8,8 @@ USE = re.compile(r"^( *)(?:unfoldable )?(?:pub )?(ghost )?use ([^\s{;]+)(?:\{([^
 
 
 class Use(NamedTuple):
-    """An import: where it ends, how it is indented, whether it brings items of a module or that module, and by its name
-    the whole path of each."""
+    """An import: where it ends, how it is indented, whether it brings items of a module or the module itself, and the
+    whole path of each by its name."""
 
     end: int
     indent: str

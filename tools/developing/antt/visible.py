@@ -1,4 +1,4 @@
-"""What of a crate can be named outside of it: by public modules, and by what its root passes on."""
+"""What can be named outside a crate: in public modules, and through what its root passes on."""
 
 import re
 from collections.abc import Iterable, Iterator
@@ -34,7 +34,7 @@ class Visible(NamedTuple):
         return module in self.modules or (module, name) in self.passed
 
     def is_public(self, module: str, part: Part) -> bool:
-        """Whether a part of a module is a promise to other crates."""
+        """Whether the contracts of a part of a module are promises to other crates."""
         if not part.head:
             return part.is_marked and self.is_visible(module, part.name)
         owner, trait = owner_of(part.head), OF_TRAIT.search(part.head)
@@ -55,7 +55,7 @@ def sources_of(root: Path, crate: str) -> list[Source]:
 
 
 def passed_on(text: str) -> Iterator[tuple[str, str]]:
-    """The names that the root of a crate passes on, with the modules that they are of."""
+    """The names that the root of a crate passes on, with their modules."""
     for line in PASSED.finditer(text):
         path, brace, items = line[1].partition("{")
         path, items = (path, items.strip().rstrip("}")) if brace else path.rpartition("::")[::2]

@@ -17,22 +17,22 @@ from mutants.texts.cards import Card, action_at, cards_of, lines_of
 from mutants.texts.dummies import read_unit
 from mutants.texts.jobs import Value
 
-# So many mutants stand in one file. Each run takes at most so many microseconds of a processor.
+# How many mutants stand in one file; and how many microseconds of a processor a run may take.
 TOGETHER = 200
 MICROSECONDS = 100_000
 LONGEST, STEPS = 600, "10000"
-# All that gfortran can look for. Both operands of .AND. and .OR. are evaluated without its optimization.
+# All checks that gfortran has. Without optimization both operands of .AND. and .OR. are evaluated.
 CHECKS = (
     "-ffixed-form -fno-frontend-optimize -fmax-errors=0 -fcheck=all"
     " -ftrapv -fsanitize=signed-integer-overflow -fsanitize-undefined-trap-on-error"
 ).split()
-# A variable without a value has one of these. So a run that rests on one is told by answers that are not the same.
+# A variable without a value gets one of these. So a run that depends on one shows by different answers.
 WITHOUT_A_VALUE = [
     ["-finit-integer=1795163377", "-finit-logical=true"],
     ["-finit-integer=-1604329131", "-finit-logical=false"],
     ["-finit-integer=0", "-finit-logical=false"],
 ]
-# The statuses of a trap, and of a power that has no value; how a run ends that has left the standard.
+# The statuses of a trap, and of a power that has no value; and how a run ends that is outside the standard.
 TRAPPED, NO_POWER = 70, 71
 OUTSIDE = {
     NO_POWER: "a power out of range, or of zero",
@@ -42,12 +42,12 @@ OUTSIDE = {
 }
 BY_MOTHRA = "OVERFLOW DIVIDEBYZERO ZEROPOWER BADSUBSCRIPT ZEROSTEP UNDEFINED STEPLIMIT".split()
 
-# How a run compares, and the line that tells it where it differs.
+# How a run compares, and the line that says so where it differs.
 Judged = tuple[str, str | None]
 
 
 class Mutant(NamedTuple):
-    """Its operator and number, its line, what stands there then, and a digit for each test."""
+    """A mutant: its operator and number, its line, the changed statement, and a digit for each test."""
 
     name: str
     line: int
@@ -56,7 +56,7 @@ class Mutant(NamedTuple):
 
 
 class Outcome(NamedTuple):
-    """What comes of a run: what it wrote, or, where it left the standard, by what."""
+    """The outcome of a run: what it wrote; or, where it is outside the standard, why."""
 
     text: str | None
     outside: str | None
@@ -72,8 +72,8 @@ class Compared(NamedTuple):
     steps: str
 
 
-# What mutants call in the place of STOP, TRAP and ZPUSH, the timer, and powers, which end a run that leaves the range.
-# gfortran calls the last one by this name; the value is that of its own powers in 64 bits.
+# What mutants call in the place of STOP, TRAP and ZPUSH; the timer; and powers, which end a run that leaves the range.
+# gfortran calls the last one by this name. The value is that of gfortran's own powers in 64 bits.
 STOP, TRAP = "CALLSTOP_HERE", "CALLTRAP_HERE"
 ROUTINES = f"""
 subroutine stop_here
@@ -156,7 +156,7 @@ def source_of(cards: Sequence[Card], name: str, mutant: Mutant | None) -> list[s
 
 
 def refusals(said: str, sources: Sequence[Sequence[str]]) -> dict[int, str]:
-    """What gfortran says against the units of a file: a message by the place of the unit."""
+    """The messages of gfortran on the units of a file, by the place of the unit."""
     ends = [sum(map(len, sources[: place + 1])) for place in range(len(sources))]
     line: int | None = None
     by_place: dict[int, str] = {}
@@ -170,7 +170,8 @@ def refusals(said: str, sources: Sequence[Sequence[str]]) -> dict[int, str]:
 
 
 def compile_units(folder: Path, sources: Sequence[list[str]]) -> dict[int, str]:
-    """Compiles units for each such value. One that gfortran refuses is left empty: the answer tells what it says."""
+    """Compiles units for each such value. A unit that gfortran refuses is left empty, and the result has the
+    message."""
     refused: dict[int, str] = {}
     while True:
         empty = [lines[:1] + ["      END"] if place in refused else lines for place, lines in enumerate(sources)]
@@ -183,7 +184,7 @@ def compile_units(folder: Path, sources: Sequence[list[str]]) -> dict[int, str]:
         if not new:
             raise ValueError(f"gfortran: {said.stderr}")
         refused |= new
-    # A trace of the calls would take the time that a run has.
+    # A backtrace would take the time that a run has.
     compile_in(folder, "-fno-backtrace", "-fno-range-check", "-ffree-line-length-none", "-c", "driver.f90")
     for number, value in enumerate(WITHOUT_A_VALUE):
         compile_in(folder, *CHECKS, *value, "-c", "units.f")
@@ -192,7 +193,7 @@ def compile_units(folder: Path, sources: Sequence[list[str]]) -> dict[int, str]:
 
 
 def ending_of(program: Path, unit: int, test: int) -> Outcome:
-    """What comes of one run."""
+    """How one run ends."""
     ended = subprocess.run([program, str(unit), str(test)], capture_output=True, text=True, timeout=LONGEST)
     fault = re.search("Fortran runtime error: (.*)", ended.stderr)
     if ended.returncode == SUCCESS:
@@ -209,7 +210,7 @@ def ending_of(program: Path, unit: int, test: int) -> Outcome:
 
 
 def outcome_of(folder: Path, unit: int, test: int) -> Outcome:
-    """What comes of a unit on a test."""
+    """The outcome of a unit on a test."""
     outcomes = [ending_of(folder / f"program_{number}", unit, test) for number in range(len(WITHOUT_A_VALUE))]
     if len(set(outcomes)) == 1:
         return outcomes[0]
@@ -217,7 +218,8 @@ def outcome_of(folder: Path, unit: int, test: int) -> Outcome:
 
 
 def mothra_word(compared: Compared, mutant: Mutant, test: int) -> str:
-    """What `mothra exec` says of a mutant on a test, with e in the place of ZPUSH(e); of TRAP it knows no text."""
+    """What `mothra exec` says of a mutant on a test, with e in the place of ZPUSH(e). TRAP can not be written in a
+    source."""
     if with_calls(mutant.text).endswith(TRAP):
         return "TRAPPED"
     text = mutant.text.replace("ZPUSH(", "(")
@@ -250,7 +252,7 @@ def judged_program(compared: Compared, test: int, outcome: Outcome) -> Judged:
 
 
 def judged_run(compared: Compared, mutant: Mutant, test: int, original: Outcome, outcome: Outcome) -> Judged:
-    """How one run of a mutant compares, and the line that tells it where it differs."""
+    """How one run of a mutant compares, and the line that says so where it differs."""
     bit = mutant.bits[test - 1]
     judgement = judged(original, outcome, bit, lambda: mothra_word(compared, mutant, test))
     if judgement != "differ":

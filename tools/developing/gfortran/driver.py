@@ -1,6 +1,6 @@
 """A main program in Fortran that runs subroutines on the tests of a job, compiled by gfortran.
 
-Names that are written here have an underscore, which those of a unit cannot have.
+Names that are made here have an underscore, which names of a unit can not have.
 """
 
 import subprocess
@@ -24,7 +24,7 @@ def declared(name: str, kind: str, elements: int | None) -> str:
 
 
 def assigned(name: str, value: Value) -> list[str]:
-    """How the driver sets a variable, or an array: its elements in the order of the test."""
+    """How the driver sets a variable, or an array with its elements in the order of the test."""
     if isinstance(value, list):
         return [f"{name}({place}) = {literal(element)}" for place, element in enumerate(value, 1)]
     return [f"{name} = {literal(value)}"]
@@ -48,7 +48,7 @@ def chosen(number: str, cases: Iterable[Sequence[str]]) -> list[str]:
 
 
 def values_module(names: Sequence[str], dummies: Sequence[Dummy], tests: Iterable[Sequence[Value]]) -> list[str]:
-    """The arguments of the calls, how they are set for a test, and how they are printed behind a word."""
+    """The module of the arguments of the calls: how they are set for a test, and how they are printed after a word."""
     given: list[list[str]] = [sum(map(assigned, names, test), []) for test in tests]
     lines = ["module the_values", "implicit none"]
     lines += [declared(name, *dummy) for name, dummy in zip(names, dummies)]
@@ -65,7 +65,7 @@ def driver_of(
     begin: Sequence[str] = (),
     routines: str = "",
 ) -> str:
-    """A program that is given two numbers, of a unit and of a test, both from 1, and prints what comes of the call.
+    """A program that gets two numbers, of a unit and of a test, both from 1, and prints how the call ended.
 
     It begins with the lines given, and the routines stand beside it.
     """

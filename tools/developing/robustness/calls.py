@@ -11,7 +11,7 @@ from mutants.statuses import FAULT, SUCCESS, WORDS
 
 FAULT_LINE = re.compile(rb"FAULT ([JFSCNOB][0-9]+)( [^\n]*)?\n")
 MOST_SECONDS = 60
-# Held while a program is begun or written: one that another thread has open for writing cannot be begun.
+# Held while a program is started or written: a program that another thread has open for writing can not be started.
 BEGINNING = threading.Lock()
 
 
@@ -38,7 +38,8 @@ def called(words: Sequence[str], given: bytes) -> Ended:
 
 
 def answer_of(ended: Ended) -> str:
-    """What a call came to: `report`, a fault's code, `nothing`, `words`, or BROKEN and what no call may come to."""
+    """The answer of a call: `report`, a fault's code, `nothing`, `words`, or BROKEN and the answer that no call may
+    give."""
     fault = FAULT_LINE.fullmatch(ended.text)
     if ended.status == SUCCESS and ended.text.endswith(b"\n"):
         return "report"

@@ -12,7 +12,7 @@ ENDS = (LEAST, LEAST + 1, GREATEST, GREATEST - 1)
 NEAR = (0, 1, -1)
 # Small values are from -SMALL to SMALL.
 SMALL = 8
-# What the values of a row are: how often they are ends, edges near 0 and constants, any; else they are small.
+# How often the values of a row are ends, edges near 0 and constants, or any; the others are small.
 KINDS = ((0.0, 0.3, 0.0), (0.0, 0.9, 0.0), (0.15, 0.5, 0.0), (0.5, 0.5, 0.0), (0.1, 0.2, 0.5), (0.0, 0.0, 0.0))
 
 

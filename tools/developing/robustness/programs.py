@@ -1,7 +1,7 @@
 """Small programs made by chance: assignments, IFs, DOs, GO TOs, arrays and LOGICAL, each legal in the subset.
 
-A label that is jumped to stands on a statement outside of blocks and DOs, so no jump leads into one. Most jumps lead
-on, and most variables have a value before they are read, so that most runs end.
+The target of a jump is a statement outside of blocks and DOs, so no jump leads into one. Most jumps lead forward, and
+most variables have a value before they are read, so that most runs end.
 """
 
 from collections.abc import Callable, Sequence
@@ -29,7 +29,8 @@ class Maker:
         self.scalars = [*chance.sample(ARGUMENTS, chance.randint(1, 3)), *LOCALS[: chance.randint(1, 2)]]
         self.arrays = [each for each in ARRAYS if chance.random() < 0.35]
         self.truths = [each for each in TRUTHS if chance.random() < 0.5]
-        # The DO variables of now may not be assigned to; labels of DOs are above those that are jumped to.
+        # The variables of the DOs that are open may not be assigned to. Labels of DOs are above those of targets of
+        # jumps.
         self.busy: list[str] = []
         self.next_label = 100
 
@@ -92,7 +93,7 @@ class Maker:
         )  # fmt: skip
 
     def simple(self, targets: Sequence[str]) -> str:
-        """A statement that has none within it, and goes on to the next one or leaves by its own condition."""
+        """A statement without another statement in it, which goes on to the next one or leaves by its own condition."""
         way = self.chance.random()
         if way < 0.55:
             return self.assignment()
@@ -152,7 +153,8 @@ class Maker:
         return [name for name in self.scalars if name in LOCALS]
 
     def program(self) -> str:
-        """The source. Statements outside of blocks have labels, to which those before them may jump, and some back."""
+        """The source. Statements outside of blocks have labels; statements before them may jump there, and some after
+        them."""
         head, count = self.declarations(), self.chance.randint(*STATEMENTS)
         firsts = [f"{name}={self.first()}" for name in self.locals() if f"{name}/" not in head[-1]]
         labels = [str(10 * place) for place in range(1, count + 1)]

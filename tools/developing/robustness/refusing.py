@@ -1,8 +1,8 @@
-"""Programs that `rt try --fail-alloc` builds of a crate, kept, with the number of the allocation that is refused open
-to change.
+"""Programs that `rt try --fail-alloc` builds of a crate are kept, and the number of the allocation that is refused can
+be changed in them.
 
-The number stands in such a program as the operand of two comparisons: one where memory is asked for, one where it is to
-grow. So one build serves for each number, where rt builds anew for each.
+The number stands in such a program as the operand of two comparisons: one where memory is asked for, one where memory
+is to grow. So one build serves for all numbers, where rt would build a program for each.
 """
 
 import os
@@ -15,7 +15,7 @@ from pathlib import Path
 from developing.robustness.calls import BEGINNING
 from mutants.program.trying import build
 
-# A number that stands in no other place of the program: more than any run asks for.
+# A number that stands nowhere else in the program: it is above any number of allocations of a run.
 MARK = 1_000_000_007
 NUMBER, JUMP, ANSWER = 2, 6, 8
 # Compare the number of the call with it; jump if not equal; else answer without memory.
@@ -33,7 +33,7 @@ def places_in(program: bytes) -> list[int]:
 
 
 class Refusing:
-    """A copy of a built program. What it refuses can be changed while it does not run."""
+    """A copy of a built program. Which allocation it refuses can be changed while it does not run."""
 
     def __init__(self, program: Path, copy: Path) -> None:
         shutil.copyfile(program, copy)
@@ -41,7 +41,8 @@ class Refusing:
         self.path, self.places = str(copy), places_in(Path(copy).read_bytes())
 
     def refuse(self, number: int, jump: bytes = ONLY, answer: bytes = REFUSES) -> None:
-        """It refuses the allocation of this number, alone or with all behind it; or it stops there, by a signal."""
+        """Makes the program refuse the allocation with this number, alone or with all after it; or stop there, by a
+        signal."""
         with BEGINNING, open(self.path, "r+b") as file:
             for place in self.places:
                 for offset, new in ((NUMBER, struct.pack("<i", number)), (JUMP, jump), (ANSWER, answer)):

@@ -1,5 +1,5 @@
--- What is told: a status and a text, by the words and all the bytes of the reader.
--- Private functions and proofs alone cite what stands here.
+-- What is written for words and all the bytes of the reader: a status and a text.
+-- Only private functions and proofs cite these definitions.
 use Rattle.std.specs.Prelude.{ℕ, List, Option}
 use Rattle.mothra_app.specs.declared.status.Status.{Status}
 use Rattle.mothra_cli.specs.Input.{AreAll}
@@ -9,7 +9,7 @@ use Rattle.equivalents_app.specs.Serving.{IsInquiryAnswer}
 
 -- ---- by the words
 
--- the answer to the inquiry, where the reader had these bytes left
+-- the answer to the inquiry for the bytes that the reader had
 pub record IsAnswerBy (i : Inquiry) (left : Option (List ℕ)) (status : Status) (text : List ℕ) : Type 0 where
   pub bytes : List ℕ
   pub all : AreAll left bytes

@@ -1,5 +1,5 @@
--- The command line of the program, which has no subcommand, and what its words ask for.
--- Private functions and proofs alone cite what stands here.
+-- The command line of `equivalents`, which has no subcommand, and what its words ask for.
+-- Only private functions and proofs cite these definitions.
 use Rattle.std.specs.Prelude.{◌≡◌, Option, Some, None, Result, Ok, Err}
 use Rattle.clap.specs.Words.{kind_of}
 use Rattle.clap.specs.declared.error.kind.ErrorKind.TheVariants as kind
@@ -8,7 +8,7 @@ use Rattle.mothra_cli.specs.declared.request.WordsFault.TheVariants as fault
 use Rattle.equivalents_app.specs.declared.words.Inquiry.{Inquiry}
 use Rattle.equivalents_app.specs.Words.{InquiryMeaning, refused, bad_operators, inquiry}
 
--- the inquiry that is meant, or why there is none, or memory that ran out
+-- the result is the inquiry of this meaning, or says why it is none, or that memory ran out
 abbrev pub ReadsInquiry : InquiryMeaning → Result (Option Inquiry) WordsFault → Type 0
 ReadsInquiry meaning (Ok (Some i)) = meaning ≡ inquiry i
 ReadsInquiry meaning (Ok None) = meaning ≡ refused

@@ -1,5 +1,5 @@
--- Expressions on the heap with their names looked up. These do not unfold
--- by themselves, so that a proof need not look inside what it passes on.
+-- Resolved expressions on the heap. These definitions do not unfold by themselves, so a proof need not look inside of
+-- what it passes on.
 use Rattle.std.specs.Prelude.{ℕ, List, Box}
 use Rattle.std.specs.declared.alloc.Global.{Global}
 use Rattle.f77_tree.specs.Tree.{Tree}

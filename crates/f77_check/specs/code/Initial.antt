@@ -1,4 +1,4 @@
--- What DATA gives each slot, group by group, where names have slots in the order of a list.
+-- The values that DATA gives the slots, group by group. Names have slots in the order of a list.
 use Rattle.std.specs.Prelude.{◌<◌, ◌^◌, ◌+◌, ◌∷◌, if◌then◌else◌, ℕ, Bool, false, not, List, []}
 use Rattle.std.specs.Prelude.{map, fold, take, drop, Option, Some, is_some, slice_get, slice_set}
 use Rattle.std.specs.List.{flat_map, list_all}
@@ -17,7 +17,7 @@ use Rattle.f77_check.specs.SlotTable.{IsSlotTable}
 use Rattle.f77_legal.specs.declared.names.Names.{Names}
 use Rattle.f77_check.specs.declared.resolve.Resolver.{Resolver}
 
--- the slots of a name: none where it is not in the list
+-- the slots of a name: none if it is not in the list
 abbrev pub slots_of : (Symbol → List ℕ) → List Symbol → Symbol → List ℕ
 slots_of bounds names name =
     option_map_or (λ first. map (λ k. first + k) (first_numbers (product (bounds name))))
@@ -27,7 +27,7 @@ slots_of bounds names name =
 abbrev pub is_free : List (Option Constant) → ℕ → Bool
 is_free held slot = option_map_or (λ cell. not (is_some cell)) (slice_get held slot) false
 
--- a slot keeps the first value that it is given
+-- the slot is given the constant, unless it has a value
 abbrev pub give : Constant → List (Option Constant) → ℕ → List (Option Constant)
 give constant held slot = if is_free held slot then slice_set held slot (Some constant) else held
 
@@ -35,7 +35,7 @@ give constant held slot = if is_free held slot then slice_set held slot (Some co
 abbrev pub give_run : Constant → List (Option Constant) → List ℕ → List (Option Constant)
 give_run constant = fold (give constant)
 
--- the slots are given the values, each so many times
+-- the slots are given the values in order, each as often as it is repeated
 abbrev pub give_values : List (Option Constant) → List ℕ → List Value → List (Option Constant)
 give_values held slots [] = held
 give_values held slots (value ∷ values) =
@@ -48,7 +48,7 @@ abbrev pub give_groups : (Symbol → List ℕ)
     → List Symbol → List (Option Constant) → List GroupFields → List (Option Constant)
 give_groups bounds names = fold (give_group bounds names)
 
--- the table of slots is one of few slots
+-- the resolver has a table of slots, and few slots
 pub record HasFewSlots (resolver : Resolver) : Type 0 where
   pub table : IsSlotTable resolver.slots resolver.tables.names
   pub few : slot_count (array_bounds resolver.tables.names) (keys resolver.tables.names.facts) < 2 ^ 32

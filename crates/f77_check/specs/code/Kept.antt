@@ -11,7 +11,7 @@ use Rattle.f77_legal.specs.declared.names.Names.{Names}
 abbrev pub is_kept : Names → Symbol → Bool
 is_kept = has_name
 
--- every name of an expression is
+-- every name of the expression is in the table
 abbrev pub tree_kept : Names → Tree → Bool
 tree_kept names = tree_passes (is_kept names)
 
@@ -21,6 +21,6 @@ items_kept names = items_pass (is_kept names)
 abbrev pub step_kept : Names → Option Tree → Bool
 step_kept names = value_passes (is_kept names)
 
--- every name of a statement that can be executed is
+-- every name of the statement is in the table
 abbrev pub names_kept : Names → Statement → Bool
 names_kept names = names_pass (is_kept names)

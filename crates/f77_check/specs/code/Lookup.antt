@@ -1,4 +1,4 @@
--- Which expressions a resolver can look up, and what is said by its tables.
+-- Which expressions a resolver can look up.
 use Rattle.std.specs.Prelude.{◌≡◌, ◌≤◌, ℕ, true, List, length}
 use Rattle.indexmap.specs.IndexMap.{keys}
 use Rattle.f77_tree.specs.Tree.{Tree}
@@ -16,19 +16,19 @@ use Rattle.f77_check.specs.declared.resolve.Resolver.{Resolver}
 abbrev pub AreFlat : Names → Type 0
 AreFlat names = (name : Symbol) → length (array_bounds names name) ≤ 2
 
--- the slots are those of the names, none of which has more than two dimensions
+-- the slots are those of the names, and no name has more than two dimensions
 pub record ServesNames (resolver : Resolver) : Type 0 where
   pub table : IsSlotTable resolver.slots resolver.tables.names
   pub flat : AreFlat resolver.tables.names
 
--- What an expression needs to be looked up: it is of this kind, and each name of
--- it is in the table and stands with as many subscripts as it has dimensions.
+-- What is needed to look up an expression: it is of this kind, and each name of it is in the table and has as many
+-- subscripts as dimensions.
 pub record IsReadyTree (resolver : Resolver) (kind : Kind) (tree : Tree) : Type 0 where
   pub names : ServesNames resolver
   pub kinds : is_of_kind (kind_at resolver.tables.names) kind tree ≡ true
   pub bounds : fits_bounds (array_bounds resolver.tables.names) tree ≡ true
   pub kept : tree_kept resolver.tables.names tree ≡ true
 
--- what is said of names with bounds, and slots in the order of a list, by the tables
+-- a definition over bounds and a list of names, taken for those of the tables
 abbrev pub by_tables {ℓ} : {A : Type ℓ} → Resolver → ((Symbol → List ℕ) → List Symbol → A) → A
 by_tables resolver said = said (array_bounds resolver.tables.names) (keys resolver.tables.names.facts)

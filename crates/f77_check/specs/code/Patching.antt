@@ -1,4 +1,4 @@
--- When a changed program is told from a checked one by the changed statement alone.
+-- When the changed statement alone decides what the changed program is.
 -- Private functions and proofs alone cite what stands here.
 use Rattle.std.specs.Prelude.{◌≡◌, ℕ, List, Some, slice_get}
 use Rattle.f77_program.specs.Program.{LineFields}
@@ -9,14 +9,14 @@ use Rattle.f77_legal.specs.Names.{Symbol}
 use Rattle.f77_legal.specs.Frames.{framed}
 use Rattle.f77_legal.specs.Alone.{MayStandAt, StandsAlone}
 
--- the frame stays where the statement i is changed to this one, which may end the DOs that end there
+-- the frame stays if statement i is changed to this one, and this one may end the DOs that end there
 pub record FrameStays (program : List LineFields) (i : ℕ) (statement : Statement) : Type 0 where
   pub line : LineFields
   pub at : slice_get program i ≡ Some line
   pub frame : framed statement ≡ framed line.stmt
   pub ends : MayStandAt program i statement
 
--- the other program is legal, and this one but for the statement i, which stands alone
+-- the other program is legal, and differs from this one in statement i alone, by which it is judged
 pub record IsChangedAlone (names : List Symbol) (program : List LineFields) (i : ℕ)
     (other : List LineFields) : Type 0 where
   pub statement : Statement

@@ -1,4 +1,4 @@
--- What the tables and the statements of a legal program have, by which names are looked up.
+-- What the tables need, so that the names and labels of a legal program can be looked up.
 -- Private functions and proofs alone cite what stands here.
 use Rattle.std.specs.Prelude.{◌≡◌, ⊤, ℕ, true, List, [], ◌∷◌, Some, IsSome}
 use Rattle.f77_program.specs.Formed.{is_action}
@@ -26,7 +26,7 @@ pub record CanBeResolved (resolver : Resolver) (statement : Statement) : Type 0 
   pub bounds : dimensions_fit (array_bounds resolver.tables.names) statement ≡ true
   pub kept : names_kept resolver.tables.names statement ≡ true
 
--- the action is what the statement does, by the tables
+-- by the tables, the action is that of the statement
 abbrev pub Does : Resolver → List LineFields → ℕ → Statement → Action → Type 0
 Does resolver = by_tables resolver (IsAction (kind_at resolver.tables.names))
 
@@ -38,13 +38,13 @@ abbrev pub AreFound : List LineFields → List ℕ → Type 0
 AreFound program [] = ⊤
 AreFound program (label ∷ labels) = IsSome (label_place program label) × AreFound program labels
 
--- the branch that i begins ends, and the table tells where
+-- the branch that i begins has an end
 pub record HasBranch (program : List LineFields) (i : ℕ) : Type 0 where
   pub place : ℕ
   pub told : branch_end_at program i ≡ Some place
   pub ends : branch_end program i ≡ Some place
 
--- the statement i ends where it has to, or holds what it may
+-- what statement i needs besides: the end of its DO or branch, or an action inside of it
 abbrev pub HasEnd : List LineFields → ℕ → Statement → Type 0
 HasEnd program i (Statement.LogicalIf tree statement) = is_action statement ≡ true
 HasEnd program i (Statement.BlockIf tree) = HasBranch program i

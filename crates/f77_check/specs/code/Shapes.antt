@@ -6,7 +6,7 @@ use Rattle.f77_legal.specs.Names.{Symbol}
 use Rattle.f77_legal.specs.NameTable.{kind_at, array_bounds}
 use Rattle.f77_legal.specs.Presets.{product}
 
--- how many elements these bounds give an array, 4294967295 for more than that
+-- the number of elements of an array with these bounds, or 4294967295 if there are more
 abbrev pub elements_in : List ℕ → Option ℕ
 elements_in [] = None
 elements_in (bound ∷ bounds) = Some (min (product (bound ∷ bounds)) 4294967295)

@@ -13,30 +13,30 @@ use Rattle.f77_code.specs.Holds.{Plan, do_rank, is_loop_at}
 use Rattle.f77_code.specs.Typing.{HasAction}
 use Rattle.f77_code.specs.Compiled.{HasOneFrame, IsInstruction, IsIncrement}
 
--- terms for the parameters of a DO
+-- the terms stand for the parameters of a DO
 pub record HaveParameters (table : Constants) (from to by : Number) (parameters : Parameters) : Type 0 where
   pub first : IsNumberTerm table from parameters.first
   pub last : IsNumberTerm table to parameters.last
   pub step : IsNumberTerm table by parameters.step
 
--- an operation that increments the DO d of this variable
+-- the operation increments the DO d with this variable
 abbrev pub Advances : List Resolved → ℕ → ℕ → Operation → Type 0
 Advances statements d variable (Next slot counter body) =
     (slot ≡ variable) × (counter ≡ do_rank statements d) × (body ≡ d + 1)
 Advances statements d variable _ = ⊥
 
--- an instruction that does so, where the DO ends at the statement t
+-- the instruction increments the DO d with this variable, which ends at statement t
 pub record IsNext (statements : List Resolved) (d variable t : ℕ) (instruction : Instruction) : Type 0 where
   pub advances : Advances statements d variable instruction.operation
   pub left : IsLeftDone statements d t instruction.next
 
--- the first so many statements have their instructions
+-- the list has the instructions of the first n statements
 pub record AreExecuted (table : Constants) (statements : List Resolved) (n : ℕ) (list : List Instruction) : Type 0 where
   pub count : length list ≡ n
   pub each : (i : ℕ) (instruction : Instruction)
       → slice_get list i ≡ Some instruction → IsInstruction table statements i instruction
 
--- behind the instructions of all statements stand the incrementations of the DOs among the first so many
+-- the list has the instructions of all statements, and behind them the incrementations of the DOs among the first n
 pub record AreFollowed (table : Constants) (statements : List Resolved) (n : ℕ) (list : List Instruction) : Type 0 where
   pub count : length list ≡ length statements + do_rank statements n
   pub executed : (i : ℕ) (instruction : Instruction)
@@ -45,16 +45,16 @@ pub record AreFollowed (table : Constants) (statements : List Resolved) (n : ℕ
       → slice_get list (length statements + do_rank statements d) ≡ Some instruction
       → IsIncrement statements d instruction
 
--- the slots that statements name are there, and of their kinds
+-- the slots that statements name exist and have the right kinds
 abbrev pub HaveActions : Plan → List Resolved → Type 0
 HaveActions plan statements = (i : ℕ) (r : Resolved) → slice_get statements i ≡ Some r → HasAction plan r.action
 
--- the statements have the same frame at each place
+-- the statements of both lists have the same frame at each place
 pub record HaveSameFrames (before after : List Resolved) : Type 0 where
   pub count : length after ≡ length before
   pub each : (j : ℕ) (r s : Resolved) → slice_get before j ≡ Some r → slice_get after j ≡ Some s → HasOneFrame r s
 
--- the statements differ in the one at i alone, which has the same frame in both
+-- the lists differ in statement i alone, which has the same frame in both
 pub record IsExchanged (before : List Resolved) (i : ℕ) (after : List Resolved) : Type 0 where
   pub count : length after ≡ length before
   pub others : (j : ℕ) → j ≢ i → slice_get after j ≡ slice_get before j

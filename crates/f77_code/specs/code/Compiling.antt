@@ -1,4 +1,4 @@
--- Operations that stand for actions in each plan that begins with a table of constants, and operations made of terms.
+-- Operations that stand for actions in each plan that begins with a table of constants; and operations made of terms.
 -- Private functions and proofs alone cite what stands here.
 use Rattle.std.specs.Prelude.{◌≡◌, ℕ, Some, MatchOption}
 use Rattle.f77_tree.specs.declared.tree.Kind.{Kind}
@@ -14,11 +14,11 @@ use Rattle.f77_code.specs.Constants.{BeginsPlan}
 use Rattle.f77_code.specs.Holds.{Plan}
 use Rattle.f77_code.specs.Typing.{HasSlots, HasTruths, HasAction}
 
--- an operation that gives the register this term
+-- the operation gives the register the value of this term
 abbrev pub IsGiving : ℕ → Term → Operation → Type 0
 IsGiving to term operation = giving operation ≡ Some (record { to = to; term = term })
 
--- an operation that goes to the place where this term is true
+-- the operation goes to the place if this term is true
 abbrev pub IsGoing : ℕ → Term → Operation → Type 0
 IsGoing there t (IfTrue place term) = (place ≡ there) × (term.value ≡ t)
 IsGoing there t _ = ⊥
@@ -28,22 +28,22 @@ IsTesting there t operation =
     MatchOption (comparing operation) (IsGoing there t operation)
     (λ c. (c.there ≡ there) × IsRelationOf c.relation c.left c.right t)
 
--- an operation that gives an element this term
+-- the operation gives the element the value of this term
 pub record IsAssigning (table : Constants) (e : Element) (term : Term) (operation : Operation) : Type 0 where
   pub assigns : (plan : Plan) (kind : Kind)
       → BeginsPlan plan table → HasSlots plan kind e → StandsForAssignment plan kind (λ t. t ≡ term) e operation
 
--- the logical IF of a condition and an action
+-- the action is a logical IF of this condition and this action
 abbrev pub IsLogicalIf : Condition → Action → Action → Type 0
 IsLogicalIf x action (LogicalIf' y p inner) = (x ≡ y) × (action ≡ inner)
 IsLogicalIf x action _ = ⊥
 
--- an operation that stands for an action in a logical IF
+-- the operation stands for an action in a logical IF
 pub record IsConditional (table : Constants) (x : Condition) (action : Action) (operation : Operation) : Type 0 where
   pub stands : (plan : Plan) (whole : Action)
       → BeginsPlan plan table → IsLogicalIf x action whole → HasTruths plan x → HasAction plan action
       → IsOperation plan whole operation
 
--- an operation that stands for an action
+-- the operation stands for an action
 pub record IsCompiled (table : Constants) (action : Action) (operation : Operation) : Type 0 where
   pub stands : (plan : Plan) → BeginsPlan plan table → HasAction plan action → IsOperation plan action operation

@@ -3,7 +3,7 @@
 use Rattle.std.specs.Prelude.{◌≡◌, ◌+◌, ℕ, ℤ, Some, slice_get}
 use Rattle.f77_code.specs.declared.constants.Constants.{Constants}
 
--- the register r is that of a constant
+-- the table has this constant in the register r
 pub record HasRegister (table : Constants) (r : ℕ) (z : ℤ) : Type 0 where
   pub place : ℕ
   pub behind : r ≡ table.slots + place

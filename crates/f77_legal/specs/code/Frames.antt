@@ -1,6 +1,4 @@
--- What a change of one statement leaves as it was: the frame of a program, in which every
--- statement that can be executed has lost its expressions, references and jumps.
--- Declarations and DATA, labels, blocks and the ranges of DOs are told from the frame alone.
+-- Which statements the frame of a program leaves out.
 -- Private functions and proofs alone cite what stands here.
 use Rattle.std.specs.Prelude.{Bool, true}
 use Rattle.f77_tree.specs.Form.{acts}

@@ -1,4 +1,4 @@
--- What a table of loops and branches says of a program. Statements are numbered from 0 here.
+-- What the table of DOs and branches has of a program. Statements are numbered from 0 here.
 -- Private functions and proofs alone cite what stands here.
 use Rattle.std.specs.Prelude.{ℕ, ◌&&◌, ◌||◌, ◌==◌, Bool, false, not, nat_le, List}
 use Rattle.std.specs.List.{list_any}
@@ -13,7 +13,7 @@ use Rattle.f77_legal.specs.Names.{Symbol}
 use Rattle.f77_legal.specs.declared.holders.Ancestors.{Ancestors}
 use Rattle.f77_legal.specs.declared.holders.Ranges.{Ranges}
 
--- what a walk has still to give
+-- the statements that a walk has still to give
 unfoldable pub ancestors_left : Ancestors → List ℕ
 ancestors_left walk = ancestors walk.parents.now walk.next
 
@@ -23,7 +23,7 @@ ancestors_of ranges k = ancestors ranges.parents.items (end_or_parent ranges.par
 abbrev pub holds_by : Ranges → ℕ → ℕ → Bool
 holds_by ranges = holds ranges.terminals.items ranges.branch_ends.items
 
--- a DO has i in its range and not k
+-- the DO d has i in its range and not k
 abbrev pub is_left_by_table : Ranges → ℕ → ℕ → ℕ → Bool
 is_left_by_table ranges i k d =
     is_in_do_range ranges.terminals.items d i && not (is_in_do_range ranges.terminals.items d k)
@@ -31,17 +31,17 @@ is_left_by_table ranges i k d =
 abbrev pub leaves_range : Ranges → ℕ → ℕ → Bool
 leaves_range ranges i k = list_any (is_left_by_table ranges i k) (ancestors_of ranges i)
 
--- a branch has i in it and not k
+-- some branch has i in it and not k
 abbrev pub leaves_branch : Ranges → ℕ → ℕ → Bool
 leaves_branch ranges i k =
     list_any (λ b. in_branch ranges.branch_ends.items b i && not (in_branch ranges.branch_ends.items b k))
     (ancestors_of ranges i)
 
--- the DO d ends at t
+-- the DO d ends at statement t
 abbrev pub ends_at_by_table : Ranges → ℕ → ℕ → Bool
 ends_at_by_table ranges t d = option_map_or (λ e. e == t) (end_or_parent ranges.terminals.items d) false
 
--- a DO with this variable has i in its range
+-- some DO with this variable has i in its range
 abbrev pub is_held_with : Ranges → List LineFields → ℕ → Symbol → Bool
 is_held_with ranges program i name =
     list_any
@@ -49,7 +49,7 @@ is_held_with ranges program i name =
     && option_map_or (bytes_eq name) (option_and_then do_variable_of (nth_statement program d)) false)
     (ancestors_of ranges i)
 
--- the DO d, which ends at t, ends before it begins, in another branch, or outside of a range that holds it
+-- a DO d that ends at t would end before it begins, in another branch, or outside of a range that holds it
 abbrev pub ends_outside_by_table : Ranges → ℕ → ℕ → Bool
 ends_outside_by_table ranges d t =
     nat_le t d || (leaves_branch ranges d t || (leaves_branch ranges t d || leaves_range ranges d t))

@@ -18,7 +18,7 @@ use Rattle.f77_legal.specs.Names.{some_items, is_integer_name}
 use Rattle.f77_legal.specs.Presets.{product}
 use Rattle.f77_legal.specs.NameTable.{FactsFields, Entries}
 
--- One more mention: what it adds to the facts of its name.
+-- how often something was said, after it is said once more
 abbrev pub once_more : Times → Times
 once_more Never = Once
 once_more Once = More
@@ -52,7 +52,7 @@ with_fact facts (Mention.Plain name) = facts
 abbrev pub no_facts : FactsFields
 no_facts = record { dummy = Never; typed = Never; kind = Integer; dimensioned = Never; bounds = [] }
 
--- a name that is there keeps its place, and a new one goes last
+-- the table after one more mention: a name that is there keeps its place, and a new one goes last
 abbrev pub with_mention : Entries → Mention → Entries
 with_mention [] mention = (name_in mention, with_fact no_facts mention) ∷ []
 with_mention (entry ∷ entries) mention =
@@ -62,15 +62,15 @@ with_mention (entry ∷ entries) mention =
 abbrev pub with_mentions : Entries → List Mention → Entries
 with_mentions = fold with_mention
 
--- the mention of a name of which this is said
+-- the mention of a name, from what is said of it
 abbrev pub mention_of : Symbol → Said → Mention
 mention_of name said.Dummy = Mention.Dummy name
 mention_of name (said.Typed kind bounds) = Mention.Typed kind (record { name = name; bounds = bounds.now })
 mention_of name (said.Dimensioned bounds) = Mention.Dimensioned (record { name = name; bounds = bounds.now })
 mention_of name said.Plain = Mention.Plain name
 
--- What the entries tell: a name that is REAL by its first letter, one that
--- is declared twice where the unit has this name, the elements of an array.
+-- What is read off the entries: how often something was said; whether a name is REAL by its first letter, or is
+-- declared twice where the unit has this name; the number of elements of an array.
 abbrev pub is_never : Times → Bool
 is_never Never = true
 is_never Once = false

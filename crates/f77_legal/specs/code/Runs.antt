@@ -1,4 +1,4 @@
--- DATA by what is known of each name, and kinds that stand in runs.
+-- DATA, from what is known of each name; and lists of kinds that stand in runs.
 use Rattle.std.specs.Prelude.{◌||◌, ◌∷◌, ◌++◌, if◌then◌else◌, ℕ, zero, suc, Bool, not, nat_le}
 use Rattle.std.specs.Prelude.{List, [], filter, length, map, replicate, Option, Some, None}
 use Rattle.std.specs.Borrow.{Bor}
@@ -21,13 +21,13 @@ kinds_in values = flat_map (λ value. replicate value.times (constant_kind value
 abbrev pub kinds_left : Remaining → List Kind
 kinds_left rest = replicate rest.times rest.kind ++ kinds_in rest.values.now
 
--- what stands behind the first n, where these are all of the kind
+-- what stands behind the first n kinds of a list, if these are all of the kind
 abbrev pub behind_kinds : ℕ → Kind → List Kind → Option (List Kind)
 behind_kinds zero kind given = Some given
 behind_kinds (suc count) kind [] = None
 behind_kinds (suc count) kind (other ∷ given) = if same_kind kind other then behind_kinds count kind given else None
 
--- the kinds that names want which have these bounds and kinds
+-- the kinds that the names need, where they have these bounds and kinds
 abbrev pub kinds_wanted : (Symbol → List ℕ) → (Symbol → Kind) → List Symbol → List Kind
 kinds_wanted bounds kinds names = flat_map (λ name. replicate (product (bounds name)) (kinds name)) names
 
@@ -37,12 +37,12 @@ fills bounds kinds group = pointwise same_kind (kinds_wanted bounds kinds group.
 abbrev pub names_of_groups : List GroupFields → List Symbol
 names_of_groups groups = flat_map (λ group. group.names) groups
 
--- of names that stand in DATA behind others, one is a dummy argument or stands there twice
+-- a name in DATA is a dummy argument, or stands among those before it
 abbrev pub misplaces : (Symbol → Bool) → List Symbol → List Symbol → Bool
 misplaces dummy before names =
     list_any (λ name. dummy name || nat_le 2 (length (filter (bytes_eq name) (before ++ names)))) names
 
--- groups preset badly behind these names of DATA
+-- the groups break the clause on DATA, behind these names of DATA
 abbrev pub groups_break : (Symbol → List ℕ) → (Symbol → Kind) → (Symbol → Bool) → List Symbol → List GroupFields → Bool
 groups_break bounds kinds dummy before groups =
     misplaces dummy before (names_of_groups groups) || list_any (λ group. not (fills bounds kinds group)) groups

@@ -1,4 +1,4 @@
--- The slots of a name, one after another, and the arguments that stand in them.
+-- The slots of a name, which follow one another, and arguments put into them.
 -- Private functions and proofs alone cite what stands here.
 use Rattle.std.specs.Prelude.{⊤, ℕ, ◌+◌, ◌≤◌, List, [], ◌∷◌, length, map, Option}
 use Rattle.f77_legal.specs.Blocks.{first_numbers}
@@ -11,21 +11,21 @@ use Rattle.f77_meaning.specs.Interpreter.{values_in}
 use Rattle.f77_meaning.specs.code.Typed.{HasValues}
 use Rattle.f77_meaning.specs.Spans.{size_of}
 
--- what so many slots hold, from this one on
+-- the values of n slots, from the slot `first` on
 abbrev pub span : ℕ → ℕ → Cells → List (Option Value)
 span first n cells = map (λ k. held_in cells (first + k)) (first_numbers n)
 
--- each argument has its slots among so many
+-- the slots of each argument are among the first n
 abbrev pub HaveRoom : ℕ → List (ℕ × Arg) → Type 0
 HaveRoom n [] = ⊤
 HaveRoom n (x ∷ xs) = (x.0 + length (values_in x.1) ≤ n) × HaveRoom n xs
 
--- the slots of each dummy argument are among so many
+-- the slots of each dummy argument are among the first n
 abbrev pub AreWithin : ℕ → List (Shape × ℕ) → Type 0
 AreWithin n [] = ⊤
 AreWithin n (x ∷ xs) = (x.1 + size_of x.0 ≤ n) × AreWithin n xs
 
--- the slots of each dummy argument hold values of its kind
+-- the slots of each dummy argument have values of its kind
 abbrev pub AllHold : Cells → List (Shape × ℕ) → Type 0
 AllHold cells [] = ⊤
 AllHold cells (x ∷ xs) = HasValues x.0.kind (size_of x.0) (span x.1 (size_of x.0) cells) × AllHold cells xs

@@ -5,11 +5,11 @@ use Rattle.f77_tree.specs.declared.data.Value.{Value}
 use Rattle.f77_tree.specs.code.Joined.{some_all}
 use Rattle.f77_tree.specs.Tree.{GroupFields}
 
--- each constant is spelled by some text
+-- any value: each constant is spelled by some text
 abbrev pub any_value : Value → Bool
 any_value v = true
 
--- a group has a name at least, each of them passing the test, and a value at least
+-- a group has at least one name, each of which passes the test, and at least one value
 abbrev pub is_group : (List ℕ → Bool) → GroupFields → Bool
 is_group named g = some_all named g.names && some_all any_value g.values
 

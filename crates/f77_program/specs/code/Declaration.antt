@@ -4,7 +4,7 @@ use Rattle.std.specs.Prelude.{ℕ, List, Bool}
 use Rattle.f77_tree.specs.code.Joined.{some_all}
 use Rattle.f77_tree.specs.Tree.{DeclFields}
 
--- a declared name that passes the test: bounds of any size and number are spelled by some text
+-- the declared name passes the test; bounds of any size and number are spelled by some text
 abbrev pub is_decl : (List ℕ → Bool) → DeclFields → Bool
 is_decl named d = named d.name
 

@@ -1,5 +1,4 @@
--- Which trees some text spells, told from the tree alone, where
--- names are to pass a test: constants are of any size.
+-- Which trees some text spells, decided from the tree alone. Names have to pass a test; constants may have any size.
 -- Private functions and proofs alone cite what stands here.
 use Rattle.std.specs.Prelude.{ℕ, List, Bool, true, false, ◌&&◌, not, Option, Some, None}
 use Rattle.std.specs.List.{list_all}
@@ -15,11 +14,11 @@ unfoldable pub is_some_list : Trees → Bool
 is_some_list Trees.None = false
 is_some_list (Trees.Then t ts) = true
 
--- a function's name with a list behind it is no reference
+-- the name passes, and it is no function's name with a list behind it
 unfoldable pub is_reference : (List ℕ → Bool) → List ℕ → Trees → Bool
 is_reference named name items = named name && not (is_call name items)
 
--- names pass, and a call has arguments
+-- some text spells the expression, or those of a list: each name passes, and each call has arguments
 abbrev mutual
   pub formed : (List ℕ → Bool) → Tree → Bool
   formed named (Tree.Number n) = true
@@ -39,7 +38,7 @@ abbrev pub value_formed : (List ℕ → Bool) → Option Tree → Bool
 value_formed named None = true
 value_formed named (Some t) = formed named t
 
--- some text spells the statement: its parts are formed, and it has what its form wants
+-- some text spells the statement: its parts are formed, and it has what its form requires
 abbrev pub statement_formed : (List ℕ → Bool) → Statement → Bool
 statement_formed named (Statement.Subroutine name names) = named name && list_all named names
 statement_formed named (Statement.Declare kind ds) = declaration_formed named ds

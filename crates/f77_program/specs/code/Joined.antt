@@ -3,7 +3,7 @@
 use Rattle.std.specs.Prelude.{◌≡◌, ◌++◌, ℕ, List, String, Result, OnOk, string_bytes}
 use denote.Ref.{Bor, MutBor}
 
--- each call that comes to its end writes the text of its item behind what stands there
+-- each call that succeeds writes the text of its item behind what stands there
 abbrev pub Writes : {T Z R E : Type 0}
     → (MutBor (String Z) → Bor T → Result R E → MutBor (String Z) → Type 0) → (T → List ℕ) → Type 0
 Writes post text = (out : MutBor (String _)) (item : Bor _) (result : Result _ _) (after : MutBor (String _))

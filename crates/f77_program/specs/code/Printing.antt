@@ -7,7 +7,7 @@ use Rattle.f77_source.specs.declared.fault.FormFault.TheVariants.{BadLabel, Loos
 use Rattle.f77_program.specs.declared.fault.SyntaxFault.{SyntaxFault}
 use Rattle.f77_program.specs.declared.fault.SyntaxFault.TheVariants.{Memory, BadConstant, TooLong}
 
--- What is told of a card that cannot be written. Nothing is told of a fault that no card with a printable text has.
+-- the fault of a program for a fault of a card; faults that no card with a printable text has give none
 abbrev pub told_fault : FormFault → Option SyntaxFault
 told_fault (BadLabel line) = Some (BadConstant line)
 told_fault (TooManyContinuations line) = Some (TooLong line)

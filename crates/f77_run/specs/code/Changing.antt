@@ -1,4 +1,4 @@
--- A statement that may stand in the place of another, and what of registers is the program's own.
+-- A statement that may be put in the place of another, and registers that begin with the program's own.
 -- Private functions and proofs alone cite what stands here.
 use Rattle.std.specs.Prelude.{◌≡◌, ◌+◌, ℕ, true, length, map, None, IfSome, option_map, replicate, slice_get, take}
 use Rattle.f77_actions.specs.declared.resolved.Resolved.{Resolved}
@@ -11,13 +11,13 @@ use Rattle.f77_meaning.specs.Start.{constant_value}
 use Rattle.f77_run.specs.declared.registers.Registers.{Registers}
 use Rattle.f77_run.specs.Registers.{AreLoaded, counters_of}
 
--- it can be compiled in the place of the one of this number, from 0
+-- the resolved statement can be compiled in the place of the one with this number, from 0
 pub record CanReplace (checked : CheckedFields) (place : ℕ) (statement : Resolved) : Type 0 where
   pub may : IfSome (slice_get checked.statements place) (λ own. MayReplace own statement)
   pub places : has_places (length checked.statements) statement ≡ true
   pub ready : is_ready checked.slots (length checked.statements) statement.action ≡ true
 
--- the first of the registers are those at the start of the runs of the program itself, and so are the counters
+-- the registers begin with those at the start of the runs of the program itself, and the counters are those
 pub record BeginsImage (checked : CheckedFields) (code : ChangedCode) (image : Registers) : Type 0 where
   pub registers : AreLoaded checked.start.kinds.items (map (option_map constant_value) checked.start.initial.items)
       (take code.own code.code.constants.values.items) (take (checked.slots + code.own) image.items.items)

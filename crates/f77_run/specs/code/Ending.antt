@@ -1,10 +1,10 @@
--- The values of dummy arguments that an outcome tells. Private functions and proofs alone cite what stands here.
+-- The values of dummy arguments that an outcome has. Private functions and proofs alone cite what stands here.
 use Rattle.std.specs.Prelude.{List, Option, None, Some}
 use Rattle.f77_meaning.specs.declared.argument.Arg.{Arg}
 use Rattle.f77_meaning.specs.declared.outcome.Outcome.{Outcome}
 use Rattle.f77_meaning.specs.declared.outcome.Outcome.TheVariants.{Returned, Stopped}
 
--- of a run that returned or stopped
+-- the values of an outcome Returned or Stopped; other outcomes have none
 abbrev pub values_told : Outcome → Option (List Arg)
 values_told (Returned arguments) = Some arguments
 values_told (Stopped arguments) = Some arguments

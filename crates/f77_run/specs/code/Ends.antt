@@ -1,4 +1,4 @@
--- How a run that the code made has ended, by its registers.
+-- How a run of code has ended, and what that says of its outcome.
 -- Private functions and proofs alone cite what stands here.
 use Rattle.std.specs.Prelude.{◌≡◌, ◌≤◌, ◌<◌, ℕ, Bool, true, List, length, map, ℤ}
 use Rattle.std.specs.Bool.{Decides}
@@ -13,18 +13,19 @@ use Rattle.f77_meaning.specs.Interpreter.{IsOutcomeOf, Tells}
 use Rattle.f77_meaning.specs.Site.{held}
 use Rattle.f77_run.specs.code.Site.{HoldDummies, shown_by}
 
--- a checked program, the values of its dummy arguments, and the program that is run: it, or one of its frame
+-- a checked program, the values of its dummy arguments, and the program that is run: this one, or one of the same frame
 pub record RunOf : Type 0 where
   pub checked : CheckedFields
   pub program : List LineFields
   pub arguments : List Arg
 
--- what is told of this end, by what the registers show of the dummy arguments
+-- the outcome reports this end, with the values that the registers have for the dummy arguments
 abbrev pub TellsOf : RunOf → Finish → List ℤ → Outcome → Type 0
 TellsOf run finish registers answer =
     Tells (map line_of run.checked.program) finish (held run.checked (shown_by run.checked registers)) answer
 
--- The run ended so within so many steps, of which some were made: what is told of it is its outcome.
+-- The run has ended so within the limit on steps, after some of them: the outcome that reports this end is that of the
+-- run.
 pub record HasEnded (run : RunOf) (steps made : ℕ) (finish : Finish) (registers : List ℤ) : Type 0 where
   pub held : are_held registers ≡ true
   pub room : length run.checked.start.kinds.items ≤ length registers

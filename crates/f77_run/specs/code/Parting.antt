@@ -1,4 +1,4 @@
--- The run of a changed program beside that of the program. Statements are numbered from 0 here.
+-- The run of a changed program beside the run of the program. Statements are numbered from 0 here.
 -- Private functions and proofs alone cite what stands here.
 use Rattle.std.specs.Prelude.{◌≡◌, ◌++◌, ℕ, List, Some, IfSome, drop, length, ℤ}
 use Rattle.f77_check.specs.Checked.{CheckedFields}
@@ -17,15 +17,15 @@ use Rattle.f77_run.specs.Visits.{IsAtStart}
 use Rattle.f77_run.specs.code.Ends.{RunOf}
 use Rattle.f77_run.specs.code.Runs.{HasCode}
 
--- The run of a changed program, the number of the statement that is another there, its limit on steps,
--- and the first time at which control was at that statement in the run of the program.
+-- The run of a changed program, the number of the changed statement, the limit on steps, and the first visit of that
+-- statement in the run of the program.
 pub record Parting : Type 0 where
   pub run : RunOf
   pub place : ℕ
   pub steps : ℕ
   pub passed : Passed
 
--- that of a change
+-- the run of the program with this change
 abbrev pub parting_of : CheckedFields → Change → List Arg → ℕ → Passed → Parting
 parting_of checked change arguments steps passed = record {
   run = record {
@@ -38,8 +38,8 @@ parting_of checked change arguments steps passed = record {
   passed = passed;
 }
 
--- The code is that of the changed program, and that of the program but for one instruction and for constants behind;
--- and where control was at the changed statement in the run of that.
+-- The code is that of the changed program; it is also that of the program, apart from one instruction and from
+-- constants at the end. And `passed` is what the run of the program has for the changed statement.
 pub record IsParting (parting : Parting) (checked : CheckedFields) (code : Code) (image : Registers) : Type 0 where
   pub checked_is : parting.run.checked ≡ checked
   pub statements : List Resolved

@@ -1,4 +1,4 @@
--- The plan of the registers of a program's code, and what they show of its slots.
+-- The plan of the registers of a program's code, and the values of slots that registers give.
 -- Private functions and proofs alone cite what stands here.
 use Rattle.std.specs.Prelude.{not, List, length, map, Option, Some, None, unwrap_or, slice_get, ℤ, pos, Result, Ok, Err}
 use Rattle.std.specs.List.{zip}
@@ -18,7 +18,7 @@ abbrev pub plan_of : List Kind → Constants → Plan
 plan_of kinds table =
     record { slots = length kinds; kind = λ k. unwrap_or (slice_get kinds k) Integer; constants = table.values.items }
 
--- what a slot of this kind holds, by what its register tells
+-- the value of a slot of this kind, from what its register stands for
 abbrev pub shown_as : Kind → Result ℤ Fault → Option Value
 shown_as Integer (Ok z) = Some (held.Number z)
 shown_as Logical (Ok z) = Some (held.Truth (not (is_same z (pos 0))))

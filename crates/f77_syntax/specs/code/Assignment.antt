@@ -6,22 +6,22 @@ use Rattle.f77_tree.specs.Statement.{Statement}
 use Rattle.f77_syntax.specs.Reading.{◌>>=◌}
 use Rattle.f77_syntax.specs.code.Reading.{tree_after, close_at, reading}
 
--- the value, where nothing stands behind it
+-- the value, if nothing stands behind it
 abbrev pub value_ended : {A : Type 0} → A → List ℕ → Option A
 value_ended x rest = if length rest == 0 then Some x else None
 
--- a name with its subscripts, and what follows
+-- the name has been read: its subscripts, if it has any, and the text behind them
 abbrev pub reference_behind : List ℕ → List ℕ → Option (List ℕ × Trees × List ℕ)
 reference_behind name [] = Some (name, Trees.None, [])
 reference_behind name (c ∷ r) =
     if c == 40 then (reading.items r >>= λ x. close_at x.1 >>= λ z. Some (name, x.0, z))
     else Some (name, Trees.None, c ∷ r)
 
--- what is assigned to, a name with its subscripts, and what follows (ANSI X3.9-1978, section 10)
+-- the reference that is assigned to, and the text behind it (ANSI X3.9-1978, section 10)
 unfoldable pub reference_at : List ℕ → Option (List ℕ × Trees × List ℕ)
 reference_at s = if is_name (word s) then reference_behind (word s) (past_word s) else None
 
--- what stands behind the equals sign
+-- the target has been read: the expression behind the equals sign, up to the end
 abbrev pub value_at : List ℕ → Trees → List ℕ → Option Statement
 value_at name items y = reading.expr 1 y >>= λ v. value_ended (Statement.Assign name items v.0) v.1
 

@@ -10,6 +10,6 @@ use Rattle.f77_syntax.specs.code.Label.{labels_at}
 unfoldable pub arithmetic_at : Tree → List ℕ → Option Statement
 arithmetic_at t s = labels_at s >>= λ l. Some (Statement.ArithIf t l.0 l.1 l.2)
 
--- `IF(`, an expression, `)`, and what follows (ANSI X3.9-1978, 11.4 to 11.7)
+-- `IF(`, an expression and `)`, and the text behind them (ANSI X3.9-1978, 11.4 to 11.7)
 unfoldable pub condition_at : List ℕ → Option (Tree × List ℕ)
 condition_at s = strip (codes "IF(") s >>= λ r. reading.expr 1 r >>= λ x. close_at x.1 >>= λ z. Some (x.0, z)

@@ -18,11 +18,11 @@ use Rattle.f77_tree.specs.Tree.{GroupFields}
 use Rattle.f77_syntax.specs.code.View.{clipped}
 use Rattle.f77_tree.specs.Data.{negative, data_group_of}
 
--- How they are read: each with what follows it.
+-- an INTEGER constant and the text behind it; `sign` makes it positive or negative
 abbrev pub initial_constant_at : (ℕ → ℤ) → List ℕ → Option (Constant × List ℕ)
 initial_constant_at sign s = bound_at s >>= λ x. Some (Number (sign x.0), x.1)
 
--- .TRUE. and else .FALSE., by what stands behind each
+-- a LOGICAL constant, from the texts behind .TRUE. and .FALSE.
 abbrev pub truth_by : Option (List ℕ) → Option (List ℕ) → Option (Constant × List ℕ)
 truth_by (Some r) other = Some (Truth true, r)
 truth_by None (Some r) = Some (Truth false, r)
@@ -48,7 +48,7 @@ repeat_at s = bound_at s >>= λ x. tree_after 42 x.1 >>= λ r. Some (x.0, r)
 abbrev pub times_at : ℕ × List ℕ → Option (Value × List ℕ)
 times_at x = constant_at x.1 >>= λ y. Some (record { times = x.0; constant = y.0 }, y.1)
 
--- a constant, so many times: once where no repeat is written (ANSI X3.9-1978, section 9)
+-- a constant with its repeat, which is 1 where none is written (ANSI X3.9-1978, section 9)
 unfoldable pub data_value_at : List ℕ → Option (Value × List ℕ)
 data_value_at s = times_at (unwrap_or (repeat_at s) (1, s))
 
@@ -78,8 +78,8 @@ groups_within (suc n) s = group_at s >>= λ x. with_groups (groups_within n) x.0
 unfoldable pub groups_at : List ℕ → Option (List GroupFields)
 groups_at s = groups_within (suc (length s)) s
 
--- What the code keeps of them: the first seven characters of a name, a repeat that is
--- too large as the least one that is, a number that is too large as -2147483648.
+-- A constant as the code keeps it. Of a name the first seven characters are kept, a repeat above 2147483647 is kept as
+-- 2147483648, and a number beyond that limit as -2147483648.
 abbrev pub clipped_constant : ℤ → ℤ
 clipped_constant z = if nat_le (magnitude z) largest_integer then z else negsuc largest_integer
 
@@ -93,7 +93,7 @@ clip_value v = record { times = clipped v.times; constant = clip_constant v.cons
 abbrev pub clip_group : GroupFields → GroupFields
 clip_group g = record { names = map cut g.names; values = map clip_value g.values }
 
--- what the code finds is what is read, as it is kept
+-- the code finds what is read, as it is kept
 abbrev pub Finds : {A B : Type 0} → (A → B) → Option (B × Bor (List ℕ)) → Option (A × List ℕ) → Type 0
 Finds {A = A} {B = B} keep found read =
     option_map {U = B × List ℕ} (λ x. (x.0, x.1.now)) found ≡ option_map {U = B × List ℕ} (λ x. (keep x.0, x.1)) read

@@ -16,7 +16,7 @@ use Rattle.f77_tree.specs.Tree.{DeclFields}
 use Rattle.f77_syntax.specs.code.View.{clipped}
 use Rattle.f77_tree.specs.Declaration.{decl_of}
 
--- How they are read: each with what follows it.
+-- a bound, and the text behind it
 abbrev pub bound_at : List ℕ → Option (ℕ × List ℕ)
 bound_at s = if is_number (word s) then Some (digits_value 10 (word s), past_word s) else None
 
@@ -30,7 +30,7 @@ read_bounds name rest None = Some (record { name = name; bounds = [] }, rest)
 read_bounds name rest (Some inner) =
     bounds_at inner >>= λ x. close_at x.1 >>= λ z. Some (record { name = name; bounds = x.0 }, z)
 
--- a name, and its bounds in parentheses or none (ANSI X3.9-1978, 8.1 and 8.4)
+-- a name and its bounds in parentheses, or without them (ANSI X3.9-1978, 8.1 and 8.4)
 unfoldable pub decl_at : List ℕ → Option (DeclFields × List ℕ)
 decl_at s = name_at s >>= λ x. read_bounds x.0 x.1 (tree_after 40 x.1)
 
@@ -38,8 +38,8 @@ decl_at s = name_at s >>= λ x. read_bounds x.0 x.1 (tree_after 40 x.1)
 unfoldable pub declarations_at : List ℕ → Option (List DeclFields)
 declarations_at s = items_at decl_at s >>= λ x. value_ended x.0 x.1
 
--- What the code keeps of them: the first seven characters of a name, a bound that
--- is too large as the least one that is.
+-- A declared name as the code keeps it: the first seven characters of the name, and 2147483648 for
+-- each bound above 2147483647.
 abbrev pub clip_decl : DeclFields → DeclFields
 clip_decl d = record { name = cut d.name; bounds = map clipped d.bounds }
 

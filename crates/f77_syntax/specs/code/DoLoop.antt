@@ -8,7 +8,7 @@ use Rattle.f77_syntax.specs.code.Reading.{tree_after, past_comma, reading}
 use Rattle.f77_syntax.specs.code.Assignment.{value_ended}
 use Rattle.f77_syntax.specs.code.Label.{label_at}
 
--- the label and the DO variable of a DO, and what follows the equals sign (ANSI X3.9-1978, 11.10)
+-- the label and the DO variable of a DO, and the text behind the equals sign (ANSI X3.9-1978, 11.10)
 unfoldable pub control_at : List ℕ → Option (ℕ × List ℕ × List ℕ)
 control_at s =
     label_at s >>= λ x. if is_name (word (past_comma x.1))

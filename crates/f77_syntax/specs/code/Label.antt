@@ -7,7 +7,7 @@ use Rattle.f77_syntax.specs.Reading.{◌>>=◌}
 use Rattle.f77_syntax.specs.code.Reading.{digits, past_digits, tree_after}
 use Rattle.f77_syntax.specs.code.Assignment.{value_ended}
 
--- a row of digits as a label, and what follows it
+-- a row of digits as a label, and the text behind it
 unfoldable pub label_at : List ℕ → Option (ℕ × List ℕ)
 label_at s = if is_number (digits s) then Some (label_number (digits s), past_digits s) else None
 
@@ -15,7 +15,7 @@ label_at s = if is_number (digits s) then Some (label_number (digits s), past_di
 unfoldable pub last_label : List ℕ → Option ℕ
 last_label s = label_at s >>= λ x. value_ended x.0 x.1
 
--- a label and the comma behind it, and what follows
+-- a label and the comma behind it, and the text behind both
 unfoldable pub label_comma : List ℕ → Option (ℕ × List ℕ)
 label_comma s = label_at s >>= λ x. tree_after 44 x.1 >>= λ r. Some (x.0, r)
 

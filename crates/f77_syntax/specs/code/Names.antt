@@ -7,15 +7,15 @@ use Rattle.f77_tree.specs.Grammar.{is_name, word, past_word}
 use Rattle.f77_tree.specs.Name.{cut}
 use Rattle.f77_syntax.specs.code.Joined.{items_at}
 
--- a name, and what follows it
+-- a name, and the text behind it
 abbrev pub name_at : List ℕ → Option (List ℕ × List ℕ)
 name_at s = if is_name (word s) then Some (word s, past_word s) else None
 
--- the names at the front, and what follows them
+-- the names at the front, and the text behind them
 unfoldable pub names_at : List ℕ → Option (List (List ℕ) × List ℕ)
 names_at s = items_at name_at s
 
--- What the code keeps of a name: its first seven characters.
+-- a name as the code keeps it, by its first seven characters, and the text behind it
 abbrev pub IsName : Name × Bor (List ℕ) → List ℕ × List ℕ → Type 0
 IsName x a = (x.0 ≡ cut a.0) × (x.1.now ≡ a.1)
 

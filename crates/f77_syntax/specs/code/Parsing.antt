@@ -6,7 +6,7 @@ use Rattle.f77_tree.specs.Limits.{most_nodes, statement_constants, statement_nod
 use Rattle.f77_program.specs.declared.fault.SyntaxFault.{SyntaxFault}
 use Rattle.f77_program.specs.declared.fault.SyntaxFault.TheVariants.{Memory, BadConstant, TooLong}
 
--- why a statement is outside the limits that are asked of its nodes, or is not known to be within them
+-- the statement is outside the limits on its nodes, or memory ran out before that was known
 pub data IsOutside (line : ℕ) (s : Statement) : SyntaxFault → Type 0 where
   memory : IsOutside line s Memory
   constant : statement_constants s ≡ false → IsOutside line s (BadConstant line)

@@ -16,7 +16,7 @@ use Rattle.f77_tree.specs.Tree.{Tree, Trees}
 use Rattle.f77_tree.specs.Grammar.{is_digit, is_name, is_number, word, past_word}
 use Rattle.f77_syntax.specs.Reading.{◌>>=◌, strip}
 
--- the digits at the front, and what follows them
+-- the digits at the front of a text
 abbrev pub digits : List ℕ → List ℕ
 digits [] = []
 digits (c ∷ s) = if is_digit c then c ∷ digits s else []
@@ -25,7 +25,7 @@ abbrev pub past_digits : List ℕ → List ℕ
 past_digits [] = []
 past_digits (c ∷ s) = if is_digit c then past_digits s else c ∷ s
 
--- each operator, one before those whose text begins its own
+-- all operators; one stands before another whose text is its beginning
 abbrev pub operators : List Operator
 operators =
     Power ∷ Multiply ∷ Divide ∷ Add ∷ Subtract
@@ -39,7 +39,7 @@ abbrev pub first_operator : List Operator → List ℕ → Option (Operator × L
 first_operator [] s = None
 first_operator (op ∷ ops) s = or_operator op (strip (symbol op) s) (first_operator ops s)
 
--- the operator at the front, and what follows it
+-- the operator at the front, and the text behind it
 unfoldable pub operator_at : List ℕ → Option (Operator × List ℕ)
 operator_at s = first_operator operators s
 
@@ -49,20 +49,20 @@ pub record Readers : Type 0 where
   pub climb : ℕ → Tree → ℕ → List ℕ → Option (Tree × List ℕ)
   pub items : List ℕ → Option (Trees × List ℕ)
 
--- what follows this byte, where the text begins with it
+-- the text behind this byte, if the text begins with it
 abbrev pub tree_after : ℕ → List ℕ → Option (List ℕ)
 tree_after b [] = None
 tree_after b (c ∷ s) = if c == b then Some s else None
 
--- what follows the comma at the front, or the text itself
+-- the text behind the comma at its front, or the text itself
 abbrev pub past_comma : List ℕ → List ℕ
 past_comma s = unwrap_or (tree_after 44 s) s
 
--- what follows a closing parenthesis
+-- the text behind a closing parenthesis
 abbrev pub close_at : List ℕ → Option (List ℕ)
 close_at s = tree_after 41 s
 
--- a closing parenthesis behind a value of level 9
+-- an expression of level 9, if a closing parenthesis stands behind it
 abbrev pub closed : Tree → List ℕ → Option (Tree × ℕ × List ℕ)
 closed t s = close_at s >>= λ r. Some (t, 9, r)
 
@@ -75,7 +75,7 @@ signed_tree_at R w sign s = if nat_le w 6 then (R.expr 7 s >>= λ x. Some (Tree.
 abbrev pub negated_at : Readers → ℕ → List ℕ → Option (Tree × ℕ × List ℕ)
 negated_at R w s = if nat_le w 4 then (R.expr 5 s >>= λ x. Some (Tree.Not x.0, 4, x.1)) else None
 
--- what begins with a dot
+-- what begins with a dot, from the texts behind .TRUE., .FALSE. and .NOT.
 abbrev pub dotted_by : Readers → ℕ → Option (List ℕ) → Option (List ℕ) → Option (List ℕ) → Option (Tree × ℕ × List ℕ)
 dotted_by R w (Some r) other third = Some (Tree.Truth true, 9, r)
 dotted_by R w None (Some r) third = Some (Tree.Truth false, 9, r)
@@ -85,7 +85,7 @@ dotted_by R w None None None = None
 abbrev pub dotted_at : Readers → ℕ → List ℕ → Option (Tree × ℕ × List ℕ)
 dotted_at R w s = dotted_by R w (strip (codes ".TRUE.") s) (strip (codes ".FALSE.") s) (strip (codes ".NOT.") s)
 
--- a name with a list behind it
+-- a name with a list behind it: a call or a reference
 abbrev pub listed_by : Option Intrinsic → List ℕ → Trees → Tree
 listed_by None name items = Tree.Reference name items
 listed_by (Some f) name items = Tree.Call f items
@@ -105,7 +105,7 @@ word_tree_at R name r =
     else (if is_name name then named_at R name r
     else None)
 
--- what an expression begins with, its level, and what follows it
+-- what an expression begins with, its level, and the text behind it
 unfoldable pub start_at : Readers → ℕ → List ℕ → Option (Tree × ℕ × List ℕ)
 start_at R w [] = None
 start_at R w (c ∷ s) =
@@ -118,7 +118,7 @@ start_at R w (c ∷ s) =
 unfoldable pub expr_at : Readers → ℕ → List ℕ → Option (Tree × List ℕ)
 expr_at R w s = start_at R w s >>= λ x. R.climb w x.0 x.1 x.2
 
--- t, of level own, has been read: the operators behind it, as long as they are of the wanted level
+-- t, of level own, has been read: the operators behind it with their right operands, while their levels are w or higher
 abbrev pub climb_on : Readers → ℕ → Tree → ℕ → List ℕ → Option (Operator × List ℕ) → Option (Tree × List ℕ)
 climb_on R w t own s None = Some (t, s)
 climb_on R w t own s (Some x) =
@@ -138,12 +138,12 @@ more_at R t (c ∷ r) =
 unfoldable pub trees_at : Readers → List ℕ → Option (Trees × List ℕ)
 trees_at R s = expr_at R 1 s >>= λ x. more_at R x.0 x.1
 
--- what is read by at most this many calls within one another
+-- what is read by at most n calls inside one another
 unfoldable pub within : ℕ → Readers
 within zero = record { expr = λ w s. None; climb = λ w t own s. Some (t, s); items = λ s. None }
 within (suc n) = record { expr = expr_at (within n); climb = climb_at (within n); items = trees_at (within n) }
 
--- what is read by as many calls as are needed
+-- what is read by as many calls as the text needs
 unfoldable pub reading : Readers
 reading = record {
   expr = λ w s. (within (length s)).expr w s;

@@ -1,4 +1,4 @@
--- Reading a statement: by its class, and where the class says no more by its keyword.
+-- Reading a statement: by its class, and then by its keyword.
 use Rattle.std.specs.Prelude.{ℕ, ◌==◌, List, [], ◌∷◌, length, Option, Some, None, Bool, false, if◌then◌else◌, codes}
 use Rattle.std.specs.Str.{bytes_eq}
 use Rattle.f77_tree.specs.Grammar.{is_digit}
@@ -20,7 +20,7 @@ use Rattle.f77_syntax.specs.Classification.{class_of}
 use Rattle.f77_syntax.specs.declared.classification.Class.{Class}
 use Rattle.f77_syntax.specs.declared.classification.Class.TheVariants.{If, Loop, Assignment, Keyword}
 
--- the statements of one keyword alone
+-- the statements that consist of one keyword
 unfoldable pub word_statement : List ℕ → Option Statement
 word_statement s =
     if bytes_eq s (codes "CONTINUE") then Some Statement.Continue
@@ -44,7 +44,7 @@ actions_only s = if is_action s then Some s else None
 unfoldable pub simple_action_at : List ℕ → Option Statement
 simple_action_at s = simple_at s >>= actions_only
 
--- a statement that may stand in a logical IF, by its class
+-- the statement of a class, where it may stand in a logical IF
 abbrev pub action_by : Class → List ℕ → Option Statement
 action_by If s = condition_at s >>= λ x. arithmetic_at x.0 x.1
 action_by Loop s = None
@@ -59,32 +59,32 @@ abbrev pub begins_digit : List ℕ → Bool
 begins_digit [] = false
 begins_digit (c ∷ s) = is_digit c
 
--- what stands behind the condition of an IF (ANSI X3.9-1978, 11.4 to 11.6)
+-- an IF, from the text behind its condition (ANSI X3.9-1978, 11.4 to 11.6)
 unfoldable pub branch_at : Tree → List ℕ → Option Statement
 branch_at t s =
     if bytes_eq s (codes "THEN") then Some (Statement.BlockIf t)
     else (if begins_digit s then arithmetic_at t s
     else (action_at s >>= λ a. Some (Statement.LogicalIf t a)))
 
--- what stands behind the keyword ELSE (ANSI X3.9-1978, 11.7 and 11.8)
+-- ELSE or ELSE IF, from the text behind the keyword ELSE (ANSI X3.9-1978, 11.7 and 11.8)
 unfoldable pub else_at : List ℕ → Option Statement
 else_at s =
     if length s == 0 then Some Statement.Else
     else (condition_at s >>= λ x. if bytes_eq x.1 (codes "THEN") then Some (Statement.ElseIf x.0) else None)
 
--- what stands behind INTEGER or LOGICAL: names with bounds or without (ANSI X3.9-1978, 8.4)
+-- INTEGER or LOGICAL, from the text behind it: names, with bounds or without (ANSI X3.9-1978, 8.4)
 abbrev pub declared_at : Kind → List ℕ → Option Statement
 declared_at kind s = declarations_at s >>= λ ds. Some (Statement.Declare kind ds)
 
--- what stands behind DIMENSION: names that all have bounds (ANSI X3.9-1978, 8.1)
+-- DIMENSION, from the text behind it: names that all have bounds (ANSI X3.9-1978, 8.1)
 abbrev pub dimension_at : List ℕ → Option Statement
 dimension_at s = declarations_at s >>= λ ds. if all_bounded ds then Some (Statement.Dimension ds) else None
 
--- what stands behind DATA (ANSI X3.9-1978, section 9)
+-- DATA, from the text behind it (ANSI X3.9-1978, section 9)
 abbrev pub data_at : List ℕ → Option Statement
 data_at s = groups_at s >>= λ gs. Some (Statement.Preset gs)
 
--- by what stands behind INTEGER, LOGICAL, DIMENSION and DATA
+-- a statement, from the texts behind INTEGER, LOGICAL, DIMENSION and DATA
 abbrev pub specification_by : List ℕ
     → Option (List ℕ) → Option (List ℕ) → Option (List ℕ) → Option (List ℕ) → Option Statement
 specification_by s (Some r) logical dimension preset = declared_at Integer r
@@ -97,7 +97,7 @@ unfoldable pub specification_at : List ℕ → Option Statement
 specification_at s = specification_by s (strip (codes "INTEGER") s) (strip (codes "LOGICAL") s)
     (strip (codes "DIMENSION") s) (strip (codes "DATA") s)
 
--- by what stands behind SUBROUTINE and ELSE
+-- a statement, from the texts behind SUBROUTINE and ELSE
 abbrev pub keyword_by : List ℕ → Option (List ℕ) → Option (List ℕ) → Option Statement
 keyword_by s (Some r) other = subroutine_at r
 keyword_by s None (Some r) = else_at r

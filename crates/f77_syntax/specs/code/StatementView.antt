@@ -13,7 +13,7 @@ use Rattle.f77_syntax.specs.code.View.{clip, clip_all}
 use Rattle.f77_syntax.specs.code.Declaration.{clip_decl}
 use Rattle.f77_syntax.specs.code.Data.{clip_group}
 
--- a statement as it is kept: names cut, constants clipped
+-- a statement as the code keeps it: names cut, constants clipped
 abbrev pub clipping : Change
 clipping = record {
   name = cut;
@@ -37,11 +37,11 @@ abbrev pub IsReference : Ref × Bor (List ℕ) → List ℕ × Trees × List ℕ
 IsReference x a =
     ((reference_fields x.0).0 ≡ cut a.0) × (trees (reference_fields x.0).1 ≡ clip_all a.1) × (x.1.now ≡ a.2)
 
--- labels and the text behind
+-- labels and the text behind them
 abbrev pub AreLabels : Vec ℕ Global × Bor (List ℕ) → List ℕ × List ℕ → Type 0
 AreLabels x a = (x.0.items ≡ a.0) × (x.1.now ≡ a.1)
 
--- the label and the name of the DO variable of a DO, and the text behind
+-- the label of a DO, the name of its DO variable, and the text behind the equals sign
 abbrev pub IsControl : ℕ × Bor (List ℕ) × Bor (List ℕ) → ℕ × List ℕ × List ℕ → Type 0
 IsControl x a = (x.0 ≡ a.0) × (x.1.now ≡ a.1) × (x.2.now ≡ a.2)
 

@@ -14,7 +14,7 @@ use Rattle.f77_syntax.specs.code.Names.{names_at}
 unfoldable pub dummies_at : List ℕ → Option (List (List ℕ))
 dummies_at s = if length s == 0 then Some [] else (names_at s >>= λ x. value_ended x.0 x.1)
 
--- what stands before the closing parenthesis that ends the text
+-- the text before its last character, if that is a closing parenthesis
 abbrev pub before_close : List ℕ → Option (List ℕ)
 before_close s = if slice_index s (length s - 1) == 41 then Some (take (length s - 1) s) else None
 
@@ -28,6 +28,6 @@ arguments_at name (c ∷ r) =
 unfoldable pub subroutine_at : List ℕ → Option Statement
 subroutine_at s = if is_name (word s) then arguments_at (word s) (past_word s) else None
 
--- what the code keeps of the dummy arguments: the first seven characters of each
+-- the code keeps of each dummy argument the first seven characters
 abbrev pub AreDummies : Vec Name Global → List (List ℕ) → Type 0
 AreDummies x a = x.items ≡ map cut a

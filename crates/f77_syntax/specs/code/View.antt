@@ -9,11 +9,11 @@ use Rattle.f77_tree.specs.Name.{cut}
 use Rattle.f77_tree.specs.Tree.{Tree, Trees}
 use Rattle.f77_tree.specs.View.{tree_of, trees}
 
--- a constant as it is kept: any that is too large as the least one that is
+-- a constant as the code keeps it: 2147483648 for each that is larger
 abbrev pub clipped : ℕ → ℕ
 clipped n = min n 2147483648
 
--- an expression as it is kept
+-- an expression as the code keeps it
 abbrev mutual
   pub clip : Tree → Tree
   clip (Tree.Number n) = Tree.Number (clipped n)
@@ -29,7 +29,7 @@ abbrev mutual
   clip_all Trees.None = Trees.None
   clip_all (Trees.Then t ts) = Trees.Then (clip t) (clip_all ts)
 
--- What a function returned is what reading gives, unless memory ran out.
+-- a function that fails: memory ran out, or reading gives nothing
 abbrev pub Fails : {A : Type 0} → ReadError → Option A → Type 0
 Fails Memory read = Unit {0}
 Fails Unknown read = read ≡ None
@@ -42,7 +42,7 @@ Gives Is (Err e) read = Fails e read
 abbrev pub IsTree : Expr × Bor (List ℕ) → Tree × List ℕ → Type 0
 IsTree x a = (tree_of x.0 ≡ clip a.0) × (x.1.now ≡ a.1)
 
--- with its level
+-- an expression, its level and the text behind it
 abbrev pub IsTreeStart : Expr × ℕ × Bor (List ℕ) → Tree × ℕ × List ℕ → Type 0
 IsTreeStart x a = (tree_of x.0 ≡ clip a.0) × (x.1 ≡ a.1) × (x.2.now ≡ a.2)
 

@@ -1,6 +1,6 @@
--- A node of a whole and another one that change places. The node is looked for from left to
--- right: a number says where it is from here on, 1 where it is the next. It falls by the nodes
--- that were passed.
+-- Exchanging a node of a whole with another node. The node is looked for from left to right. A
+-- number says where it is from here on: 1 where it is the next. The number falls by the nodes that
+-- were passed.
 use Rattle.std.specs.Prelude.{◌≡◌, ◌≤◌, ◌-◌, ℕ, zero, suc, Bool, true, false, Option, None}
 use Rattle.std.specs.Prelude.{List, length, slice_get}
 use Rattle.f77_tree.specs.declared.tree.Ref.{Ref}
@@ -17,7 +17,7 @@ nth_item xs (suc k) = slice_get xs k
 abbrev pub put_number : {X : Type 0} → List (Site X) → ℕ → NodeOf → X → X
 put_number xs number node x = put_node (nth_item xs number) node x
 
--- with `a` in the place of the node of this number `x` is `y`, and with `b` there `y` is `x`
+-- with `a` put at the node of this number x becomes y, and with `b` put there y becomes x
 pub record Exchanged {X : Type 0} (of : X → List (Site X)) (number : ℕ) (a b : NodeOf)
     (x y : X) : Type 0 where
   pub counted : 1 ≤ number
@@ -26,7 +26,7 @@ pub record Exchanged {X : Type 0} (of : X → List (Site X)) (number : ℕ) (a b
   pub put : y ≡ put_number (of x) number a x
   pub back : x ≡ put_number (of y) number b y
 
--- nothing changed places, and with `a` in the place of that node nothing would change
+-- nothing was exchanged, and `a` put at the node of this number would change nothing
 pub record PassedBy {X : Type 0} (of : X → List (Site X)) (start left : ℕ) (a b : NodeOf)
     (x y : X) : Type 0 where
   pub same : y ≡ x
@@ -34,7 +34,7 @@ pub record PassedBy {X : Type 0} (of : X → List (Site X)) (start left : ℕ) (
   pub counted : left ≡ start - length (of x)
   pub unchanged : put_number (of x) start a x ≡ x
 
--- what is told of the node with this number
+-- what holds after the search for the node of this number, which says whether it was exchanged
 pub record Sought {X : Type 0} (of : X → List (Site X)) (told : Bool) (start left : ℕ)
     (a b : NodeOf) (x y : X) : Type 0 where
   pub found : told ≡ true → Exchanged of start a b x y

@@ -1,5 +1,5 @@
--- The answer to a request, and to words that are none.
--- Private functions and proofs alone cite what stands here.
+-- The answer to a request, and to words that are no request.
+-- Only private functions and proofs cite these definitions.
 use Rattle.std.specs.Prelude.{◌≡◌, ◌≤◌, ℕ, List, Ok, string_bytes}
 use Rattle.mothra_job.specs.Job.{JobFields, JobRead}
 use Rattle.mothra_app.specs.Line.{fault_line}
@@ -17,18 +17,18 @@ use Rattle.mothra_app.specs.declared.status.Status.{Status}
 use Rattle.mothra_app.specs.declared.status.Status.TheVariants as status
 use Rattle.mothra_app.specs.Answer.{IsAnswer}
 
--- The bench that `run` reports on by so many workers.
+-- The bench on which `run` reports, and the number of workers.
 pub data IsReadyBench (read : JobRead) : Request → BenchFields → ℕ → Type 0 where
   of_job : {job : JobFields} {operators : List Op} {every steps workers : ℕ} {bench : BenchFields} → read ≡ Ok job
       → IsBenchOf job operators every steps bench → (1 ≤ workers) × (workers ≤ 32)
       → IsReadyBench read (command.Run operators every steps workers) bench workers
 
--- the answer to the request, or that bench
+-- what is ready without threads: an answer to the request, or the bench of `run`
 abbrev pub IsReadyAnswer : Request → JobRead → Ready → Type 0
 IsReadyAnswer request read (ready.Answer answer) = IsAnswer request read answer.status (string_bytes answer.text)
 IsReadyAnswer request read (ready.Bench bench workers) = IsReadyBench read request bench workers
 
--- The report of a bench, or the line of what keeps its threads from one.
+-- The report of a bench, or the line of a fault why there is none.
 pub data IsReportAnswer (bench : BenchFields) : Status → List ℕ → Type 0 where
   report : {text : List ℕ} → IsReport bench text → IsReportAnswer bench status.Report text
   broken_off : (fault : BenchFault) → IsNoReport fault → IsReportAnswer bench status.Fault (fault_line (Bench fault))

@@ -1,5 +1,5 @@
 -- The command `list`: the mutants of the program of a job.
--- Private functions and proofs alone cite what stands here.
+-- Only private functions and proofs cite these definitions.
 use Rattle.std.specs.Prelude.{ℕ, List, flat_map}
 use Rattle.mothra_codes.specs.declared.op.Op.{Op}
 use Rattle.mothra_ops.specs.Mutants.{program_of}

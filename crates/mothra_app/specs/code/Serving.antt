@@ -1,5 +1,5 @@
--- What is served: a status and a text, by the words and all the bytes of the reader.
--- Private functions and proofs alone cite what stands here.
+-- What is served for words and all the bytes of the reader: a status and a text.
+-- Only private functions and proofs cite these definitions.
 use Rattle.std.specs.Prelude.{◌≡◌, ℕ, List, Option, string_bytes}
 use Rattle.clap.specs.Words.{Text}
 use Rattle.mothra_app.specs.code.Answer.{IsReadyAnswer}
@@ -11,19 +11,19 @@ use Rattle.mothra_cli.specs.declared.request.Request.{Request}
 use Rattle.mothra_app.specs.declared.status.Status.{Status}
 use Rattle.mothra_app.specs.Serving.{AsksFor, IsAnswered}
 
--- an answer of this status, which takes no threads
+-- what is ready is an answer with this status
 abbrev pub IsTelling : Status → Ready → Type 0
 IsTelling status (ready.Answer reply) = reply.status ≡ status
 IsTelling status (ready.Bench bench workers) = ⊥
 
--- what is ready answers the request, where the reader had these bytes left
+-- what is ready is the answer to the request for the bytes that the reader had
 pub record IsReadyBy (request : Request) (left : Option (List ℕ)) (ready : Ready) : Type 0 where
   pub bytes : List ℕ
   pub all : AreAll left bytes
   pub is : IsReadyAnswer request (job_of bytes) ready
 
--- what is ready answers the words, where the reader had the bytes
--- `left` and now has `now`: an answer, or the bench of `run`
+-- what is ready is the answer to the words, or the bench of `run`, where the
+-- reader had the bytes `left` before and has `now` after that
 abbrev pub IsReadyFor : List Text → Option (List ℕ) → Option (List ℕ) → Ready → Type 0
 IsReadyFor words left now (ready.Answer reply) = IsAnswered words left now reply.status (string_bytes reply.text)
 IsReadyFor words left now (ready.Bench bench workers) =

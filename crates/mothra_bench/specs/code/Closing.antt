@@ -1,5 +1,5 @@
 -- How an operator is closed.
--- Private functions and proofs alone cite what stands here.
+-- Only private functions and proofs cite these definitions.
 use Rattle.std.specs.Prelude.{◌≡◌, ◌⊎◌, ◌≤◌, true, false, List, ◌∷◌, [], ◌++◌, All}
 use Rattle.mothra_codes.specs.declared.op.Op.{Op}
 use Rattle.mothra_exchange.specs.declared.view.View.{View}
@@ -12,7 +12,7 @@ use Rattle.mothra_bench.specs.Closing.{count_of, seen_of}
 abbrev pub AreClosed : List Op → View → Type 0
 AreClosed ops view = All (λ op. (seen_of view op).closed ≡ true) ops
 
--- the pass looked at the operator, and neither offered nor closed
+-- the pass looked at the operator, and offered and closed nothing
 pub record LooksOnly (op : Op) (old new : View) : Type 0 where
   pub changes : ChangesOnly op old new
   pub offered : new.offered ≡ old.offered
@@ -24,7 +24,7 @@ pub record Shuts (op : Op) (old new : View) : Type 0 where
   pub was : (seen_of old op).closed ≡ false
   pub closings : new.closings ≡ old.closings ++ closing op (seen_of new op).offered ∷ []
 
--- the operator is closed: by this pass, or before
+-- the operator is closed, by this pass or before
 pub record Closes (op : Op) (old new : View) : Type 0 where
   pub changes : ChangesOnly op old new
   pub offered : new.offered ≡ old.offered

@@ -1,5 +1,5 @@
--- What workers and feeders come to together.
--- Private functions and proofs alone cite what stands here.
+-- What a drive of workers and feeders promises.
+-- Only private functions and proofs cite these definitions.
 use Rattle.std.specs.Prelude.{◌≡◌, ◌⊎◌, ℕ, ◌+◌, ◌≤◌, Bool, true, List, [], ◌++◌}
 use Rattle.std.specs.Prelude.{Vec, Option, None, Some, Result, Ok, Err, IfOk, IfErr, Contains}
 use Rattle.std.specs.declared.alloc.Global.{Global}
@@ -16,14 +16,14 @@ use Rattle.mothra_bench.specs.Working.{AreOver}
 use Rattle.mothra_verdicts.specs.declared.fault.BenchFault.{BenchFault}
 use Rattle.mothra_verdicts.specs.declared.verdict.Row.{Row}
 
--- a pass of an exchange with these counts that did nothing
+-- the pass has these counts and did nothing yet
 pub record IsNewPass (counts : List ℕ) (view : View) : Type 0 where
   pub same : view.counts ≡ counts
   pub offered : view.offered ≡ []
   pub taken : view.taken ≡ []
   pub closings : view.closings ≡ []
 
--- a pass that one thread was given: one share of the caller's, in which nothing was done
+-- the pass of a new thread: it has one share, and did nothing yet
 pub record IsShare (parts keeps : Bool) (counts : List ℕ) (view : View) : Type 0 where
   pub part : parts ≡ true → view.part ≡ 1
   pub fresh : keeps ≡ true → IsNewPass counts view
@@ -44,25 +44,25 @@ pub record JoinsPass (old other new : View) : Type 0 where
   pub united : new ≡ united_view old other
   pub well : MergesWell old other
 
--- Of two feeders each operator has one.
+-- Each operator belongs to exactly one of the two feeders.
 abbrev pub AreShared : List Op → List Op → Type 0
 AreShared front back = (op : Op)
     → (Contains front op × ¬ (Contains back op)) ⊎ (¬ (Contains front op) × Contains back op)
 
--- Passes that offered and closed nothing were merged into this one.
+-- Only passes that offered and closed nothing were merged into this one, so what was fed is fed.
 pub record KeepsFed (old new : View) : Type 0 where
   pub counts : new.counts ≡ old.counts
   pub fed : (op : Op) → IsFed old op → IsFed new op
 
--- what the pass has when all passes are merged into it
+-- all passes were merged into this one: it is whole, and each operator is fed and over
 pub record IsDone (plan : PlanFields) (view : View) : Type 0 where
   pub counts : AreCounts plan view.counts
   pub part : view.part ≡ whole_part
   pub fed : (op : Op) → IsFed view op
   pub over : AreOver view
 
--- The answer of a drive: a fault of its own; else the first
--- feeder's; else the second's; else what the workers come to.
+-- The answer of a drive: its own fault; else the fault of the first feeder; else
+-- that of the second; else the answer of the workers.
 abbrev pub answer_of : {X : Type 0}
     → Option BenchFault → Result (Unit {0}) BenchFault → Result (Unit {0}) BenchFault
     → Result X BenchFault → Result X BenchFault
@@ -71,8 +71,8 @@ answer_of None (Err fault) second outcome = Err fault
 answer_of None (Ok one) (Err fault) outcome = Err fault
 answer_of None (Ok one) (Ok other) outcome = outcome
 
--- What workers and two feeders come to: the pass into which all
--- of theirs were merged, and all rows, or why there are none.
+-- What the threads of a drive promise: of `new`, the pass into which theirs were
+-- merged, and of the outcome, which is all rows or a fault.
 pub record Drives (may keeps parts : Bool) (bench : BenchFields) (front back : List Op) (workers : ℕ) (old new : View)
     (outcome : Result (Vec Row Global) BenchFault) : Type 0 where
   pub verdicts : IfOk outcome (λ rows. AreVerdicts bench rows.items)

@@ -1,5 +1,5 @@
 -- What the words of the command line ask for.
--- Private functions and proofs alone cite what stands here.
+-- Only private functions and proofs cite these definitions.
 use Rattle.std.specs.Prelude.{◌≡◌, Option, Some, None, Result, Ok, Err}
 use Rattle.clap.specs.Words.{kind_of}
 use Rattle.clap.specs.declared.error.kind.ErrorKind.TheVariants as kind
@@ -8,7 +8,7 @@ use Rattle.mothra_cli.specs.declared.request.WordsFault.{WordsFault}
 use Rattle.mothra_cli.specs.declared.request.WordsFault.TheVariants as fault
 use Rattle.mothra_cli.specs.Request.{Meaning, refused, bad_operators, request}
 
--- the request that is meant, or why there is none, or memory that ran out
+-- the result is the request of this meaning, or says why it is none, or that memory ran out
 abbrev pub ReadsRequest : Meaning → Result (Option Request) WordsFault → Type 0
 ReadsRequest meaning (Ok (Some r)) = meaning ≡ request r
 ReadsRequest meaning (Ok None) = meaning ≡ refused

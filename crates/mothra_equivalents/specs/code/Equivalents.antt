@@ -1,5 +1,5 @@
 -- The mutants of a plan that no test can kill.
--- Private functions and proofs alone cite what stands here.
+-- Only private functions and proofs cite these definitions.
 use Rattle.std.specs.Prelude.{◌<◌, ℕ, List, All}
 use Rattle.f77_program.specs.Program.{LineFields}
 use Rattle.f77_equivalence.specs.Equivalent.{IsEquivalent}
@@ -13,7 +13,7 @@ use Rattle.mothra_equivalents.specs.declared.why.Why.{Why}
 use Rattle.mothra_equivalents.specs.declared.why.Why.TheVariants as why
 use Rattle.mothra_equivalents.specs.Equivalents.{AreEquivalents}
 
--- what a rule says of a program and the one that a mutant makes of it
+-- what a rule promises of a program p and a mutant q of it
 abbrev pub IsEquivalentBy : Why → List LineFields → List LineFields → Type 0
 IsEquivalentBy why.Same p q = IsEquivalent p q
 IsEquivalentBy why.Unread p q = IsEquivalent p q
@@ -21,12 +21,12 @@ IsEquivalentBy why.Continues p q = IsEquivalent p q
 IsEquivalentBy (why.Spare spare) p q = IsEquivalentWithin spare p q
 IsEquivalentBy why.Unreached p q = IsEquivalent p q
 
--- these are such mutants, and each is before this one of the operator
+-- the list has equivalent mutants, each before this number of the operator
 pub record IsFront (plan : PlanFields) (op : Op) (number : ℕ) (list : List Equivalent) : Type 0 where
   pub are : AreEquivalents plan list
   pub before : All (λ equivalent. Before equivalent.ticket (ticket op number)) list
 
--- these are such mutants, of the operators before the one of this place in their order
+-- the list has equivalent mutants, of operators before the one at this place
 pub record AreOf (plan : PlanFields) (place : ℕ) (list : List Equivalent) : Type 0 where
   pub are : AreEquivalents plan list
   pub before : All (λ equivalent. index equivalent.ticket.op < place) list

@@ -1,5 +1,5 @@
--- What a try call leaves: one load, then the answer of the table for the word that it found.
--- Private functions and proofs alone cite what stands here.
+-- What a call leaves: it loads one word, then gives the answer of the table for that word.
+-- Only private functions and proofs cite these definitions.
 use Rattle.std.specs.Prelude.{◌≡◌, ℕ}
 use Rattle.mothra_exchange.specs.declared.word.Word.{Word}
 use Rattle.mothra_exchange.specs.declared.view.View.{View}

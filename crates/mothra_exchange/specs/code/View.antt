@@ -1,12 +1,13 @@
 -- The view of a pass, and how each step changes it.
--- Private functions and proofs alone cite what stands here.
+-- Only private functions and proofs cite these definitions.
 use Rattle.std.specs.Prelude.{[]}
 use Rattle.mothra_exchange.specs.declared.view.View.{View}
 use Rattle.mothra_exchange.specs.View.{united_view}
 
--- between the two steps of a merge the view has the looks of both passes
+-- the view between the two steps of a merge, which has the looks of both passes
 abbrev pub merging_view : View → View → View
 merging_view v w = record (united_view v w) { mine = v.looks; theirs = w.looks }
 
+-- the view after the load that ends a merge
 abbrev pub settled_view : View → View
 settled_view v = record v { mine = []; theirs = [] }

@@ -1,5 +1,5 @@
 -- A list of edits that is being made, statement by statement, node by node, replacement by replacement.
--- Private functions and proofs alone cite what stands here.
+-- Only private functions and proofs cite these definitions.
 use Rattle.std.specs.Prelude.{◌≡◌, ℕ, List}
 use Rattle.f77_program.specs.Program.{LineFields}
 use Rattle.mothra_ops.specs.Edits.{Below, IsMember, Lists}
@@ -12,7 +12,7 @@ use Rattle.mothra_ops.specs.Listing.{longest, HoldsEdits}
 abbrev pub So : Op → List LineFields → ℕ → ℕ → ℕ → Edit → Type 0
 So op program number position rank edit = IsMember op program edit × Below number position rank edit
 
--- it has come to this place of the program: it holds the edits that stand before it
+-- the listing has come to this place of the program: it holds the members that stand before the place
 pub record HasCome (listing : Listing) (program : List LineFields) (number position rank : ℕ) : Type 0 where
   pub limits : listing.limits ≡ longest
   pub found : List Edit

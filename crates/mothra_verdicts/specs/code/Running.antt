@@ -1,4 +1,4 @@
--- What the program comes to on tests and where it was, and why that cannot be had.
+-- The outcomes of the program on tests, where control came, and the faults for which these can not be given.
 use Rattle.std.specs.Prelude.{⊤, ℕ, List, All, map}
 use Rattle.f77_program.specs.Program.{LineFields, line_of}
 use Rattle.f77_check.specs.Checked.{CheckedFields}
@@ -10,14 +10,14 @@ use Rattle.mothra_verdicts.specs.Killing.{AreFollowedOn}
 use Rattle.mothra_verdicts.specs.declared.fault.BenchFault.{BenchFault}
 use Rattle.mothra_verdicts.specs.declared.fault.BenchFault.TheVariants as fault
 
--- the outcomes of the program on the tests, on each of which it ends, and where control was on each
+-- the program ends on each test with these outcomes, and these visits say where control came
 pub record AreCourses (checked : CheckedFields) (steps : ℕ) (tests : List (List Arg)) (told : List Outcome)
     (noted : List Visits) : Type 0 where
   pub outcomes : AreOutcomes (map line_of checked.program) steps tests told
   pub end : All IsProgramEnd told
   pub visits : AreFollowedOn checked steps tests noted
 
--- the first test on which the program does not end
+-- the faults: want of memory, or the first test on which the program does not end
 abbrev pub IsNoRun : List LineFields → ℕ → List (List Arg) → BenchFault → Type 0
 IsNoRun program steps tests fault.Memory = ⊤
 IsNoRun program steps tests (fault.OriginalFails test) = IsFirstNot (EndsOn program steps) tests test

@@ -5,7 +5,7 @@ use Rattle.f77_tree.specs.Joined.{separated}
 use Rattle.equivalents_app.specs.Telling.{declarable, entry_text}
 use Rattle.equivalents_app.proofs.telling.push_entries.Given as goal
 
--- what is written, and then the entries of the other mutants, is the text of them all
+-- what is written, followed by the entries of the other mutants, is the whole text
 abbrev pub invariant-loop-equivalent : goal.invariant-loop-equivalent
 invariant-loop-equivalent l = record {
   letters : shadow (Utf8 l.before);

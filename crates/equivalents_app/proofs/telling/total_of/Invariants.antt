@@ -3,7 +3,7 @@ use Rattle.mothra_app.specs.Listing.{asked_total}
 use Rattle.equivalents_app.proofs.Totals.{count_behind}
 use Rattle.equivalents_app.proofs.telling.total_of.Given as goal
 
--- what is counted, and then the mutants of the other operators, is all
+-- what is counted and the mutants of the other operators are all mutants
 abbrev pub invariant-loop-op : goal.invariant-loop-op
 invariant-loop-op l = record {
   total : l.total + count_behind l.plan l.op-index ≡ asked_total l.plan;

@@ -7,7 +7,7 @@ use Rattle.f77_legal.specs.code.BlockTable.{is_end_among}
 use Rattle.f77_legal.proofs.FirstNumbers.{table_from_each}
 use Rattle.f77_legal.proofs.blocks.ends_marked.Goals as goal
 
--- what is written over marks that are as many
+-- writing over a list of the same length
 written : (n : ℕ) (new old : List Bool) → length new ≡ length old → n ≡ length old → take n (new ++ drop (length new) old) ≡ new
 written n new old long full = take-append-le n new (drop (length new) old) (omega arith) ∙ take_all n new (omega arith)
 

@@ -18,7 +18,7 @@ returns-then-more-most-clause-ends c = λ _.
     ends_later c.args.code.now (stands_at c.args.start c.args.registers.now) c.marks.at.made (stands_at c.marks.at.place c.marks.registers) c.marks.invariant.leads
     c.in_ok-more.more.made (stands_at c.in_ok-more.more.place c.steps_with_looks.new.registers) (c.in_ok-more.ensures.ends c.if-more-most.true)
 
--- as many steps were made again
+-- the number of steps has doubled
 pub marks-preserved : goal.marks-preserved
 marks-preserved c =
     let some = c.marks.invariant.some c.marks-test.true c.if-at-steps.true in

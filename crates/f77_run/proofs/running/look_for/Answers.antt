@@ -23,7 +23,7 @@ returns-then-are-clause-leads c =
     leads_on c.args.code.now (stands_at c.args.start c.args.registers.now) c.looks.at.made (stands_at c.looks.at.place c.looks.registers) c.looks.invariant.leads
     c.steps_to-more.result.made (stands_at c.steps_to-more.result.place c.steps_to-more.new.registers) c.steps_to-more.ensures.leads
 
--- it stands where it stood at first
+-- the code is in the state in which it was at first
 pub returns-then-are-clause-ends : goal.returns-then-are-clause-ends
 returns-then-are-clause-ends c =
     let begin = stands_at c.args.start c.args.registers.now in

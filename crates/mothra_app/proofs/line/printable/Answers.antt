@@ -8,7 +8,7 @@ use Rattle.mothra_app.proofs.line.printable.Goals as goal
 small : (c : ℕ) → shown_character c < 128
 small c = grind (arith, nat_tests)
 
--- a printable character is its own byte
+-- a printable character is one byte in UTF-8, its own code
 one_byte_each : (cs : List ℕ) → encode_utf8_all (map shown_character cs) ≡ map shown_character cs
 one_byte_each [] = refl
 one_byte_each (c ∷ cs) = ap₂ (λ (xs ys : List ℕ). xs ++ ys) (encode_ascii (shown_character c) (small c)) (one_byte_each cs)

@@ -5,7 +5,7 @@ use denote.Shadow.{shadow}
 use Rattle.f77_tree.specs.Joined.{separated}
 use Rattle.mothra_app.proofs.outcome_line.push_numbers.Given as goal
 
--- what is written, and then the text of the other elements, is the text of them all
+-- what is written, followed by the text of the other elements, is the text of all elements
 abbrev pub invariant-loop-number : goal.invariant-loop-number
 invariant-loop-number l = record {
   letters : shadow (Utf8 l.before);

@@ -2,7 +2,7 @@ use Rattle.std.proofs.Common.{◌≡◌, ◌∙◌, ◌++◌, ℕ, List, ap, sym
 use Rattle.mothra_app.specs.OutcomeLine.{arguments_text, outcome_text}
 use Rattle.mothra_app.proofs.outcome_line.push_outcome.Goals as goal
 
--- what is added in two parts
+-- a text is added in two parts
 in_two : {A E : Type 0} (result : Result A E) (old middle new word text whole : List ℕ) → middle ≡ old ++ word → whole ≡ word ++ text
     → OnOk result (new ≡ middle ++ text) → OnOk result (new ≡ old ++ whole)
 in_two (Ok x) old middle new word text whole front all is =

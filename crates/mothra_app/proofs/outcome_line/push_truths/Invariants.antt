@@ -5,7 +5,7 @@ use Rattle.f77_tree.specs.Joined.{separated}
 use Rattle.mothra_app.specs.OutcomeLine.{truth_letter}
 use Rattle.mothra_app.proofs.outcome_line.push_truths.Given as goal
 
--- what is written, and then the text of the other elements, is the text of them all
+-- what is written, followed by the text of the other elements, is the text of all elements
 abbrev pub invariant-loop-truth : goal.invariant-loop-truth
 invariant-loop-truth l = record {
   letters : shadow (Utf8 l.before);

@@ -2,7 +2,7 @@ use Rattle.std.proofs.Common.{rules, arith, ◌≡◌, ◌≤◌, ◌+◌, ◌++
 use Rattle.std.proofs.KnownBytes.{Consumes-trans}
 use Rattle.mothra_cli.proofs.input.read_input.Goals as goal
 
--- what the last read gave is lost with the rest
+-- the bytes of the last read are lost with the others
 pub returns-then-is_err-clause-taken : goal.returns-then-is_err-clause-taken
 returns-then-is_err-clause-taken g c =
     let done = c.loop-chunk.bytes.items in

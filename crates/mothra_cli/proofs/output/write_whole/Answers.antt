@@ -5,7 +5,7 @@ use Rattle.std.specs.Io.KnownBytes.{Appends}
 use Rattle.std.proofs.KnownBytes.{Appends-trans}
 use Rattle.mothra_cli.proofs.output.write_whole.Goals as goal
 
--- what was written, and then the front of the rest
+-- what was written, then the front of the rest, is a front of the text
 joined : (text : List ℕ) (n m : ℕ) → take n text ++ take m (take (length text - n) (drop n text)) ≡ take (n + m) text
 joined text n m = ap (λ l. take n text ++ take m l) (take_rest text n) ∙ sym (take-add n m text)
 

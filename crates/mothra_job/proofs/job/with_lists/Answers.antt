@@ -13,7 +13,7 @@ use Rattle.mothra_job.proofs.job.with_lists.Goals as goal
 abbrev Tests : Type 0
 Tests = Result (List (List Arg)) JobFault
 
--- no fault, and this value
+-- where the result is a value, there is no fault, and it is that value
 without_fault : (fs : List JobFault) (x y : List (List Arg)) → Ok y ≡ fault_or fs x → (fs ≡ []) × (x ≡ y)
 without_fault [] x y e = let same : x ≡ y = cc in (refl, same)
 without_fault (f ∷ fs) x y e = cc

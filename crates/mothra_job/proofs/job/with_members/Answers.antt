@@ -16,7 +16,7 @@ Entries = List (String Global × Value)
 abbrev unknown_in : Entries → Option (List ℕ)
 unknown_in es = option_map string_bytes (find (λ k. not (is_known (string_bytes k))) (keys_of es))
 
--- an unknown key is told before all else
+-- the answer of a job: J3 at the unknown key, if there is one, else the rest
 abbrev told : Option (List ℕ) → JobRead → JobRead
 told None rest = rest
 told (Some key) rest = Err (Key key)
@@ -33,7 +33,7 @@ by_keys : (rest : List JobFault) (job : JobFields) (es : Entries)
 by_keys rest job [] = refl
 by_keys rest job (e ∷ es) = first_step rest job e es (is_known (string_bytes e.0)) refl (by_keys rest job es)
 
--- what comes of a source, a suite and entries that are there
+-- the answer of the definition where the source, the suite and the entries are there
 met : (source : Option (List ℕ)) (suite entries : Option (List Data)) (es : Entries) (text : List ℕ) (tests declared : List Data)
     → source ≡ Some text → suite ≡ Some tests → entries ≡ Some declared
     → fault_or (member_faults source suite entries (unknown_keys (members_view es))) (job_with source suite entries)

@@ -4,7 +4,7 @@ use Rattle.mothra_job.specs.FirstFault.{fault_or}
 use Rattle.mothra_job.specs.Suite.{test_faults, tests_of}
 use Rattle.mothra_job.proofs.suite.tests.Given as goal
 
--- the tests so far and what the other values are come to what all the values are
+-- the tests so far, followed by those of the other values, are those of all values
 abbrev pub invariant-loop-index : goal.invariant-loop-index
 invariant-loop-index l =
     let rest = map view (drop l.index l.values) in

@@ -15,7 +15,7 @@ use Rattle.f77_check.specs.declared.resolve.Resolver.{Resolver}
 use Rattle.f77_check.proofs.Changes.{line_read, told_alone, told_fault, told_legal}
 use Rattle.f77_check.proofs.checked.Checked.judged_alone.Goals as goal
 
--- what is told by the resolver and by the lines that were read
+-- what the resolver and the lines say of the statement
 of_names : (own r : Resolver) (s : Statement) (told : Broken) → own ≡ r → names_pass (has_name own.tables.names) s ≡ has_known_names told
     → names_pass (has_name r.tables.names) s ≡ has_known_names told
 of_names own r s told same names = subst (λ (r : Resolver). names_pass (has_name r.tables.names) s ≡ has_known_names told) same names

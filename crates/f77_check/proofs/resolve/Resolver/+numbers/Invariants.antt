@@ -5,6 +5,6 @@ use Rattle.f77_check.specs.Expression.{IsChosen}
 use Rattle.f77_check.specs.code.Lookup.{by_tables}
 use Rattle.f77_check.proofs.resolve.Resolver.+numbers.Given as goal
 
--- of the items from here on
+-- the choice among the items from here on
 abbrev pub invariant-chosen-loop-i : goal.invariant-chosen-loop-i
 invariant-chosen-loop-i l = by_tables l.self IsChosen l.operation (trees (map tree_of (drop l.i l.items))) l.chosen

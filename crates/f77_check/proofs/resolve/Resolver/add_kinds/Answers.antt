@@ -16,7 +16,7 @@ loop-slot-preserved c =
     ∙ append_assoc before (replicate c.loop-slot._slot kind) (kind ∷ [])
     ∙ ap (λ kinds. before ++ kinds) (replicate_more c.loop-slot._slot kind)
 
--- the name has few slots, so that their number is its own
+-- the name has few slots, so the number that the code computes is exact
 pub returns-clause-kinds : goal.returns-clause-kinds
 returns-clause-kinds c =
     let names = c.args.self.now.tables.names in

@@ -8,7 +8,7 @@ use Rattle.mothra_ops.proofs.Thinned.{thinned_kept, thinned_passed}
 use Rattle.mothra_ops.proofs.listing.Listing.add.Goals.{then-self-eq0+else-len-self+in_ok-push, else-self-eq0}
 use Rattle.mothra_ops.proofs.listing.Listing.add.Goals as goal
 
--- what makes a mutant
+-- the edit of a mutant
 abbrev edit_made : Mutant → Edit
 edit_made mutant = mutant.edit
 

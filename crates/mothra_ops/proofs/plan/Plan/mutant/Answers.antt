@@ -10,7 +10,7 @@ use Rattle.mothra_ops.proofs.Shapes.{shapes_found}
 use Rattle.mothra_ops.proofs.plan.Plan.mutant.Goals.{After-get}
 use Rattle.mothra_ops.proofs.plan.Plan.mutant.Goals as goal
 
--- what is found is the list's mutant of the number
+-- the mutant that is found is that of the list with this number
 found_there : (c : After-get) → option_map (λ (mutant : Bor Mutant). mutant.now) c.get.result ≡ numbered c.in_ok-list.list.now.mutants.items c.args.number
 found_there c =
     found_numbered c.deref.result.now c.args.number c.get.result (omega (arith, c.if-number-eq0.false)) c.get.ensures.lookup.0 c.get.ensures.lookup.1
