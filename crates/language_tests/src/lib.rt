@@ -15,7 +15,6 @@ mod equality;
 #[cfg(test)]
 mod fault_texts;
 #[cfg(test)]
-mod lists;
 #[cfg(test)]
 mod nodes;
 #[cfg(test)]
