@@ -3,7 +3,6 @@
 import re
 import unittest
 from collections.abc import Iterator
-from pathlib import Path
 from typing import NamedTuple
 
 import running
@@ -67,7 +66,7 @@ class Promises(unittest.TestCase):
         for row in rows():
             for name, definitions in row.definitions:
                 crate, _, file = name.rpartition("/")
-                paths = [Path(CRATES / owner / "specs" / file) for owner in ([crate] if crate else row.crates)]
+                paths = [CRATES / owner / "specs" / file for owner in ([crate] if crate else row.crates)]
                 texts = [path.read_text() for path in paths if path.exists()]
                 with self.subTest(file=name):
                     self.assertTrue(texts)
