@@ -15,6 +15,7 @@ mod equality;
 #[cfg(test)]
 mod fault_texts;
 #[cfg(test)]
+mod lists;
 #[cfg(test)]
 mod nodes;
 #[cfg(test)]

@@ -98,7 +98,8 @@ fn offer_turn<G: Gate, R: Wait>(
     ensures shows { G.keeps_records ≡ true
         → count_of (G.view pass.old) op ≡ count → ShowsStage (G.view pass.old) op stage
         → IfSome result (ShowsStage (G.view pass.new) op) }
-    ensures others { G.keeps_records ≡ true → IfSome result (λ _. ChangesOnly op (G.view pass.old) (G.view pass.new)) }
+    ensures others { G.keeps_records ≡ true
+        → IfSome result (λ _. ChangesOnly op (G.view pass.old) (G.view pass.new)) }
 {
     match stage {
         Stage::Offered(before) if before < count => {

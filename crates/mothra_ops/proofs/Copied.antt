@@ -18,7 +18,7 @@ use Rattle.mothra_ops.specs.declared.mutant.Mutant.{Mutant}
 use Rattle.mothra_ops.proofs.Made.{past}
 use Rattle.mothra_ops.proofs.MakesMutant.{counted_at}
 
--- the item that was set, and a list set twice
+-- the item that was set
 set_there : {X : Type 0} (xs : List X) (k : ℕ) (x y : X) → slice_get xs k ≡ Some y → slice_get (slice_set xs k x) k ≡ Some x
 set_there [] k x y at = absurd (none-some y at)
 set_there (first ∷ rest) zero x y at = refl
@@ -40,16 +40,11 @@ put_there statements (suc k) position node s at =
     ∙ ap (λ (j : ℕ). slice_get (slice_set statements j (changed s position node)) k) e
     ∙ set_there statements k (changed s position node) s at
 
--- a list set twice, and set to what it has
-set_twice : {X : Type 0} (xs : List X) (k : ℕ) (x y : X) → slice_set (slice_set xs k x) k y ≡ slice_set xs k y
-set_twice [] k x y = refl
-set_twice (first ∷ rest) zero x y = refl
-set_twice (first ∷ rest) (suc k) x y = ap (λ ys. first ∷ ys) (set_twice rest k x y)
-
-set_same : {X : Type 0} (xs : List X) (k : ℕ) (x : X) → slice_get xs k ≡ Some x → slice_set xs k x ≡ xs
-set_same [] k x at = refl
-set_same (first ∷ rest) zero x at = ap (λ y. y ∷ rest) (sym (same_Some first x at))
-set_same (first ∷ rest) (suc k) x at = ap (λ ys. first ∷ ys) (set_same rest k x at)
+-- what was exchanged and is put back
+set_back : {X : Type 0} (xs : List X) (k : ℕ) (x y : X) → slice_get xs k ≡ Some y → slice_set (slice_set xs k x) k y ≡ xs
+set_back [] k x y at = refl
+set_back (first ∷ rest) zero x y at = ap (λ y. y ∷ rest) (sym (same_Some first y at))
+set_back (first ∷ rest) (suc k) x y at = ap (λ ys. first ∷ ys) (set_back rest k x y at)
 
 -- where no statement has the number, nothing changes
 pub put_nowhere : (statements : List Statement) (number position : ℕ) (node : NodeOf) → (number ≡ 0) ⊎ (length statements < number)
@@ -87,8 +82,7 @@ module _ (stmts : List Stmt) (number position : ℕ) (old new : Stmt) (low : 1 �
       sym (ap (λ (o : Option Statement). option_map_or (λ s. slice_set now (number - 1) (changed s position node)) o now) (sym (counted_at now number low) ∙ at_new)
       ∙ ap (slice_set now (number - 1)) (sym back)
       ∙ ap (λ (xs : List Statement). slice_set xs (number - 1) (statement_of old)) whole
-      ∙ set_twice (map statement_of stmts) (number - 1) (statement_of new) (statement_of old)
-      ∙ set_same (map statement_of stmts) (number - 1) (statement_of old) at_old)
+      ∙ set_back (map statement_of stmts) (number - 1) (statement_of new) (statement_of old) at_old)
 
 -- where a mutant's node stands in the copy of its statement, that is the mutant's
 pub mutant_in_copy : (checked : CheckedFields) (own : Mutant) → IsMadeMutant checked own

@@ -31,7 +31,7 @@ pub struct Mutant {
     /// The edit that makes it.
     pub edit: Edit,
     /// The node that stands in the place of the edit's.
-    pub(crate) node: Replacement,
+    pub node: Replacement,
     /// The changed statement. It is a snapshot: clauses alone read it, and it takes no memory.
     pub stmt: Snapshot<Stmt>,
     /// Whether the changed statement alone shows that the mutant is legal.
