@@ -15,6 +15,9 @@ use crate::joined::{print_names, print_numbers};
 use f77_tree::{Expr, Name, Stmt};
 use std::alloc::{AllocError, Global};
 
+/// Room for the characters of most statements: those of one line (ANSI X3.9-1978, 3.2.1).
+const ROOM: usize = 66;
+
 /// The level of an expression's own form, from 1 to 9.
 fn own_level(expr: &Expr) -> u8
     ensures { result ≡ canonical.own_level (tree_of expr.now) }
@@ -267,7 +270,7 @@ pub fn print_stmt(alloc: Global, stmt: &Stmt) -> Result<String, SyntaxFault>
         → SpellsStatement (squeezed (string_bytes text)) (statement_of stmt.now)) }
     ensures refused { IfErr result (λ fault. fault ≡ SyntaxFault.Memory) }
 {
-    let mut out = String::new(alloc);
+    let mut out = String::with_capacity(alloc, ROOM)?;
     statement(&mut out, stmt)?;
     Ok(out)
 }

@@ -2,19 +2,13 @@
 use Rattle.std.proofs.Common.{arith, ◌≡◌, ℕ, zero, suc, ◌+◌, ◌<◌, ◌≤◌, ℤ, Bool, true, List, [], ◌∷◌, ◌++◌, drop, take, length, map, get_or, Option, Some, None}
 use Rattle.std.proofs.Common.{refl, sym, ap, subst, ◌∙◌}
 use Rattle.std.specs.Prelude.{slice_get, slice_set}
-use Rattle.std.specs.Bool.{beq, Decides}
-use Rattle.std.specs.Cmp.{booleans_Decides}
+use Rattle.std.specs.Bool.{Decides}
 use Rattle.std.specs.List.{list_all, zip}
-use Rattle.std.specs.Option.{option_eq}
-use Rattle.std.specs.Ordering.{int_eq}
 use Rattle.std.proofs.lemmas.Bool.{and_from, and_parts}
-use Rattle.std.proofs.lemmas.Bool.Decides.{Decides-int_eq}
 use Rattle.std.proofs.lemmas.List.{drop_all, drop_more, get_or-map, length-map, length-set, set-append_left}
 use Rattle.std.proofs.lemmas.Option.{same_Some, slice_get-get_or}
 use Rattle.std.proofs.lemmas.Simd.{map-map}
-use Rattle.f77_tree.specs.Deciding.{option_decides}
 use Rattle.f77_tree.specs.declared.tree.Kind.{Kind}
-use Rattle.f77_actions.specs.contracts.value.ValuePartialEq.TheImpl as values
 use Rattle.f77_actions.specs.declared.value.Value.{Value}
 use Rattle.f77_actions.specs.declared.value.Value.TheVariants as held
 use Rattle.f77_actions.specs.Told.{coded, is_fitting}
@@ -29,7 +23,7 @@ use Rattle.f77_run.specs.code.Registers.{shown_as, shown_cells}
 use Rattle.f77_meaning.specs.code.Spans.{span}
 use Rattle.f77_meaning.specs.Spans.{all_filled, filled}
 use Rattle.f77_meaning.proofs.Cells.{get_or-table}
-use Rattle.f77_run.proofs.Held.{decided_not, decided_of}
+use Rattle.f77_run.proofs.Held.{decided_of}
 use Rattle.f77_run.proofs.Loaded.{loaded_count, shown_at}
 
 -- a member put in the place of another keeps what holds of each
@@ -179,16 +173,3 @@ module _ {A : Type 0} (f : A → Value) (xs : List A) (cells : Cells) (first : �
       let values : map (λ v. Some v) (map f xs) ≡ map (λ x. Some (f x)) xs = map-map (λ v. Some v) f xs in
       let count : span first (length xs) cells ≡ span first (length (map f xs)) cells = ap (λ n. span first n cells) (sym (length-map xs f)) in
       decided_of r decides (λ same. values ∙ same ∙ count) (λ same. sym values ∙ same ∙ sym count)
-
--- the test of two values
-values_decide : (a b : Value) → Decides (values.ghosts.eq a b) (a ≡ b)
-values_decide (held.Number x) (held.Number y) = decided_of (int_eq x y) (Decides-int_eq x y) (λ same. ap (λ z. held.Number z) same) (λ same. cc (same))
-values_decide (held.Number x) (held.Truth c) = decided_not (λ same. absurd (cc (same)))
-values_decide (held.Truth b) (held.Number y) = decided_not (λ same. absurd (cc (same)))
-values_decide (held.Truth b) (held.Truth c) = decided_of (beq b c) (booleans_Decides b c) (λ same. ap (λ b. held.Truth b) same) (λ same. cc (same))
-
--- the test of a value and what a slot holds
-pub slot_decides : (own cell : Option Value) (other : Value) (r : Bool) → r ≡ option_eq values.ghosts.eq own (Some other) → own ≡ cell → Decides r (Some other ≡ cell)
-slot_decides own cell other r is same =
-    let decides = option_decides values.ghosts.eq values_decide own (Some other) in
-    (λ e. sym (decides.0 (sym is ∙ e)) ∙ same, λ e. is ∙ decides.1 (same ∙ sym e))

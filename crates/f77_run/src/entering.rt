@@ -14,7 +14,7 @@ ghost use Rattle.f77_meaning.specs.Interpreter.{values_in};
 ghost use Rattle.f77_meaning.specs.Spans.{all_filled, filled};
 ghost use Rattle.f77_actions.specs.declared.value.Value.TheVariants as held;
 
-use crate::registers::{number, value};
+use crate::registers::{is_value, number};
 use f77_actions::Value;
 use f77_meaning::Arg;
 use f77_tree::Kind;
@@ -97,7 +97,7 @@ fn has(registers: &[i64], kinds: &[Kind], slot: usize, other: Value) -> bool
     requires slot { slot < length kinds.now }
     ensures { Decides result (Some other ≡ held_in (shown_cells kinds.now registers.now) slot) }
 {
-    value(kinds[slot], registers[slot]) == Some(other)
+    is_value(kinds[slot], registers[slot], other)
 }
 
 fn have_numbers(registers: &[i64], kinds: &[Kind], first: usize, numbers: &[i32]) -> bool

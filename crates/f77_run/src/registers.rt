@@ -1,6 +1,6 @@
 //! The registers and counters of a run.
 
-ghost use Rattle.std.specs.Prelude.{◌≡◌, ◌≢◌, ◌++◌, length, map, option_map, take, true};
+ghost use Rattle.std.specs.Prelude.{◌≡◌, ◌≢◌, ◌++◌, length, map, option_map, take, true, Some};
 ghost use Rattle.std.specs.Prelude.{IfOk, IfErr, OnOk, IfNone, IfSome};
 ghost use Rattle.std.specs.Bool.{Decides};
 ghost use Rattle.std.specs.List.{list_all};
@@ -61,6 +61,21 @@ pub(crate) fn value(kind: Kind, register: i64) -> Option<Value>
             }
             Some(Value::Truth(register != 0))
         }
+    }
+}
+
+/// Whether a slot of this kind, whose register has this number, has this value.
+#[inline(always)]
+pub(crate) fn is_value(kind: Kind, register: i64, other: Value) -> bool
+    requires { is_held register ≡ true }
+    ensures { Decides result (Some other ≡ meaning.shown_as kind (told_by_register register)) }
+{
+    match (kind, other) {
+        (Kind::Integer, Value::Number(number)) => register == i64::from(number),
+        (Kind::Logical, Value::Truth(truth)) => {
+            register != UNDEFINED && (register != 0) == truth
+        }
+        (Kind::Integer, Value::Truth(_)) | (Kind::Logical, Value::Number(_)) => false,
     }
 }
 

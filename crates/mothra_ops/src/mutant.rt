@@ -87,19 +87,17 @@ impl Plan {
         }
     }
 
-    /// The change of a mutant of the plan: the line number of the statement, and the canonical text of the changed one.
-    fn change(&self, alloc: Global, mutant: &Mutant) -> Result<String, OpsFault>
+    /// Appends the change of a mutant of the plan, or a part of it where memory runs out.
+    fn write_change(&self, text: &mut String, mutant: &Mutant) -> Result<(), OpsFault>
         requires { IsMadeMutant self.now.checked mutant.now }
-        ensures text { IfOk result (λ text. string_bytes text
-            ≡ change_text (program_of self.now) (mutant_fields mutant.now)) }
+        ensures text { OnOk result (string_bytes text.new ≡ string_bytes text.old
+            ++ change_text (program_of self.now) (mutant_fields mutant.now)) }
         ensures memory { IfErr result (λ fault. fault ≡ Memory) }
     {
         let line = self.line_number(mutant.number());
-        let mut text = String::with_capacity(alloc, LINE)?;
         write!(text, "LINE {line} ")?;
-        let statement = printed(alloc, &mutant.statement(self.program())?)?;
-        text.push_str(&statement)?;
-        Ok(text)
+        let statement = printed(*text.allocator(), &mutant.statement(self.program())?)?;
+        Ok(text.push_str(&statement)?)
     }
 
     /// Appends the change of a mutant of the plan: the line number of the statement, and the canonical text of the
@@ -111,7 +109,8 @@ impl Plan {
         ensures unchanged { OnErr result (string_bytes text.new ≡ string_bytes text.old) }
         ensures memory { IfErr result (λ fault. fault ≡ Memory) }
     {
-        let change = self.change(*text.allocator(), mutant)?;
+        let mut change = String::with_capacity(*text.allocator(), LINE)?;
+        self.write_change(&mut change, mutant)?;
         Ok(text.push_str(&change)?)
     }
 
@@ -125,7 +124,7 @@ impl Plan {
         };
         let mut text = name(alloc, LINE, self.every(), op, number)?;
         text.push(' ')?;
-        self.push_change(&mut text, mutant)?;
+        self.write_change(&mut text, mutant)?;
         Ok(text)
     }
 

@@ -6,6 +6,7 @@
 ghost use Rattle.std.specs.Prelude.{◌≡◌, true, map, IfOk, IfErr, OnOk};
 ghost use Rattle.f77_program.specs.Program.{line_of};
 ghost use Rattle.f77_run.specs.Changed.{changed_program};
+ghost use Rattle.f77_tree.specs.Replacement.{replacement_of};
 ghost use Rattle.mothra_ops.specs.Copies.{copied, statements_in};
 ghost use Rattle.f77_check.specs.Checked.{shapes};
 ghost use Rattle.mothra_ops.specs.Made.{IsMadeMutant};
@@ -20,6 +21,7 @@ use crate::killing::{kills_from_start, kills_of};
 use crate::want;
 use f77_meaning::Values;
 use f77_run::ChangedRunner;
+use f77_tree::Replacement;
 use mothra_codes::Ticket;
 use mothra_ops::{Copies, Mutant};
 use std::alloc::Global;
@@ -97,7 +99,38 @@ fn kills_of_whole_runs(
     }
 }
 
-/// Makes the runs from now on those of the mutant. Its node stands in the copy of its statement while that is resolved.
+/// Makes the runs from now on those of the mutant. `node`, a copy of its own, stands in the copy of its statement while
+/// that is resolved.
+fn change_by(
+    runner: &mut ChangedRunner<'_>,
+    copies: &mut Copies,
+    mutant: &Mutant,
+    node: &mut Replacement,
+) -> Result<(), BenchFault>
+    requires made { IsMadeMutant runner.old.checked mutant.now }
+    requires alone { mutant.now.is_alone ≡ true }
+    requires copies { copied copies.old ≡ statements_in (map line_of runner.old.checked.program) }
+    requires node { replacement_of node.old ≡ replacement_of mutant.now.node }
+    ensures copies { copied copies.new ≡ copied copies.old }
+    ensures program { runner.new.checked ≡ runner.old.checked }
+    ensures changed { OnOk result (changed_program runner.new
+        ≡ mutated (map line_of runner.old.checked.program) (mutant_fields mutant.now)) }
+    ensures memory { IfErr result (λ fault. fault ≡ Memory) }
+{
+    let number = mutant.number();
+    copies.exchange(number, mutant.edit.position, node);
+    let Some(stmt) = copies.get(number) else {
+        unreachable!()
+    };
+    let changed = runner.change(number, stmt);
+    copies.exchange(number, mutant.edit.position, node);
+    match changed {
+        Ok(()) => Ok(()),
+        Err(fault) => Err(want::of_run(fault)),
+    }
+}
+
+/// Makes the runs from now on those of the mutant.
 fn change(
     runner: &mut ChangedRunner<'_>,
     copies: &mut Copies,
@@ -112,19 +145,8 @@ fn change(
         ≡ mutated (map line_of runner.old.checked.program) (mutant_fields mutant.now)) }
     ensures memory { IfErr result (λ fault. fault ≡ Memory) }
 {
-    let number = mutant.number();
     let mut node = mutant.node()?;
-    copies.exchange(number, mutant.edit.position, &mut node);
-    let Some(stmt) = copies.get(number) else {
-        unreachable!()
-    };
-    let changed = runner.change(number, stmt);
-    copies.exchange(number, mutant.edit.position, &mut node);
-    drop(node);
-    match changed {
-        Ok(()) => Ok(()),
-        Err(fault) => Err(want::of_run(fault)),
-    }
+    change_by(runner, copies, mutant, &mut node)
 }
 
 /// Which tests kill the mutant. If its changed statement alone shows that it is legal, it runs from where it may part

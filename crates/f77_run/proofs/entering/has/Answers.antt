@@ -1,10 +1,10 @@
-use Rattle.std.proofs.Common.{rules, ◌∙◌, ap, get_or, pos, sym, w64, FitsSigned}
+use Rattle.std.proofs.Common.{rules, ◌≡◌, ◌∙◌, ap, get_or, pos, subst, sym, w64, FitsSigned, Some}
 use Rattle.std.proofs.lemmas.Int.{to_z-of_z}
+use Rattle.std.specs.Bool.{Decides}
 use Rattle.f77_tree.specs.declared.tree.Kind.TheVariants.{Integer}
 use Rattle.f77_code.specs.Registers.{told_by_register}
-use Rattle.f77_code.specs.Evaluation.{held_in}
-use Rattle.f77_run.specs.code.Registers.{shown_as, shown_cells}
-use Rattle.f77_run.proofs.Entered.{slot_decides, slot_shown}
+use Rattle.f77_run.specs.code.Registers.{shown_as}
+use Rattle.f77_run.proofs.Entered.{slot_shown}
 use Rattle.f77_run.proofs.entering.has.Goals as goal
 
 pub returns : goal.returns
@@ -15,5 +15,5 @@ returns c =
     let z = get_or registers slot (pos 0) in
     let wide : FitsSigned w64 z = search rules in
     let shown = slot_shown kinds registers slot Integer (pos 0) c.requires.room c.requires.slot in
-    let own = c.value.ensures ∙ ap (λ z. shown_as (get_or kinds slot Integer) (told_by_register z)) (to_z-of_z w64 z wide) in
-    slot_decides c.value.result (held_in (shown_cells kinds registers) slot) c.args.other c.eq.result c.eq.ensures (own ∙ sym shown)
+    let own = ap (λ z. shown_as (get_or kinds slot Integer) (told_by_register z)) (to_z-of_z w64 z wide) in
+    subst (λ cell. Decides c.is_value.result (Some c.args.other ≡ cell)) (own ∙ sym shown) c.is_value.ensures
