@@ -5,6 +5,7 @@ from unittest import mock
 
 import running
 from developing import tables
+from developing.rules import rules_of
 from developing.tables import cases_of, crates_of, first_sentence, packages_of, tools_of, with_table, wrong_bodies_of
 from running import Folder, refuses
 
@@ -64,6 +65,24 @@ class Made(Folder):
         self.put("crates/top/src/b.rt", "fn two() {\n    Expr::Not | Expr::Both\n}\n")
         self.assertEqual(list(cases_of(self.folder))[1:], [("`Expr`", "`mid` `a::one`; `top` `b::two`")])
 
+    def test_a_rule_with_its_definitions_contracts_and_rows(self) -> None:
+        rule = "-- Rule: C2, C4 to C6 (4.1, 11.1 to 11.10)\n-- no name is REAL\n"
+        self.put("crates/low/specs/A.antt", rule + "unfoldable pub is_real : Bool\nis_real = true\n")
+        inner = "module _ (n : Bool) where\n  -- Rule: the start\n  pub record IsStart : Type 0 where\n"
+        self.put("crates/low/specs/B.antt", rule + "pub data Twice : Type 0 where\n\n" + inner)
+        own = "fn own() -> bool\n    ensures { result ≡ is_real }\n{\n    true\n}\n"
+        self.put("crates/low/src/a.rt", own + own.replace("own", "two").replace("fn", "pub fn"))
+        self.put("crates/low/src/b.rt", own.replace("own", "three").replace("is_real", "IsStart"))
+        self.put("crates/rows/stdout", "> x\n1: FAULT C2 X\n1: FAULT C5 3\n1: FAULT C7 3\n")
+        rows = [
+            ("C2, C4 to C6", "4.1, 11.1 to 11.10", "`low`", "`is_real`, `Twice`", "`two`", "2"),
+            ("the start", "", "`low`", "`IsStart`", "`three`", ""),
+        ]
+        self.assertEqual(list(rules_of(self.folder))[1:], rows)
+        self.put("crates/low/specs/C.antt", "-- Rule: O3\nuse A\n")
+        with self.assertRaisesRegex(ValueError, "the marker of the rule O3 stands above no definition"):
+            list(rules_of(self.folder))
+
     def test_packages_by_their_docstrings(self) -> None:
         self.put("mutants/__init__.py", '"""All."""\n')
         self.put("mutants/some/__init__.py", '"""Some of it. And more."""\n')
@@ -77,7 +96,7 @@ class Made(Folder):
 
 class Repository(unittest.TestCase):
     def test_its_tables_are_as_the_code_is(self) -> None:
-        self.assertEqual(running.run("tables", "--check")[:2], (0, "5 tables are as the code is\n"))
+        self.assertEqual(running.run("tables", "--check")[:2], (0, "6 tables are as the code is\n"))
 
 
 if __name__ == "__main__":

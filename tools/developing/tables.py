@@ -4,7 +4,7 @@
 
 A table stands on its page between two comments, `made by tools/tables: NAME` and `end of NAME`, and is written anew
 there: the crates with what each stands on, the tools, the packages in `mutants/`, the wrong bodies that the gate tries,
-and the functions that have a case for each expression, each statement, and so on.
+the functions that have a case for each expression, each statement, and so on, and the rules of the language.
 A row says the first sentence of its file. With --check nothing is written: each table that is
 another one is told, and the exit status is then 1.
 """
@@ -16,6 +16,7 @@ from collections.abc import Callable, Iterator, Mapping, Sequence
 from pathlib import Path
 
 from developing.antt.crates import Crates, read_crates, with_those_below
+from developing.rules import rules_of
 from mutants.files import written
 from mutants.program.roots import ROOT
 from mutants.statuses import FAULT, SUCCESS
@@ -123,6 +124,7 @@ TABLES: dict[str, tuple[str, Callable[[Path], Rows]]] = {
     "packages": ("docs/ARCHITECTURE.md", packages_of),
     "wrong bodies": ("CONTRIBUTING.md", wrong_bodies_of),
     "cases": ("CONTRIBUTING.md", cases_of),
+    "rules": ("docs/LANGUAGE.md", rules_of),
 }
 
 
@@ -133,7 +135,7 @@ def with_table(page: str, name: str, rows: Rows) -> str:
     _, last, back = rest.partition(end)
     if not first or not last:
         raise ValueError(f"the page has no place for the table {name}")
-    lines = [f"| {' | '.join(row)} |\n".replace("|  |", "| |") for row in rows]
+    lines = [re.sub(r"(?<=\|)  (?=\|)", " ", f"| {' | '.join(row)} |\n") for row in rows]
     lines.insert(1, re.sub(r" [^|]+ ", "---", lines[0]))
     return "".join([front, begin, "\n", *lines, "\n", end, back])
 

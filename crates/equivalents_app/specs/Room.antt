@@ -18,6 +18,7 @@ LeavesRoomOn program steps room test =
     (limit : ℕ) × (outcome : Outcome)
     × (limit + room ≤ steps) × IsOutcomeOf program test limit outcome × IsEnd outcome
 
+-- Rule: what `equivalents` writes
 -- the program returns or stops on each test at least `room` steps before the limit
 abbrev pub LeavesRoom : List LineFields → List (List Arg) → ℕ → ℕ → Type 0
 LeavesRoom program tests steps room = All (LeavesRoomOn program steps room) tests
@@ -30,6 +31,7 @@ HasRoom program tests steps why.Continues = ⊤
 HasRoom program tests steps (why.Spare spare) = LeavesRoom program tests steps spare
 HasRoom program tests steps why.Unreached = ⊤
 
+-- Rule: what `equivalents` writes
 -- the mutants are equivalent, and the tests leave the room that each of them needs
 pub record AreNamedMutants (plan : PlanFields) (tests : List (List Arg)) (steps : ℕ)
     (list : List Equivalent) : Type 0 where

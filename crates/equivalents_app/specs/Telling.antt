@@ -68,5 +68,6 @@ json_line every list = codes "[" ++ (separated entry_text [] (declarable every l
 
 -- ---- lines or JSON, as asked for
 
+-- Rule: what `equivalents` writes
 abbrev pub told_text : PlanFields → List Equivalent → Bool → List ℕ
 told_text plan list json = if json then json_line plan.every list else lines_text plan list

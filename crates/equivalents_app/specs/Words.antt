@@ -66,6 +66,7 @@ abbrev pub inquiry_in : InquiryMeaning → Option Inquiry
 inquiry_in (inquiry i) = Some i
 inquiry_in _ = None
 
+-- Rule: what `equivalents` writes
 -- the inquiry that the words are
 abbrev pub inquiry_of : List Text → Option Inquiry
 inquiry_of words = inquiry_in (meaning_of_inquiry words)

@@ -14,16 +14,19 @@ abbrev pub fits : ℤ → Bool
 fits (pos n) = nat_lt n (2 ^ 31)
 fits (negsuc n) = nat_lt n (2 ^ 31)
 
+-- Rule: numbers (4.3, 6.1, 15.10)
 -- an exact number, tested against the range (4.3)
 abbrev pub in_range : ℤ → Result ℤ Fault
 in_range z = if fits z then Ok z else Err Overflow
 
+-- Rule: numbers (4.3, 6.1, 15.10)
 -- the quotient, truncated toward zero (6.1.5)
 abbrev pub quotient : ℤ → ℤ → Result ℤ Fault
 quotient a (pos zero) = Err DivideByZero
 quotient a (pos (suc n)) = in_range (int_div a (pos (suc n)))
 quotient a (negsuc n) = in_range (int_div a (negsuc n))
 
+-- Rule: numbers (4.3, 6.1, 15.10)
 -- MOD: a minus b times the truncated quotient (15.10)
 abbrev pub modulus : ℤ → ℤ → Result ℤ Fault
 modulus a (pos zero) = Err DivideByZero
@@ -41,6 +44,7 @@ abbrev pub power_of : ℤ → ℤ → Result ℤ Fault
 power_of a (pos n) = in_range (exact_power a n)
 power_of a (negsuc n) = in_range (int_div (pos 1) (exact_power a (suc n)))
 
+-- Rule: numbers (4.3, 6.1, 15.10)
 -- the power; ZeroPower where the base is 0 and the exponent at most 0 (6.1)
 abbrev pub power : ℤ → ℤ → Result ℤ Fault
 power (pos zero) (pos zero) = Err ZeroPower
@@ -95,6 +99,7 @@ called Min0 (a ∷ rest) = Ok (least a rest)
 called Max0 (a ∷ rest) = Ok (greatest a rest)
 called f rest = Err Undefined
 
+-- Rule: numbers (4.3, 6.1, 15.10)
 -- the trip count of a DO, which is 0 where the number is negative (11.10)
 abbrev pub trip_count : ℤ → ℤ → ℤ → ℕ
 trip_count first last step = above_zero (int_div (last -ℤ first +ℤ step) step)

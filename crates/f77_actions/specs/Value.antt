@@ -39,6 +39,7 @@ abbrev pub same_truth : Bool → Bool → Bool
 same_truth true b = b
 same_truth false b = not b
 
+-- Rule: numbers (4.3, 6.1, 15.10)
 -- the value of ZPUSH(e), which the operator ABS inserts: that of e, but Trapped where it is 0 (King
 -- and Offutt 1991)
 abbrev pub pushed : ℤ → Result ℤ Fault

@@ -98,6 +98,7 @@ abbrev pub branch_holds : List LineFields → ℕ → ℕ → Bool
 branch_holds program i k =
     begins_branch program i && (nat_lt i k && option_map_or (nat_lt k) (branch_end program i) false)
 
+-- Rule: C11, C9 (11.6 to 11.10)
 -- the statement is a block IF without END IF, an END IF without block IF, or an ELSE IF or ELSE
 -- that stands in no block or behind the ELSE of its block
 abbrev pub breaks_block : List LineFields → ℕ → Bool

@@ -47,6 +47,7 @@ abbrev pub is_shape : DeclFields → Bool
 is_shape declaration =
     nat_le (length declaration.bounds) 2 && list_all (nat_le 1) declaration.bounds
 
+-- Rule: C4, C5 (5, 6, 10, 11, 15.10)
 -- the bounds, subscripts and arguments of a statement are right; a DO variable is no array (section
 -- 5)
 abbrev pub dimensions_fit : (Symbol → List ℕ) → Statement → Bool

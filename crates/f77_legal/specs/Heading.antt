@@ -11,6 +11,7 @@ abbrev pub dummies_of : Statement → List Symbol
 dummies_of (Statement.Subroutine name names) = names
 dummies_of _ = []
 
+-- Rule: names, kinds, bounds; C2, C3 (4.1.2, 8.1, 8.4)
 -- the dummy arguments, in order
 abbrev pub dummies : List LineFields → List Symbol
 dummies program = option_map_or dummies_of (nth_statement program 0) []

@@ -57,6 +57,7 @@ abbrev pub is_of_kind_if_given : (Symbol → Kind) → Kind → Option Tree → 
 is_of_kind_if_given kinds kind None = true
 is_of_kind_if_given kinds kind (Some tree) = is_of_kind kinds kind tree
 
+-- Rule: C4, C5 (5, 6, 10, 11, 15.10)
 -- the kinds of a statement agree: the value has the kind of its target, conditions are LOGICAL, and
 -- other expressions and DO variables are INTEGER (sections 10 and 11)
 abbrev pub kinds_agree : (Symbol → Kind) → Statement → Bool

@@ -15,6 +15,7 @@ labels program = filter_map (λ line. line.label) program
 abbrev pub bears : ℕ → LineFields → Bool
 bears label line = option_map_or (λ own. own == label) line.label false
 
+-- Rule: C6, C7, C8, C10 (3.4, 11.1 to 11.10)
 -- the label stands on two statements (3.4)
 abbrev pub is_double : List LineFields → ℕ → Bool
 is_double program label = nat_le 2 (length (filter (bears label) program))
@@ -36,6 +37,7 @@ abbrev pub terminal_label : Statement → Option ℕ
 terminal_label (Statement.Loop label name first last step) = Some label
 terminal_label _ = None
 
+-- Rule: C6, C7, C8, C10 (3.4, 11.1 to 11.10)
 -- the statement names a label that stands on no statement (11.1 to 11.10)
 abbrev pub names_no_label : List LineFields → Statement → Bool
 names_no_label program statement =
@@ -53,12 +55,14 @@ is_target (Statement.ElseIf tree) = false
 is_target Statement.Else = false
 is_target _ = true
 
+-- Rule: C6, C7, C8, C10 (3.4, 11.1 to 11.10)
 -- a jump of the statement leads to a statement where control may not go (11.1 to 11.10)
 abbrev pub jumps_badly : List LineFields → Statement → Bool
 jumps_badly program statement =
     list_any (λ label. option_map_or (λ target. not (is_target target))
     (statement_with program label) false) (jumps_of statement)
 
+-- Rule: C6, C7, C8, C10 (3.4, 11.1 to 11.10)
 -- the statement may be the terminal statement of a DO: it is executable, no jump but a computed
 -- GO TO, no DO, and no statement of a block IF (11.10)
 abbrev pub is_terminal : Statement → Bool
@@ -78,6 +82,7 @@ is_terminal Statement.Stop = false
 is_terminal Statement.End = false
 is_terminal _ = true
 
+-- Rule: C6, C7, C8, C10 (3.4, 11.1 to 11.10)
 -- the statement is a DO, and names a statement that may be no terminal statement (11.10)
 abbrev pub ends_badly : List LineFields → Statement → Bool
 ends_badly program statement =

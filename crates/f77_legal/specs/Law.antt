@@ -10,6 +10,7 @@ use Rattle.f77_legal.specs.Legal.{is_too_large}
 use Rattle.f77_legal.specs.Names.{symbols, is_real, is_twice}
 use Rattle.f77_legal.specs.Presets.{presets_badly}
 
+-- Rule: C2 to C14, and their order
 -- The program keeps every rule: no statement breaks a clause, and its names, labels, DATA
 -- statements and sizes are right.
 pub record KeepsEveryRule (program : List LineFields) : Type 0 where

@@ -20,6 +20,7 @@ use Rattle.f77_legal.specs.Presets.{element_count, presets_badly}
 abbrev pub is_array : List LineFields → Symbol → Bool
 is_array program name = is_some (some_items (bounds_of program name))
 
+-- Rule: C12, C13, C14 (9, 11.10)
 -- over 500 statements, 100 variables and arrays, or 10,000 elements over all arrays
 abbrev pub is_too_large : List LineFields → Bool
 is_too_large program =
@@ -70,6 +71,7 @@ abbrev pub statement_faults : List LineFields → List CheckFault
 statement_faults program = clause_faults expression_clauses program
     ++ (label_faults program ++ clause_faults control_clauses program)
 
+-- Rule: C2 to C14, and their order
 -- all faults of a program, in the order of test
 abbrev pub faults : List LineFields → List CheckFault
 faults program =
@@ -80,10 +82,12 @@ faults program =
     ++ (data_faults program
     ++ too_large_faults program))))
 
+-- Rule: C2 to C14, and their order
 -- the program is legal: no clause has a fault
 abbrev pub IsLegal : List LineFields → Type 0
 IsLegal program = faults program ≡ []
 
+-- Rule: C2 to C14, and their order
 -- the fault that is reported for a program: the first one, if there is any
 abbrev pub first_fault : List LineFields → Option CheckFault
 first_fault program = slice_get (faults program) 0

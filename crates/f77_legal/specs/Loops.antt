@@ -41,6 +41,7 @@ loops_ending program t = reverse (filter (ends_at program t) (statement_numbers 
 abbrev pub branches : List LineFields → ℕ → List ℕ
 branches program k = filter (λ i. branch_holds program i k) (statement_numbers program)
 
+-- Rule: C11, C9 (11.6 to 11.10)
 -- the DOs whose range holds k and the branches that hold it, the outermost first (11.6 to 11.10)
 abbrev pub enclosing : List LineFields → ℕ → List ℕ
 enclosing program k =
@@ -58,6 +59,7 @@ ends_outside program d t =
     && list_all (λ e. not (range_holds program e d) || range_holds program e t)
     (statement_numbers program)))
 
+-- Rule: C11, C9 (11.6 to 11.10)
 -- the DO d has a terminal statement at which it may not end (11.10)
 abbrev pub breaks_range : List LineFields → ℕ → Bool
 breaks_range program d = option_map_or (ends_outside program d) (terminal program d) false
@@ -74,6 +76,7 @@ breaks_nesting program i = breaks_block program i || breaks_range program i
 abbrev pub goes_in : List LineFields → ℕ → ℕ → Bool
 goes_in program i j = not (starts_with (λ a b. a == b) (enclosing program i) (enclosing program j))
 
+-- Rule: C11, C9 (11.6 to 11.10)
 -- a jump of the statement, as number i, leads into a range or a branch from outside (11.6 to 11.10)
 abbrev pub jumps_in : List LineFields → ℕ → Statement → Bool
 jumps_in program i statement =
@@ -98,6 +101,7 @@ holds_with program i name d = range_holds program d i
     && option_map_or (bytes_eq name)
     (option_and_then do_variable_of (nth_statement program d)) false
 
+-- Rule: C12, C13, C14 (9, 11.10)
 -- the statement, as number i, sets the variable of a DO whose range holds it
 abbrev pub sets_variable : List LineFields → ℕ → Statement → Bool
 sets_variable program i statement =

@@ -48,6 +48,7 @@ abbrev pub names_once : List Symbol → List Symbol
 names_once [] = []
 names_once (name ∷ names) = name ∷ filter (λ other. not (bytes_eq name other)) (names_once names)
 
+-- Rule: names, kinds, bounds; C2, C3 (4.1.2, 8.1, 8.4)
 -- the variables and arrays in order of first appearance, dummy arguments first
 abbrev pub symbols : List LineFields → List Symbol
 symbols program = names_once (map name_in (mentions program))
@@ -92,10 +93,12 @@ abbrev pub first_item_or : {X : Type 0} → X → List X → X
 first_item_or other [] = other
 first_item_or other (x ∷ xs) = x
 
+-- Rule: names, kinds, bounds; C2, C3 (4.1.2, 8.1, 8.4)
 -- the kind of a name: INTEGER where no type statement gives one (4.1.2 and 8.4)
 abbrev pub kind_of : List LineFields → Symbol → Kind
 kind_of program name = first_item_or Integer (kinds_given (mentions program) name)
 
+-- Rule: names, kinds, bounds; C2, C3 (4.1.2, 8.1, 8.4)
 -- the bounds of a name: none for a variable (8.1 and 8.4)
 abbrev pub bounds_of : List LineFields → Symbol → List ℕ
 bounds_of program name = first_item_or [] (bounds_given (mentions program) name)
@@ -105,6 +108,7 @@ abbrev pub is_integer_name : Symbol → Bool
 is_integer_name [] = false
 is_integer_name (letter ∷ rest) = nat_le 73 letter && nat_le letter 78
 
+-- Rule: names, kinds, bounds; C2, C3 (4.1.2, 8.1, 8.4)
 -- the name is REAL by its first letter (4.1.2)
 abbrev pub is_real : List LineFields → Symbol → Bool
 is_real program name =
@@ -123,6 +127,7 @@ unit_name program = option_and_then (λ line. unit_name_of line.stmt) (slice_get
 abbrev pub names_unit : List LineFields → Symbol → Bool
 names_unit program name = option_map_or (bytes_eq name) (unit_name program) false
 
+-- Rule: names, kinds, bounds; C2, C3 (4.1.2, 8.1, 8.4)
 -- the name is typed, given bounds or a dummy argument twice, or is also the name of the unit or of
 -- a function (8.1 and 8.4)
 abbrev pub is_twice : List LineFields → Symbol → Bool

@@ -59,6 +59,7 @@ abbrev pub is_preset_twice : List LineFields → ℕ → Symbol → Bool
 is_preset_twice program i name =
     nat_le 2 (length (filter (bytes_eq name) (names_preset (take (suc i) program))))
 
+-- Rule: C12, C13, C14 (9, 11.10)
 -- a name in statement i is a dummy argument or has stood in DATA before, or a group has other
 -- values than its names need
 abbrev pub presets_badly : List LineFields → ℕ → Statement → Bool

@@ -41,6 +41,7 @@ abbrev pub is_single : Option ℕ → Bool
 is_single None = true
 is_single (Some m) = false
 
+-- Rule: N2, N3
 -- the argument has this shape
 abbrev pub has_shape : Shape → Arg → Bool
 has_shape shape (Int z) = same_kind shape.kind Integer && is_single shape.elements
@@ -53,11 +54,13 @@ abbrev pub AreFitting : List Shape → List Arg → Type 0
 AreFitting list arguments =
     AllZip (λ shape argument. has_shape shape argument ≡ true) list arguments
 
+-- Rule: N2, N3
 -- the number, from 0, of the first argument that does not have its shape
 abbrev pub first_misfit : List Shape → List Arg → Option ℕ
 first_misfit shapes arguments =
     position (λ pair. not (has_shape pair.0 pair.1)) (zip shapes arguments)
 
+-- Rule: N2, N3
 -- the fault of arguments that do not fit: their number is tested before their shapes, which are
 -- numbered from 1
 abbrev pub refusal : List Shape → List Arg → Option RunFault
@@ -93,6 +96,7 @@ Tells program (finish.Failed fault) store answer = answer ≡ told_outcome fault
 Tells program finish.StepLimit store answer = answer ≡ outcome.StepLimit
 Tells program _ store _ = ⊥
 
+-- Rule: the outcome; one at most
 -- `answer` is the outcome of the run with these arguments within this limit on steps
 pub record IsOutcomeOf (program : List LineFields) (arguments : List Arg) (steps : ℕ)
     (answer : Outcome) : Type 0 where
@@ -103,6 +107,7 @@ pub record IsOutcomeOf (program : List LineFields) (arguments : List Arg) (steps
   pub ends : IsOutcome program steps start finish values
   pub tells : Tells program finish values answer
 
+-- Rule: the outcome; one at most
 -- a run with given arguments has at most one outcome
 abbrev pub OneAnswer : Type 0
 OneAnswer = (program : List LineFields) (arguments : List Arg) (steps : ℕ) (answer other : Outcome)

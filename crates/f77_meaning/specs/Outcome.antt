@@ -6,6 +6,7 @@ use Rattle.f77_actions.specs.declared.finish.Finish.TheVariants.{StepLimit}
 use Rattle.f77_meaning.specs.Value.{Store}
 use Rattle.f77_meaning.specs.Step.{Config, Next, Goes, Ends, Step}
 
+-- Rule: the outcome; one at most
 -- the run from c ends so within n steps, with these values; where none of n steps is an end, it
 -- ends by StepLimit
 abbrev pub IsOutcome : List LineFields → ℕ → Config → Finish → Store → Type 0

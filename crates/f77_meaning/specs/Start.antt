@@ -21,6 +21,7 @@ abbrev pub constant_value : Constant → Value
 constant_value (Number z) = held.Number z
 constant_value (Truth b) = held.Truth b
 
+-- Rule: the start of a run (9, 15.9)
 -- the values of a name at the start, where `given` has the elements of the dummy arguments in order
 -- (section 9 and 15.9)
 abbrev pub start_values : List LineFields → List (List Value) → Store
@@ -30,6 +31,7 @@ start_values p given name =
     (map (λ k. option_map constant_value (preset_value p name k))
     (first_numbers (element_count p name)))
 
+-- Rule: the start of a run (9, 15.9)
 -- control is at the first executable statement, or at END if there is no other; names have the
 -- values of the start, and no DO is active
 abbrev pub IsStart : List LineFields → List (List Value) → Config → Type 0

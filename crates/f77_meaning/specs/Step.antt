@@ -56,6 +56,7 @@ pub record IsInnermost (program : List LineFields) (active : Turns) (t d : ℕ) 
   pub turns : IsSome (active d)
   pub inner : (e : ℕ) → d < e → terminal program e ≡ Some t → active e ≡ None
 
+-- Rule: a step (10, 11)
 -- Control goes on from statement t, which did not jump: the innermost active DO that ends there, if
 -- there is one, is incremented next; otherwise the statement behind is executed (11.10).
 abbrev pub GoesOn : List LineFields → ℕ → Store → Turns → Next → Type 0
@@ -70,6 +71,7 @@ GoesOn program t store active next =
 abbrev pub left_behind : List LineFields → ℕ → ℕ → Turns → Turns
 left_behind program i j active = λ d. if is_left program i j d then None else active d
 
+-- Rule: a step (10, 11)
 -- a jump from statement i to the statement with the label (11.1 to 11.4)
 abbrev pub Jumps : List LineFields → ℕ → ℕ → Store → Turns → Next → Type 0
 Jumps program i label store active next = (j : ℕ)
@@ -84,6 +86,7 @@ Passes program d (suc k) step store active next =
     next ≡ Goes (config (Execute (d + 1)) store
     (with_turn active d (Some (record { passes = suc k; step = step }))))
 
+-- Rule: a step (10, 11)
 -- the DO d begins with these parameters (11.10)
 abbrev pub Begins : List LineFields → ℕ → Symbol → ℤ → ℤ → ℤ → Store → Turns → Next → Type 0
 Begins program d name first last (pos zero) store active next = next ≡ Ends (Failed ZeroStep) store
@@ -103,6 +106,7 @@ abbrev pub Either : Bool → Type 0 → Type 0 → Type 0
 Either true P Q = P
 Either false P Q = Q
 
+-- Rule: a step (10, 11)
 -- control goes from the beginning of a branch to the next ELSE IF, ELSE or END IF of its block,
 -- which is executed next (11.6 and 11.7)
 abbrev pub Skips : List LineFields → ℕ → Store → Turns → Next → Type 0
@@ -114,6 +118,7 @@ abbrev pub step_number : (Symbol → List ℕ) → Store → Option Tree → Res
 step_number bounds store None = Ok (pos 1)
 step_number bounds store (Some t) = number bounds store t
 
+-- Rule: a step (10, 11)
 -- statement i is executed (sections 10 and 11)
 abbrev pub Executes : List LineFields → ℕ → Statement → Store → Turns → Next → Type 0
 Executes program i (Statement.Assign name items t) store active next =
@@ -152,6 +157,7 @@ Executes program i Statement.Trap store active next = next ≡ Ends (Failed Trap
 Executes program i Statement.End store active next = next ≡ Ends Returned store
 Executes program i _ store active next = ⊥
 
+-- Rule: a step (10, 11)
 -- the DO d is incremented (11.10)
 abbrev pub Increments : List LineFields → ℕ → Statement → Turn → Store → Turns → Next → Type 0
 Increments program d (Statement.Loop label name a b c) turn store active next =
@@ -168,6 +174,7 @@ StepAt program (Execute i) store active next =
 StepAt program (Increment d) store active next = MatchOption (nth_statement program d) ⊥
     (λ stmt. MatchOption (active d) ⊥ (λ turn. Increments program d stmt turn store active next))
 
+-- Rule: a step (10, 11)
 -- a step leads from configuration c to what comes next
 abbrev pub Step : List LineFields → Config → Next → Type 0
 Step program c next = StepAt program c.place c.values c.active next

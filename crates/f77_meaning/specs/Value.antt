@@ -80,6 +80,7 @@ abbrev mutual
 abbrev pub place : (Symbol → List ℕ) → Store → Symbol → Trees → Result ℕ Fault
 place bounds store name items = given (numbers bounds store items) (element (bounds name))
 
+-- Rule: a step (10, 11)
 -- the value of a LOGICAL expression (section 6)
 abbrev pub truth : (Symbol → List ℕ) → Store → Tree → Result Bool Fault
 truth bounds store (Tree.Truth b) = Ok b
@@ -92,6 +93,7 @@ truth bounds store (Tree.Binary op a b) =
     else both (λ x y. Ok (connected op x y)) (truth bounds store a) (truth bounds store b)
 truth bounds store _ = Err Undefined
 
+-- Rule: a step (10, 11)
 -- the value of an expression of this kind (section 6)
 abbrev pub value : Kind → (Symbol → List ℕ) → Store → Tree → Result Value Fault
 value Integer bounds store t = given (number bounds store t) (λ z. Ok (held.Number z))

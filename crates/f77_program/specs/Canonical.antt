@@ -22,6 +22,7 @@ own_level (Tree.Not t) = 4
 own_level (Tree.Binary op a b) = level op
 own_level (Tree.ZeroPush t) = 9
 
+-- Rule: canonical text, printing
 -- an operand as text, in parentheses exactly where its level is below the wanted one
 abbrev pub operand : ℕ → ℕ → List ℕ → List ℕ
 operand wanted own text = if nat_lt own wanted then 40 ∷ (text ++ 41 ∷ []) else text
@@ -54,6 +55,7 @@ abbrev pub step_text : Option Tree → List ℕ
 step_text None = []
 step_text (Some t) = 44 ∷ text_of t
 
+-- Rule: canonical text, printing
 -- the canonical text of a statement, with one blank behind a keyword that something follows
 abbrev pub statement_text : Statement → List ℕ
 statement_text (Statement.Subroutine name []) = codes "SUBROUTINE " ++ name

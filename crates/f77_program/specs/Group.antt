@@ -32,6 +32,7 @@ group_rank End = 4
 abbrev pub comes_later : ℕ → ℕ → Bool
 comes_later before n = nat_lt 0 n && (nat_le before n && nat_lt before 4)
 
+-- Rule: the order of statements (3.5)
 -- A statement of the second group may stand behind one of the first, or first of all. SUBROUTINE
 -- stands once and first, then declarations, DATA and executable statements, and END once and last
 -- (3.5).
@@ -45,6 +46,7 @@ behind_heading declarations presets executables =
     replicate declarations Declaration
     ++ (replicate presets Data ++ (replicate executables Executable ++ (End ∷ [])))
 
+-- Rule: the order of statements (3.5)
 -- SUBROUTINE, then declarations, then DATA, then executable statements, any number of each, and END
 abbrev pub AreInOrder : List Group → Type 0
 AreInOrder groups =

@@ -13,6 +13,7 @@ use Rattle.f77_program.specs.declared.fault.SyntaxFault.TheVariants.{BadConstant
 abbrev pub card_of : LineFields → CardFields
 card_of line = record { label = line.label; text = statement_text line.stmt; line = line.line }
 
+-- Rule: canonical text, printing
 -- the fixed-form lines of a program
 abbrev pub printed : List LineFields → List ℕ
 printed program = written (map card_of program)
@@ -24,6 +25,7 @@ print_fault line =
     else (if nat_lt 19 (continuation_count (statement_text line.stmt)) then Some (TooLong line.line)
     else None)
 
+-- Rule: canonical text, printing
 -- the faults for which the lines can not be printed, in the order of the lines
 abbrev pub print_faults : List LineFields → List SyntaxFault
 print_faults program = filter_map print_fault program
@@ -32,6 +34,7 @@ print_faults program = filter_map print_fault program
 abbrev pub unnumbered : LineFields → Option ℕ × Statement
 unnumbered line = (line.label, line.stmt)
 
+-- Rule: a program; the same program
 -- two programs are equal apart from line numbers
 abbrev pub AreAlike : List LineFields → List LineFields → Type 0
 AreAlike program other = map unnumbered program ≡ map unnumbered other

@@ -23,6 +23,7 @@ line_of l = record { label = l.label; stmt = statement_of l.stmt; line = l.line 
 abbrev pub MayFollow : Option Group → LineFields → Type 0
 MayFollow before line = (may_stand before (group_of line.stmt) ≡ true) × IsFormed line.stmt
 
+-- Rule: a program; the same program
 -- the lines are formed statements in order, behind a statement of this group or from the start on,
 -- up to the end
 pub data IsProgram : Option Group → List LineFields → Type 0 where

@@ -30,11 +30,13 @@ statement_field line = drop 6 (counted line)
 abbrev pub column : List ℕ → ℕ → ℕ
 column line n = slice_index_or line (n - 1) 32
 
+-- Rule: lines and statements (3.2, 3.3)
 -- a comment line has C, c or * in column 1, or only blanks in columns 1 to 72
 unfoldable pub is_comment : List ℕ → Bool
 is_comment line = (column line 1 == 67)
     || (column line 1 == 99) || (column line 1 == 42) || list_all is_blank (counted line)
 
+-- Rule: lines and statements (3.2, 3.3)
 -- the kind of a line: if it is no comment, column 6 decides, where a blank or 0 makes it initial
 unfoldable pub kind : List ℕ → LineKind
 kind line =
@@ -45,6 +47,7 @@ kind line =
 unfoldable pub field_number : List ℕ → ℕ
 field_number line = digits_value 10 (filter (λ c. not (is_blank c)) (label_field line))
 
+-- Rule: lines and statements (3.2, 3.3)
 -- the label of an initial line, if it has one
 unfoldable pub label : List ℕ → Option ℕ
 label line = if list_all is_blank (label_field line) then None else Some (field_number line)
@@ -60,6 +63,7 @@ is_label_field line =
     list_all is_label_character (label_field line)
     && (list_all is_blank (label_field line) || not (field_number line == 0))
 
+-- Rule: lines and statements (3.2, 3.3)
 -- what a line adds to its statement: columns 7 to 72, without blanks, in upper case
 unfoldable pub line_part : List ℕ → List ℕ
 line_part line = map to_ascii_uppercase (filter (λ c. not (is_blank c)) (statement_field line))
@@ -87,6 +91,7 @@ unfoldable pub is_well_formed : List ℕ → Bool
 is_well_formed line = is_comment line
     || not (has_foreign line) && not (has_tab line) && fits_label_field (kind line) line
 
+-- Rule: F2 to F7 (3.2, 3.3)
 -- the fault of a line alone, which is line number n
 unfoldable pub own_fault : ℕ → List ℕ → Option FormFault
 own_fault n line =

@@ -23,6 +23,7 @@ terminated [] = []
 terminated ([] ∷ []) = []
 terminated (line ∷ lines) = line ∷ terminated lines
 
+-- Rule: lines and statements (3.2, 3.3)
 -- the lines of a source: cut at LF, without the one CR that may end each
 unfoldable pub lines : List ℕ → List (List ℕ)
 lines source = map strip_carriage_return (terminated (slice_split is_line_end source))
@@ -62,6 +63,7 @@ statement_card n initial following = record {
   line = n;
 }
 
+-- Rule: lines and statements (3.2, 3.3)
 -- The lines from number n on are these cards. They are comments and statements. A statement is an
 -- initial line with its continuation lines, at most 19, and the comments between these.
 pub data AreCards : ℕ → List (List ℕ) → List CardFields → Type 0 where
@@ -80,6 +82,7 @@ pub data AreCards : ℕ → List (List ℕ) → List CardFields → Type 0 where
 abbrev pub since_initial : List (List ℕ) → List (List ℕ)
 since_initial before = take_while (λ line. not (is_initial line)) (reverse before)
 
+-- Rule: F2 to F7 (3.2, 3.3)
 -- the fault of continuation line number n because of the lines before it
 unfoldable pub place_fault : List (List ℕ) → ℕ → Option FormFault
 place_fault before n =
@@ -96,6 +99,7 @@ line_fault before n line =
 abbrev pub fault_of_card : List (List ℕ) → ℕ → Option FormFault
 fault_of_card all i = line_fault (take i all) (i + 1) (slice_index_or all i [])
 
+-- Rule: F2 to F7 (3.2, 3.3)
 -- the fault is that of one line, and no line before it has one
 pub record IsFirstFormFault (all : List (List ℕ)) (fault : FormFault) : Type 0 where
   pub index : ℕ
@@ -103,6 +107,7 @@ pub record IsFirstFormFault (all : List (List ℕ)) (fault : FormFault) : Type 0
   pub found : fault_of_card all index ≡ Some fault
   pub first : (i : ℕ) → i < index → fault_of_card all i ≡ None
 
+-- Rule: F2 to F7 (3.2, 3.3)
 -- a source may be refused with this fault; Memory may come for any source
 abbrev pub IsRefusedBy : List ℕ → FormFault → Type 0
 IsRefusedBy source Memory = Unit {0}

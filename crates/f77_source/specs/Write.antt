@@ -30,11 +30,13 @@ initial_line card = label_text card.label ++ (32 ∷ (piece card.text 0 ++ 10 �
 abbrev pub continuation_line : List ℕ → ℕ → List ℕ
 continuation_line text k = codes "     +" ++ (piece text k ++ 10 ∷ [])
 
+-- Rule: statements written as lines (3.2)
 -- the lines of a card: its initial line, and the continuation lines that its text needs (3.2)
 unfoldable pub written_card : CardFields → List ℕ
 written_card card = initial_line card
     ++ flat_map (continuation_line card.text) (range_with_len 1 (continuation_count card.text))
 
+-- Rule: statements written as lines (3.2)
 -- the lines of all cards, in order
 abbrev pub written : List CardFields → List ℕ
 written cards = flat_map written_card cards
@@ -56,6 +58,7 @@ card_fault card =
     else (if nat_lt 19 (continuation_count card.text) then Some (TooManyContinuations card.line)
     else None))
 
+-- Rule: statements written as lines (3.2)
 -- the faults of the cards, in the order of the cards
 abbrev pub card_faults : List CardFields → List FormFault
 card_faults cards = filter_map card_fault cards

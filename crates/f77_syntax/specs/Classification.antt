@@ -29,6 +29,7 @@ abbrev pub no_equals : Option (List ℕ) → Bool
 no_equals None = false
 no_equals (Some rest) = not (begins_with 61 rest)
 
+-- Rule: what stands outside parentheses (2.3, 3.3)
 -- the text begins with IF( and the character behind the matching parenthesis is no equals sign
 unfoldable pub begins_if : List ℕ → Bool
 begins_if text = no_equals (strip (codes "IF(") text >>= behind_character 41 0)
@@ -38,6 +39,7 @@ abbrev pub class_behind : Option (List ℕ) → Class
 class_behind None = Keyword
 class_behind (Some rest) = if is_some (behind_character 44 0 rest) then Loop else Assignment
 
+-- Rule: what stands outside parentheses (2.3, 3.3)
 -- the class of a text: an IF statement; else a DO if a comma follows an equals sign, both outside
 -- parentheses; else an assignment if there is such an equals sign; else what its keyword says
 unfoldable pub class_of : List ℕ → Class

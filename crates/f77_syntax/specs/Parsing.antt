@@ -14,6 +14,7 @@ use Rattle.f77_program.specs.declared.group.Group.{Group}
 use Rattle.f77_program.specs.declared.group.Group.TheVariants.{End}
 use Rattle.f77_syntax.specs.TextLimits.{character_count, most_characters, IsTooDeep}
 
+-- Rule: S2 to S9 (2.2, 3.5)
 -- the text spells the statement within the limits
 pub record IsAdmitted (text : List ℕ) (s : Statement) : Type 0 where
   pub characters : character_count text ≤ most_characters
@@ -23,6 +24,7 @@ pub record IsAdmitted (text : List ℕ) (s : Statement) : Type 0 where
   pub constants : statement_constants s ≡ true
   pub nodes : statement_nodes s ≤ most_nodes
 
+-- Rule: S2 to S9 (2.2, 3.5)
 -- why the text of the card with this line number is refused
 pub data IsCardRefused (line : ℕ) (text : List ℕ) : SyntaxFault → Type 0 where
   characters : most_characters < character_count text → IsCardRefused line text (TooLong line)
@@ -68,6 +70,7 @@ abbrev pub unfinished : Option Group → SyntaxFault
 unfinished None = NoSubroutine
 unfinished (Some group) = NoEnd
 
+-- Rule: S2 to S9 (2.2, 3.5)
 -- the first fault of the cards, behind a statement of this group or from the start on
 pub data IsFirstSyntaxFault : Option Group → List CardFields → SyntaxFault → Type 0 where
   unended : {before : Option Group}

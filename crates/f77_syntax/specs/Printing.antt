@@ -12,6 +12,7 @@ use Rattle.f77_program.specs.Program.{LineFields}
 use Rattle.f77_syntax.specs.Parsing.{AreLines}
 use Rattle.f77_syntax.specs.TextLimits.{IsTooDeep}
 
+-- Rule: what is printed reads back
 -- the statement is of a program that is no mutant, and keeps the limits on depth, constants and
 -- nodes
 pub record KeepsLimits (s : Statement) : Type 0 where
@@ -20,6 +21,7 @@ pub record KeepsLimits (s : Statement) : Type 0 where
   pub constants : statement_constants s ≡ true
   pub nodes : statement_nodes s ≤ most_nodes
 
+-- Rule: what is printed reads back
 -- the source is read as the same program, apart from line numbers
 pub record ReadsBack (source : List ℕ) (program : List LineFields) : Type 0 where
   pub cards : List CardFields

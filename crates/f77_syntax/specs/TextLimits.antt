@@ -19,6 +19,7 @@ most_open = 40
 abbrev pub open_behind : List ℕ → ℕ
 open_behind text = fold deeper 0 text
 
+-- Rule: S2 to S9 (2.2, 3.5)
 -- at some place of the text more than 40 parentheses are open
 abbrev pub IsTooDeep : List ℕ → Type 0
 IsTooDeep text = (n : ℕ) × (most_open < open_behind (take n text))

@@ -53,6 +53,7 @@ is_call name Trees.None = false
 is_call name (Trees.Then t ts) = is_some (function_named name)
 
 mutual
+  -- Rule: expressions, levels, functions (5, 6, 15.10)
   -- the text spells the tree, where an expression of this level or a higher one is read (level 1
   -- binds loosest)
   pub data Spells : ℕ → List ℕ → Tree → Type 0 where
@@ -73,6 +74,7 @@ mutual
         → Spells (left_level op) x a → Spells (right_level op) y b
         → Spells w (x ++ (symbol op ++ y)) (Tree.Binary op a b)
 
+  -- Rule: expressions, levels, functions (5, 6, 15.10)
   -- the text spells a name, with the subscripts that follow it
   pub data SpellsReference : List ℕ → List ℕ → Trees → Type 0 where
     scalar : {name : List ℕ} → is_name name ≡ true → SpellsReference name name Trees.None

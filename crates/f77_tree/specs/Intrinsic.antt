@@ -11,6 +11,7 @@ function_name Iabs = codes "IABS"
 function_name Min0 = codes "MIN0"
 function_name Max0 = codes "MAX0"
 
+-- Rule: expressions, levels, functions (5, 6, 15.10)
 -- the function of this name
 unfoldable pub function_named : List ℕ → Option Intrinsic
 function_named name =

@@ -40,6 +40,7 @@ is_small_node (NodeOf.Initial v) =
     nat_le 1 v.times && (nat_le v.times largest_integer && small_constant v.constant)
 is_small_node _ = true
 
+-- Rule: sizes of names and numbers (2.2)
 -- constants, bounds, repeats and labels are in range
 abbrev pub statement_constants : Statement → Bool
 statement_constants s = list_all is_small_node (nodes_of s)

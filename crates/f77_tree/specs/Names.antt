@@ -41,6 +41,7 @@ has_short_group_names g = list_all is_short g.names
 abbrev pub data_names : List GroupFields → Bool
 data_names gs = list_all has_short_group_names gs
 
+-- Rule: sizes of names and numbers (2.2)
 -- each name of the statement has at most six characters (ANSI X3.9-1978, 2.2)
 abbrev pub statement_names : Statement → Bool
 statement_names (Statement.Subroutine name names) = is_short name && list_all is_short names

@@ -68,6 +68,7 @@ control_nodes label name = NodeOf.Labelled label ∷ (NodeOf.Named name ∷ [])
 abbrev pub parameter_nodes : Tree → Tree → Option Tree → List NodeOf
 parameter_nodes a b c = tree_nodes a ++ (tree_nodes b ++ step_parts c)
 
+-- Rule: what only mutants have; nodes
 -- The nodes behind a statement's own. The statement inside a logical IF has a node too. The unit's
 -- name, bounds and repeats have none.
 abbrev pub nodes_behind : Statement → List NodeOf
@@ -91,6 +92,7 @@ nodes_behind Statement.Stop = []
 nodes_behind Statement.Trap = []
 nodes_behind Statement.End = []
 
+-- Rule: what only mutants have; nodes
 -- the nodes of a statement: node 0 is the statement itself
 abbrev pub nodes_of : Statement → List NodeOf
 nodes_of s = NodeOf.Itself s ∷ nodes_behind s

@@ -30,6 +30,7 @@ abbrev pub sign_symbol : Sign → ℕ
 sign_symbol Plus = 43
 sign_symbol Minus = 45
 
+-- Rule: expressions, levels, functions (5, 6, 15.10)
 -- the level of an expression with this operator, loosest first (ANSI X3.9-1978, section 6)
 abbrev pub level : Operator → ℕ
 level Equivalent = 1
@@ -58,12 +59,14 @@ is_relation GreaterOrEqual = true
 is_relation Greater = true
 is_relation _ = false
 
+-- Rule: expressions, levels, functions (5, 6, 15.10)
 -- the lowest level of a left operand: the operator's own, but the next one for a relation and for a
 -- power (ANSI X3.9-1978, section 6)
 abbrev pub left_level : Operator → ℕ
 left_level Power = suc (level Power)
 left_level operator = if is_relation operator then suc (level operator) else level operator
 
+-- Rule: expressions, levels, functions (5, 6, 15.10)
 -- the lowest level of a right operand: the next one, but its own for a power (ANSI X3.9-1978,
 -- section 6)
 abbrev pub right_level : Operator → ℕ

@@ -15,6 +15,7 @@ use Rattle.f77_tree.specs.Data.{SpellsGroups}
 use Rattle.f77_tree.specs.declared.tree.Kind.{Kind}
 use Rattle.f77_tree.specs.declared.tree.Kind.TheVariants.{Integer, Logical}
 
+-- Rule: which text is which statement (7 to 11)
 -- the number of a label: more than five digits are out of range, whatever they are
 unfoldable pub label_number : List ℕ → ℕ
 label_number row = if nat_le (length row) 5 then digits_value 10 row else 100000
@@ -28,6 +29,7 @@ abbrev pub optional_comma : Bool → List ℕ
 optional_comma true = 44 ∷ []
 optional_comma false = []
 
+-- Rule: which text is which statement (7 to 11)
 -- the text spells a statement that may stand in a logical IF
 pub data SpellsAction : List ℕ → Statement → Type 0 where
   assign : {x y name : List ℕ} {items : Trees} {t : Tree}
@@ -52,6 +54,7 @@ abbrev pub kind_keyword : Kind → List ℕ
 kind_keyword Integer = codes "INTEGER"
 kind_keyword Logical = codes "LOGICAL"
 
+-- Rule: which text is which statement (7 to 11)
 -- The text spells the statement. No word is reserved: the whole text decides which rule applies.
 pub data SpellsStatement : List ℕ → Statement → Type 0 where
   action : {text : List ℕ} {s : Statement} → SpellsAction text s → SpellsStatement text s
@@ -129,10 +132,12 @@ in_text (Statement.LogicalIf t s) = Statement.LogicalIf (tree_in_text t) (in_tex
 in_text Statement.Trap = Statement.Continue
 in_text s = changed_by parts_in_text s
 
+-- Rule: what only mutants have; nodes
 -- the statement has nothing that only mutants have
 abbrev pub IsUnmutated : Statement → Type 0
 IsUnmutated s = in_text s ≡ s
 
+-- Rule: what only mutants have; nodes
 -- some text spells the statement, and its names have at most six characters
 abbrev pub IsFormed : Statement → Type 0
 IsFormed s = (text : List ℕ) × SpellsStatement text (in_text s) × (statement_names s ≡ true)

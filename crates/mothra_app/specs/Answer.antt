@@ -20,6 +20,7 @@ use Rattle.mothra_app.specs.declared.status.Status.TheVariants as status
 abbrev pub Outcome : Type 0
 Outcome = Result (List ℕ) Fault
 
+-- Rule: the four commands
 -- the outcome of the request on a job, or on bytes that are no job
 abbrev pub IsRequestOutcome : Request → JobRead → Outcome → Type 0
 IsRequestOutcome request (Err fault) outcome = outcome ≡ Err (Job fault)

@@ -23,6 +23,7 @@ pub data IsRunLine (program : List LineFields) (arguments : List Arg) (steps : �
       → refusal (shapes program) arguments ≡ None → IsOutcomeOf program arguments steps answer
       → IsRunLine program arguments steps (Ok (outcome_line answer))
 
+-- Rule: the four commands
 -- The outcome of `exec` for a test of a job and a limit on steps. J8 comes after the faults of the
 -- program.
 pub data IsExecuted (job : JobFields) (test steps : ℕ) : Result (List ℕ) Fault → Type 0 where

@@ -39,6 +39,7 @@ abbrev pub MayFailRun : Fault → Type 0
 MayFailRun (Bench fault) = IsNoReport fault
 MayFailRun fault = Contains (Job job.Memory ∷ of_mutants) fault
 
+-- Rule: lines of faults, want of memory
 -- the faults that may come in the place of any answer to the
 -- request: want of memory, and for `run` also of a thread
 abbrev pub MayFailBy : Request → Fault → Type 0

@@ -118,6 +118,7 @@ bench_line (bench.Stranger ticket) = mutant_fault_line (codes "B8") ticket
 bench_line (bench.Missing ticket) = mutant_fault_line (codes "B9") ticket
 bench_line bench.Stalled = plain_line (codes "B10")
 
+-- Rule: lines of faults, want of memory
 -- the line of a fault of any call
 unfoldable pub fault_line : Fault → List ℕ
 fault_line (Job fault) = job_line fault

@@ -58,6 +58,7 @@ is_named ops op = list_any (λ named. index named == index op) ops
 abbrev pub operators_chosen : List Op → List Op
 operators_chosen ops = filter (is_named ops) all_ops
 
+-- Rule: the four commands
 -- The outcome of `list` for these operators, where every q-th item of their lists is kept, and q is
 -- `every`.
 pub data IsListed (source : List ℕ) (ops : List Op) (every : ℕ) : Result (List ℕ) Fault

@@ -39,6 +39,7 @@ outcome_text outcome.Undefined = codes "UNDEFINED"
 outcome_text outcome.Trapped = codes "TRAPPED"
 outcome_text outcome.StepLimit = codes "STEPLIMIT"
 
+-- Rule: the four commands
 -- the text of the outcome, ended by LF
 abbrev pub outcome_line : Outcome → List ℕ
 outcome_line answer = outcome_text answer ++ codes "\n"

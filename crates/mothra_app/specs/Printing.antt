@@ -8,6 +8,7 @@ use Rattle.mothra_app.specs.Program.{IsProgramOf}
 use Rattle.mothra_app.specs.declared.fault.Fault.{Fault}
 use Rattle.mothra_app.specs.declared.fault.Fault.TheVariants.{Syntax}
 
+-- Rule: the four commands
 -- The text of the program that a source is, or the first fault.
 pub data IsPrinted (source : List ℕ) : Result (List ℕ) Fault → Type 0 where
   no_program : {fault : Fault} → IsProgramOf source (Err fault) → IsPrinted source (Err fault)

@@ -35,6 +35,7 @@ pub record IsBenchOf (job : JobFields) (ops : List Op) (every steps : ℕ)
   pub declared : bench.declared ≡ job.equivalent
   pub is : IsBench bench
 
+-- Rule: the four commands
 -- The outcome of `run` for these operators and this limit on steps.
 -- The number of workers is no argument of this definition.
 pub data IsReported (job : JobFields) (ops : List Op) (every steps : ℕ) : Result (List ℕ) Fault

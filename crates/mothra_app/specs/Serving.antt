@@ -48,6 +48,7 @@ IsReadFor status.Fault left now = IsRead limit left now
 IsReadFor status.Words left now = Keeps left now
 IsReadFor status.Help left now = Keeps left now
 
+-- Rule: what is read and written, A2, A3
 -- the text with this status may be written for the words, where
 -- the reader had the bytes `left` before and has `now` after that
 pub record IsAnswered (words : List Text) (left now : Option (List ℕ)) (status : Status)
@@ -57,6 +58,7 @@ pub record IsAnswered (words : List Text) (left now : Option (List ℕ)) (status
   pub may : MayBeWritten words bytes status text
   pub read : IsReadFor status left now
 
+-- Rule: what is read and written, A2, A3
 -- such a text was written whole, and nothing else, to a writer
 -- that held the bytes `old` before and holds `new` after that
 pub record WritesWhole (words : List Text) (left now old new : Option (List ℕ))
@@ -65,6 +67,7 @@ pub record WritesWhole (words : List Text) (left now old new : Option (List ℕ)
   pub answered : IsAnswered words left now status text
   pub written : Appends old new text
 
+-- Rule: what is read and written, A2, A3
 -- only a front of such a text was written
 pub record WritesFront (words : List Text) (left now old new : Option (List ℕ)) : Type 0 where
   pub status : Status

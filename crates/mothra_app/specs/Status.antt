@@ -10,6 +10,7 @@ abbrev pub of_input : InputFault → AppFault
 of_input input.Memory = Memory
 of_input input.Read = Read
 
+-- Rule: what is read and written, A2, A3
 -- whether a read failed (A2)
 abbrev pub is_read_fault : {A : Type 0} → Result A AppFault → Bool
 is_read_fault (Ok status) = false
@@ -17,6 +18,7 @@ is_read_fault (Err Memory) = false
 is_read_fault (Err Read) = true
 is_read_fault (Err Write) = false
 
+-- Rule: what is read and written, A2, A3
 -- whether a write failed or took no byte (A3)
 abbrev pub is_write_fault : {A : Type 0} → Result A AppFault → Bool
 is_write_fault (Ok status) = false

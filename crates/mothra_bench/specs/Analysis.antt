@@ -8,6 +8,7 @@ use Rattle.mothra_verdicts.specs.declared.fault.BenchFault.{BenchFault}
 use Rattle.mothra_verdicts.specs.declared.fault.BenchFault.TheVariants as fault
 use Rattle.mothra_bench.specs.declared.matrix.Entry.{Entry}
 
+-- Rule: the score, the report, B7 to B9
 -- the entries of the mutants of the plan, each once, in order: the verdict of
 -- running the mutant alone, and whether it is declared equivalent
 pub record AreEntries (bench : BenchFields) (entries : List Entry) : Type 0 where
@@ -15,6 +16,7 @@ pub record AreEntries (bench : BenchFields) (entries : List Entry) : Type 0 wher
   pub verdicts : All (λ entry. IsVerdict bench entry.ticket entry.kills) entries
   pub declared : All (λ entry. IsTrue entry.declared ↔ IsDeclared bench entry.ticket) entries
 
+-- Rule: the score, the report, B7 to B9
 -- the text is the report of the bench, made of the entries of its mutants
 pub record IsReport (bench : BenchFields) (text : List ℕ) : Type 0 where
   pub entries : List Entry

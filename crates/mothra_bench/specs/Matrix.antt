@@ -44,6 +44,7 @@ is_entry_of op entry = index entry.ticket.op == index op
 abbrev pub entries_of : Op → List Entry → List Entry
 entries_of op entries = filter (is_entry_of op) entries
 
+-- Rule: the score, the report, B7 to B9
 -- the mutation score (DeMillo, Lipton and Sayward 1978) in hundredths of
 -- a percent, rounded down: killed over mutants that are not equivalent
 abbrev pub score_of : Counts → Option ℕ

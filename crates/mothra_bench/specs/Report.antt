@@ -103,6 +103,7 @@ entry_lines plan entries =
     flat_map (mutant_line plan) entries
     ++ (flat_map (survivor_line plan) entries ++ flat_map (wrong_line plan) entries)
 
+-- Rule: the score, the report, B7 to B9
 -- the whole report
 abbrev pub report_text : BenchFields → List Entry → List ℕ
 report_text bench entries =

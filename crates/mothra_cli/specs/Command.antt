@@ -70,6 +70,7 @@ bare = record {
   subs = [];
 }
 
+-- Rule: the words
 -- the command line: one of the four subcommands, with its options
 unfoldable pub mothra : App
 mothra = with_subcommand (with_subcommand

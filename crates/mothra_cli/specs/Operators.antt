@@ -13,6 +13,7 @@ comma = 44
 abbrev pub operator_of : Text → Option Op
 operator_of text = find (λ op. bytes_eq (code_of op) text) all_ops
 
+-- Rule: the words
 -- the operators whose codes are the pieces of the text between commas, where each piece is a code
 abbrev pub operators_of : Text → Option (List Op)
 operators_of text =

@@ -91,10 +91,12 @@ abbrev pub request_in : Meaning → Option Request
 request_in (request r) = Some r
 request_in _ = None
 
+-- Rule: the words
 -- the request that the words are
 abbrev pub request_of : List Text → Option Request
 request_of words = request_in (meaning_of words)
 
+-- Rule: the words
 -- the command line takes the words, and their value of `--ops` is no list of operators' codes
 abbrev pub HasBadOperators : List Text → Type 0
 HasBadOperators words = meaning_of words ≡ bad_operators
@@ -108,6 +110,7 @@ IsBounded (command.Run operators every steps workers) =
     (1 ≤ every)
     × (every ≤ 1048575) × (1 ≤ steps) × (steps ≤ 1000000) × (1 ≤ workers) × (workers ≤ 32)
 
+-- Rule: the words
 -- the error is one by which the command line refuses the words, or answers
 -- a call for help or the version; or it says that memory ran out
 abbrev pub IsRefusalOf : List Text → Error → Type 0

@@ -4,6 +4,7 @@ use Rattle.mothra_codes.specs.declared.op.Op.{Op}
 use Rattle.mothra_codes.specs.declared.op.Op.TheVariants.{Aar, Abs, Acr, Aor, Asr, Car, Cnr, Crp, Csr, Der, Dsa}
 use Rattle.mothra_codes.specs.declared.op.Op.TheVariants.{Glr, Lcr, Ror, Rsr, San, Sar, Scr, Sdl, Src, Svr, Uoi}
 
+-- Rule: codes of operators
 -- the operator's place in the order, from 0
 abbrev pub index : Op → ℕ
 index Aar = 0
@@ -34,6 +35,7 @@ abbrev pub all_ops : List Op
 all_ops = Aar ∷ Abs ∷ Acr ∷ Aor ∷ Asr ∷ Car ∷ Cnr
     ∷ Crp ∷ Csr ∷ Der ∷ Dsa ∷ Glr ∷ Lcr ∷ Ror ∷ Rsr ∷ San ∷ Sar ∷ Scr ∷ Sdl ∷ Src ∷ Svr ∷ Uoi ∷ []
 
+-- Rule: codes of operators
 -- the operator's code: three letters (King and Offutt 1991)
 abbrev pub code_of : Op → List ℕ
 code_of Aar = codes "AAR"

@@ -11,6 +11,7 @@ use Rattle.mothra_equivalents.specs.declared.equivalents.Equivalent.{Equivalent}
 use Rattle.mothra_equivalents.specs.declared.why.Why.{Why}
 use Rattle.mothra_equivalents.specs.declared.why.Why.TheVariants as why
 
+-- Rule: equivalent mutants
 -- The ticket's mutant is one of the plan. For all arguments that fit and any limit on steps,
 -- where the program returns or stops, the mutant has the same outcome.
 pub record IsEquivalentMutant (plan : PlanFields) (ticket : Ticket) : Type 0 where
@@ -19,6 +20,7 @@ pub record IsEquivalentMutant (plan : PlanFields) (ticket : Ticket) : Type 0 whe
   pub equivalent : IsEquivalent (program_of plan)
       (patched (program_of plan) mutant.number mutant.statement)
 
+-- Rule: equivalent mutants
 -- The ticket's mutant is one of the plan. Where the program returns or stops at least
 -- `spare` steps before the limit, the mutant has the same outcome.
 pub record IsSparedMutant (plan : PlanFields) (ticket : Ticket) (spare : ℕ) : Type 0 where

@@ -25,6 +25,7 @@ if_named text t =
     if (nat_le 1 t.number && nat_le t.number 1048575) && bytes_eq (ticket_text t) text
     then Some t else None
 
+-- Rule: the job, J2 to J8
 -- the mutant that a text names; a code has three letters
 unfoldable pub named : List ℕ → Option Ticket
 named text = option_and_then (λ op. if_named text (ticket op (digits_value 10 (drop 4 text))))

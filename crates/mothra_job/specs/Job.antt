@@ -65,6 +65,7 @@ suite_in value = listed_values (get (codes "suite") value)
 abbrev pub equivalent_in : Data → Option (List Data)
 equivalent_in value = listed_values (get (codes "equivalent") value)
 
+-- Rule: the job, J2 to J8
 -- the values of the test with this number, from 1
 abbrev pub test_at : List (List Arg) → ℕ → Option (List Arg)
 test_at suite zero = None
@@ -74,6 +75,7 @@ test_at suite (suc i) = slice_get suite i
 abbrev pub list_faults : List Data → List Data → List JobFault
 list_faults suite entries = suite_faults suite ++ entry_faults 1 entries
 
+-- Rule: the job, J2 to J8
 -- the faults of an object with this source, these tests, these entries and
 -- these unknown keys, in the order in which they are tested
 abbrev pub member_faults : Option (List ℕ)
@@ -100,6 +102,7 @@ value_faults (Some value) = object_faults value (as_object value)
 abbrev pub job_size_faults : List ℕ → List JobFault
 job_size_faults bytes = if nat_lt 1048576 (length bytes) then TooLarge ∷ [] else []
 
+-- Rule: the job, J2 to J8
 -- all faults of a job, in the order in which they are tested
 unfoldable pub job_faults : List ℕ → List JobFault
 job_faults bytes = job_size_faults bytes ++ value_faults (json_of bytes)
@@ -117,6 +120,7 @@ abbrev pub job_fields : Option Data → JobFields
 job_fields None = job_with None None None
 job_fields (Some value) = job_with (source_in value) (suite_in value) (equivalent_in value)
 
+-- Rule: the job, J2 to J8
 -- the first fault of the bytes; or the job that they are, where they have no fault
 unfoldable pub job_of : List ℕ → JobRead
 job_of bytes = fault_or (job_faults bytes) (job_fields (json_of bytes))

@@ -32,6 +32,7 @@ array_of_items (item value rest) =
     option_or (option_map (λ zs. Ints zs) (each integer (item value rest)))
     (option_map (λ bs. Truths bs) (each as_bool (item value rest)))
 
+-- Rule: the job, J2 to J8
 -- the value of a dummy argument: a number, a truth value, or an array
 abbrev pub argument : Data → Option Arg
 argument value =
@@ -39,6 +40,7 @@ argument value =
     (option_or (option_map (λ b. Truth b) (as_bool value))
     (option_and_then array_of_items (as_array value)))
 
+-- Rule: the job, J2 to J8
 -- a test: a list of values of dummy arguments
 abbrev pub test : Data → Option (List Arg)
 test value = option_and_then (each argument) (as_array value)

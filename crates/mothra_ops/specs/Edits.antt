@@ -42,6 +42,7 @@ abbrev pub made : PoolFields → List LineFields → Edit → Option Statement
 made pools program edit =
     option_and_then (λ line. edited pools edit line.stmt) (numbered program edit.statement)
 
+-- Rule: a mutant, lists, O3
 -- The program with this statement in the place of the one with this number
 -- is a mutant: it is a program, it is legal, and it is another program.
 pub record IsMutant (program : List LineFields) (number : ℕ) (statement : Statement) : Type 0 where
@@ -49,6 +50,7 @@ pub record IsMutant (program : List LineFields) (number : ℕ) (statement : Stat
   pub legal : IsLegal (patched program number statement)
   pub differs : nth_statement program (number - 1) ≢ Some statement
 
+-- Rule: a mutant, lists, O3
 -- The edit is a member of the operator's list: what it makes is a mutant.
 pub record IsMember (op : Op) (program : List LineFields) (edit : Edit) : Type 0 where
   pub own : edit.op ≡ op
@@ -79,6 +81,7 @@ pub record Lists (P : Edit → Type 0) (edits : List Edit) : Type 0 where
   pub ordered : AllPairs BeforeEdit edits
   pub exactly : (edit : Edit) → Contains edits edit ↔ P edit
 
+-- Rule: a mutant, lists, O3
 -- each q-th item of a list, from the first: the items 1, q + 1, 2 q + 1 and so on
 abbrev pub thinned : {X : Type 0} → ℕ → List X → List X
 thinned q xs =
@@ -92,6 +95,7 @@ most_edits = 1048575
 abbrev pub most_whole : ℕ
 most_whole = 4294967295
 
+-- Rule: a mutant, lists, O3
 -- the list is the whole list of the operator, thinned by q, and neither is too long
 pub record IsList (op : Op) (program : List LineFields) (q : ℕ) (edits : List Edit) : Type 0 where
   pub whole : List Edit
@@ -113,6 +117,7 @@ pub record IsCountedList (op : Op) (program : List LineFields) (q : ℕ) (edits 
   pub list : IsList op program q edits
   pub counted : count ≡ length list.whole
 
+-- Rule: a mutant, lists, O3
 -- the faults for which there is no list
 abbrev pub IsNoList : Op → List LineFields → ℕ → OpsFault → Type 0
 IsNoList op program q Memory = ⊤

@@ -49,6 +49,7 @@ mutant_name q op number = code_of op
 abbrev pub line_number_at : List LineFields → ℕ → ℕ
 line_number_at program number = option_map_or (λ line. line.line) (numbered program number) 0
 
+-- Rule: lines of mutants
 -- where a mutant is changed: the line number of the
 -- statement, and the text of what stands in its place
 abbrev pub change_text : List LineFields → MutantFields → List ℕ
@@ -61,6 +62,7 @@ edit_text program q op number edit =
     option_map_or (λ mutant. mutant_name q op number ++ (codes " " ++ change_text program mutant))
     (mutant_made program edit) []
 
+-- Rule: lines of mutants
 -- the line of the plan's mutant of this number, no text where the operator has no such mutant
 abbrev pub mutant_text : PlanFields → Op → ℕ → List ℕ
 mutant_text plan op number = option_map_or (edit_text (program_of plan) plan.every op number)

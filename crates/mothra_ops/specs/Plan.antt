@@ -70,6 +70,7 @@ pub record IsFirstTooLong (ops : List Op) (program : List LineFields) (every : �
   pub others : (other : Op) → Contains ops other
       → index other < index op → (edits : List Edit) × IsList other program every edits
 
+-- Rule: a mutant, lists, O3
 -- the faults for which there is no plan
 abbrev pub IsNoPlan : List Op → List LineFields → ℕ → OpsFault → Type 0
 IsNoPlan ops program every Memory = ⊤

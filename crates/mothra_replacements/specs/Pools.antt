@@ -82,6 +82,7 @@ pub record PoolFields : Type 0 where
   pub constants : List Tree
   pub labels : List ℕ
 
+-- Rule: what an operator puts there
 -- the pools of a program
 abbrev pub pools_of : List LineFields → PoolFields
 pools_of program = record {

@@ -240,6 +240,7 @@ in_place Sar pools = of_elements (other_references pools.kinds (map scalar pools
 in_place Svr pools = of_scalars (other_references pools.kinds (map scalar pools.scalars))
 in_place _ pools = λ r. []
 
+-- Rule: what an operator puts there
 -- what each operator puts in the place of a node, in the order of its list
 abbrev pub replacements : Op → PoolFields → NodeOf → List NodeOf
 replacements Aar pools = in_places (in_place Aar pools)
@@ -277,6 +278,7 @@ abbrev pub is_preset : Form → Bool
 is_preset Form.Preset = true
 is_preset _ = false
 
+-- Rule: what an operator puts there
 -- The statements in which an operator has sites: the DATA statements for DSA, the DOs
 -- for DER, all other executable ones for GLR, and every executable one for the rest.
 abbrev pub stands_in : Op → Statement → Bool
@@ -285,6 +287,7 @@ stands_in Dsa s = is_preset (form_of s)
 stands_in Glr s = is_executable_statement s && not (is_loop_form (form_of s))
 stands_in _ s = is_executable_statement s
 
+-- Rule: what an operator puts there
 -- what an operator gives a node of a statement
 abbrev pub gives : Op → PoolFields → Statement → NodeOf → List NodeOf
 gives op pools s node = if stands_in op s then replacements op pools node else []

@@ -28,6 +28,7 @@ pub record BenchFields : Type 0 where
 abbrev pub most_tests : ℕ
 most_tests = 256
 
+-- Rule: a kill, a verdict, B3 to B6
 -- the values fit the dummy arguments of the program
 abbrev pub FitsProgram : List LineFields → List Arg → Type 0
 FitsProgram program arguments = refusal (shapes program) arguments ≡ None
@@ -43,6 +44,7 @@ abbrev pub AreOutcomes : List LineFields → ℕ → List (List Arg) → List Ou
 AreOutcomes program steps tests outcomes =
     AllZip (λ arguments outcome. IsOutcomeOf program arguments steps outcome) tests outcomes
 
+-- Rule: a kill, a verdict, B3 to B6
 -- the program returns or stops on the test within the limit on steps
 abbrev pub EndsOn : List LineFields → ℕ → List Arg → Type 0
 EndsOn program steps arguments =
@@ -101,6 +103,7 @@ pub record IsEntryTwice (plan : PlanFields) (entries : List Ticket) (n : ℕ) : 
   pub known : IsKnownEntry plan entry
   pub twice : Contains before entry
 
+-- Rule: a kill, a verdict, B3 to B6
 -- The faults for which there is no bench: want of memory; the first test that does not fit; else
 -- the first test on which the program does not end; else the first entry that is not fine.
 abbrev pub IsNoBench : PlanFields → List (List Arg) → ℕ → List Ticket → BenchFault → Type 0

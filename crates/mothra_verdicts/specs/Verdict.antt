@@ -16,6 +16,7 @@ use Rattle.mothra_verdicts.specs.Bench.{BenchFields}
 use Rattle.mothra_verdicts.specs.declared.fault.BenchFault.{BenchFault}
 use Rattle.mothra_verdicts.specs.declared.fault.BenchFault.TheVariants as fault
 
+-- Rule: a kill, a verdict, B3 to B6
 -- Whether a test kills the mutant: its outcome is another one
 -- than that of the program, by its kind or by a value.
 pub data IsKill (program mutant : List LineFields) (arguments : List Arg) (steps : ℕ) : Bool
@@ -27,6 +28,7 @@ pub data IsKill (program mutant : List LineFields) (arguments : List Arg) (steps
       → IsOutcomeOf program arguments steps outcome → IsOutcomeOf mutant arguments steps outcome
       → IsKill program mutant arguments steps false
 
+-- Rule: a kill, a verdict, B3 to B6
 -- for each test, whether it kills the mutant
 abbrev pub IsAlone : List LineFields → List LineFields → ℕ → List (List Arg) → List Bool → Type 0
 IsAlone program mutant steps tests kills =
@@ -44,6 +46,7 @@ HasMutant plan ticket = (1 ≤ ticket.number) × (ticket.number ≤ length (edit
 abbrev pub item_of : PlanFields → Op → ℕ → Option Edit
 item_of plan op k = numbered (edits_of plan op) k
 
+-- Rule: a kill, a verdict, B3 to B6
 -- the kills are the verdict of running the ticket's mutant alone on each test
 pub record IsVerdict (bench : BenchFields) (ticket : Ticket) (kills : List Bool) : Type 0 where
   pub mutant : MutantFields
