@@ -89,7 +89,7 @@ fn entries(rt: &impl AllocGlobal, matrix: &Matrix) -> Result<String, Fail> {
     Ok(text)
 }
 
-fn told(rt: &impl AllocGlobal, matrix: &Result<Matrix, BenchFault>) -> Result<String, Fail> {
+fn matrix_text(rt: &impl AllocGlobal, matrix: &Result<Matrix, BenchFault>) -> Result<String, Fail> {
     match matrix {
         Ok(matrix) => entries(rt, matrix),
         Err(fault) => Ok(format!(in rt.alloc(); "{fault:?}")?),
@@ -103,7 +103,7 @@ fn collected(
     changes: &str,
 ) -> Result<String, Fail> {
     let rows = changed(rt, bench, changes)?;
-    told(rt, &collect(rt.alloc(), bench, tally, rows))
+    matrix_text(rt, &collect(rt.alloc(), bench, tally, rows))
 }
 
 fn assert_collected(
@@ -113,8 +113,8 @@ fn assert_collected(
     rows: &str,
 ) -> Result<(), Fail> {
     for row in rows.trim_matches('\n').lines() {
-        let (changes, want) = parts(row)?;
-        expect(collected(rt, bench, tally, changes), want, row)?;
+        let (changes, expected) = parts(row)?;
+        expect(collected(rt, bench, tally, changes), expected, row)?;
     }
     Ok(())
 }
@@ -135,7 +135,7 @@ fn are_one_for_each_mutant_that_was_handed_out(rt: HostRuntime) -> Result<(), Fa
 }
 
 #[test]
-fn no_verdict_is_told_of_a_stranger(rt: HostRuntime) -> Result<(), Fail> {
+fn no_verdict_is_computed_for_a_stranger(rt: HostRuntime) -> Result<(), Fail> {
     let stranger = ticket("ABS 10")?;
     let bench = sum_bench(&rt)?;
     let fault = verdict_of(rt.alloc(), &bench, stranger).err();

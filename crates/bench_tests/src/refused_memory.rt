@@ -1,5 +1,6 @@
-//! Each allocation is refused in turn. The workers end nevertheless: with all rows, or with want of memory or of a
-//! thread. Every operator is closed in the end, also where the feeder that would close it could not begin.
+//! Each allocation is refused in turn. The workers end nevertheless: with all rows, or with lack of
+//! memory or of a thread. Every operator is closed in the end, also where the feeder that would
+//! close it could not begin.
 
 ghost use Rattle.std.specs.Prelude.{◌≤◌};
 
@@ -50,7 +51,8 @@ fn refused_memory_lets_workers_take_on(rt: HostRuntime) -> Result<(), Fail> {
     Ok(())
 }
 
-/// Where memory was wanting or a thread could not begin, that is the fault, also over a gate that gives up at once.
+/// Where memory was lacking or a thread could not begin, that is the fault, also over a gate that
+/// gives up at once.
 fn assert_own_fault_first<R: Abort + AllocGlobal + Threads + Wait + Sync>(rt: &R, bench: &Bench) {
     let Ok((inner, pass)) = TableExchange::<64>::new(rt.alloc(), counts(bench.plan())) else {
         return;
@@ -66,7 +68,7 @@ fn assert_own_fault_first<R: Abort + AllocGlobal + Threads + Wait + Sync>(rt: &R
 }
 
 #[test]
-fn refused_memory_is_told_before_faults_of_workers(rt: HostRuntime) -> Result<(), Fail> {
+fn refused_memory_is_reported_before_faults_of_workers(rt: HostRuntime) -> Result<(), Fail> {
     let bench = sum_bench(&rt)?;
     assert_own_fault_first(&rt, &bench);
     Ok(())

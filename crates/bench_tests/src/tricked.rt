@@ -66,11 +66,11 @@ fn tricked_locked<R: AllocGlobal + Threads + Wait + Sync>(
 fn assert_answer(
     rt: &impl Abort,
     report: Result<String, BenchFault>,
-    want: Result<&str, BenchFault>,
+    expected: Result<&str, BenchFault>,
 ) {
     match report {
-        Ok(report) => assert_eq!(rt; Ok(report.as_str()), want),
-        Err(fault) => assert_eq!(rt; Err(fault), want),
+        Ok(report) => assert_eq!(rt; Ok(report.as_str()), expected),
+        Err(fault) => assert_eq!(rt; Err(fault), expected),
     }
 }
 
@@ -80,12 +80,12 @@ fn assert_tricked<R: Abort + AllocGlobal + Threads + Wait + Sync>(
     bench: &Bench,
     trick: Trick,
     workers: u32,
-    want: Result<&str, BenchFault>,
+    expected: Result<&str, BenchFault>,
 ) -> Result<(), Fail>
     requires { (1 ≤ workers) × (workers ≤ 32) }
 {
-    assert_answer(rt, tricked(rt, bench, trick, workers)?, want);
-    assert_answer(rt, tricked_locked(rt, bench, trick, workers)?, want);
+    assert_answer(rt, tricked(rt, bench, trick, workers)?, expected);
+    assert_answer(rt, tricked_locked(rt, bench, trick, workers)?, expected);
     Ok(())
 }
 
@@ -143,7 +143,7 @@ fn assert_faults<R: Abort + AllocGlobal + Threads + Wait + Sync>(
 }
 
 #[test]
-fn tell_the_fault_that_a_trick_leads_to(rt: HostRuntime) -> Result<(), Fail> {
+fn report_the_fault_that_a_trick_leads_to(rt: HostRuntime) -> Result<(), Fail> {
     let bench = sum_bench(&rt)?;
     assert_faults(&rt, &bench)
 }

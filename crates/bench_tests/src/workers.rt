@@ -46,7 +46,7 @@ fn are_as_many_as_are_asked_for(rt: HostRuntime) -> Result<(), Fail> {
 fn assert_report<R: Abort + AllocGlobal + Threads + Wait + Sync>(
     rt: &R,
     bench: &Bench,
-    want: &str,
+    expected: &str,
     workers: u32,
     times: u32,
 ) -> Result<(), Fail>
@@ -54,7 +54,7 @@ fn assert_report<R: Abort + AllocGlobal + Threads + Wait + Sync>(
 {
     for _ in 0..times {
         let report = analyse(rt, rt.alloc(), bench, workers)?;
-        assert_eq!(rt; report.as_str(), want);
+        assert_eq!(rt; report.as_str(), expected);
     }
     Ok(())
 }
@@ -62,12 +62,12 @@ fn assert_report<R: Abort + AllocGlobal + Threads + Wait + Sync>(
 fn assert_reports<R: Abort + AllocGlobal + Threads + Wait + Sync>(
     rt: &R,
     bench: &Bench,
-    want: &str,
+    expected: &str,
 ) -> Result<(), Fail> {
-    assert_report(rt, bench, want, 1, 200)?;
-    assert_report(rt, bench, want, 2, 200)?;
-    assert_report(rt, bench, want, 8, 200)?;
-    assert_report(rt, bench, want, 32, 200)
+    assert_report(rt, bench, expected, 1, 200)?;
+    assert_report(rt, bench, expected, 2, 200)?;
+    assert_report(rt, bench, expected, 8, 200)?;
+    assert_report(rt, bench, expected, 32, 200)
 }
 
 #[test]

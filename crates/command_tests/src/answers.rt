@@ -21,33 +21,34 @@ pub(crate) fn answer(
     Ok((status, out))
 }
 
-/// Compares a text with the line that is wanted. Where they differ, the test fails and names the case.
-fn assert_line(rt: &impl Abort, bytes: &[u8], want: &str, case: &str) {
+/// Compares a text with the line that is expected. Where they differ, the test fails and names the
+/// case.
+fn assert_line(rt: &impl Abort, bytes: &[u8], expected: &str, case: &str) {
     let Ok(text) = from_utf8(bytes) else {
         panic!(rt; "{case}: the answer is no text")
     };
-    assert_eq!(rt; text.strip_suffix('\n'), Some(want), "{case}");
+    assert_eq!(rt; text.strip_suffix('\n'), Some(expected), "{case}");
 }
 
 /// The status of an answer: that of a fault where the line begins with FAULT, else that of a report.
-fn status_of(want: &str) -> Status {
-    if want.starts_with("FAULT") {
+fn status_of(expected: &str) -> Status {
+    if expected.starts_with("FAULT") {
         Status::Fault
     } else {
         Status::Report
     }
 }
 
-/// Compares the answer to words and a job with the line that is wanted.
+/// Compares the answer to words and a job with the line that is expected.
 pub(crate) fn assert_answer(
     rt: &(impl AllocGlobal + Abort + Threads + Wait + Sync),
     words: &str,
     job: &[u8],
-    want: &str,
+    expected: &str,
     case: &str,
 ) -> Result<(), Fail> {
     let (status, bytes) = answer(rt, words, job)?;
-    assert_line(rt, &bytes, want, case);
-    assert!(rt; status == status_of(want), "{case}");
+    assert_line(rt, &bytes, expected, case);
+    assert!(rt; status == status_of(expected), "{case}");
     Ok(())
 }

@@ -1,7 +1,7 @@
 //! Readers and writers that fail at one call and then go on: the answer is the fault of that call, whichever it is.
 
 use crate::streams::{Faltering, Stumbling};
-use equivalents_app::tell;
+use equivalents_app::answer_inquiry;
 use mothra_app::{AppFault, Status, Watched, serve};
 use std::process::Abort;
 use std::sync::Wait;
@@ -48,7 +48,7 @@ fn end_of(
     let result = if call.words.len() == 2 {
         serve(rt, call.words, &mut reader, &mut writer)
     } else {
-        tell(rt.alloc(), call.words, &mut reader, &mut writer)
+        answer_inquiry(rt.alloc(), call.words, &mut reader, &mut writer)
     };
     Ended {
         result,
@@ -73,7 +73,7 @@ fn assert_failed_read(
 }
 
 #[test]
-fn a_read_that_fails_is_told(rt: HostRuntime) {
+fn a_read_that_fails_is_reported(rt: HostRuntime) {
     for call in CALLS {
         for good in 0..=call.job.len() {
             assert_failed_read(&rt, call, good);
@@ -101,7 +101,7 @@ fn assert_failed_write(
 }
 
 #[test]
-fn a_write_that_fails_is_told(rt: HostRuntime) {
+fn a_write_that_fails_is_reported(rt: HostRuntime) {
     for call in CALLS {
         for good in 0..call.text.len() {
             assert_failed_write(&rt, call, good, true);

@@ -9,10 +9,10 @@ use std::test::Fail;
 fn assert_text(
     rt: &(impl AllocGlobal + Abort),
     fault: &impl Display,
-    want: &str,
+    expected: &str,
 ) -> Result<(), Fail> {
     let text = format!(in rt.alloc(); "{fault}")?;
-    assert_eq!(rt; text.as_str(), want);
+    assert_eq!(rt; text.as_str(), expected);
     Ok(())
 }
 

@@ -48,10 +48,10 @@ fn assert_row(
     row: &str,
 ) -> Result<(), Fail> {
     let (words, behind) = halves(row, " | ")?;
-    let (job, want) = halves(behind, " => ")?;
+    let (job, expected) = halves(behind, " => ")?;
     let job = expanded(rt.alloc(), job)?;
-    let want = expanded(rt.alloc(), want)?;
-    assert_answer(rt, words, job.as_bytes(), &want, row)
+    let expected = expanded(rt.alloc(), expected)?;
+    assert_answer(rt, words, job.as_bytes(), &expected, row)
 }
 
 /// The rows of a table.
@@ -154,7 +154,7 @@ fn with_keys(alloc: Global) -> Result<String, Fail> {
 
 // The first key in the order of bytes is reported, which is not the first one in the job.
 #[test]
-fn tells_the_first_of_ten_thousand_keys(rt: HostRuntime) -> Result<(), Fail> {
+fn reports_the_first_of_ten_thousand_keys(rt: HostRuntime) -> Result<(), Fail> {
     let job = with_keys(rt.alloc())?;
     assert_answer(
         &rt,

@@ -1,5 +1,6 @@
-//! Each allocation is refused in turn. The answer is then A1, the line of a fault for want of memory, for `run` also
-//! that of a thread that can not begin, or the answer that comes when nothing is refused.
+//! Each allocation is refused in turn. The answer is then A1, the line of a fault for lack of
+//! memory, for `run` also that of a thread that can not begin, or the answer that comes when
+//! nothing is refused.
 
 use mothra_app::{AppFault, Status, Watched, serve};
 use std::process::Abort;
@@ -9,7 +10,8 @@ use std::thread::Threads;
 /// Room for a text; each text here is shorter.
 const ROOM: usize = 1024;
 
-/// The line is that of want of memory, with one of these letters, or of a thread that can not begin.
+/// The line is that of lack of memory, with one of these letters, or of a thread that can not
+/// begin.
 fn assert_fault(rt: &impl Abort, line: &[u8; ROOM], letters: &[u8]) {
     assert!(rt; line.starts_with(b"FAULT ") && line[8..].starts_with(b"\n\0"));
     assert!(rt; letters.contains(&line[6]));
@@ -23,7 +25,7 @@ fn assert_report(rt: &impl Abort, text: &[u8; ROOM], report: &str) {
     assert!(rt; end.is_some_and(|end| end.starts_with(b"\n\0")));
 }
 
-/// Serves a job; a fault for want of memory has one of these letters.
+/// Serves a job; a fault for lack of memory has one of these letters.
 fn assert_undisturbed(
     rt: &(impl AllocGlobal + Abort + Threads + Wait + Sync),
     words: &[&str],

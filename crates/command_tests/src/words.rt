@@ -2,7 +2,7 @@
 //! version nothing is read.
 
 use crate::streams::Stumbling;
-use equivalents_app::tell;
+use equivalents_app::answer_inquiry;
 use mothra_app::{Status, Watched, serve};
 use std::process::Abort;
 use std::sync::Wait;
@@ -18,7 +18,7 @@ fn unread(
     let mut reader = Watched::new(Stumbling::new(b"", 0));
     let mut writer = Watched::new(&mut out);
     let status = if words.first() == Some(&"equivalents") {
-        tell(rt.alloc(), words, &mut reader, &mut writer)?
+        answer_inquiry(rt.alloc(), words, &mut reader, &mut writer)?
     } else {
         serve(rt, words, &mut reader, &mut writer)?
     };
@@ -30,11 +30,11 @@ fn unread(
 fn assert_unread(
     rt: &(impl AllocGlobal + Abort + Threads + Wait + Sync),
     words: &[&str],
-    want: Status,
+    expected: Status,
     front: &str,
 ) -> Result<(), Fail> {
     let (status, text) = unread(rt, words)?;
-    assert!(rt; status == want, "{front}");
+    assert!(rt; status == expected, "{front}");
     assert!(rt; text.as_slice().starts_with(front.as_bytes()), "{front}");
     Ok(())
 }

@@ -5,21 +5,21 @@
 ghost use Rattle.std.specs.Prelude.{◌≡◌, ◌≢◌, Ok, Err, OnErr};
 ghost use Rattle.std.specs.IoError.{error_kind};
 
-use equivalents_app::{AppFault, Status, Watched, tell};
+use equivalents_app::{AppFault, Status, Watched, answer_inquiry};
 use std::env::Env;
 use std::io::ErrorKind;
 use std::process::ExitCode;
 use std::{env, io};
 
 /// The exit status: 0 for a list, help or version, 1 for a fault, 2 for words that are refused.
-fn exit_status(told: Result<Status, AppFault>) -> u8
-    ensures report { told ≡ Ok Status.Report → result ≡ 0 }
-    ensures help { told ≡ Ok Status.Help → result ≡ 0 }
-    ensures fault { told ≡ Ok Status.Fault → result ≡ 1 }
-    ensures words { told ≡ Ok Status.Words → result ≡ 2 }
-    ensures untold { OnErr told (result ≡ 1) }
+fn exit_status(answered: Result<Status, AppFault>) -> u8
+    ensures report { answered ≡ Ok Status.Report → result ≡ 0 }
+    ensures help { answered ≡ Ok Status.Help → result ≡ 0 }
+    ensures fault { answered ≡ Ok Status.Fault → result ≡ 1 }
+    ensures words { answered ≡ Ok Status.Words → result ≡ 2 }
+    ensures unanswered { OnErr answered (result ≡ 1) }
 {
-    match told {
+    match answered {
         Ok(Status::Report | Status::Help) => 0,
         Ok(Status::Fault) | Err(AppFault::Memory | AppFault::Read | AppFault::Write) => 1,
         Ok(Status::Words) => 2,
@@ -31,8 +31,8 @@ fn words_of(rt: &(impl Env + AllocGlobal)) -> io::Result<Vec<String>> {
     Ok(env::args(rt)?.collect(rt.alloc())?)
 }
 
-/// The answer where the words can not be read: want of memory, or words that are no UTF-8, which are refused without
-/// a text.
+/// The answer where the words can not be read: out of memory, or words that are no UTF-8, which are
+/// refused without a text.
 fn without_words(error: &io::Error) -> Result<Status, AppFault>
     ensures memory { error_kind error.now ≡ ErrorKind.OutOfMemory → result ≡ Err AppFault.Memory }
     ensures words { error_kind error.now ≢ ErrorKind.OutOfMemory → result ≡ Ok Status.Words }
@@ -44,13 +44,13 @@ fn without_words(error: &io::Error) -> Result<Status, AppFault>
 }
 
 fn main(rt: HostRuntime) -> ExitCode {
-    let told = match words_of(&rt) {
+    let answered = match words_of(&rt) {
         Ok(words) => {
             let mut reader = Watched::new(rt.stdin());
             let mut writer = Watched::new(rt.stdout());
-            tell(rt.alloc(), &words, &mut reader, &mut writer)
+            answer_inquiry(rt.alloc(), &words, &mut reader, &mut writer)
         }
         Err(error) => without_words(&error),
     };
-    ExitCode::from(exit_status(told))
+    ExitCode::from(exit_status(answered))
 }

@@ -3,7 +3,7 @@ use Rattle.std.proofs.Common.{◌≡◌, ◌∙◌, ◌<◌, ◌+◌, ◌++◌, 
 use Rattle.f77_tree.specs.Joined.{separated}
 use Rattle.mothra_codes.specs.declared.ticket.Ticket.{Ticket}
 use Rattle.mothra_equivalents.specs.declared.equivalents.Equivalent.{Equivalent}
-use Rattle.equivalents_app.specs.Telling.{declarable, entry_text, if_declarable, in_whole_list}
+use Rattle.equivalents_app.specs.Rendering.{declarable, entry_text, if_declarable, in_whole_list}
 
 module _ (every : ℕ) (list : List Equivalent) (i : ℕ) (e : Equivalent) (within : i < length list) where
   at : drop i list ≡ get_or list i e ∷ drop (i + 1) list

@@ -15,7 +15,7 @@ use Rattle.mothra_replacements.specs.declared.fault.OpsFault.{OpsFault}
 use Rattle.mothra_replacements.specs.declared.fault.OpsFault.TheVariants as ops
 use Rattle.equivalents_app.specs.Finding.{IsFound}
 use Rattle.equivalents_app.specs.Room.{AreNamedMutants}
-use Rattle.equivalents_app.specs.Telling.{told_text}
+use Rattle.equivalents_app.specs.Rendering.{written_text}
 use Rattle.equivalents_app.specs.declared.words.Inquiry.{Inquiry}
 
 -- where the result is this fault, what holds of the fault holds of the result
@@ -56,7 +56,7 @@ module _ (job : JobFields) (i : Inquiry) where
       pub found : (text : List ℕ) (program : List LineFields) (plan : PlanFields) (list : List Equivalent)
           → IsLegalProgramOf source (Ok program) → program_of plan ≡ program → plan.every ≡ i.every
           → ((op : Op) → IsTrue (asked plan op) ↔ Contains named op) → IsPlan plan → AreNamedMutants plan job.suite i.steps list
-          → text ≡ told_text plan list i.json → IsFound job i (Ok text)
+          → text ≡ written_text plan list i.json → IsFound job i (Ok text)
       found text program plan list is of_program kept asks planned mutants written =
           subst (λ t. IsFound job i (Ok t)) (sym written)
           (IsFound.text (subst (λ s. IsLegalProgramOf s (Ok program)) own is)

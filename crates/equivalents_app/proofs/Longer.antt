@@ -2,7 +2,7 @@
 use Rattle.std.proofs.Common.{arith, ◌≡◌, ◌≤◌, ◌+◌, ◌-◌, ℕ, zero, suc, inl, inr, List, subst}
 use Rattle.f77_equivalence.specs.Equivalent.{IsEnd}
 use Rattle.f77_program.specs.Program.{LineFields}
-use Rattle.f77_meaning.specs.Interpreter.{IsOutcomeOf, Tells}
+use Rattle.f77_meaning.specs.Interpreter.{IsOutcomeOf, Reports}
 use Rattle.f77_meaning.specs.Outcome.{IsOutcome}
 use Rattle.f77_meaning.specs.Step.{Config}
 use Rattle.f77_meaning.specs.Value.{Store}
@@ -12,9 +12,9 @@ use Rattle.f77_actions.specs.declared.finish.Finish.{Finish}
 use Rattle.f77_actions.specs.declared.finish.Finish.TheVariants.{StepLimit}
 
 -- where the outcome is an end, the run did not come to the limit
-not_the_limit : (p : List LineFields) (finish : Finish) (values : Store) (outcome : Outcome) → Tells p finish values outcome → IsEnd outcome
+not_the_limit : (p : List LineFields) (finish : Finish) (values : Store) (outcome : Outcome) → Reports p finish values outcome → IsEnd outcome
     → finish ≡ StepLimit → ⊥
-not_the_limit p finish values outcome tells end is = subst IsEnd (subst (λ f. Tells p f values outcome) is tells) end
+not_the_limit p finish values outcome reports end is = subst IsEnd (subst (λ f. Reports p f values outcome) is reports) end
 
 with_more : (p : List LineFields) (n more : ℕ) (c : Config) (finish : Finish) (values : Store) → (finish ≡ StepLimit → ⊥)
     → IsOutcome p n c finish values → IsOutcome p (n + more) c finish values
@@ -38,6 +38,6 @@ longer p arguments limit steps outcome below end is =
       finish = is.finish;
       values = is.values;
       ends = subst (λ n. IsOutcome p n is.start is.finish is.values) sum
-          (with_more p limit (steps - limit) is.start is.finish is.values (not_the_limit p is.finish is.values outcome is.tells end) is.ends);
-      tells = is.tells;
+          (with_more p limit (steps - limit) is.start is.finish is.values (not_the_limit p is.finish is.values outcome is.reports end) is.ends);
+      reports = is.reports;
     }

@@ -86,9 +86,9 @@ module _ (one : OneAnswer) (p q : List LineFields) (steps : ℕ) where
   not_killed : (arguments : List Arg) (own : Outcome) (kill : Bool) → KeepsEnds p q arguments → IsOutcomeOf p arguments steps own → IsProgramEnd own
       → IsKill p q arguments steps kill → kill ≡ false
   not_killed arguments own kill keeps is end (IsKill.survived first second) = refl
-  not_killed arguments own kill keeps is end (IsKill.killed {outcome = told} {other = other} first second apart) =
+  not_killed arguments own kill keeps is end (IsKill.killed {outcome = original} {other = other} first second apart) =
       let kept : IsOutcomeOf q arguments steps own = keeps steps own is (ended own end) in
-      absurd (apart (one p arguments steps told own first is ∙ one q arguments steps own other kept second))
+      absurd (apart (one p arguments steps original own first is ∙ one q arguments steps own other kept second))
 
   none_killed : IsEquivalent p q → (tests : List (List Arg)) (outcomes : List Outcome) (kills : List Bool) → All (FitsProgram p) tests → All AreStorable tests
       → AreOutcomes p steps tests outcomes → All IsProgramEnd outcomes → IsAlone p q steps tests kills → All (λ kill. kill ≡ false) kills
@@ -107,10 +107,10 @@ module _ (one : OneAnswer) (p q : List LineFields) (steps : ℕ) where
   not_killed_spared : (spare : ℕ) (arguments : List Arg) (kill : Bool) → KeepsEndsWithin spare p q arguments
       → LeavesRoomOn p steps spare arguments → IsKill p q arguments steps kill → kill ≡ false
   not_killed_spared spare arguments kill keeps room (IsKill.survived first second) = refl
-  not_killed_spared spare arguments kill keeps (limit, own, within, is, end) (IsKill.killed {outcome = told} {other = other} first second apart) =
+  not_killed_spared spare arguments kill keeps (limit, own, within, is, end) (IsKill.killed {outcome = original} {other = other} first second apart) =
       let whole : IsOutcomeOf p arguments steps own = longer p arguments limit steps own (omega (arith, within)) end is in
       let kept : IsOutcomeOf q arguments steps own = longer q arguments (limit + spare) steps own within end (keeps limit own is end) in
-      absurd (apart (one p arguments steps told own first whole ∙ one q arguments steps own other kept second))
+      absurd (apart (one p arguments steps original own first whole ∙ one q arguments steps own other kept second))
 
   none_killed_spared : (spare : ℕ) → IsEquivalentWithin spare p q → (tests : List (List Arg)) (kills : List Bool) → All (FitsProgram p) tests
       → All AreStorable tests → LeavesRoom p tests steps spare → IsAlone p q steps tests kills → All (λ kill. kill ≡ false) kills

@@ -11,7 +11,7 @@ use Rattle.mothra_job.specs.Job.{JobFields}
 use Rattle.mothra_ops.specs.Plan.{IsFirstTooLong, PlanFields}
 use Rattle.mothra_replacements.specs.declared.fault.OpsFault.TheVariants.{TooMany}
 use Rattle.equivalents_app.specs.Room.{AreNamedMutants}
-use Rattle.equivalents_app.specs.Telling.{told_text}
+use Rattle.equivalents_app.specs.Rendering.{written_text}
 use Rattle.equivalents_app.specs.declared.words.Inquiry.{Inquiry}
 
 -- The outcome of an inquiry for a job: the text that names equivalent mutants of the
@@ -24,4 +24,4 @@ pub data IsFound (job : JobFields) (i : Inquiry) : Result (List ℕ) Fault → T
   text : {program : List LineFields} {plan : PlanFields} {list : List Equivalent}
       → IsLegalProgramOf job.source (Ok program)
       → IsPlanOf program i.operators i.every plan → AreNamedMutants plan job.suite i.steps list
-      → IsFound job i (Ok (told_text plan list i.json))
+      → IsFound job i (Ok (written_text plan list i.json))

@@ -1,5 +1,5 @@
 pub mod Words
-pub mod Telling
+pub mod Rendering
 pub mod Room
 pub mod Finding
 pub mod Serving

@@ -27,7 +27,7 @@ abbrev pub IsInquiryOutcome : Inquiry → JobRead → Outcome → Type 0
 IsInquiryOutcome i (Err fault) outcome = outcome ≡ Err (Job fault)
 IsInquiryOutcome i (Ok j) outcome = IsFound j i outcome
 
--- want of memory, which may come in the place of any answer
+-- the faults of memory, which may come in the place of any answer
 abbrev pub memory_faults : List Fault
 memory_faults = Job job.Memory ∷ of_mutants
 

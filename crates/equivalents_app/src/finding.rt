@@ -7,8 +7,8 @@ ghost use Rattle.equivalents_app.specs.Finding.{IsFound};
 ghost use Rattle.equivalents_app.specs.Room.{AreNamedMutants};
 ghost use Rattle.equivalents_app.specs.Words.{IsInquiryBounded};
 
+use crate::rendering::text_of;
 use crate::room::{keep_within, room_for};
-use crate::telling::text_of;
 use crate::words::Inquiry;
 use f77_meaning::{Arg, Values};
 use mothra_app::fault::Fault;

@@ -4,12 +4,12 @@
 
 mod finding;
 pub mod law;
+mod rendering;
 mod room;
 mod serving;
-mod telling;
 mod words;
 
 pub use mothra_app::{AppFault, Status, Watched};
-pub use serving::tell;
-pub use telling::text_of;
+pub use rendering::text_of;
+pub use serving::answer_inquiry;
 pub use words::{Inquiry, inquiry_of};

@@ -12,7 +12,7 @@ ghost use Rattle.equivalents_app.specs.Words.{IsInquiryBounded};
 
 use crate::finding::find;
 use crate::words::{Inquiry, inquiry_of};
-use mothra_app::answer::{Answer, bad_list, refusal, told};
+use mothra_app::answer::{Answer, bad_list, fault_answer, refusal};
 use mothra_app::fault::Fault;
 use mothra_app::{AppFault, Status};
 use mothra_cli::{Watched, WordsFault, read_input, write_whole};
@@ -42,7 +42,7 @@ fn answer_to(alloc: Global, inquiry: &Inquiry, bytes: &[u8]) -> Result<Answer, A
             status: Status::Report,
             text,
         }),
-        Err(fault) => told(alloc, &fault),
+        Err(fault) => fault_answer(alloc, &fault),
     }
 }
 
@@ -91,7 +91,7 @@ fn answer_for<S: AsStr, R: Read>(
 ///
 /// Nothing is written before the whole text is there, and the writer is not flushed. A call of the reader or the writer
 /// that was interrupted has failed; it is not tried again.
-pub fn tell<S: AsStr, R: Read, W: Write>(
+pub fn answer_inquiry<S: AsStr, R: Read, W: Write>(
     alloc: Global,
     words: &[S],
     reader: &mut Watched<R>,

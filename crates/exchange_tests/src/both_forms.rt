@@ -40,9 +40,9 @@ fn assert_turns<G: Gate, R: Wait + Abort + AllocGlobal>(
     ensures { G.is_pass gate.now pass.new }
 {
     for row in TURNS.trim_matches('\n').lines() {
-        let (call, want) = parts(row)?;
+        let (call, expected) = parts(row)?;
         let answer = answer(rt, gate, pass, call)?;
-        assert!(rt; answer.as_str() == want, "{row}: {answer}");
+        assert!(rt; answer.as_str() == expected, "{row}: {answer}");
     }
     Ok(())
 }

@@ -59,8 +59,8 @@ fn taken_by_two(
 
 /// The numbers are 1 to 2,000 in order.
 fn assert_each_once(rt: &impl Abort, numbers: &[u32]) {
-    for (&number, want) in numbers.iter().zip(1..=2_000) {
-        assert!(rt; number == want, "{number} in the place of {want}");
+    for (&number, expected) in numbers.iter().zip(1..=2_000) {
+        assert!(rt; number == expected, "{number} in the place of {expected}");
     }
     assert!(rt; numbers.len() == 2_000);
 }

@@ -25,7 +25,7 @@ fn assert_too_large(rt: &(impl AllocGlobal + Abort), many: [u32; 22], op: Op) {
 }
 
 #[test]
-fn the_first_count_that_is_too_large_is_told(rt: HostRuntime) {
+fn the_first_count_that_is_too_large_is_reported(rt: HostRuntime) {
     assert_too_large(&rt, counts(Op::Aar, 1_048_576), Op::Aar);
     let mut two = counts(Op::Abs, 1_048_576);
     two[Op::Uoi.index()] = 4_294_967_295;
@@ -35,10 +35,10 @@ fn the_first_count_that_is_too_large_is_told(rt: HostRuntime) {
 fn assert_text(
     rt: &(impl AllocGlobal + Abort),
     fault: ExchangeFault,
-    want: &str,
+    expected: &str,
 ) -> Result<(), Fail> {
     let text = format!(in rt.alloc(); "{fault}")?;
-    assert_eq!(rt; text.as_str(), want);
+    assert_eq!(rt; text.as_str(), expected);
     Ok(())
 }
 

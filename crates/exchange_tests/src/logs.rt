@@ -22,9 +22,9 @@ fn answer(alloc: Global, state: &mut State<2>, call: &str) -> Result<String, Fai
 /// Each call of the table has its answer.
 fn assert_turns(rt: &(impl AllocGlobal + Abort), state: &mut State<2>) -> Result<(), Fail> {
     for row in TURNS.trim_matches('\n').lines() {
-        let (call, want) = parts(row)?;
+        let (call, expected) = parts(row)?;
         let answer = answer(rt.alloc(), state, call)?;
-        assert!(rt; answer.as_str() == want, "{row}: {answer}");
+        assert!(rt; answer.as_str() == expected, "{row}: {answer}");
     }
     Ok(())
 }

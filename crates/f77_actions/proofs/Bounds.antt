@@ -7,7 +7,7 @@ use Rattle.std.proofs.lemmas.Int.{ints}
 use Rattle.f77_actions.specs.declared.finish.Fault.{Fault}
 use Rattle.f77_actions.specs.declared.finish.Fault.TheVariants.{Overflow, DivideByZero, ZeroPower, BadSubscript, ZeroStep, Undefined, Trapped}
 use Rattle.f77_actions.specs.Number.{fits}
-use Rattle.f77_actions.specs.Told.{TellsResult, IsValueOrFault, fault_number, code, truth_number}
+use Rattle.f77_actions.specs.Encoded.{Encodes, IsValueOrFault, fault_number, code, truth_number}
 
 -- the range, as bounds
 pub record Within (z : ℤ) : Type 0 where
@@ -27,17 +27,17 @@ few_faults Trapped = omega arith
 few_faults DivideByZero = omega arith
 few_faults ZeroPower = omega arith
 
-pub told_value : (z : ℤ) → fits z ≡ true → IsValueOrFault z
-told_value z e = let w = within z e in record { low = w.low; high = omega (arith, ints); gap = λ h. w.high }
+pub valid_value : (z : ℤ) → fits z ≡ true → IsValueOrFault z
+valid_value z e = let w = within z e in record { low = w.low; high = omega (arith, ints); gap = λ h. w.high }
 
-pub told_code : (f : Fault) → IsValueOrFault (pos (code f))
-told_code f = let few = few_faults f in record { low = omega (arith, ints); high = omega (arith, ints); gap = λ h. absurd (omega (arith, ints)) }
+pub valid_code : (f : Fault) → IsValueOrFault (pos (code f))
+valid_code f = let few = few_faults f in record { low = omega (arith, ints); high = omega (arith, ints); gap = λ h. absurd (omega (arith, ints)) }
 
-pub tells_value : (z : ℤ) → fits z ≡ true → TellsResult z (Ok z)
-tells_value z e = record { is = refl; fitting = e; told = told_value z e }
+pub encodes_value : (z : ℤ) → fits z ≡ true → Encodes z (Ok z)
+encodes_value z e = record { is = refl; fitting = e; valid = valid_value z e }
 
-pub tells_fault : (f : Fault) → TellsResult (pos (code f)) (Err f)
-tells_fault f = record { is = refl; fitting = refl; told = told_code f }
+pub encodes_fault : (f : Fault) → Encodes (pos (code f)) (Err f)
+encodes_fault f = record { is = refl; fitting = refl; valid = valid_code f }
 
 pub fits_truth : (b : Bool) → fits (truth_number b) ≡ true
 fits_truth true = refl

@@ -15,9 +15,9 @@ where_fits : (z : ℤ) → fits z ≡ true → FitsSigned w32 z
 where_fits (pos n) e = record { sfits = ltb-true n (2 ^ 31) e }
 where_fits (negsuc n) e = record { sfits = ltb-true n (2 ^ 31) e }
 
-told : (o : Option ℤ) (z : ℤ) → SomeIff o (FitsSigned w32 z) z → ok_or o Overflow ≡ in_range z
-told (Some x) z h = rw (fits_where z h.0) (ap (λ y. Ok y) h.1)
-told None z h = by (fits z) refl
+checked_exact : (o : Option ℤ) (z : ℤ) → SomeIff o (FitsSigned w32 z) z → ok_or o Overflow ≡ in_range z
+checked_exact (Some x) z h = rw (fits_where z h.0) (ap (λ y. Ok y) h.1)
+checked_exact None z h = by (fits z) refl
   where
     by : (b : Bool) → fits z ≡ b → ok_or None Overflow ≡ in_range z
     by true e = absurd (h (where_fits z e))
@@ -33,7 +33,7 @@ quotient_where : (o : Option ℤ) (a b : ℤ) → 0 < of_z w32 b → SomeIff o (
 quotient_where (Some x) a b positive h = (h.0.1, h.1)
 quotient_where None a b positive h = λ f. h (positive, f)
 
-pub quotient_told : (o : Option ℤ) (a b : ℤ) → FitsSigned w32 b → b ≢ pos 0 → SomeIff o (CanDivide w32 a b) (int_div a b) → ok_or o Overflow ≡ quotient a b
-quotient_told o a (pos zero) f h s = absurd (h refl)
-quotient_told o a (pos (suc n)) f h s = told o (int_div a (pos (suc n))) (quotient_where o a (pos (suc n)) (not_zero (pos (suc n)) f h) s)
-quotient_told o a (negsuc n) f h s = told o (int_div a (negsuc n)) (quotient_where o a (negsuc n) (not_zero (negsuc n) f h) s)
+pub checked_quotient : (o : Option ℤ) (a b : ℤ) → FitsSigned w32 b → b ≢ pos 0 → SomeIff o (CanDivide w32 a b) (int_div a b) → ok_or o Overflow ≡ quotient a b
+checked_quotient o a (pos zero) f h s = absurd (h refl)
+checked_quotient o a (pos (suc n)) f h s = checked_exact o (int_div a (pos (suc n))) (quotient_where o a (pos (suc n)) (not_zero (pos (suc n)) f h) s)
+checked_quotient o a (negsuc n) f h s = checked_exact o (int_div a (negsuc n)) (quotient_where o a (negsuc n) (not_zero (negsuc n) f h) s)

@@ -1,4 +1,4 @@
 pub mod Operators
 pub mod Number
 pub mod Value
-pub mod Told
+pub mod Encoded

@@ -2,11 +2,11 @@
 #![tactic(auto)]
 
 mod action;
+pub mod encoded;
 mod expression;
 mod finish;
 pub mod number;
 mod resolved;
-pub mod told;
 mod value;
 
 pub use action::{Action, Jump};

@@ -36,7 +36,7 @@ pub fn product(a: i32, b: i32) -> Result<i32, Fault>
 }
 
 /// The quotient, truncated toward zero.
-#[tactic(auto, using(crate::proofs::Ranges::quotient_told))]
+#[tactic(auto, using(crate::proofs::Ranges::checked_quotient))]
 pub fn quotient(a: i32, b: i32) -> Result<i32, Fault>
     ensures { result ≡ exact.quotient a b }
 {

@@ -10,9 +10,9 @@ use Rattle.f77_legal.specs.declared.names.Names.{Names}
 use Rattle.f77_check.specs.Checked.{shape_of, shapes}
 use Rattle.f77_legal.specs.Legal.{IsLegal, is_array, is_too_large, name_faults, clause_faults, expression_clauses, control_clauses, label_faults, data_faults, too_large_faults}
 use Rattle.f77_legal.specs.declared.fault.CheckFault.TheVariants.{TooMany}
-use Rattle.f77_legal.specs.Names.{Symbol, Mention, name_in, mentions, mentions_of, symbols, some_items, bounds_of}
+use Rattle.f77_legal.specs.Names.{Symbol, NameUse, name_in, uses, uses_of, symbols, some_items, bounds_of}
 use Rattle.f77_legal.specs.NameTable.{IsNameTable}
-use Rattle.f77_legal.specs.Presets.{product, element_count}
+use Rattle.f77_legal.specs.InitialValues.{product, element_count}
 use Rattle.f77_check.specs.code.Shapes.{elements_in, shape_at}
 use Rattle.f77_legal.specs.Heading.{dummies, dummies_of}
 use Rattle.f77_legal.proofs.Lookups.{same_kind_at, same_bounds_at}
@@ -23,9 +23,9 @@ none_behind : {X : Type 0} (xs ys : List X) → xs ++ ys ≡ [] → ys ≡ []
 none_behind [] ys e = e
 none_behind (x ∷ xs) ys e = absurd (cc (e))
 
-none_told : {X : Type 0} (b : Bool) (x : X) → (if b then x ∷ [] else []) ≡ [] → b ≡ false
-none_told true x e = absurd (cc (e))
-none_told false x e = refl
+false_where_none : {X : Type 0} (b : Bool) (x : X) → (if b then x ∷ [] else []) ≡ [] → b ≡ false
+false_where_none true x e = absurd (cc (e))
+false_where_none false x e = refl
 
 small : (program : List LineFields) → IsLegal program → nat_lt 10000 (sum (map (element_count program) (filter (is_array program) (symbols program)))) ≡ false
 small program legal =
@@ -34,8 +34,8 @@ small program legal =
     let labels = none_behind (clause_faults expression_clauses program)
     (label_faults program ++ (clause_faults control_clauses program ++ (data_faults program ++ too_large_faults program))) expressions in
     let control = none_behind (label_faults program) (clause_faults control_clauses program ++ (data_faults program ++ too_large_faults program)) labels in
-    let presets = none_behind (clause_faults control_clauses program) (data_faults program ++ too_large_faults program) control in
-    let sized = none_told (is_too_large program) TooMany (none_behind (data_faults program) (too_large_faults program) presets) in
+    let initial_values = none_behind (clause_faults control_clauses program) (data_faults program ++ too_large_faults program) control in
+    let sized = false_where_none (is_too_large program) TooMany (none_behind (data_faults program) (too_large_faults program) initial_values) in
     (or_false (nat_lt 100 (length (symbols program))) _ (or_false (nat_lt 500 (length program)) _ sized).1).1
 
 within_sum : (size total : ℕ) → size ≤ total → nat_lt 10000 total ≡ false → size ≤ 10000
@@ -60,23 +60,23 @@ one_of f p q (x ∷ xs) among passes = by (one_of f p q xs) (bytes_eq q x) (p x)
         let wide = more d t in
         omega (arith, below, wide)
 
-named_before : (names : List Symbol) (ms : List Mention) (q : Symbol) → list_any (bytes_eq q) names ≡ true
-    → list_any (bytes_eq q) (map name_in (map Mention.Dummy names ++ ms)) ≡ true
+named_before : (names : List Symbol) (ms : List NameUse) (q : Symbol) → list_any (bytes_eq q) names ≡ true
+    → list_any (bytes_eq q) (map name_in (map NameUse.Dummy names ++ ms)) ≡ true
 named_before [] ms q among = absurd (cc (among))
 named_before (x ∷ names) ms q among = by (named_before names ms q) (bytes_eq q x) refl
   where
-    by : (list_any (bytes_eq q) names ≡ true → list_any (bytes_eq q) (map name_in (map Mention.Dummy names ++ ms)) ≡ true)
-        → (b : Bool) → bytes_eq q x ≡ b → list_any (bytes_eq q) (map name_in (map Mention.Dummy (x ∷ names) ++ ms)) ≡ true
+    by : (list_any (bytes_eq q) names ≡ true → list_any (bytes_eq q) (map name_in (map NameUse.Dummy names ++ ms)) ≡ true)
+        → (b : Bool) → bytes_eq q x ≡ b → list_any (bytes_eq q) (map name_in (map NameUse.Dummy (x ∷ names) ++ ms)) ≡ true
     by later true e = rw e refl
     by later false e = rw e (later (sym (ap (λ b. b || list_any (bytes_eq q) names) e) ∙ among))
 
-dummy_named : (s : Statement) (ms : List Mention) (q : Symbol) → list_any (bytes_eq q) (dummies_of s) ≡ true → list_any (bytes_eq q) (map name_in (mentions_of s ++ ms)) ≡ true
+dummy_named : (s : Statement) (ms : List NameUse) (q : Symbol) → list_any (bytes_eq q) (dummies_of s) ≡ true → list_any (bytes_eq q) (map name_in (uses_of s ++ ms)) ≡ true
 dummy_named (Statement.Subroutine name names) ms q among = named_before names ms q among
 dummy_named _ ms q among = absurd (cc (among))
 
 pub dummy_known : (program : List LineFields) (q : Symbol) → list_any (bytes_eq q) (dummies program) ≡ true → list_any (bytes_eq q) (symbols program) ≡ true
 dummy_known [] q among = absurd (cc (among))
-dummy_known (line ∷ program) q among = any_once q (map name_in (mentions (line ∷ program))) ∙ dummy_named line.stmt (mentions program) q among
+dummy_known (line ∷ program) q among = any_once q (map name_in (uses (line ∷ program))) ∙ dummy_named line.stmt (uses program) q among
 
 exact : (bounds : List ℕ) → (is_some (some_items bounds) ≡ true → product bounds ≤ 10000)
     → elements_in bounds ≡ (if is_some (some_items bounds) then Some (product bounds) else None)

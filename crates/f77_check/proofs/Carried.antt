@@ -18,7 +18,7 @@ use Rattle.f77_legal.specs.Labels.{nth_statement}
 use Rattle.f77_legal.specs.Legal.{IsLegal}
 use Rattle.f77_legal.specs.Names.{Symbol, kind_of, bounds_of}
 use Rattle.f77_legal.specs.Patches.{IsStock}
-use Rattle.f77_legal.specs.Presets.{groups_of}
+use Rattle.f77_legal.specs.InitialValues.{groups_of}
 use Rattle.f77_legal.proofs.Frames.{groups_of-framed}
 use Rattle.f77_legal.proofs.FrameNames.{by_frame, kind_of_same, bounds_of_same, is_array_same, elements_same, dummies_same}
 use Rattle.f77_legal.proofs.SameFrame.{length_same, place_of_same, left_by_same, branch_end_same, terminal_same, behind_same, loops_ending_same}
@@ -28,7 +28,7 @@ use Rattle.f77_check.specs.Checked.{shapes}
 use Rattle.f77_check.specs.Ready.{CanResolve}
 use Rattle.f77_check.specs.Resolved.{IsResolved, AreResolved}
 use Rattle.f77_check.specs.Slots.{first_slot, slot_kinds}
-use Rattle.f77_check.specs.Start.{Cell, cells, is_cell, presets, preset_value, IsStartOf}
+use Rattle.f77_check.specs.Start.{Cell, cells, is_cell, initial_values, initial_value, IsStartOf}
 use Rattle.f77_actions.specs.declared.action.Action.{Action, Goto, ComputedGoto, ArithmeticIf, LogicalIf', Branch, Loop}
 use Rattle.f77_actions.specs.declared.action.Jump.{Jump}
 use Rattle.f77_check.specs.declared.resolve.Resolver.{Resolver}
@@ -124,8 +124,8 @@ module _ (p q : List LineFields) (same : HaveOneFrame p q) where
         elements = if is_array_same p q same name k then Some (elements_same p q same name k) else None;
       }) (dummies_same p q same k)
 
-  presets_same : presets p ≡ presets q
-  presets_same =
+  initial_values_same : initial_values p ≡ initial_values q
+  initial_values_same =
       by_frame (λ r. flat_map (λ line. flat_map (given p) (groups_of line.stmt)) r) (groups-frame (given p)) p q same
       ∙ (λ k. flat_map (λ line. flat_map (λ group. zip (cells_same group.names k) (constants group)) (groups_of line.stmt)) q)
     where
@@ -138,8 +138,8 @@ module _ (p q : List LineFields) (same : HaveOneFrame p q) where
       cells_same : (names : List Symbol) → cells p names ≡ cells q names
       cells_same names = λ k. flat_map (λ name. map (λ n. (name, n)) (first_numbers (elements_same p q same name k))) names
 
-  pub preset_at_same : (name : Symbol) (n : ℕ) → preset_value p name n ≡ preset_value q name n
-  preset_at_same name n = ap (λ all. option_and_then (λ given. Some given.1) (find (λ given. is_cell (name, n) given.0) all)) presets_same
+  pub initial_at_same : (name : Symbol) (n : ℕ) → initial_value p name n ≡ initial_value q name n
+  initial_at_same name n = ap (λ all. option_and_then (λ given. Some given.1) (find (λ given. is_cell (name, n) given.0) all)) initial_values_same
 
   pub entry_same : position (λ line. is_executable_statement line.stmt) p ≡ position (λ line. is_executable_statement line.stmt) q
   entry_same = by_frame (position (λ line. is_executable_statement line.stmt)) entry-frame p q same
@@ -148,7 +148,7 @@ module _ (p q : List LineFields) (same : HaveOneFrame p q) where
   start_same names start is = record {
     entry = sym entry_same ∙ is.entry;
     dummies = (λ k. map (first_slot (sym bounds_same k) names) (sym (dummies_same p q same) k)) ∙ is.dummies;
-    initial = is.initial ∙ (λ k. flat_map (λ name. map (λ n. preset_at_same name n k) (first_numbers (elements_same p q same name k))) names);
+    initial = is.initial ∙ (λ k. flat_map (λ name. map (λ n. initial_at_same name n k) (first_numbers (elements_same p q same name k))) names);
     kinds = is.kinds ∙ (λ k. slot_kinds (kinds_same k) (bounds_same k) names);
   }
 
@@ -167,16 +167,16 @@ module _ (p q : List LineFields) (same : HaveOneFrame p q) where
       → ((s : Statement) → nth_statement q i ≡ Some s → IsResolved q names i s new) → AreResolved q names (set list i new)
   all_resolved_same names i list new others are is = record {
     count = length-set list i new ∙ are.count ∙ length_same p q same;
-    each = λ j s r at told. by j s r at told (i == j) refl;
+    each = λ j s r at got. by j s r at got (i == j) refl;
   }
     where
       by : (j : ℕ) (s : Statement) (r : Resolved) → nth_statement q j ≡ Some s → slice_get (set list i new) j ≡ Some r → (b : Bool) → (i == j) ≡ b
           → IsResolved q names j s r
-      by j s r at told true e =
+      by j s r at got true e =
           let here : i ≡ j = grind (arith, nat_tests) in
-          let written : new ≡ r = set_here list i new r (ap (slice_get (set list i new)) here ∙ told) in
+          let written : new ≡ r = set_here list i new r (ap (slice_get (set list i new)) here ∙ got) in
           subst (λ r. IsResolved q names j s r) written
           (subst (λ k. IsResolved q names k s new) here (is s (ap (nth_statement q) here ∙ at)))
-      by j s r at told false e =
+      by j s r at got false e =
           let apart : i ≢ j = λ here. absurd (true≢false (sym (same_number j) ∙ ap (λ k. k == j) (sym here) ∙ e)) in
-          resolved_same names j s r (are.each j s r (sym (others j apart) ∙ at) (sym (set_there list i j new apart) ∙ told))
+          resolved_same names j s r (are.each j s r (sym (others j apart) ∙ at) (sym (set_there list i j new apart) ∙ got))

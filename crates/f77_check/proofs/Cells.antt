@@ -10,7 +10,7 @@ use Rattle.std.proofs.lemmas.List.{length-set, get_or-set_same, get_or-set_other
 use Rattle.std.proofs.lemmas.Option.{same_Some, slice_get-get_or}
 use Rattle.f77_legal.specs.Blocks.{first_numbers}
 use Rattle.f77_legal.specs.Names.{Symbol}
-use Rattle.f77_legal.specs.Presets.{product}
+use Rattle.f77_legal.specs.InitialValues.{product}
 use Rattle.f77_check.specs.Slots.{slot_count, first_slot}
 use Rattle.f77_check.specs.Start.{Cell, is_cell}
 use Rattle.f77_legal.proofs.FirstNumbers.{length-table, get_or-table, table_from_each, table_more}
@@ -180,9 +180,9 @@ module _ (bounds : Symbol → List ℕ) where
         let next : n + 1 ≡ suc n = omega arith in
         ap (λ m. map (λ i. v) (first_numbers m)) (sym next) ∙ table_more (λ i. v) n ∙ ap (λ vs. vs ++ v ∷ []) (table_of v n) ∙ replicate-append-replicate n 1 v ∙ ap (λ m. replicate m v) next
 
-    pub laid_alike : (names : List Symbol) (v : X) → laid_out names (λ name k. v) ≡ replicate (slot_count bounds names) v
-    laid_alike [] v = refl
-    laid_alike (x ∷ names) v =
-        (λ i. table_of v (product (bounds x)) i ++ laid_alike names v i)
+    pub laid_constant : (names : List Symbol) (v : X) → laid_out names (λ name k. v) ≡ replicate (slot_count bounds names) v
+    laid_constant [] v = refl
+    laid_constant (x ∷ names) v =
+        (λ i. table_of v (product (bounds x)) i ++ laid_constant names v i)
         ∙ replicate-append-replicate (product (bounds x)) (slot_count bounds names) v
         ∙ ap (λ n. replicate n v) (sym (count_more bounds x names))

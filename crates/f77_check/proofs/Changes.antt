@@ -26,7 +26,7 @@ use Rattle.f77_check.specs.declared.resolve.Resolver.{Resolver}
 use Rattle.f77_check.specs.declared.start.Start.{Start}
 use Rattle.f77_actions.specs.declared.resolved.Resolved.{Resolved}
 use Rattle.f77_legal.specs.Blocks.{statement_numbers, statement_behind}
-use Rattle.f77_legal.specs.Broken.{clause_told, has_known_names}
+use Rattle.f77_legal.specs.Broken.{clause_found, has_known_names}
 use Rattle.f77_legal.specs.Clause.{clause_fault}
 use Rattle.f77_legal.specs.Frames.{framed, HaveOneFrame}
 use Rattle.f77_legal.specs.Labels.{label_place, nth_statement, terminal_label}
@@ -47,7 +47,7 @@ use Rattle.f77_legal.proofs.Replaced.{other_line, changed_line}
 use Rattle.f77_legal.proofs.SameFrame.{behind_same}
 use Rattle.f77_check.proofs.Carried.{all_resolved_same, can_resolve_same, shapes_same, start_same}
 use Rattle.f77_check.proofs.CheckedParts.{checked_of}
-use Rattle.f77_check.proofs.KeptNames.{mentions_at}
+use Rattle.f77_check.proofs.KeptNames.{uses_at}
 
 -- any statement may stand where no DO ends
 none_reversed : (xs : List ℕ) → reverse xs ≡ [] → xs ≡ []
@@ -96,7 +96,7 @@ may_stand_by checked is i s within r read none =
     may_stand_anywhere p i s (elim (slice_get_cases p i).1 [
       | inl found ↦
           let at : nth_statement p i ≡ Some found.0.stmt = ap (option_map (λ (line : LineFields). line.stmt)) found.2 in
-          sym (is.statements.each i found.0.stmt r at told).ends ∙ no_items r.ends.items none
+          sym (is.statements.each i found.0.stmt r at got).ends ∙ no_items r.ends.items none
       | inr past ↦ let none = past.0 in absurd (omega (arith, below, none))
     ])
   where
@@ -106,8 +106,8 @@ may_stand_by checked is i s within r read none =
     below : i < length p
     below = let long = length-map checked.program line_of in omega (arith, long, within)
 
-    told : slice_get checked.statements i ≡ Some r
-    told = slice_get_read checked.statements (length p) i r (sym is.statements.count) below read
+    got : slice_get checked.statements i ≡ Some r
+    got = slice_get_read checked.statements (length p) i r (sym is.statements.count) below read
 
 pub statement_within : (checked : CheckedFields) → IsChecked checked → (i : ℕ) (line : LineFields) → slice_get (map line_of checked.program) i ≡ Some line
     → i < length checked.statements
@@ -128,8 +128,8 @@ pub line_read : (lines : List Line) (i : ℕ) (x : Line) (line : LineFields) →
 line_read lines i x line at read =
     let within = slice_get_within (map line_of lines) i line at in
     let long = length-map lines line_of in
-    let told : slice_get lines i ≡ Some x = slice_get_read lines (length lines) i x refl (omega (arith, within, long)) read in
-    same_Some (line_of x) line (sym (slice_get-map line_of lines i ∙ ap (option_map line_of) told) ∙ at)
+    let got : slice_get lines i ≡ Some x = slice_get_read lines (length lines) i x refl (omega (arith, within, long)) read in
+    same_Some (line_of x) line (sym (slice_get-map line_of lines i ∙ ap (option_map line_of) got) ∙ at)
 
 -- the frame has the whole of a statement that is not executable
 unframed : (t s : Statement) → is_executed s ≡ false → s ≡ framed t → s ≡ t
@@ -141,7 +141,7 @@ unframed _ s e same = absurd (true≢false (ap is_executed (sym same) ∙ e))
 
 module _ (names : Names) (p : List LineFields) (stock : IsStock (keys names.facts) p) (i : ℕ) (t : Statement) (at : nth_statement p i ≡ Some t) where
   there_among : NamesAmong (keys names.facts) t
-  there_among = mentions_at (λ mention. is_name_among (keys names.facts) (name_in mention)) p (symbols_pass (keys names.facts) p stock.covers) i t at
+  there_among = uses_at (λ name_use. is_name_among (keys names.facts) (name_in name_use)) p (symbols_pass (keys names.facts) p stock.covers) i t at
 
   same_among : (s : Statement) → s ≡ t → NamesAmong (keys names.facts) s
   same_among s same = subst (NamesAmong (keys names.facts)) (sym same) there_among
@@ -172,20 +172,20 @@ no_fault [] none = refl
 no_fault (fault ∷ list) none = absurd (cc (none))
 
 -- what the tables of a program say of the changed statement, where they have its names and the frame stays
-module _ (r : Resolver) (p : List LineFields) (can : CanResolve r p) (i : ℕ) (s : Statement) (formed : IsFormed s) (stays : FrameStays p i s) (told : Broken)
-    (names : names_pass (has_name r.tables.names) s ≡ has_known_names told)
-    (first : Serve r.tables p → has_known_names told ≡ true → clause_told told ≡ first_clause p i s) (known : has_known_names told ≡ true) where
-  pub told_alone : StandsAlone (keys r.tables.names.facts) p i s
-  told_alone = alone_where_kept r p can i s formed stays (names ∙ known)
+module _ (r : Resolver) (p : List LineFields) (can : CanResolve r p) (i : ℕ) (s : Statement) (formed : IsFormed s) (stays : FrameStays p i s) (broken : Broken)
+    (names : names_pass (has_name r.tables.names) s ≡ has_known_names broken)
+    (first : Serve r.tables p → has_known_names broken ≡ true → clause_found broken ≡ first_clause p i s) (known : has_known_names broken ≡ true) where
+  pub found_alone : StandsAlone (keys r.tables.names.facts) p i s
+  found_alone = alone_where_kept r p can i s formed stays (names ∙ known)
 
-  pub told_fault : first_fault (replaced p i s) ≡ option_map (λ clause. clause_fault clause stays.line.line) (clause_told told)
-  unfolding told_alone alone_where_kept
-  told_fault =
-      alone_fault (keys r.tables.names.facts) p i s told_alone can.legal can.names
+  pub found_fault : first_fault (replaced p i s) ≡ option_map (λ clause. clause_fault clause stays.line.line) (clause_found broken)
+  unfolding found_alone alone_where_kept
+  found_fault =
+      alone_fault (keys r.tables.names.facts) p i s found_alone can.legal can.names
       ∙ ap (option_map (λ clause. clause_fault clause stays.line.line)) (sym (first can.tables known))
 
-  pub told_legal : clause_told told ≡ None → IsLegal (replaced p i s)
-  told_legal none = no_fault (faults (replaced p i s)) (told_fault ∙ ap (option_map (λ clause. clause_fault clause stays.line.line)) none)
+  pub found_legal : clause_found broken ≡ None → IsLegal (replaced p i s)
+  found_legal none = no_fault (faults (replaced p i s)) (found_fault ∙ ap (option_map (λ clause. clause_fault clause stays.line.line)) none)
 
 -- a program that is changed in the statement i alone, by the tables of the checked one
 module _ (r : Resolver) (p q : List LineFields) (i : ℕ) (can : CanResolve r p) (change : IsChangedAlone (keys r.tables.names.facts) p i q) where
@@ -236,9 +236,9 @@ module _ (checked : CheckedFields) (is : IsChecked checked) (i : ℕ) (s : State
       } in
       let within = statement_within checked is i alone.line alone.at in
       let below = subst (λ n. i < n) (ap length (sym same)) within in
-      let told : slice_get checked.statements i ≡ Some own = ap (λ list. slice_get list i) (sym same) ∙ slice_get_read list (length list) i own refl below read in
+      let got : slice_get checked.statements i ≡ Some own = ap (λ list. slice_get list i) (sym same) ∙ slice_get_read list (length list) i own refl below read in
       let at : nth_statement p i ≡ Some alone.line.stmt = ap (option_map (λ (line : LineFields). line.stmt)) alone.at in
-      let next : statement_behind p i ≡ Some own.next = (is.statements.each i alone.line.stmt own at told).next in (
+      let next : statement_behind p i ≡ Some own.next = (is.statements.each i alone.line.stmt own at got).next in (
         subst (λ q. nth_statement q i ≡ Some s) (sym changed) (changed_here checked.names p i s alone),
         (
           subst (λ q. statement_behind q i ≡ Some own.next) (sym changed) (changed_behind checked.names p i s alone own.next next),

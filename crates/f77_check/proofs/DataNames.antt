@@ -18,13 +18,13 @@ use Rattle.f77_check.specs.declared.resolve.Resolver.{Resolver}
 use Rattle.f77_check.specs.code.Initial.{HasFewSlots, groups_kept}
 use Rattle.f77_check.specs.code.Kept.{is_kept}
 use Rattle.f77_legal.specs.Labels.{nth_statement}
-use Rattle.f77_legal.specs.Names.{Symbol, name_in, mentions_of, symbols}
+use Rattle.f77_legal.specs.Names.{Symbol, name_in, uses_of, symbols}
 use Rattle.f77_legal.specs.Patches.{is_name_among}
-use Rattle.f77_legal.specs.Presets.{groups_of}
+use Rattle.f77_legal.specs.InitialValues.{groups_of}
 use Rattle.f77_check.specs.Ready.{CanResolve}
 use Rattle.f77_legal.specs.Heading.{dummies}
 use Rattle.f77_check.proofs.Arguments.{dummy_known}
-use Rattle.f77_check.proofs.KeptNames.{and_end, all_among, nodes_kept, kept_append, mentions_at, mentioned_kept, plain_kept}
+use Rattle.f77_check.proofs.KeptNames.{and_end, all_among, nodes_kept, kept_append, uses_at, all_uses_kept, plain_kept}
 use Rattle.f77_check.proofs.SlotTables.{stock_few}
 use Rattle.f77_legal.proofs.Among.{among_holds}
 use Rattle.f77_legal.proofs.PatchNames.{among_keys}
@@ -55,12 +55,12 @@ module _ (names : Names) where
   groups_are (g ∷ gs) = kept_append names (group_nodes g) (flat_map group_nodes gs) ∙ (λ i. group_is g i && groups_are gs i)
 
 module _ (names : Names) (program : List LineFields) (covers : All (λ name. is_name_among (keys names.facts) name ≡ true) (symbols program)) where
-  own_groups : (s : Statement) → list_all (λ m. is_kept names (name_in m)) (mentions_of s) ≡ true → groups_kept names (groups_of s) ≡ true
+  own_groups : (s : Statement) → list_all (λ m. is_kept names (name_in m)) (uses_of s) ≡ true → groups_kept names (groups_of s) ≡ true
   own_groups (Statement.Preset gs) h = sym (groups_are names gs) ∙ (sym (plain_kept names (names_of (Statement.Preset gs))) ∙ h)
   own_groups _ h = refl
 
   pub groups_at : (i : ℕ) (s : Statement) → nth_statement program i ≡ Some s → groups_kept names (groups_of s) ≡ true
-  groups_at i s at = own_groups s (mentions_at (λ m. is_kept names (name_in m)) program (mentioned_kept names program covers) i s at)
+  groups_at i s at = own_groups s (uses_at (λ m. is_kept names (name_in m)) program (all_uses_kept names program covers) i s at)
 
   pub dummies_kept : list_all (is_kept names) (dummies program) ≡ true
   dummies_kept =

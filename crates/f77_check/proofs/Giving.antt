@@ -1,4 +1,4 @@
--- DATA gives each slot what its element is preset to: the first constant that a group gives it.
+-- DATA gives each slot the initial value of its element: the first constant that a group gives it.
 use Rattle.std.proofs.Common.{arith, ◌≡◌, ℕ, zero, suc, ◌+◌, ◌<◌, ◌≤◌, ◌==◌, Bool, true, false, cond, List, [], ◌∷◌, ◌++◌, map}
 use Rattle.std.proofs.Common.{take, drop, replicate, append_assoc, append-nil, Option, Some, None, refl, sym, ap, subst, ◌∙◌}
 use Rattle.std.specs.Prelude.{fold, is_some, not, slice_set, if◌then◌else◌}
@@ -16,8 +16,8 @@ use Rattle.f77_tree.specs.Tree.{GroupFields}
 use Rattle.f77_legal.specs.Blocks.{first_numbers}
 use Rattle.f77_check.specs.code.Initial.{slots_of, is_free, give, give_run, give_values, give_group, give_groups}
 use Rattle.f77_legal.specs.Names.{Symbol, bounds_of}
-use Rattle.f77_legal.specs.Presets.{product, groups_of}
-use Rattle.f77_check.specs.Start.{Cell, cells, presets_of, is_cell}
+use Rattle.f77_legal.specs.InitialValues.{product, groups_of}
+use Rattle.f77_check.specs.Start.{Cell, cells, initial_values_of, is_cell}
 use Rattle.f77_check.proofs.Cells.{slot_from, first_is, laid_out, with_cell, get_laid, set_laid}
 use Rattle.f77_legal.proofs.Symbols.{Apart, same_symbol}
 
@@ -189,23 +189,23 @@ module _ (program : List LineFields) (names : List Symbol) where
     laid given = laid_out (bounds_of program) names (found_in given)
 
     group_given : (before : Given) (g : GroupFields) → are_named g.names ≡ true
-        → give_group (bounds_of program) names (laid_out (bounds_of program) names (found_in before)) g ≡ laid_out (bounds_of program) names (found_in (before ++ presets_of program g))
+        → give_group (bounds_of program) names (laid_out (bounds_of program) names (found_in before)) g ≡ laid_out (bounds_of program) names (found_in (before ++ initial_values_of program g))
     group_given before g named =
         ap (λ slots. give_values (laid before) slots g.values) (cells_slots g.names named)
         ∙ give_each (bounds_of program) names g.values (cells program g.names) (laid before)
-        ∙ given_cells (bounds_of program) names apart before (presets_of program g)
+        ∙ given_cells (bounds_of program) names apart before (initial_values_of program g)
         (paired_cells (bounds_of program) names (cells program g.names) (flat_map (λ (v : Value). replicate v.times v.constant) g.values) (cells_named g.names named))
 
     pub groups_given : (before : Given) (gs : List GroupFields) → list_all (λ g. are_named g.names) gs ≡ true
         → give_groups (bounds_of program) names (laid_out (bounds_of program) names (found_in before)) gs
-        ≡ laid_out (bounds_of program) names (found_in (before ++ flat_map (presets_of program) gs))
+        ≡ laid_out (bounds_of program) names (found_in (before ++ flat_map (initial_values_of program) gs))
     groups_given before [] named = ap laid (sym (append-nil before))
     groups_given before (g ∷ gs) named =
         let parts = and_parts (are_named g.names) (list_all (λ g. are_named g.names) gs) named in
         ap (λ held. give_groups (bounds_of program) names held gs) (group_given before g parts.0)
-        ∙ groups_given (before ++ presets_of program g) gs parts.1
-        ∙ ap laid (append_assoc before (presets_of program g) (flat_map (presets_of program) gs))
+        ∙ groups_given (before ++ initial_values_of program g) gs parts.1
+        ∙ ap laid (append_assoc before (initial_values_of program g) (flat_map (initial_values_of program) gs))
 
 -- what these lines of a program give
-abbrev pub presets_in : List LineFields → List LineFields → Given
-presets_in program lines = flat_map (λ line. flat_map (presets_of program) (groups_of line.stmt)) lines
+abbrev pub initial_values_in : List LineFields → List LineFields → Given
+initial_values_in program lines = flat_map (λ line. flat_map (initial_values_of program) (groups_of line.stmt)) lines

@@ -19,7 +19,7 @@ use Rattle.f77_check.specs.code.Kept.{is_kept, tree_kept, items_kept, step_kept,
 use Rattle.f77_legal.specs.Labels.{nth_statement}
 use Rattle.f77_legal.specs.Legal.{IsLegal}
 use Rattle.f77_check.specs.code.Lookup.{AreFlat}
-use Rattle.f77_legal.specs.Names.{Symbol, Mention, name_in, mentions_of, mentions, symbols, bounds_given, bounds_in, some_items, first_item_or, bounds_of}
+use Rattle.f77_legal.specs.Names.{Symbol, NameUse, name_in, uses_of, uses, symbols, bounds_given, bounds_in, some_items, first_item_or, bounds_of}
 use Rattle.f77_legal.specs.NameTable.{array_bounds}
 use Rattle.f77_legal.specs.Patches.{is_name_among}
 use Rattle.f77_legal.proofs.NoFaults.{dimensions_kept}
@@ -99,70 +99,70 @@ all_among test (x ∷ names) among =
     let rest = all_among test names (λ name in_rest. among name (ap (λ b. bytes_eq name x || b) in_rest ∙ or_end (bytes_eq name x))) in
     λ i. first i && rest i
 
-module _ (test : Mention → Bool) where
-  mentions_apart : (line : LineFields) (program : List LineFields) → list_all test (mentions (line ∷ program)) ≡ (list_all test (mentions_of line.stmt) && list_all test (mentions program))
-  mentions_apart line program =
-      ap (list_all test) (flat_map-cons (λ (line : LineFields). mentions_of line.stmt) line program)
-      ∙ list_all-append test (mentions_of line.stmt) (mentions program)
+module _ (test : NameUse → Bool) where
+  uses_apart : (line : LineFields) (program : List LineFields) → list_all test (uses (line ∷ program)) ≡ (list_all test (uses_of line.stmt) && list_all test (uses program))
+  uses_apart line program =
+      ap (list_all test) (flat_map-cons (λ (line : LineFields). uses_of line.stmt) line program)
+      ∙ list_all-append test (uses_of line.stmt) (uses program)
 
-  -- what holds of each mention of a program holds of those of a statement
-  pub mentions_at : (program : List LineFields) → list_all test (mentions program) ≡ true → (i : ℕ) (s : Statement) → nth_statement program i ≡ Some s → list_all test (mentions_of s) ≡ true
-  mentions_at [] all i s at = absurd (cc (at))
-  mentions_at (line ∷ program) all zero s at =
+  -- what holds of each use of a name in a program holds of those in a statement
+  pub uses_at : (program : List LineFields) → list_all test (uses program) ≡ true → (i : ℕ) (s : Statement) → nth_statement program i ≡ Some s → list_all test (uses_of s) ≡ true
+  uses_at [] all i s at = absurd (cc (at))
+  uses_at (line ∷ program) all zero s at =
       let same : line.stmt ≡ s = cc (at) in
-      let both = and_true (list_all test (mentions_of line.stmt)) (list_all test (mentions program)) (sym (mentions_apart line program) ∙ all) in
-      ap (λ s. list_all test (mentions_of s)) (sym same) ∙ both.0
-  mentions_at (line ∷ program) all (suc i) s at =
-      let both = and_true (list_all test (mentions_of line.stmt)) (list_all test (mentions program)) (sym (mentions_apart line program) ∙ all) in
-      mentions_at program both.1 i s at
+      let both = and_true (list_all test (uses_of line.stmt)) (list_all test (uses program)) (sym (uses_apart line program) ∙ all) in
+      ap (λ s. list_all test (uses_of s)) (sym same) ∙ both.0
+  uses_at (line ∷ program) all (suc i) s at =
+      let both = and_true (list_all test (uses_of line.stmt)) (list_all test (uses program)) (sym (uses_apart line program) ∙ all) in
+      uses_at program both.1 i s at
 
-  -- what holds of the mentions of each statement holds of each mention
-  mentions_hold : (by_line : LineFields → Bool) → ((line : LineFields) → by_line line ≡ true → list_all test (mentions_of line.stmt) ≡ true)
-      → (program : List LineFields) → list_all by_line program ≡ true → list_all test (mentions program) ≡ true
-  mentions_hold by_line each [] all = refl
-  mentions_hold by_line each (line ∷ program) all =
+  -- what holds of the uses in each statement holds of each use
+  uses_hold : (by_line : LineFields → Bool) → ((line : LineFields) → by_line line ≡ true → list_all test (uses_of line.stmt) ≡ true)
+      → (program : List LineFields) → list_all by_line program ≡ true → list_all test (uses program) ≡ true
+  uses_hold by_line each [] all = refl
+  uses_hold by_line each (line ∷ program) all =
       let both = and_true (by_line line) (list_all by_line program) all in
       let first = each line both.0 in
-      let rest = mentions_hold by_line each program both.1 in
-      mentions_apart line program ∙ (λ i. first i && rest i)
+      let rest = uses_hold by_line each program both.1 in
+      uses_apart line program ∙ (λ i. first i && rest i)
 
 module _ (names : Names) where
-  pub plain_kept : (xs : List Symbol) → list_all (λ m. is_kept names (name_in m)) (map Mention.Plain xs) ≡ list_all (is_kept names) xs
-  plain_kept xs = list_all-map (λ m. is_kept names (name_in m)) Mention.Plain xs
+  pub plain_kept : (xs : List Symbol) → list_all (λ m. is_kept names (name_in m)) (map NameUse.Plain xs) ≡ list_all (is_kept names) xs
+  plain_kept xs = list_all-map (λ m. is_kept names (name_in m)) NameUse.Plain xs
 
-  mentions_kept : (s : Statement) → list_all (λ m. is_kept names (name_in m)) (mentions_of s) ≡ true → names_kept names s ≡ true
-  mentions_kept (Statement.Subroutine name dummies) h = refl
-  mentions_kept (Statement.Declare kind ds) h = refl
-  mentions_kept (Statement.Dimension ds) h = refl
-  mentions_kept s h = statement_kept names s (sym (plain_kept (names_of s)) ∙ h)
+  uses_kept : (s : Statement) → list_all (λ m. is_kept names (name_in m)) (uses_of s) ≡ true → names_kept names s ≡ true
+  uses_kept (Statement.Subroutine name dummies) h = refl
+  uses_kept (Statement.Declare kind ds) h = refl
+  uses_kept (Statement.Dimension ds) h = refl
+  uses_kept s h = statement_kept names s (sym (plain_kept (names_of s)) ∙ h)
 
   -- a program whose names are among those of the table
   module _ (program : List LineFields) (covers : All (λ name. is_name_among (keys names.facts) name ≡ true) (symbols program)) where
-    pub mentioned_kept : list_all (λ m. is_kept names (name_in m)) (mentions program) ≡ true
-    mentioned_kept = (λ i. list_all (λ m. sym (among_keys names (name_in m)) i) (mentions program)) ∙ symbols_pass (keys names.facts) program covers
+    pub all_uses_kept : list_all (λ m. is_kept names (name_in m)) (uses program) ≡ true
+    all_uses_kept = (λ i. list_all (λ m. sym (among_keys names (name_in m)) i) (uses program)) ∙ symbols_pass (keys names.facts) program covers
 
     pub all_kept : (i : ℕ) (s : Statement) → nth_statement program i ≡ Some s → names_kept names s ≡ true
-    all_kept i s at = mentions_kept s (mentions_at (λ m. is_kept names (name_in m)) program mentioned_kept i s at)
+    all_kept i s at = uses_kept s (uses_at (λ m. is_kept names (name_in m)) program all_uses_kept i s at)
 
--- the bounds that a mention gives are at most two
-abbrev is_flat : Mention → Bool
-is_flat (Mention.Dummy name) = true
-is_flat (Mention.Typed kind d) = is_shape d
-is_flat (Mention.Dimensioned d) = is_shape d
-is_flat (Mention.Plain name) = true
+-- the bounds that a use gives are at most two
+abbrev is_flat : NameUse → Bool
+is_flat (NameUse.Dummy name) = true
+is_flat (NameUse.Typed kind d) = is_shape d
+is_flat (NameUse.Dimensioned d) = is_shape d
+is_flat (NameUse.Plain name) = true
 
-all_plain : (names : List Symbol) → list_all is_flat (map Mention.Plain names) ≡ true
+all_plain : (names : List Symbol) → list_all is_flat (map NameUse.Plain names) ≡ true
 all_plain [] = refl
 all_plain (name ∷ names) = all_plain names
 
-all_dummies : (names : List Symbol) → list_all is_flat (map Mention.Dummy names) ≡ true
+all_dummies : (names : List Symbol) → list_all is_flat (map NameUse.Dummy names) ≡ true
 all_dummies [] = refl
 all_dummies (name ∷ names) = all_dummies names
 
-statement_flat : (bounds : Symbol → List ℕ) (s : Statement) → dimensions_fit bounds s ≡ true → list_all is_flat (mentions_of s) ≡ true
+statement_flat : (bounds : Symbol → List ℕ) (s : Statement) → dimensions_fit bounds s ≡ true → list_all is_flat (uses_of s) ≡ true
 statement_flat bounds (Statement.Subroutine name dummies) h = all_dummies dummies
-statement_flat bounds (Statement.Declare kind ds) h = list_all-map is_flat (Mention.Typed kind) ds ∙ h
-statement_flat bounds (Statement.Dimension ds) h = list_all-map is_flat Mention.Dimensioned ds ∙ h
+statement_flat bounds (Statement.Declare kind ds) h = list_all-map is_flat (NameUse.Typed kind) ds ∙ h
+statement_flat bounds (Statement.Dimension ds) h = list_all-map is_flat NameUse.Dimensioned ds ∙ h
 statement_flat bounds s h = all_plain (names_of s)
 
 shape_short : (d : DeclFields) → is_shape d ≡ true → length d.bounds ≤ 2
@@ -173,13 +173,13 @@ first_short : (xs : List ℕ) (rest : List (List ℕ)) → length xs ≤ 2 → l
 first_short [] rest short later = later
 first_short (x ∷ xs) rest short later = short
 
-given_short : (m : Mention) (rest : List (List ℕ)) → is_flat m ≡ true → length (first_item_or [] rest) ≤ 2 → length (first_item_or [] (cons_option (bounds_in m) rest)) ≤ 2
-given_short (Mention.Dummy name) rest flat later = later
-given_short (Mention.Typed kind d) rest flat later = first_short d.bounds rest (shape_short d flat) later
-given_short (Mention.Dimensioned d) rest flat later = first_short d.bounds rest (shape_short d flat) later
-given_short (Mention.Plain name) rest flat later = later
+given_short : (m : NameUse) (rest : List (List ℕ)) → is_flat m ≡ true → length (first_item_or [] rest) ≤ 2 → length (first_item_or [] (cons_option (bounds_in m) rest)) ≤ 2
+given_short (NameUse.Dummy name) rest flat later = later
+given_short (NameUse.Typed kind d) rest flat later = first_short d.bounds rest (shape_short d flat) later
+given_short (NameUse.Dimensioned d) rest flat later = first_short d.bounds rest (shape_short d flat) later
+given_short (NameUse.Plain name) rest flat later = later
 
-bounds_short : (ms : List Mention) (name : Symbol) → list_all is_flat ms ≡ true → length (first_item_or [] (bounds_given ms name)) ≤ 2
+bounds_short : (ms : List NameUse) (name : Symbol) → list_all is_flat ms ≡ true → length (first_item_or [] (bounds_given ms name)) ≤ 2
 bounds_short [] name all = omega arith
 bounds_short (m ∷ ms) name all = let both = and_true (is_flat m) (list_all is_flat ms) all in by (bytes_eq name (name_in m)) refl both.0 (bounds_short ms name both.1)
   where
@@ -190,5 +190,5 @@ bounds_short (m ∷ ms) name all = let both = and_true (is_flat m) (list_all is_
 pub dimensions_two : (names : Names) (program : List LineFields) → array_bounds names ≡ bounds_of program → IsLegal program → AreFlat names
 dimensions_two names program same legal name =
     subst (λ (bounds : Symbol → List ℕ). length (bounds name) ≤ 2) (sym same)
-    (bounds_short (mentions program) name
-    (mentions_hold is_flat (λ line. dimensions_fit (bounds_of program) line.stmt) (λ line fit. statement_flat (bounds_of program) line.stmt fit) program (dimensions_kept program legal)))
+    (bounds_short (uses program) name
+    (uses_hold is_flat (λ line. dimensions_fit (bounds_of program) line.stmt) (λ line fit. statement_flat (bounds_of program) line.stmt fit) program (dimensions_kept program legal)))

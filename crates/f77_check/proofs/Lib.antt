@@ -11,13 +11,13 @@ mod Cells
 mod Giving
 mod DataNames
 mod SlotKinds
-mod Presetting
+mod InitialValues
 pub mod FirstExecutable
 pub mod Operands
 mod Items
 mod Deepest
 mod Chosen
 mod Resolving
-pub mod Unpreset
+pub mod NoInitialValue
 pub mod Carried
 pub mod Changes

@@ -49,16 +49,16 @@ module _ (bounds : Symbol → List ℕ) (names : List Symbol) where
       → 1 ≤ length sizes → length sizes < 2 → 1 ≤ length xs → length xs < 2 → x ≡ get_or xs 0 x → first_slot bounds names name ≡ Some first
       → HoldsNumber bounds names (tree_of x) p → IsElement bounds names name (trees (map tree_of xs)) (resolved.Vector first (get_or sizes 0 0) p)
   unfolding HoldsNumber
-  vector_element name sizes first xs x p told some_sizes few_sizes some few is slot h =
-      rw (one_item xs x some few is) (sym told ∙ only_one 0 sizes some_sizes few_sizes, slot, h)
+  vector_element name sizes first xs x p sizes_are some_sizes few_sizes some few is slot h =
+      rw (one_item xs x some few is) (sym sizes_are ∙ only_one 0 sizes some_sizes few_sizes, slot, h)
 
   pub matrix_element : (name : Symbol) (sizes : List ℕ) (first : ℕ) (xs : List Expr) (x y : Expr) (p q : Box Number Global) → sizes ≡ bounds name
       → 2 ≤ length sizes → length sizes < 3 → 2 ≤ length xs → length xs < 3 → x ≡ get_or xs 0 x → y ≡ get_or xs 1 y
       → first_slot bounds names name ≡ Some first → HoldsNumber bounds names (tree_of x) p → HoldsNumber bounds names (tree_of y) q
       → IsElement bounds names name (trees (map tree_of xs)) (resolved.Matrix first (get_or sizes 0 0) (get_or sizes 1 0) p q)
   unfolding HoldsNumber
-  matrix_element name sizes first xs x y p q told some_sizes few_sizes some few is also slot h k =
-      rw (two_items xs x y some few is also) (sym told ∙ only_two 0 0 sizes some_sizes few_sizes, slot, h, k)
+  matrix_element name sizes first xs x y p q sizes_are some_sizes few_sizes some few is also slot h k =
+      rw (two_items xs x y some few is also) (sym sizes_are ∙ only_two 0 0 sizes some_sizes few_sizes, slot, h, k)
 
   -- a call of MOD
   pub modulus_number : (xs : List Expr) (x y : Expr) (p q : Box Number Global) → 2 ≤ length xs → length xs < 3 → x ≡ get_or xs 0 x → y ≡ get_or xs 1 y

@@ -41,8 +41,8 @@ module _ (r : Resolver) (p : List LineFields) (can : CanResolve r p) (i : ℕ) w
 
   pub ends_at : (s : Statement) → nth_statement p i ≡ Some s → HasEnd p i s
   ends_at (Statement.LogicalIf t s) at = inner_acts p can.formed i t s at
-  ends_at (Statement.BlockIf t) at = let end = some_branch p can.legal i t (inl at) in record { place = end.0; told = end.1; ends = end.2 }
-  ends_at (Statement.ElseIf t) at = let end = some_branch p can.legal i t (inr at) in record { place = end.0; told = end.1; ends = end.2 }
+  ends_at (Statement.BlockIf t) at = let end = some_branch p can.legal i t (inl at) in record { place = end.0; found = end.1; ends = end.2 }
+  ends_at (Statement.ElseIf t) at = let end = some_branch p can.legal i t (inr at) in record { place = end.0; found = end.1; ends = end.2 }
   ends_at (Statement.Loop label name a b c) at = some_terminal p can.legal i _ at refl
   ends_at _ at = tt
 

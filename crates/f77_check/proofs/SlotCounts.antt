@@ -8,7 +8,7 @@ use Rattle.f77_program.specs.Program.{LineFields}
 use Rattle.f77_legal.specs.Blocks.{first_numbers}
 use Rattle.f77_legal.specs.Names.{Symbol, bounds_of, some_items}
 use Rattle.f77_legal.specs.Patches.{IsStock}
-use Rattle.f77_legal.specs.Presets.{product}
+use Rattle.f77_legal.specs.InitialValues.{product}
 use Rattle.f77_check.specs.Slots.{slot_count, most_slots}
 use Rattle.f77_legal.proofs.FirstNumbers.{table_more, get_or-table, length-table}
 use Rattle.f77_legal.proofs.Sizes.{sum_more}

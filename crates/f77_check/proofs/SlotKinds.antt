@@ -7,7 +7,7 @@ use Rattle.f77_tree.specs.declared.tree.Kind.{Kind}
 use Rattle.f77_legal.specs.declared.names.Names.{Names}
 use Rattle.f77_legal.specs.Names.{Symbol}
 use Rattle.f77_legal.specs.NameTable.{kind_at, array_bounds}
-use Rattle.f77_legal.specs.Presets.{product}
+use Rattle.f77_legal.specs.InitialValues.{product}
 use Rattle.f77_check.specs.code.Kept.{is_kept}
 use Rattle.f77_check.specs.Slots.{slot_kinds}
 use Rattle.f77_check.proofs.DataNames.{kept_among}

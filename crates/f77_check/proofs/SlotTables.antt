@@ -9,7 +9,7 @@ use Rattle.indexmap.specs.IndexMap.{keys}
 use Rattle.f77_program.specs.Program.{LineFields}
 use Rattle.f77_legal.specs.declared.names.Names.{Names}
 use Rattle.f77_legal.specs.Legal.{IsLegal}
-use Rattle.f77_legal.specs.Names.{Symbol, mentions, symbols, bounds_of}
+use Rattle.f77_legal.specs.Names.{Symbol, uses, symbols, bounds_of}
 use Rattle.f77_legal.specs.NameTable.{FactsFields, IsNameTable, facts_fields, facts_of, array_bounds}
 use Rattle.f77_legal.specs.Patches.{IsStock}
 use Rattle.f77_check.specs.Slots.{slot_count}
@@ -25,7 +25,7 @@ keys_rows f (name ∷ names) = ap (λ z. name ∷ z) (keys_rows f names)
 
 pub keys_are : (names : Names) (program : List LineFields) → IsNameTable names program → keys names.facts ≡ symbols program
 keys_are names program is =
-    sym (keys_of-map_values facts_fields names.facts.entries) ∙ ap keys_of is ∙ keys_rows (facts_of (mentions program)) (symbols program)
+    sym (keys_of-map_values facts_fields names.facts.entries) ∙ ap keys_of is ∙ keys_rows (facts_of (uses program)) (symbols program)
 
 pub keys_stock : (names : Names) (program : List LineFields) → IsNameTable names program → IsLegal program → IsStock (keys names.facts) program
 keys_stock names program is legal = subst (λ list. IsStock list program) (sym (keys_are names program is)) (stock_of_legal program legal)

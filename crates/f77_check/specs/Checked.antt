@@ -7,7 +7,7 @@ use Rattle.f77_check.specs.declared.checked.Shape.{Shape}
 use Rattle.f77_legal.specs.Legal.{is_array, IsLegal}
 use Rattle.f77_legal.specs.Names.{Symbol, kind_of, bounds_of}
 use Rattle.f77_legal.specs.Patches.{IsStock}
-use Rattle.f77_legal.specs.Presets.{element_count}
+use Rattle.f77_legal.specs.InitialValues.{element_count}
 use Rattle.f77_check.specs.Resolved.{AreResolved}
 use Rattle.f77_check.specs.Slots.{slot_count}
 use Rattle.f77_legal.specs.Heading.{dummies}

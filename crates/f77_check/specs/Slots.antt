@@ -5,7 +5,7 @@ use Rattle.std.specs.List.{flat_map, sum}
 use Rattle.std.specs.Str.{bytes_eq}
 use Rattle.f77_tree.specs.declared.tree.Kind.{Kind}
 use Rattle.f77_legal.specs.Names.{Symbol}
-use Rattle.f77_legal.specs.Presets.{product}
+use Rattle.f77_legal.specs.InitialValues.{product}
 
 -- the number of slots of names with these bounds
 abbrev pub slot_count : (Symbol → List ℕ) → List Symbol → ℕ

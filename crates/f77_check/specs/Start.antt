@@ -12,7 +12,7 @@ use Rattle.f77_check.specs.declared.start.Start.{Start}
 use Rattle.f77_legal.specs.Blocks.{first_numbers}
 use Rattle.f77_legal.specs.Heading.{dummies}
 use Rattle.f77_legal.specs.Names.{Symbol, kind_of, bounds_of}
-use Rattle.f77_legal.specs.Presets.{element_count, groups_of}
+use Rattle.f77_legal.specs.InitialValues.{element_count, groups_of}
 use Rattle.f77_check.specs.Slots.{first_slot, slot_kinds}
 
 -- an element of a name: the name, and the number of the element from 0
@@ -25,21 +25,22 @@ cells program names =
     flat_map (λ name. map (λ k. (name, k)) (first_numbers (element_count program name))) names
 
 -- the elements to which a group of DATA gives a constant, each with its constant
-abbrev pub presets_of : List LineFields → GroupFields → List (Cell × Constant)
-presets_of program group = zip (cells program group.names)
+abbrev pub initial_values_of : List LineFields → GroupFields → List (Cell × Constant)
+initial_values_of program group = zip (cells program group.names)
     (flat_map (λ value. replicate value.times value.constant) group.values)
 
 -- the elements to which DATA gives a constant in a program, each with its constant
-abbrev pub presets : List LineFields → List (Cell × Constant)
-presets program = flat_map (λ line. flat_map (presets_of program) (groups_of line.stmt)) program
+abbrev pub initial_values : List LineFields → List (Cell × Constant)
+initial_values program =
+    flat_map (λ line. flat_map (initial_values_of program) (groups_of line.stmt)) program
 
 abbrev pub is_cell : Cell → Cell → Bool
 is_cell one other = bytes_eq one.0 other.0 && one.1 == other.1
 
 -- the constant that DATA gives to element k of a name: the first, if there are several
-abbrev pub preset_value : List LineFields → Symbol → ℕ → Option Constant
-preset_value program name k = option_and_then (λ given. Some given.1)
-    (find (λ given. is_cell (name, k) given.0) (presets program))
+abbrev pub initial_value : List LineFields → Symbol → ℕ → Option Constant
+initial_value program name k = option_and_then (λ given. Some given.1)
+    (find (λ given. is_cell (name, k) given.0) (initial_values program))
 
 -- What a run of a program starts with: its first executable statement, the first
 -- slot of each dummy argument, what DATA gives each slot, and the kind of each slot.
@@ -50,5 +51,5 @@ pub record IsStartOf (program : List LineFields) (names : List Symbol)
       ≡ map (λ slot. Some slot) start.dummies.items
   pub initial : start.initial.items
       ≡ flat_map
-      (λ name. map (preset_value program name) (first_numbers (element_count program name))) names
+      (λ name. map (initial_value program name) (first_numbers (element_count program name))) names
   pub kinds : start.kinds.items ≡ slot_kinds (kind_of program) (bounds_of program) names

@@ -15,7 +15,7 @@ ghost use Rattle.f77_check.specs.Checked.{shapes};
 ghost use Rattle.f77_check.specs.code.Patching.{FrameStays};
 ghost use Rattle.f77_check.specs.Patching.{IsInPlace};
 ghost use Rattle.f77_check.specs.Resolved.{IsResolved};
-ghost use Rattle.f77_legal.specs.Legal.{IsLegal, TellsFirstFault, faults, first_fault};
+ghost use Rattle.f77_legal.specs.Legal.{IsLegal, ReportsFirstFault, faults, first_fault};
 ghost use Rattle.f77_legal.specs.Alone.{MayStandAt, StandsAlone};
 ghost use Rattle.f77_legal.specs.declared.fault.CheckFault.TheVariants.{Memory};
 
@@ -176,7 +176,7 @@ impl Checked {
     /// Judges the changed program as a whole.
     fn judged_as_a_whole(&self, number: usize, stmt: &Stmt) -> Result<(), CheckFault>
         requires { Fits (map line_of self.now.program) number (statement_of stmt.now) }
-        ensures { TellsFirstFault result
+        ensures { ReportsFirstFault result
             (faults (patched (map line_of self.now.program) number (statement_of stmt.now))) }
     {
         let program = self.program().with_statement(number, stmt)?;

@@ -12,11 +12,11 @@ ghost use Rattle.f77_check.specs.code.Initial.{HasFewSlots, slots_of, groups_kep
 ghost use Rattle.f77_check.specs.code.Kept.{is_kept};
 ghost use Rattle.f77_check.specs.code.Lookup.{by_tables};
 ghost use Rattle.f77_legal.specs.NameTable.{array_bounds, kind_at};
-ghost use Rattle.f77_legal.specs.Presets as presets;
-ghost use Rattle.f77_legal.specs.Presets.{element_count};
+ghost use Rattle.f77_legal.specs.InitialValues as initial_values;
+ghost use Rattle.f77_legal.specs.InitialValues.{element_count};
 ghost use Rattle.f77_check.specs.Ready.{CanResolve};
 ghost use Rattle.f77_check.specs.Slots.{first_slot, slot_kinds};
-ghost use Rattle.f77_check.specs.Start.{IsStartOf, preset_value};
+ghost use Rattle.f77_check.specs.Start.{IsStartOf, initial_value};
 ghost use Rattle.f77_legal.specs.declared.fault.CheckFault.TheVariants.{Memory};
 
 use crate::resolve::Resolver;
@@ -52,7 +52,7 @@ fn entry(lines: &[Shared<Line>]) -> Option<usize>
 /// The groups of a DATA statement. Another statement has none.
 #[tactic(auto, using(f77_legal::proofs::Forms::no_groups))]
 fn groups(stmt: &Stmt) -> &[DataGroup]
-    ensures { map data_group_of result.now ≡ presets.groups_of (statement_of stmt.now) }
+    ensures { map data_group_of result.now ≡ initial_values.groups_of (statement_of stmt.now) }
 {
     match stmt {
         Stmt::Preset { groups } => groups,
@@ -162,7 +162,7 @@ impl Resolver {
     ) -> Result<Vec<Option<Constant>>, CheckFault>
         requires { CanResolve self.now (map line_of lines.now) }
         ensures initial { IfOk result (λ initial. initial.items ≡ flat_map
-            (λ name. map (preset_value (map line_of lines.now) name)
+            (λ name. map (initial_value (map line_of lines.now) name)
             (first_numbers (element_count (map line_of lines.now) name)))
             (keys self.now.tables.names.facts)) }
         ensures memory { IfErr result (λ fault. fault ≡ Memory) }
@@ -179,7 +179,7 @@ impl Resolver {
         requires slots { HasFewSlots self.now }
         requires kept { is_kept self.now.tables.names name.now ≡ true }
         ensures kinds { OnOk result (kinds.new.items ≡ kinds.old.items
-            ++ replicate (presets.product (array_bounds self.now.tables.names name.now))
+            ++ replicate (initial_values.product (array_bounds self.now.tables.names name.now))
             (kind_at self.now.tables.names name.now)) }
         ensures memory { IfErr result (λ fault. fault ≡ Memory) }
     {

@@ -24,9 +24,9 @@ use Rattle.f77_code.specs.Registers.{vector_place, matrix_place}
 use Rattle.f77_code.specs.Simulation.{IsMove, are_active}
 use Rattle.f77_code.specs.Standing.{IsTerm, IsTest}
 use Rattle.f77_code.specs.Term.{term_value}
-use Rattle.f77_actions.specs.Told.{truth_number}
+use Rattle.f77_actions.specs.Encoded.{truth_number}
 use Rattle.f77_actions.specs.Value.{given, element}
-use Rattle.f77_code.proofs.Alike.{fits_of, go_on_alike, used_alike, truth_alike}
+use Rattle.f77_code.proofs.Simulated.{fits_of, go_on_simulated, used_simulated, truth_simulated}
 use Rattle.f77_code.proofs.Fitting.{term_fits}
 use Rattle.f77_code.proofs.SameValue.{same_term, same_test}
 use Rattle.f77_code.proofs.Shorter.{giving_is}
@@ -101,7 +101,7 @@ module _ (plan : Plan) (statements : List Resolved) (registers : List ℤ) (coun
       (sym (vector_used cells first g bound (number_in cells x)))
       (subst (λ p. IsMove plan statements p (moves.used place cells (λ k. g (first + k))))
       (sym (ap (λ f. put_at f here (term_value registers pair.value.right) next registers counters) h.0))
-      (used_alike plan statements registers counters cells holds here place same (λ k. put_in_register (first + k) (term_value registers pair.value.right) next registers counters)
+      (used_simulated plan statements registers counters cells holds here place same (λ k. put_in_register (first + k) (term_value registers pair.value.right) next registers counters)
       (λ k. g (first + k)) (λ k e. puts (first + k) pair.value.right (h.2 k (vector_below bound (number_in cells x) k (sym same ∙ e))) h.4)))
     where
       here : Result ℕ Fault
@@ -118,7 +118,7 @@ module _ (plan : Plan) (statements : List Resolved) (registers : List ℤ) (coun
       (sym (matrix_used cells first g rows columns (number_in cells x) (number_in cells y)))
       (subst (λ p. IsMove plan statements p (moves.used place cells (λ k. g (first + k))))
       (sym (ap (λ f. put_at f here (term_value registers term.value) next registers counters) h.0))
-      (used_alike plan statements registers counters cells holds here place same (λ k. put_in_register (first + k) (term_value registers term.value) next registers counters)
+      (used_simulated plan statements registers counters cells holds here place same (λ k. put_in_register (first + k) (term_value registers term.value) next registers counters)
       (λ k. g (first + k))
       (λ k e. puts (first + k) term.value (h.3 k (matrix_below rows columns (number_in cells x) (number_in cells y) k (sym same ∙ e))) h.6)))
     where
@@ -142,9 +142,9 @@ module _ (plan : Plan) (statements : List Resolved) (registers : List ℤ) (coun
       where
         puts : Puts Integer (IsTerm plan x) (λ k. moves.used (number_in cells x) cells (λ z. go_on r (slice_set cells k (Some (held.Number z))) turns))
         puts k t slot stands =
-            used_alike plan statements registers counters cells holds (term_value registers t) (number_in cells x) (same_term plan registers cells holds x t stands)
+            used_simulated plan statements registers counters cells holds (term_value registers t) (number_in cells x) (same_term plan registers cells holds x t stands)
             (λ z. point next (slice_set registers k z) counters) (λ z. go_on r (slice_set cells k (Some (held.Number z))) turns)
-            (λ z e. go_on_alike plan statements counters turns counts r next all is (slice_set registers k z) (slice_set cells k (Some (held.Number z)))
+            (λ z e. go_on_simulated plan statements counters turns counts r next all is (slice_set registers k z) (slice_set cells k (Some (held.Number z)))
             (number_written plan registers cells holds k z slot (fits_of (term_value registers t) z (term_fits registers holds.held t) e)))
 
     pub truth_assigned : (x : Condition) (e : Element) (o : Operation) → StandsForAssignment plan Logical (IsTest plan x) e o
@@ -155,7 +155,7 @@ module _ (plan : Plan) (statements : List Resolved) (registers : List ℤ) (coun
       where
         puts : Puts Logical (IsTest plan x) (λ k. moves.used (truth_in cells x) cells (λ b. go_on r (slice_set cells k (Some (held.Truth b))) turns))
         puts k t slot stands =
-            truth_alike plan statements registers counters cells holds (term_value registers t) (truth_in cells x) (same_test plan registers cells holds x t stands)
+            truth_simulated plan statements registers counters cells holds (term_value registers t) (truth_in cells x) (same_test plan registers cells holds x t stands)
             (λ z. point next (slice_set registers k z) counters) (λ b. go_on r (slice_set cells k (Some (held.Truth b))) turns)
-            (λ b. go_on_alike plan statements counters turns counts r next all is (slice_set registers k (truth_number b)) (slice_set cells k (Some (held.Truth b)))
+            (λ b. go_on_simulated plan statements counters turns counts r next all is (slice_set registers k (truth_number b)) (slice_set cells k (Some (held.Truth b)))
             (truth_written plan registers cells holds k b slot))

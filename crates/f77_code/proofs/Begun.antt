@@ -3,7 +3,7 @@ use Rattle.std.proofs.Common.{◌≡◌, ℕ, List, ℤ, pos, ◌∙◌}
 use Rattle.std.specs.Prelude.{Result, Err, ◌≤ℤ◌, ◌<ℤ◌}
 use Rattle.f77_actions.specs.declared.finish.Fault.{Fault}
 use Rattle.f77_actions.specs.declared.finish.Finish.TheVariants.{Failed}
-use Rattle.f77_actions.specs.Told.{TellsResult}
+use Rattle.f77_actions.specs.Encoded.{Encodes}
 use Rattle.f77_code.specs.declared.control.Turn.{Turn}
 use Rattle.f77_code.specs.Operation.{Point, point, used_in_code, ended_point, begun_in_code}
 use Rattle.f77_code.proofs.Points.{fails, goes}
@@ -16,28 +16,28 @@ module _ (variable counter body next : ℕ) (registers : List ℤ) (turns : List
   abbrev on_first : ℤ → Point
   on_first a = used_in_code last registers turns (on_last a)
 
-  pub first_fails : (p : ℕ) (a : ℤ) → pos 1099511627776 ≤ℤ a → ((f : Fault) → TellsResult a (Err f) → p ≡ ended_point (Failed f)) → TellsResult a first
+  pub first_fails : (p : ℕ) (a : ℤ) → pos 1099511627776 ≤ℤ a → ((f : Fault) → Encodes a (Err f) → p ≡ ended_point (Failed f)) → Encodes a first
       → point p registers turns ≡ used_in_code first registers turns on_first
-  first_fails p a h e tells = fails p registers turns a h e on_first first tells
+  first_fails p a h e encodes = fails p registers turns a h e on_first first encodes
 
-  module _ (a : ℤ) (small : a <ℤ pos 1099511627776) (tells : TellsResult a first) where
-    pub last_fails : (p : ℕ) (b : ℤ) → pos 1099511627776 ≤ℤ b → ((f : Fault) → TellsResult b (Err f) → p ≡ ended_point (Failed f)) → TellsResult b last
+  module _ (a : ℤ) (small : a <ℤ pos 1099511627776) (encodes : Encodes a first) where
+    pub last_fails : (p : ℕ) (b : ℤ) → pos 1099511627776 ≤ℤ b → ((f : Fault) → Encodes b (Err f) → p ≡ ended_point (Failed f)) → Encodes b last
         → point p registers turns ≡ used_in_code first registers turns on_first
-    last_fails p b h e t = fails p registers turns b h e (on_last a) last t ∙ goes registers turns a small on_first first tells
+    last_fails p b h e t = fails p registers turns b h e (on_last a) last t ∙ goes registers turns a small on_first first encodes
 
-    module _ (b : ℤ) (low : b <ℤ pos 1099511627776) (is : TellsResult b last) where
-      pub step_fails : (p : ℕ) (c : ℤ) → pos 1099511627776 ≤ℤ c → ((f : Fault) → TellsResult c (Err f) → p ≡ ended_point (Failed f)) → TellsResult c step
+    module _ (b : ℤ) (low : b <ℤ pos 1099511627776) (is : Encodes b last) where
+      pub step_fails : (p : ℕ) (c : ℤ) → pos 1099511627776 ≤ℤ c → ((f : Fault) → Encodes c (Err f) → p ≡ ended_point (Failed f)) → Encodes c step
           → point p registers turns ≡ used_in_code first registers turns on_first
       step_fails p c h e t =
           fails p registers turns c h e (λ c. begun_in_code variable counter body next a b c registers turns) step t
           ∙ goes registers turns b low (on_last a) last is
-          ∙ goes registers turns a small on_first first tells
+          ∙ goes registers turns a small on_first first encodes
 
       -- all three have values
-      pub all_go : (q : Point) (c : ℤ) → c <ℤ pos 1099511627776 → TellsResult c step → q ≡ begun_in_code variable counter body next a b c registers turns
+      pub all_go : (q : Point) (c : ℤ) → c <ℤ pos 1099511627776 → Encodes c step → q ≡ begun_in_code variable counter body next a b c registers turns
           → q ≡ used_in_code first registers turns on_first
       all_go q c h t did =
           did
           ∙ goes registers turns c h (λ c. begun_in_code variable counter body next a b c registers turns) step t
           ∙ goes registers turns b low (on_last a) last is
-          ∙ goes registers turns a small on_first first tells
+          ∙ goes registers turns a small on_first first encodes

@@ -5,31 +5,31 @@ use Rattle.f77_actions.specs.declared.expression.Connective.{Connective}
 use Rattle.f77_actions.specs.declared.expression.Connective.TheVariants as connective
 use Rattle.f77_actions.specs.declared.finish.Fault.{Fault}
 use Rattle.f77_actions.specs.Number.{fits, is_same}
-use Rattle.f77_actions.specs.Told.{TellsResult, IsValueOrFault, HasValue, truth_number}
-use Rattle.f77_actions.proofs.Bounds.{tells_value, fits_truth}
+use Rattle.f77_actions.specs.Encoded.{Encodes, IsValueOrFault, HasValue, truth_number}
+use Rattle.f77_actions.proofs.Bounds.{encodes_value, fits_truth}
 use Rattle.f77_actions.proofs.Operations.{value_fits}
 use Rattle.f77_code.specs.Term.{connected_number}
 
-pub truth_told : (b c : Bool) (z : ℤ) → z ≡ truth_number c → c ≡ b → TellsResult z (Ok (truth_number b))
-truth_told b c z is same = subst (λ w. TellsResult w (Ok (truth_number b))) (sym (is ∙ ap truth_number same)) (tells_value (truth_number b) (fits_truth b))
+pub truth_encodes : (b c : Bool) (z : ℤ) → z ≡ truth_number c → c ≡ b → Encodes z (Ok (truth_number b))
+truth_encodes b c z is same = subst (λ w. Encodes w (Ok (truth_number b))) (sym (is ∙ ap truth_number same)) (encodes_value (truth_number b) (fits_truth b))
 
-value_of : (r : Result ℤ Fault) (z : ℤ) → r ≡ Ok z → fits z ≡ true → TellsResult z r
-value_of r z e fit = subst (λ q. TellsResult z q) (sym e) (tells_value z fit)
+value_of : (r : Result ℤ Fault) (z : ℤ) → r ≡ Ok z → fits z ≡ true → Encodes z r
+value_of r z e fit = subst (λ q. Encodes z q) (sym e) (encodes_value z fit)
 
 choice_fits : (b : Bool) (x y z : ℤ) → fits x ≡ true → fits y ≡ true → cond b x y ≡ z → fits z ≡ true
 choice_fits true x y z f g e = subst (λ w. fits w ≡ true) e f
 choice_fits false x y z f g e = subst (λ w. fits w ≡ true) e g
 
-pub connected_told : (op : Connective) (x y z : ℤ) → IsValueOrFault x → IsValueOrFault y → connected_number op x y ≡ Ok z → HasValue x → HasValue y → TellsResult z (connected_number op x y)
-connected_told connective.And x y z s t e m n =
+pub connected_encodes : (op : Connective) (x y z : ℤ) → IsValueOrFault x → IsValueOrFault y → connected_number op x y ≡ Ok z → HasValue x → HasValue y → Encodes z (connected_number op x y)
+connected_encodes connective.And x y z s t e m n =
     let same : cond (is_same x (pos 0)) x y ≡ z = cc (e) in
     value_of (connected_number connective.And x y) z e (choice_fits (is_same x (pos 0)) x y z (value_fits x s m) (value_fits y t n) same)
-connected_told connective.Or x y z s t e m n =
+connected_encodes connective.Or x y z s t e m n =
     let same : cond (is_same x (pos 0)) y x ≡ z = cc (e) in
     value_of (connected_number connective.Or x y) z e (choice_fits (is_same x (pos 0)) y x z (value_fits y t n) (value_fits x s m) same)
-connected_told connective.Equivalent x y z s t e m n =
+connected_encodes connective.Equivalent x y z s t e m n =
     let same : truth_number (is_same x y) ≡ z = cc (e) in
     value_of (connected_number connective.Equivalent x y) z e (subst (λ w. fits w ≡ true) same (fits_truth (is_same x y)))
-connected_told connective.NotEquivalent x y z s t e m n =
+connected_encodes connective.NotEquivalent x y z s t e m n =
     let same : truth_number (not (is_same x y)) ≡ z = cc (e) in
     value_of (connected_number connective.NotEquivalent x y) z e (subst (λ w. fits w ≡ true) same (fits_truth (not (is_same x y))))

@@ -9,7 +9,7 @@ use Rattle.f77_actions.specs.declared.expression.Connective.TheVariants as conne
 use Rattle.f77_actions.specs.declared.expression.Relation.{Relation}
 use Rattle.f77_actions.specs.declared.finish.Fault.{Fault}
 use Rattle.f77_actions.specs.Number.{fits, in_range, exact_power, negated, without_sign, is_below, is_same}
-use Rattle.f77_actions.specs.Told.{is_fitting, negation}
+use Rattle.f77_actions.specs.Encoded.{is_fitting, negation}
 use Rattle.f77_actions.specs.Value.{given, both, pushed}
 use Rattle.f77_actions.proofs.Bounds.{fits_truth}
 use Rattle.f77_code.specs.declared.term.Term.{Term, Register, Element, MatrixAt, Sum, Difference, Product, Compared, TooLarge, Vector', Matrix'}
@@ -17,7 +17,7 @@ use Rattle.f77_code.specs.declared.term.Term.{Add', Subtract', Multiply', Calcul
 use Rattle.f77_code.specs.Evaluation.{calculated, compared}
 use Rattle.f77_code.specs.Registers.{is_held, are_held, register, vector_place, matrix_place, element_at}
 use Rattle.f77_code.specs.Term.{related_number, connected_number, term_value}
-use Rattle.f77_code.proofs.Reading.{held_tells}
+use Rattle.f77_code.proofs.Reading.{held_encodes}
 
 range_fits : (z : ℤ) → is_fitting (in_range z) ≡ true
 range_fits z = by (fits z) refl
@@ -77,7 +77,7 @@ given_fits op keeps (Err e) f = refl
 
 pub register_fits : (registers : List ℤ) (k : ℕ) → are_held registers ≡ true → is_fitting (register registers k) ≡ true
 register_fits [] k held = refl
-register_fits (z ∷ zs) zero held = let t = held_tells z (and_parts (is_held z) (are_held zs) held).0 in t.fitting
+register_fits (z ∷ zs) zero held = let t = held_encodes z (and_parts (is_held z) (are_held zs) held).0 in t.fitting
 register_fits (z ∷ zs) (suc k) held = register_fits zs k (and_parts (is_held z) (are_held zs) held).1
 
 module _ (registers : List ℤ) (held : are_held registers ≡ true) where

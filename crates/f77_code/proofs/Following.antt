@@ -94,8 +94,8 @@ module _ (code : List Instruction) (start : Point) (slots : ℕ) (writes : AllWr
   behind = drop slots start.registers
 
   -- the registers behind those of slots stay
-  parted : (k : ℕ) (p : Point) → code_after code k start ≡ p → p.registers ≡ take slots p.registers ++ behind
-  parted k p is =
+  diverging : (k : ℕ) (p : Point) → code_after code k start ≡ p → p.registers ≡ take slots p.registers ++ behind
+  diverging k p is =
       sym (take-append-drop slots p.registers)
       ∙ ap (λ rest. take slots p.registers ++ rest) (ap (λ (p : Point). drop slots p.registers) (sym is) ∙ leaves_behind code slots k start writes)
 
@@ -103,10 +103,10 @@ module _ (code : List Instruction) (start : Point) (slots : ℕ) (writes : AllWr
     -- what is kept is the time
     kept_is : (kept : KeptStep) → IsStepKept slots made p q kept → IsTime code p.place start (time_of p.place behind (kept_time kept))
     kept_is kept is =
-        let mine : p.registers ≡ kept.slots.items ++ behind = parted made p reached ∙ ap (λ xs. xs ++ behind) (sym is.slots) in
+        let mine : p.registers ≡ kept.slots.items ++ behind = diverging made p reached ∙ ap (λ xs. xs ++ behind) (sym is.slots) in
         let before : p ≡ point p.place (kept.slots.items ++ behind) kept.turns.items = λ j. point p.place (mine j) (sym is.turns j) in
         let later : code_after code (made + 1) start ≡ q = after_last code made start ∙ ap (one code) reached ∙ sym did in
-        let theirs : q.registers ≡ kept.slots_after.items ++ behind = parted (made + 1) q later ∙ ap (λ xs. xs ++ behind) (sym is.slots_after) in
+        let theirs : q.registers ≡ kept.slots_after.items ++ behind = diverging (made + 1) q later ∙ ap (λ xs. xs ++ behind) (sym is.slots_after) in
         record {
           reaches = ap (λ n. code_after code n start) is.made ∙ reached ∙ before;
           is = refl;
@@ -139,8 +139,8 @@ module _ (code : List Instruction) (start : Point) (slots : ℕ) (writes : AllWr
         other_noted i passed (λ e. omega (arith, past, within, e)) (are i passed there)
     list_noted old new (NotesList.noted a b here set notes) are i passed at = elim (cases_eq p.place i) [
       | inl same ↦
-          let told : slice_get (slice_set old p.place b) p.place ≡ Some passed = ap (λ list. slice_get list p.place) (sym set) ∙ ap (slice_get new) same ∙ at in
-          let one : b ≡ passed = set_here old p.place b passed told in
+          let in_place : slice_get (slice_set old p.place b) p.place ≡ Some passed = ap (λ list. slice_get list p.place) (sym set) ∙ ap (slice_get new) same ∙ at in
+          let one : b ≡ passed = set_here old p.place b passed in_place in
           subst (λ i. IsPassed code start behind (made + 1) i passed) same
           (subst (IsPassed code start behind (made + 1) p.place) one (step_noted a b notes (are p.place a here)))
       | inr apart ↦

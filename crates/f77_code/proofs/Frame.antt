@@ -7,7 +7,7 @@ use Rattle.std.proofs.lemmas.List.{drop-set-lt, length-set, set-append_left}
 use Rattle.f77_actions.specs.declared.expression.Arithmetic.TheVariants as arithmetic
 use Rattle.f77_actions.specs.declared.finish.Fault.{Fault}
 use Rattle.f77_actions.specs.Number.{in_range, is_same, negated, trip_count, without_sign}
-use Rattle.f77_actions.specs.Told.{negation}
+use Rattle.f77_actions.specs.Encoded.{negation}
 use Rattle.f77_actions.specs.Value.{given, both, element, pushed}
 use Rattle.f77_code.specs.declared.control.Turn.{Turn}
 use Rattle.f77_code.specs.declared.instruction.Instruction.{Instruction}
@@ -21,7 +21,7 @@ use Rattle.f77_code.specs.Evaluation.{calculated}
 use Rattle.f77_code.specs.Frame.{IsInArray, IsWritten, WritesBelow, AllWriteBelow, LeavesBehind, MoreRegisters, with_more}
 use Rattle.f77_code.specs.Operation.{Point, point, used_in_code, put_in_register, put_at, branch, passed, begun_in_code, begun_with, one_less, incremented_in_code, ran}
 use Rattle.f77_code.specs.Operation.{array_within, operation_within}
-use Rattle.f77_code.specs.Registers.{register, told_at, vector_place, matrix_place, element_at}
+use Rattle.f77_code.specs.Registers.{register, decoded_at, vector_place, matrix_place, element_at}
 use Rattle.f77_code.specs.Term.{related_number, connected_number, term_value, term_within}
 use Rattle.f77_code.proofs.Listed.{get_left}
 use Rattle.f77_code.proofs.Reached.{at_most}
@@ -31,7 +31,7 @@ use Rattle.f77_code.proofs.Sequences.{one_within}
 -- registers, and more of them behind
 module _ (registers extra : List ℤ) where
   register_more : (r : ℕ) → nat_lt r (length registers) ≡ true → register (registers ++ extra) r ≡ register registers r
-  register_more r h = ap told_at (get_left registers extra r (ltb-true r (length registers) h))
+  register_more r h = ap decoded_at (get_left registers extra r (ltb-true r (length registers) h))
 
   place_there : (first count k : ℕ) → array_within (length registers) first count ≡ true → k < count → nat_lt (first + k) (length registers) ≡ true
   place_there first count k h below = let most = at_most (length registers) (first + count) h in lt-ltb (first + k) (length registers) (omega (arith, most, below))

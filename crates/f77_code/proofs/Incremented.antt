@@ -5,13 +5,13 @@ use Rattle.std.specs.Option.{option_map_or}
 use Rattle.f77_actions.specs.declared.finish.Fault.{Fault}
 use Rattle.f77_actions.specs.declared.finish.Finish.TheVariants.{Failed}
 use Rattle.f77_actions.specs.Number.{in_range}
-use Rattle.f77_actions.specs.Told.{TellsResult}
+use Rattle.f77_actions.specs.Encoded.{Encodes}
 use Rattle.f77_actions.specs.Value.{given, both}
 use Rattle.f77_code.specs.declared.control.Turn.{Turn}
 use Rattle.f77_code.specs.declared.instruction.Operation.{Next}
 use Rattle.f77_code.specs.Operation.{point, ended_point, passed, one_less, incremented_in_code, ran}
 use Rattle.f77_code.specs.Registers.{register}
-use Rattle.f77_code.proofs.Points.{fails, goes, narrow_tells}
+use Rattle.f77_code.proofs.Points.{fails, goes, narrow_encodes}
 
 -- what is read within a list is there
 pub is_there : {X : Type 0} (xs : List X) (k : ℕ) (d : X) → k < length xs → slice_get xs k ≡ Some (get_or xs k d)
@@ -20,29 +20,29 @@ is_there (x ∷ xs) zero d below = refl
 is_there (x ∷ xs) (suc k) d below = is_there xs k d (omega arith)
 
 -- the variable's next value
-pub next_told : (step from x y : ℤ) → FitsSigned w32 step → from ≡ step → (r : Result ℤ Fault) → TellsResult x r
-    → ((r q : Result ℤ Fault) → TellsResult x r → TellsResult from q → TellsResult y (both (λ a b. in_range (a +ℤ b)) r q))
-    → TellsResult y (given r (λ z. in_range (z +ℤ step)))
-next_told step from x y f e r a adds = adds r (Ok step) a (subst (λ z. TellsResult z (Ok step)) (sym e) (narrow_tells step f))
+pub next_encodes : (step from x y : ℤ) → FitsSigned w32 step → from ≡ step → (r : Result ℤ Fault) → Encodes x r
+    → ((r q : Result ℤ Fault) → Encodes x r → Encodes from q → Encodes y (both (λ a b. in_range (a +ℤ b)) r q))
+    → Encodes y (given r (λ z. in_range (z +ℤ step)))
+next_encodes step from x y f e r a adds = adds r (Ok step) a (subst (λ z. Encodes z (Ok step)) (sym e) (narrow_encodes step f))
 
 module _ (variable counter body next : ℕ) (turn : Turn) (registers : List ℤ) (turns : List Turn) (at : slice_get turns counter ≡ Some turn) where
   next_is : incremented_in_code variable counter body next turn registers turns ≡ ran (Next variable counter body) next registers turns
   next_is = sym (ap (λ o. option_map_or (λ turn. incremented_in_code variable counter body next turn registers turns) o (point next registers turns)) at)
 
   -- the variable has no value, or none that fits behind the last pass
-  pub next_fails : (p : ℕ) (x : ℤ) → pos 1099511627776 ≤ℤ x → ((f : Fault) → TellsResult x (Err f) → p ≡ ended_point (Failed f))
-      → TellsResult x (given (register registers variable) (λ z. in_range (z +ℤ turn.step)))
+  pub next_fails : (p : ℕ) (x : ℤ) → pos 1099511627776 ≤ℤ x → ((f : Fault) → Encodes x (Err f) → p ≡ ended_point (Failed f))
+      → Encodes x (given (register registers variable) (λ z. in_range (z +ℤ turn.step)))
       → point p registers turns ≡ ran (Next variable counter body) next registers turns
-  next_fails p x h e tells =
+  next_fails p x h e encodes =
       fails p registers turns x h e (λ z. passed counter body next (one_less turn.passes) turn.step (slice_set registers variable z) turns)
-      (given (register registers variable) (λ z. in_range (z +ℤ turn.step))) tells
+      (given (register registers variable) (λ z. in_range (z +ℤ turn.step))) encodes
       ∙ next_is
 
   -- the variable gets its next value, and there is one pass less
-  pub next_goes : (x : ℤ) → x <ℤ pos 1099511627776 → TellsResult x (given (register registers variable) (λ z. in_range (z +ℤ turn.step)))
+  pub next_goes : (x : ℤ) → x <ℤ pos 1099511627776 → Encodes x (given (register registers variable) (λ z. in_range (z +ℤ turn.step)))
       → passed counter body next (one_less turn.passes) turn.step (slice_set registers variable x) turns
       ≡ ran (Next variable counter body) next registers turns
-  next_goes x h tells =
+  next_goes x h encodes =
       goes registers turns x h (λ z. passed counter body next (one_less turn.passes) turn.step (slice_set registers variable z) turns)
-      (given (register registers variable) (λ z. in_range (z +ℤ turn.step))) tells
+      (given (register registers variable) (λ z. in_range (z +ℤ turn.step))) encodes
       ∙ next_is

@@ -1,4 +1,4 @@
--- The run of changed code, begun where it may part from that of the program.
+-- The run of changed code, begun where it may diverge from that of the program.
 use Rattle.std.proofs.Common.{arith, ◌≡◌, ◌+◌, ℕ, zero, suc, Bool, true, false, List, [], ◌∷◌, ◌++◌, length, drop, take, ℤ, refl, sym, ap, ◌∙◌, subst, append_assoc}
 use Rattle.std.specs.Prelude.{not}
 use Rattle.std.specs.Bool.{Decides}
@@ -16,11 +16,11 @@ use Rattle.f77_code.specs.declared.instruction.Instruction.{Instruction}
 use Rattle.f77_code.specs.declared.kept_step.KeptStep.{KeptStep}
 use Rattle.f77_code.specs.Block.{one, code_after}
 use Rattle.f77_code.specs.Frame.{with_more}
-use Rattle.f77_code.specs.KeptStep.{IsKept, PartedRuns, kept_time}
+use Rattle.f77_code.specs.KeptStep.{IsKept, DivergingRuns, kept_time}
 use Rattle.f77_code.specs.Operation.{Point, point}
 use Rattle.f77_code.specs.Registers.{are_held, is_held}
 use Rattle.f77_code.specs.Together.{AreTimes, MakesSteps, Time, time_of}
-use Rattle.f77_code.proofs.Together.{makes_step, never_part, part_at}
+use Rattle.f77_code.proofs.Together.{makes_step, never_diverge, diverge_at}
 
 -- what a DO has left is compared
 same_turn : (a b : Turn) → turn.ghosts.eq a b ≡ true → a ≡ b
@@ -43,53 +43,53 @@ pub same_numbers : (xs ys : List ℤ) → not (pointwise int_eq xs ys) ≡ false
 same_numbers xs ys e = by (pointwise int_eq xs ys) refl e
   where
     by : (b : Bool) → pointwise int_eq xs ys ≡ b → not b ≡ false → xs ≡ ys
-    by true told e = (slice_eq-Decides Decides-int_eq xs ys true (sym told)).0 refl
-    by false told e = absurd (cc (e))
+    by true equal e = (slice_eq-Decides Decides-int_eq xs ys true (sym equal)).0 refl
+    by false equal e = absurd (cc (e))
 
 pub held_behind : (n : ℕ) (registers : List ℤ) → are_held registers ≡ true → are_held (drop n registers) ≡ true
 held_behind zero registers held = held
 held_behind (suc n) [] held = refl
 held_behind (suc n) (z ∷ zs) held = held_behind n zs (and_parts (is_held z) (are_held zs) held).1
 
-module _ (parted : PartedRuns) (kept : KeptStep) (more : Bool) (steps : ℕ) (registers : List ℤ) (is : IsKept parted kept more steps registers) where
+module _ (diverging : DivergingRuns) (kept : KeptStep) (more : Bool) (steps : ℕ) (registers : List ℤ) (is : IsKept diverging kept more steps registers) where
   abbrev time : Time
-  time = time_of parted.runs.i parted.behind (kept_time kept)
+  time = time_of diverging.runs.i diverging.behind (kept_time kept)
 
   -- where the changed code stands before its step
   abbrev stands : Point
-  stands = point parted.runs.i (kept.slots.items ++ (parted.behind ++ parted.runs.extra)) kept.turns.items
+  stands = point diverging.runs.i (kept.slots.items ++ (diverging.behind ++ diverging.runs.extra)) kept.turns.items
 
-  stands_is : with_more time.before parted.runs.extra ≡ stands
-  stands_is = ap (λ rs. point parted.runs.i rs kept.turns.items) (append_assoc kept.slots.items parted.behind parted.runs.extra)
+  stands_is : with_more time.before diverging.runs.extra ≡ stands
+  stands_is = ap (λ rs. point diverging.runs.i rs kept.turns.items) (append_assoc kept.slots.items diverging.behind diverging.runs.extra)
 
   -- where it stands behind it
-  pub leads_to : (code : List Instruction) (place : ℕ) (loaded : List ℤ) (turns : List Turn) (q : Point) → code ≡ parted.runs.other → place ≡ parted.runs.i
+  pub leads_to : (code : List Instruction) (place : ℕ) (loaded : List ℤ) (turns : List Turn) (q : Point) → code ≡ diverging.runs.other → place ≡ diverging.runs.i
       → loaded ≡ kept.slots.items ++ drop (length kept.slots.items) registers → turns ≡ kept.turns.items → q ≡ code_after code 1 (point place loaded turns)
-      → one parted.runs.other stands ≡ q
+      → one diverging.runs.other stands ≡ q
   leads_to code place loaded turns q own at load count did =
       sym (did ∙ (λ j. one (own j) (point (at j) ((load ∙ ap (λ rest. kept.slots.items ++ rest) is.behind) j) (count j))))
 
-  module _ (q : Point) (leads : one parted.runs.other stands ≡ q) where
+  module _ (q : Point) (leads : one diverging.runs.other stands ≡ q) where
     -- the step led where that of the program led, and control was there at no other time
     pub same_run : more ≡ false → length kept.slots_after.items ≡ length kept.slots.items → q.place ≡ kept.place
         → take (length kept.slots_after.items) q.registers ≡ kept.slots_after.items → q.turns ≡ kept.turns_after.items
-        → code_after parted.runs.other steps (with_more parted.runs.start parted.runs.extra)
-        ≡ with_more (code_after parted.runs.code steps parted.runs.start) parted.runs.extra
+        → code_after diverging.runs.other steps (with_more diverging.runs.start diverging.runs.extra)
+        ≡ with_more (code_after diverging.runs.code steps diverging.runs.start) diverging.runs.extra
     same_run once long place slots turns =
-        never_part parted.runs steps steps (time ∷ []) is.may
-        (subst (λ more. AreTimes parted.runs.code parted.runs.i parted.runs.start 0 steps (time ∷ []) more) once is.times) makes (omega arith)
+        never_diverge diverging.runs steps steps (time ∷ []) is.may
+        (subst (λ more. AreTimes diverging.runs.code diverging.runs.i diverging.runs.start 0 steps (time ∷ []) more) once is.times) makes (omega arith)
       where
-        made : one parted.runs.other (with_more time.before parted.runs.extra) ≡ with_more time.after parted.runs.extra
-        made = makes_step parted.runs.other parted.runs.i (length kept.slots.items) parted.behind parted.runs.extra (kept_time kept) q is.writes refl leads place
+        made : one diverging.runs.other (with_more time.before diverging.runs.extra) ≡ with_more time.after diverging.runs.extra
+        made = makes_step diverging.runs.other diverging.runs.i (length kept.slots.items) diverging.behind diverging.runs.extra (kept_time kept) q is.writes refl leads place
             (ap (λ n. take n q.registers) (sym long) ∙ slots) turns
 
-        makes : MakesSteps parted.runs.other parted.runs.extra (time ∷ []) 1
+        makes : MakesSteps diverging.runs.other diverging.runs.extra (time ∷ []) 1
         makes zero u below at =
-            subst (λ (u : Time). one parted.runs.other (with_more u.before parted.runs.extra) ≡ with_more u.after parted.runs.extra) (same_Some _ _ at) made
+            subst (λ (u : Time). one diverging.runs.other (with_more u.before diverging.runs.extra) ≡ with_more u.after diverging.runs.extra) (same_Some _ _ at) made
         makes (suc j) u below at = absurd (omega (arith, below))
 
     -- the run goes on from there
-    pub goes_on : (m : ℕ) → code_after parted.runs.other m q ≡ code_after parted.runs.other (kept.made + 1 + m) (with_more parted.runs.start parted.runs.extra)
+    pub goes_on : (m : ℕ) → code_after diverging.runs.other m q ≡ code_after diverging.runs.other (kept.made + 1 + m) (with_more diverging.runs.start diverging.runs.extra)
     goes_on m =
-        ap (code_after parted.runs.other m) (sym leads ∙ ap (one parted.runs.other) (sym stands_is))
-        ∙ sym (part_at parted.runs steps 0 m (time ∷ []) more time is.may is.times refl (λ j u none at. absurd (omega (arith, none))))
+        ap (code_after diverging.runs.other m) (sym leads ∙ ap (one diverging.runs.other) (sym stands_is))
+        ∙ sym (diverge_at diverging.runs steps 0 m (time ∷ []) more time is.may is.times refl (λ j u none at. absurd (omega (arith, none))))

@@ -1,11 +1,9 @@
-pub mod Alike
 pub mod Assembled
 pub mod Assigned
 pub mod Begun
 pub mod Connecting
 pub mod Counters
 pub mod Depth
-pub mod Exchanged
 pub mod Fitting
 pub mod Following
 pub mod Frame
@@ -14,6 +12,7 @@ pub mod Instructed
 pub mod KeptSteps
 pub mod Listed
 pub mod Offsets
+pub mod OneReplaced
 pub mod Onward
 pub mod Operations
 pub mod Passes
@@ -26,6 +25,7 @@ pub mod Replaced
 pub mod SameValue
 pub mod Sequences
 pub mod Shorter
+pub mod Simulated
 pub mod Simulation
 pub mod Terms
 pub mod Tests

@@ -6,7 +6,7 @@ use Rattle.f77_actions.specs.declared.finish.Fault.{Fault}
 use Rattle.f77_actions.specs.declared.finish.Fault.TheVariants.{BadSubscript}
 use Rattle.f77_code.specs.code.Registers.{IsOffset}
 use Rattle.f77_code.specs.Registers.{vector_place, matrix_place}
-use Rattle.f77_actions.specs.Told.{TellsResult, code}
+use Rattle.f77_actions.specs.Encoded.{Encodes, code}
 
 far : (s z : ℤ) (k : ℕ) → s ≡ z → IsOffset s k → IsOffset z k
 far s z k e o = subst (λ z. IsOffset z k) e o
@@ -19,21 +19,21 @@ fault_far f k o = by (code f) (omega arith) o
     by (suc n) l o = omega arith
 
 -- a subscript that is not beyond all bounds
-pub subscript_of : (s : ℤ) (k : ℕ) → IsOffset s k → k < 4294967296 → (r : Result ℤ Fault) → TellsResult s r → r ≡ Ok (pos (suc k))
+pub subscript_of : (s : ℤ) (k : ℕ) → IsOffset s k → k < 4294967296 → (r : Result ℤ Fault) → Encodes s r → r ≡ Ok (pos (suc k))
 subscript_of s k o small (Ok (pos zero)) a = let h = far s (pos zero) k a.is o in absurd (omega arith)
 subscript_of s k o small (Ok (negsuc n)) a = let h = far s (negsuc n) k a.is o in absurd (omega arith)
 subscript_of s k o small (Err f) a = let h = fault_far f k (far s (pos (code f)) k a.is o) in absurd (omega arith)
 subscript_of s k o small (Ok (pos (suc n))) a = let h : k ≡ n = far s (pos (suc n)) k a.is o in ap (λ j. Ok (pos (suc j))) (sym h)
 
 -- the place of an element of one dimension
-pub vector_within : (bound k : ℕ) (s : ℤ) → IsOffset s k → k < bound → bound < 4294967296 → (r : Result ℤ Fault) → TellsResult s r → vector_place bound r ≡ Ok k
+pub vector_within : (bound k : ℕ) (s : ℤ) → IsOffset s k → k < bound → bound < 4294967296 → (r : Result ℤ Fault) → Encodes s r → vector_place bound r ≡ Ok k
 vector_within bound k s o below small r a = rw (subscript_of s k o (omega arith) r a) (at (lt-ltb k bound below))
   where
     at : nat_lt k bound ≡ true → vector_place bound (Ok (pos (suc k))) ≡ Ok k
     at test = rw test (ap Ok (omega arith))
 
 -- a subscript that names none
-pub vector_beyond : (bound k : ℕ) (s : ℤ) → IsOffset s k → bound ≤ k → (r : Result ℤ Fault) → TellsResult s r → (f : Fault) × (vector_place bound r ≡ Err f)
+pub vector_beyond : (bound k : ℕ) (s : ℤ) → IsOffset s k → bound ≤ k → (r : Result ℤ Fault) → Encodes s r → (f : Fault) × (vector_place bound r ≡ Err f)
 vector_beyond bound k s o above (Ok (pos zero)) a = (BadSubscript, refl)
 vector_beyond bound k s o above (Ok (negsuc n)) a = (BadSubscript, refl)
 vector_beyond bound k s o above (Err f) a = (f, refl)
@@ -44,7 +44,7 @@ vector_beyond bound k s o above (Ok (pos (suc n))) a =
 
 -- the place of an element of two dimensions
 pub matrix_within : (rows columns i j : ℕ) (s t : ℤ) → IsOffset s i → IsOffset t j → i < rows → j < columns → rows < 4294967296 → columns < 4294967296
-    → (r q : Result ℤ Fault) → TellsResult s r → TellsResult t q → matrix_place rows columns r q ≡ Ok (i + rows * j)
+    → (r q : Result ℤ Fault) → Encodes s r → Encodes t q → matrix_place rows columns r q ≡ Ok (i + rows * j)
 matrix_within rows columns i j s t o p down across small few r q a b =
     rw (subscript_of s i o (omega arith) r a, subscript_of t j p (omega arith) q b) (at (lt-ltb i rows down) (lt-ltb j columns across))
   where
@@ -52,7 +52,7 @@ matrix_within rows columns i j s t o p down across small few r q a b =
     at first second = rw (first, second) (ap (λ k. Ok (i + rows * k)) (omega arith))
 
 -- a row that names none
-pub row_beyond : (rows columns i : ℕ) (s t : ℤ) → IsOffset s i → rows ≤ i → (r q : Result ℤ Fault) → TellsResult s r → TellsResult t q
+pub row_beyond : (rows columns i : ℕ) (s t : ℤ) → IsOffset s i → rows ≤ i → (r q : Result ℤ Fault) → Encodes s r → Encodes t q
     → (f : Fault) × (matrix_place rows columns r q ≡ Err f)
 row_beyond rows columns i s t o above (Err f) q a b = (f, refl)
 row_beyond rows columns i s t o above (Ok z) (Err f) a b = (f, refl)
@@ -64,14 +64,14 @@ row_beyond rows columns i s t o above (Ok (pos (suc n))) (Ok w) a b =
     (BadSubscript, rw test refl)
 
 -- a column that names none
-pub column_beyond : (rows columns i j : ℕ) (s t : ℤ) → IsOffset s i → i < rows → rows < 4294967296 → IsOffset t j → columns ≤ j → (r q : Result ℤ Fault) → TellsResult s r → TellsResult t q
+pub column_beyond : (rows columns i j : ℕ) (s t : ℤ) → IsOffset s i → i < rows → rows < 4294967296 → IsOffset t j → columns ≤ j → (r q : Result ℤ Fault) → Encodes s r → Encodes t q
     → (f : Fault) × (matrix_place rows columns r q ≡ Err f)
 column_beyond rows columns i j s t o down few p above r q a b = rw (subscript_of s i o (omega arith) r a) (by q b)
   where
     test : nat_lt i rows ≡ true
     test = lt-ltb i rows down
 
-    by : (q : Result ℤ Fault) → TellsResult t q → (f : Fault) × (matrix_place rows columns (Ok (pos (suc i))) q ≡ Err f)
+    by : (q : Result ℤ Fault) → Encodes t q → (f : Fault) × (matrix_place rows columns (Ok (pos (suc i))) q ≡ Err f)
     by (Err f) b = (f, refl)
     by (Ok (pos zero)) b = (BadSubscript, rw test refl)
     by (Ok (negsuc m)) b = (BadSubscript, rw test refl)

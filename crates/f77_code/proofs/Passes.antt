@@ -23,7 +23,7 @@ use Rattle.f77_code.specs.Registers.{register}
 use Rattle.f77_code.specs.Simulation.{IsMove, only_round}
 use Rattle.f77_actions.specs.Number.{fits, in_range, trip_count}
 use Rattle.f77_actions.specs.Value.{given, whole}
-use Rattle.f77_code.proofs.Alike.{used_alike}
+use Rattle.f77_code.proofs.Simulated.{used_simulated}
 use Rattle.f77_code.proofs.Counters.{counted, turn_none}
 use Rattle.f77_code.proofs.Onward.{onward_round}
 use Rattle.f77_code.proofs.Written.{number_written}
@@ -42,15 +42,15 @@ less (suc k) h = omega arith
 module _ (plan : Plan) (statements : List Resolved) (counters : List Turn) (turns : TurnList) (counts : HoldsCounters statements counters turns) (d t next : ℕ)
     (loop : is_loop_at statements d ≡ true) (left : IsLeftDone statements d t next)
     (may : MatchOption (slice_get statements t) ⊥ (λ end. only_round (slice_set turns d None) d end.ends.items ≡ true)) where
-  passes_alike : (end : Resolved) → slice_get statements t ≡ Some end → only_round (slice_set turns d None) d end.ends.items ≡ true → (passes : ℕ) (step : ℤ)
+  passes_simulated : (end : Resolved) → slice_get statements t ≡ Some end → only_round (slice_set turns d None) d end.ends.items ≡ true → (passes : ℕ) (step : ℤ)
       (registers : List ℤ) (cells : Cells) → HoldsRegisters plan registers cells
       → IsMove plan statements (passed (do_rank statements d) (d + 1) next passes step registers counters) (passing end d passes step cells turns)
-  passes_alike end e m zero step registers cells holds = record {
+  passes_simulated end e m zero step registers cells holds = record {
     place = left end e ∙ sym (onward_round statements end.next d (slice_set turns d None) (turn_none turns d) end.ends.items m);
     holds = holds;
     counts = counted statements counters turns counts d loop (record { passes = zero; step = step }) None (λ t e. absurd (cc (e)));
   }
-  passes_alike end e m (suc k) step registers cells holds = record {
+  passes_simulated end e m (suc k) step registers cells holds = record {
     place = refl;
     holds = holds;
     counts = counted statements counters turns counts d loop turn (Some turn) is;
@@ -62,9 +62,9 @@ module _ (plan : Plan) (statements : List Resolved) (counters : List Turn) (turn
       is : (t : Turn) → Some turn ≡ Some t → (t ≡ turn) × (0 < t.passes)
       is t e = let same : turn ≡ t = cc (e) in let some : 0 < suc k = omega arith in (sym same, subst (λ t. 0 < t.passes) same some)
 
-  pub passed_alike : (passes : ℕ) (step : ℤ) (registers : List ℤ) (cells : Cells) → HoldsRegisters plan registers cells
+  pub passed_simulated : (passes : ℕ) (step : ℤ) (registers : List ℤ) (cells : Cells) → HoldsRegisters plan registers cells
       → IsMove plan statements (passed (do_rank statements d) (d + 1) next passes step registers counters) (passing_at statements t d passes step cells turns)
-  passed_alike passes step registers cells holds = by (slice_get statements t) refl may
+  passed_simulated passes step registers cells holds = by (slice_get statements t) refl may
     where
       by : (o : Option Resolved) → slice_get statements t ≡ o → MatchOption o ⊥ (λ end. only_round (slice_set turns d None) d end.ends.items ≡ true)
           → IsMove plan statements (passed (do_rank statements d) (d + 1) next passes step registers counters) (passing_at statements t d passes step cells turns)
@@ -72,17 +72,17 @@ module _ (plan : Plan) (statements : List Resolved) (counters : List Turn) (turn
       by (Some end) e m =
           subst (λ o. IsMove plan statements (passed (do_rank statements d) (d + 1) next passes step registers counters)
           (option_map_or (λ end. passing end d passes step cells turns) o (Goes (state (Execute t) cells turns)))) (sym e)
-          (passes_alike end e m passes step registers cells holds)
+          (passes_simulated end e m passes step registers cells holds)
 
   module _ (registers : List ℤ) (cells : Cells) (holds : HoldsRegisters plan registers cells) (slot : ℕ) (is : IsSlot plan Integer slot) where
-    pub begun_alike : (a b c : ℤ) → fits a ≡ true
+    pub begun_simulated : (a b c : ℤ) → fits a ≡ true
         → IsMove plan statements (code.begun_in_code slot (do_rank statements d) (d + 1) next a b c registers counters) (moves.begun statements d slot t a b c cells turns)
-    begun_alike a b (pos zero) f = (refl, holds)
-    begun_alike a b (pos (suc m)) f =
-        passed_alike (trip_count a b (pos (suc m))) (pos (suc m)) (slice_set registers slot a) (slice_set cells slot (Some (held.Number a)))
+    begun_simulated a b (pos zero) f = (refl, holds)
+    begun_simulated a b (pos (suc m)) f =
+        passed_simulated (trip_count a b (pos (suc m))) (pos (suc m)) (slice_set registers slot a) (slice_set cells slot (Some (held.Number a)))
         (number_written plan registers cells holds slot a is f)
-    begun_alike a b (negsuc m) f =
-        passed_alike (trip_count a b (negsuc m)) (negsuc m) (slice_set registers slot a) (slice_set cells slot (Some (held.Number a)))
+    begun_simulated a b (negsuc m) f =
+        passed_simulated (trip_count a b (negsuc m)) (negsuc m) (slice_set registers slot a) (slice_set cells slot (Some (held.Number a)))
         (number_written plan registers cells holds slot a is f)
 
     summed : (turn : Turn) → 0 < turn.passes → (r w : Result ℤ Fault) → r ≡ w
@@ -101,18 +101,18 @@ module _ (plan : Plan) (statements : List Resolved) (counters : List Turn) (turn
         (λ z. passed (do_rank statements d) (d + 1) next (one_less turn.passes) turn.step (slice_set registers slot z) counters))
         (moves.used w cells (λ z. moves.used (in_range (z +ℤ turn.step)) cells
         (λ n. passing_at statements t d (turn.passes - 1) turn.step (slice_set cells slot (Some (held.Number n))) turns)))) same
-        (used_alike plan statements registers counters cells holds (in_range (z +ℤ turn.step)) (in_range (z +ℤ turn.step)) refl
+        (used_simulated plan statements registers counters cells holds (in_range (z +ℤ turn.step)) (in_range (z +ℤ turn.step)) refl
         (λ z. passed (do_rank statements d) (d + 1) next (one_less turn.passes) turn.step (slice_set registers slot z) counters)
         (λ n. passing_at statements t d (turn.passes - 1) turn.step (slice_set cells slot (Some (held.Number n))) turns)
         (λ n e. subst (λ passes. IsMove plan statements (passed (do_rank statements d) (d + 1) next passes turn.step (slice_set registers slot n) counters)
         (passing_at statements t d (turn.passes - 1) turn.step (slice_set cells slot (Some (held.Number n))) turns)) (sym (less turn.passes some))
-        (passed_alike (turn.passes - 1) turn.step (slice_set registers slot n) (slice_set cells slot (Some (held.Number n)))
+        (passed_simulated (turn.passes - 1) turn.step (slice_set registers slot n) (slice_set cells slot (Some (held.Number n)))
         (number_written plan registers cells holds slot n is (fits_in_range (z +ℤ turn.step) n e)))))
 
-    pub incremented_alike : (turn : Turn) → turn_at turns d ≡ Some turn → (first last step : Number)
+    pub incremented_simulated : (turn : Turn) → turn_at turns d ≡ Some turn → (first last step : Number)
         → IsMove plan statements (ran (Next slot (do_rank statements d) (d + 1)) next registers counters)
         (moves.incremented statements d (Loop slot first last step t) turn cells turns)
-    incremented_alike turn at first last step =
+    incremented_simulated turn at first last step =
         let counted = counts.active d turn at in
         let read : register registers slot ≡ whole (held_in cells slot) =
         holds.slots slot is.0 ∙ ap (λ kind. read_as kind (held_in cells slot)) is.1 in

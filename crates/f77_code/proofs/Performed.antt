@@ -23,18 +23,18 @@ use Rattle.f77_code.specs.Simulation.{IsMove, are_active}
 use Rattle.f77_code.specs.Standing.{IsTerm}
 use Rattle.f77_code.specs.Term.{related_number, term_value}
 use Rattle.f77_actions.specs.Number.{is_same}
-use Rattle.f77_actions.specs.Told.{of_truth, truth_number}
+use Rattle.f77_actions.specs.Encoded.{of_truth, truth_number}
 use Rattle.f77_actions.specs.Value.{both}
-use Rattle.f77_code.proofs.Alike.{go_on_alike, used_alike, truth_alike, branched, jumped}
+use Rattle.f77_code.proofs.Simulated.{go_on_simulated, used_simulated, truth_simulated, branched, jumped}
 use Rattle.f77_code.proofs.Assigned.{number_assigned, truth_assigned}
 use Rattle.f77_code.proofs.SameValue.{same_term, same_test}
 use Rattle.f77_code.proofs.Shorter.{comparing_is}
 
 -- a relation of numbers is a truth value
-relation_told : (op : Relation) (r q : Result ℤ Fault) → both (related_number op) r q ≡ of_truth (both (λ a b. Ok (compared op a b)) r q)
-relation_told op (Ok a) (Ok b) = refl
-relation_told op (Ok a) (Err f) = refl
-relation_told op (Err f) q = refl
+relation_truth : (op : Relation) (r q : Result ℤ Fault) → both (related_number op) r q ≡ of_truth (both (λ a b. Ok (compared op a b)) r q)
+relation_truth op (Ok a) (Ok b) = refl
+relation_truth op (Ok a) (Err f) = refl
+relation_truth op (Err f) q = refl
 
 module _ (plan : Plan) (statements : List Resolved) (registers : List ℤ) (counters : List Turn) (cells : Cells) (holds : HoldsRegisters plan registers cells) (next : ℕ) where
   compares : (x y : Number) (op : Relation) (there : ℕ) (o : Operation) (taken other : Move) → IsMove plan statements (point there registers counters) taken
@@ -58,7 +58,7 @@ module _ (plan : Plan) (statements : List Resolved) (registers : List ℤ) (coun
       same : both (related_number c.relation) (term_value registers c.left) (term_value registers c.right) ≡ of_truth (truth_in cells (Related op x y))
       same = ap (λ op. both (related_number op) (term_value registers c.left) (term_value registers c.right)) (sym h.1)
           ∙ (λ i. both (related_number op) (left i) (right i))
-          ∙ relation_told op (number_in cells x) (number_in cells y)
+          ∙ relation_truth op (number_in cells x) (number_in cells y)
 
   -- a test goes where its condition leads
   pub tests : (x : Condition) (there : ℕ) (o : Operation) (taken other : Move) → IsMove plan statements (point there registers counters) taken
@@ -73,7 +73,7 @@ module _ (plan : Plan) (statements : List Resolved) (registers : List ℤ) (coun
   module _ (turns : TurnList) (counts : HoldsCounters statements counters turns) (r : Resolved) (all : are_active turns r.ends.items ≡ true)
       (is : next ≡ onward statements r.ends.items r.next) (i : ℕ) where
     goes : IsMove plan statements (point next registers counters) (go_on r cells turns)
-    goes = go_on_alike plan statements counters turns counts r next all is registers cells holds
+    goes = go_on_simulated plan statements counters turns counts r next all is registers cells holds
 
     jumps : (jump : Jump) (p : ℕ) → p ≡ jump.target → IsMove plan statements (point p registers counters) (jump_to jump cells turns)
     jumps jump p e = jumped plan statements registers counters cells holds turns counts jump p e
@@ -111,17 +111,17 @@ module _ (plan : Plan) (statements : List Resolved) (registers : List ℤ) (coun
     performed (AssignTruth v x) o e h = truth_assigned plan statements registers counters cells holds next turns counts r all is x v o h
     performed (action.Goto jump) (Goto there) e h = jumps jump there h
     performed (ComputedGoto x js) (Select term places) e h =
-        used_alike plan statements registers counters cells holds (term_value registers term.value) (number_in cells x) (same_term plan registers cells holds x term.value h.0)
+        used_simulated plan statements registers counters cells holds (term_value registers term.value) (number_in cells x) (same_term plan registers cells holds x term.value h.0)
         (λ z. point (unwrap_or (item_chosen places.items z) next) registers counters)
         (λ z. option_map_or (λ jump. jump_to jump cells turns) (item_chosen js.items z) (go_on r cells turns))
         (λ z v. subst (λ ps. IsMove plan statements (point (unwrap_or (item_chosen ps z) next) registers counters)
         (option_map_or (λ jump. jump_to jump cells turns) (item_chosen js.items z) (go_on r cells turns))) (sym h.1) (selected js.items z))
     performed (ArithmeticIf x a b c) (Sign negative middle positive term) e h =
-        used_alike plan statements registers counters cells holds (term_value registers term.value) (number_in cells x) (same_term plan registers cells holds x term.value h.0)
+        used_simulated plan statements registers counters cells holds (term_value registers term.value) (number_in cells x) (same_term plan registers cells holds x term.value h.0)
         (λ z. point (by_sign z negative middle positive) registers counters) (λ z. jump_to (by_sign z a b c) cells turns)
         (λ z v. signed z a b c negative middle positive h.1 h.2 h.3)
     performed (LogicalIf' x b inner) (When' term q o) e h =
-        truth_alike plan statements registers counters cells holds (term_value registers term.value) (truth_in cells x) (same_test plan registers cells holds x term.value h.0)
+        truth_simulated plan statements registers counters cells holds (term_value registers term.value) (truth_in cells x) (same_test plan registers cells holds x term.value h.0)
         (λ z. if is_same z (pos 0) then point next registers counters else ran o next registers counters)
         (λ c. jump_chosen c (acted statements i r inner cells turns) (go_on r cells turns))
         (either o (acted statements i r inner cells turns) (performed inner o e h.1))

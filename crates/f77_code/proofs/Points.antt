@@ -15,69 +15,69 @@ use Rattle.f77_code.specs.Operation.{Point, point, used_in_code, ended_point, pu
 use Rattle.f77_code.specs.code.Registers.{IsOffset}
 use Rattle.f77_code.specs.Registers.{vector_place, matrix_place}
 use Rattle.f77_actions.specs.Number.{fits, is_same, trip_count}
-use Rattle.f77_actions.specs.Told.{TellsResult, IsValueOrFault, code}
+use Rattle.f77_actions.specs.Encoded.{Encodes, IsValueOrFault, code}
 use Rattle.f77_actions.specs.Value.{given, element}
-use Rattle.f77_actions.proofs.Bounds.{Within, within, at_least, told_value, tells_value, tells_fault, told_code}
+use Rattle.f77_actions.proofs.Bounds.{Within, within, at_least, valid_value, encodes_value, encodes_fault, valid_code}
 use Rattle.f77_code.proofs.Offsets.{vector_within, vector_beyond, matrix_within, row_beyond, column_beyond}
 
 -- the result that a number stands for where it is a value
-pub has_value : (x : ℤ) → x <ℤ pos 1099511627776 → (r : Result ℤ Fault) → TellsResult x r → r ≡ Ok x
+pub has_value : (x : ℤ) → x <ℤ pos 1099511627776 → (r : Result ℤ Fault) → Encodes x r → r ≡ Ok x
 has_value x h (Ok z) a = ap Ok (sym a.is)
 has_value x h (Err f) a = let e : x ≡ pos (code f) = a.is in absurd (omega (arith, ints))
 
 -- the end by the fault that a number stands for
-pub fails : (p : ℕ) (registers : List ℤ) (turns : List Turn) (x : ℤ) → pos 1099511627776 ≤ℤ x → ((f : Fault) → TellsResult x (Err f) → p ≡ ended_point (Failed f))
-    → (on : ℤ → Point) (r : Result ℤ Fault) → TellsResult x r → point p registers turns ≡ used_in_code r registers turns on
+pub fails : (p : ℕ) (registers : List ℤ) (turns : List Turn) (x : ℤ) → pos 1099511627776 ≤ℤ x → ((f : Fault) → Encodes x (Err f) → p ≡ ended_point (Failed f))
+    → (on : ℤ → Point) (r : Result ℤ Fault) → Encodes x r → point p registers turns ≡ used_in_code r registers turns on
 fails p registers turns x h e on (Ok z) a = let w : Within z = within z a.fitting in absurd (omega (arith, ints))
 fails p registers turns x h e on (Err f) a = ap (λ q. point q registers turns) (e f a)
 
-pub goes : (registers : List ℤ) (turns : List Turn) (x : ℤ) → x <ℤ pos 1099511627776 → (on : ℤ → Point) (r : Result ℤ Fault) → TellsResult x r
+pub goes : (registers : List ℤ) (turns : List Turn) (x : ℤ) → x <ℤ pos 1099511627776 → (on : ℤ → Point) (r : Result ℤ Fault) → Encodes x r
     → on x ≡ used_in_code r registers turns on
 goes registers turns x h on r a = ap (λ r. used_in_code r registers turns on) (sym (has_value x h r a))
 
 -- a value is put in an element of one dimension
-pub element_put : (first bound k next p : ℕ) (registers after : List ℤ) (turns : List Turn) (s : ℤ) (told : Result ℤ Fault)
-    → IsOffset s k → k < bound → bound < 4294967296 → (r : Result ℤ Fault) → TellsResult s r
-    → point p after turns ≡ put_in_register (first + k) told next registers turns → point p after turns ≡ put_at first (vector_place bound r) told next registers turns
-element_put first bound k next p registers after turns s told o below small r a did = rw (vector_within bound k s o below small r a) did
+pub element_put : (first bound k next p : ℕ) (registers after : List ℤ) (turns : List Turn) (s : ℤ) (value : Result ℤ Fault)
+    → IsOffset s k → k < bound → bound < 4294967296 → (r : Result ℤ Fault) → Encodes s r
+    → point p after turns ≡ put_in_register (first + k) value next registers turns → point p after turns ≡ put_at first (vector_place bound r) value next registers turns
+element_put first bound k next p registers after turns s value o below small r a did = rw (vector_within bound k s o below small r a) did
 
-pub element_fails : (first bound k next p : ℕ) (registers : List ℤ) (turns : List Turn) (s : ℤ) (told : Result ℤ Fault) → IsOffset s k → bound ≤ k
-    → ((b : ℕ) (r : Result ℤ Fault) (f : Fault) → TellsResult s r → vector_place b r ≡ Err f → p ≡ ended_point (Failed f))
-    → (r : Result ℤ Fault) → TellsResult s r → point p registers turns ≡ put_at first (vector_place bound r) told next registers turns
-element_fails first bound k next p registers turns s told o above e r a =
+pub element_fails : (first bound k next p : ℕ) (registers : List ℤ) (turns : List Turn) (s : ℤ) (value : Result ℤ Fault) → IsOffset s k → bound ≤ k
+    → ((b : ℕ) (r : Result ℤ Fault) (f : Fault) → Encodes s r → vector_place b r ≡ Err f → p ≡ ended_point (Failed f))
+    → (r : Result ℤ Fault) → Encodes s r → point p registers turns ≡ put_at first (vector_place bound r) value next registers turns
+element_fails first bound k next p registers turns s value o above e r a =
     let bad = vector_beyond bound k s o above r a in rw bad.1 (ap (λ q. point q registers turns) (e bound r bad.0 a bad.1))
 
 -- in one of two dimensions
-pub matrix_put : (first rows columns i j next p : ℕ) (registers after : List ℤ) (turns : List Turn) (s t : ℤ) (told : Result ℤ Fault)
+pub matrix_put : (first rows columns i j next p : ℕ) (registers after : List ℤ) (turns : List Turn) (s t : ℤ) (value : Result ℤ Fault)
     → IsOffset s i → IsOffset t j → i < rows → j < columns → rows < 4294967296 → columns < 4294967296
-    → (r q : Result ℤ Fault) → TellsResult s r → TellsResult t q → point p after turns ≡ put_in_register (first + (i + rows * j)) told next registers turns
-    → point p after turns ≡ put_at first (matrix_place rows columns r q) told next registers turns
-matrix_put first rows columns i j next p registers after turns s t told o u down across small few r q a b did =
+    → (r q : Result ℤ Fault) → Encodes s r → Encodes t q → point p after turns ≡ put_in_register (first + (i + rows * j)) value next registers turns
+    → point p after turns ≡ put_at first (matrix_place rows columns r q) value next registers turns
+matrix_put first rows columns i j next p registers after turns s t value o u down across small few r q a b did =
     rw (matrix_within rows columns i j s t o u down across small few r q a b) did
 
-pub row_fails : (first rows columns i next p : ℕ) (registers : List ℤ) (turns : List Turn) (s t : ℤ) (told : Result ℤ Fault) → IsOffset s i → rows ≤ i
-    → ((m n : ℕ) (r q : Result ℤ Fault) (f : Fault) → TellsResult s r → TellsResult t q → matrix_place m n r q ≡ Err f → p ≡ ended_point (Failed f))
-    → (r q : Result ℤ Fault) → TellsResult s r → TellsResult t q → point p registers turns ≡ put_at first (matrix_place rows columns r q) told next registers turns
-row_fails first rows columns i next p registers turns s t told o above e r q a b =
+pub row_fails : (first rows columns i next p : ℕ) (registers : List ℤ) (turns : List Turn) (s t : ℤ) (value : Result ℤ Fault) → IsOffset s i → rows ≤ i
+    → ((m n : ℕ) (r q : Result ℤ Fault) (f : Fault) → Encodes s r → Encodes t q → matrix_place m n r q ≡ Err f → p ≡ ended_point (Failed f))
+    → (r q : Result ℤ Fault) → Encodes s r → Encodes t q → point p registers turns ≡ put_at first (matrix_place rows columns r q) value next registers turns
+row_fails first rows columns i next p registers turns s t value o above e r q a b =
     let bad = row_beyond rows columns i s t o above r q a b in rw bad.1 (ap (λ z. point z registers turns) (e rows columns r q bad.0 a b bad.1))
 
-pub column_fails : (first rows columns i j next p : ℕ) (registers : List ℤ) (turns : List Turn) (s t : ℤ) (told : Result ℤ Fault)
+pub column_fails : (first rows columns i j next p : ℕ) (registers : List ℤ) (turns : List Turn) (s t : ℤ) (value : Result ℤ Fault)
     → IsOffset s i → i < rows → rows < 4294967296 → IsOffset t j → columns ≤ j
-    → ((m n : ℕ) (r q : Result ℤ Fault) (f : Fault) → TellsResult s r → TellsResult t q → matrix_place m n r q ≡ Err f → p ≡ ended_point (Failed f))
-    → (r q : Result ℤ Fault) → TellsResult s r → TellsResult t q → point p registers turns ≡ put_at first (matrix_place rows columns r q) told next registers turns
-column_fails first rows columns i j next p registers turns s t told o down small u above e r q a b =
+    → ((m n : ℕ) (r q : Result ℤ Fault) (f : Fault) → Encodes s r → Encodes t q → matrix_place m n r q ≡ Err f → p ≡ ended_point (Failed f))
+    → (r q : Result ℤ Fault) → Encodes s r → Encodes t q → point p registers turns ≡ put_at first (matrix_place rows columns r q) value next registers turns
+column_fails first rows columns i j next p registers turns s t value o down small u above e r q a b =
     let bad = column_beyond rows columns i j s t o down small u above r q a b in
     rw bad.1 (ap (λ z. point z registers turns) (e rows columns r q bad.0 a b bad.1))
 
 -- a truth value decides where control goes
-pub branch_zero : (there next : ℕ) (registers : List ℤ) (turns : List Turn) (x : ℤ) → x ≡ pos 0 → (r : Result ℤ Fault) → TellsResult x r
+pub branch_zero : (there next : ℕ) (registers : List ℤ) (turns : List Turn) (x : ℤ) → x ≡ pos 0 → (r : Result ℤ Fault) → Encodes x r
     → point next registers turns ≡ branch r there next registers turns
 branch_zero there next registers turns x h (Ok (pos zero)) a = refl
 branch_zero there next registers turns x h (Ok (pos (suc n))) a = let e : x ≡ pos (suc n) = a.is in absurd (omega (arith, ints))
 branch_zero there next registers turns x h (Ok (negsuc n)) a = let e : x ≡ negsuc n = a.is in absurd (omega (arith, ints))
 branch_zero there next registers turns x h (Err f) a = let e : x ≡ pos (code f) = a.is in absurd (omega (arith, ints))
 
-pub branch_there : (there next : ℕ) (registers : List ℤ) (turns : List Turn) (x : ℤ) → x <ℤ pos 1099511627776 → (x ≡ pos 0 → ⊥) → (r : Result ℤ Fault) → TellsResult x r
+pub branch_there : (there next : ℕ) (registers : List ℤ) (turns : List Turn) (x : ℤ) → x <ℤ pos 1099511627776 → (x ≡ pos 0 → ⊥) → (r : Result ℤ Fault) → Encodes x r
     → point there registers turns ≡ branch r there next registers turns
 branch_there there next registers turns x l h (Ok (pos zero)) a = absurd (h a.is)
 branch_there there next registers turns x l h (Ok (pos (suc n))) a =
@@ -97,11 +97,11 @@ some_inner next inner (pos (suc n)) h = ap (λ b. if b then next else inner) (sy
 some_inner next inner (negsuc n) h = refl
 
 -- the fault of a subscript that is that of no element
-pub bad_told : IsValueOrFault (pos 1099511627778)
-bad_told = told_code BadSubscript
+pub bad_code_valid : IsValueOrFault (pos 1099511627778)
+bad_code_valid = valid_code BadSubscript
 
-pub zero_told : IsValueOrFault (pos 1099511627779)
-zero_told = told_code ZeroStep
+pub zero_code_valid : IsValueOrFault (pos 1099511627779)
+zero_code_valid = valid_code ZeroStep
 
 vector_bad : (bound : ℕ) (z : ℤ) (f : Fault) → element (bound ∷ []) (z ∷ []) ≡ Err f → BadSubscript ≡ f
 vector_bad bound (pos zero) f e = cc (e)
@@ -133,20 +133,20 @@ none_within (pos zero) = refl
 none_within (negsuc n) = refl
 none_within (pos (suc n)) = not_there (nat_lt n 0) (Ok (n + 0 * 0)) (le-ltb n 0 (omega arith))
 
-pub subscript_fault : (s : ℤ) → pos 1099511627776 ≤ℤ s → (bound : ℕ) (r : Result ℤ Fault) (f : Fault) → TellsResult s r → vector_place bound r ≡ Err f → TellsResult s (Err f)
+pub subscript_fault : (s : ℤ) → pos 1099511627776 ≤ℤ s → (bound : ℕ) (r : Result ℤ Fault) (f : Fault) → Encodes s r → vector_place bound r ≡ Err f → Encodes s (Err f)
 subscript_fault s h bound (Ok z) f a e = let w : Within z = within z a.fitting in absurd (omega (arith, ints))
-subscript_fault s h bound (Err g) f a e = let same : g ≡ f = cc (e) in subst (λ f. TellsResult s (Err f)) same a
+subscript_fault s h bound (Err g) f a e = let same : g ≡ f = cc (e) in subst (λ f. Encodes s (Err f)) same a
 
-pub subscript_bad : (s : ℤ) → s <ℤ pos 1099511627776 → (bound : ℕ) (r : Result ℤ Fault) (f : Fault) → TellsResult s r → vector_place bound r ≡ Err f
-    → TellsResult (pos 1099511627778) (Err f)
-subscript_bad s h bound (Ok z) f a e = subst (λ f. TellsResult (pos 1099511627778) (Err f)) (vector_bad bound z f e) (tells_fault BadSubscript)
+pub subscript_bad : (s : ℤ) → s <ℤ pos 1099511627776 → (bound : ℕ) (r : Result ℤ Fault) (f : Fault) → Encodes s r → vector_place bound r ≡ Err f
+    → Encodes (pos 1099511627778) (Err f)
+subscript_bad s h bound (Ok z) f a e = subst (λ f. Encodes (pos 1099511627778) (Err f)) (vector_bad bound z f e) (encodes_fault BadSubscript)
 subscript_bad s h bound (Err g) f a e = let is : s ≡ pos (code g) = a.is in absurd (omega (arith, ints))
 
-pub row_fault : (s : ℤ) → pos 1099511627776 ≤ℤ s → (rows columns : ℕ) (r q : Result ℤ Fault) (f : Fault) → TellsResult s r → matrix_place rows columns r q ≡ Err f → TellsResult s (Err f)
+pub row_fault : (s : ℤ) → pos 1099511627776 ≤ℤ s → (rows columns : ℕ) (r q : Result ℤ Fault) (f : Fault) → Encodes s r → matrix_place rows columns r q ≡ Err f → Encodes s (Err f)
 row_fault s h rows columns (Ok z) q f a e = let w : Within z = within z a.fitting in absurd (omega (arith, ints))
-row_fault s h rows columns (Err g) q f a e = let same : g ≡ f = cc (e) in subst (λ f. TellsResult s (Err f)) same a
+row_fault s h rows columns (Err g) q f a e = let same : g ≡ f = cc (e) in subst (λ f. Encodes s (Err f)) same a
 
-pub column_fault : (s : ℤ) → s <ℤ pos 1099511627776 → (rows columns : ℕ) (r q : Result ℤ Fault) (f : Fault) → TellsResult s r → matrix_place rows columns r q ≡ Err f
+pub column_fault : (s : ℤ) → s <ℤ pos 1099511627776 → (rows columns : ℕ) (r q : Result ℤ Fault) (f : Fault) → Encodes s r → matrix_place rows columns r q ≡ Err f
     → vector_place 0 q ≡ Err f
 column_fault s h rows columns (Err g) q f a e = let is : s ≡ pos (code g) = a.is in absurd (omega (arith, ints))
 column_fault s h rows columns (Ok z) (Err g) f a e = e
@@ -225,11 +225,11 @@ pub narrow_fits : (z : ℤ) → FitsSigned w32 z → fits z ≡ true
 narrow_fits (pos n) f = let small = f.sfits in lt-ltb n (2 ^ 31) (omega (arith, ints))
 narrow_fits (negsuc n) f = let small = f.sfits in lt-ltb n (2 ^ 31) (omega (arith, ints))
 
-pub narrow_tells : (z : ℤ) → FitsSigned w32 z → TellsResult z (Ok z)
-narrow_tells z f = tells_value z (narrow_fits z f)
+pub narrow_encodes : (z : ℤ) → FitsSigned w32 z → Encodes z (Ok z)
+narrow_encodes z f = encodes_value z (narrow_fits z f)
 
-pub narrow_told : (z : ℤ) → FitsSigned w32 z → IsValueOrFault z
-narrow_told z f = told_value z (narrow_fits z f)
+pub narrow_valid : (z : ℤ) → FitsSigned w32 z → IsValueOrFault z
+narrow_valid z f = valid_value z (narrow_fits z f)
 
 -- one pass less, in 64 bits
 pub less_wrapped : (passes : ℕ) → passes < 2 ^ 64 → (passes + (2 ^ 64 - 1)) % 2 ^ 64 ≡ one_less passes

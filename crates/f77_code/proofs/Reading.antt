@@ -6,9 +6,9 @@ use Rattle.std.proofs.lemmas.Int.{ints}
 use Rattle.f77_actions.specs.declared.finish.Fault.{Fault}
 use Rattle.f77_actions.specs.declared.finish.Fault.TheVariants.{Undefined, Overflow, BadSubscript}
 use Rattle.f77_actions.specs.Number.{fits}
-use Rattle.f77_actions.specs.Told.{TellsResult, IsValueOrFault, code}
-use Rattle.f77_actions.proofs.Bounds.{Within, within, tells_value, tells_fault}
-use Rattle.f77_code.specs.Registers.{told_by_register, is_held, are_held, register, matrix_place, element_at}
+use Rattle.f77_actions.specs.Encoded.{Encodes, IsValueOrFault, code}
+use Rattle.f77_actions.proofs.Bounds.{Within, within, encodes_value, encodes_fault}
+use Rattle.f77_code.specs.Registers.{decoded, is_held, are_held, register, matrix_place, element_at}
 use Rattle.f77_code.specs.code.Registers.{IsOffset, misplaced_in_matrix}
 use Rattle.f77_actions.specs.Value.{given, element}
 
@@ -16,23 +16,23 @@ either : (a b : Bool) → (a || b) ≡ true → b ≡ false → a ≡ true
 either true b h e = refl
 either false b h e = absurd (cc (h, e))
 
-pub held_tells : (z : ℤ) → is_held z ≡ true → TellsResult z (told_by_register z)
-held_tells (pos n) h = by (n == 1099511627776) refl
+pub held_encodes : (z : ℤ) → is_held z ≡ true → Encodes z (decoded z)
+held_encodes (pos n) h = by (n == 1099511627776) refl
   where
-    by : (b : Bool) → (n == 1099511627776) ≡ b → TellsResult (pos n) (told_by_register (pos n))
+    by : (b : Bool) → (n == 1099511627776) ≡ b → Encodes (pos n) (decoded (pos n))
     by true e =
         let same : n ≡ 1099511627776 = eqb-true n 1099511627776 e in
-        rw e (subst (λ k. TellsResult (pos k) (Err Undefined)) (sym same) (tells_fault Undefined))
-    by false e = rw e (tells_value (pos n) (either (fits (pos n)) (n == 1099511627776) h e))
-held_tells (negsuc n) h = tells_value (negsuc n) h
+        rw e (subst (λ k. Encodes (pos k) (Err Undefined)) (sym same) (encodes_fault Undefined))
+    by false e = rw e (encodes_value (pos n) (either (fits (pos n)) (n == 1099511627776) h e))
+held_encodes (negsuc n) h = encodes_value (negsuc n) h
 
-pub read_tells : (registers : List ℤ) (r : ℕ) → are_held registers ≡ true → r < length registers → TellsResult (get_or registers r (pos 0)) (register registers r)
-read_tells [] r h below = absurd (omega arith)
-read_tells (z ∷ zs) zero h below = held_tells z (and_parts (is_held z) (are_held zs) h).0
-read_tells (z ∷ zs) (suc r) h below = read_tells zs r (and_parts (is_held z) (are_held zs) h).1 (omega arith)
+pub read_encodes : (registers : List ℤ) (r : ℕ) → are_held registers ≡ true → r < length registers → Encodes (get_or registers r (pos 0)) (register registers r)
+read_encodes [] r h below = absurd (omega arith)
+read_encodes (z ∷ zs) zero h below = held_encodes z (and_parts (is_held z) (are_held zs) h).0
+read_encodes (z ∷ zs) (suc r) h below = read_encodes zs r (and_parts (is_held z) (are_held zs) h).1 (omega arith)
 
-pub overflow_told : TellsResult (pos 1099511627777) (Err Overflow)
-overflow_told = tells_fault Overflow
+pub overflow_encodes : Encodes (pos 1099511627777) (Err Overflow)
+overflow_encodes = encodes_fault Overflow
 
 pub offset_is : (s : ℤ) → IsValueOrFault s → IsOffset s (of_z w64 (s -ℤ pos 1))
 offset_is (pos zero) t = omega (arith, ints)
@@ -53,18 +53,18 @@ fault_far f k o = by (code f) (omega arith) o
     by (suc n) l o = omega arith
 
 -- the fault of a reference by two subscripts
-pub bad_row : (x y : ℤ) → pos 1099511627776 ≤ℤ x → (r q : Result ℤ Fault) → TellsResult x r → TellsResult y q → TellsResult x (misplaced_in_matrix r q)
+pub bad_row : (x y : ℤ) → pos 1099511627776 ≤ℤ x → (r q : Result ℤ Fault) → Encodes x r → Encodes y q → Encodes x (misplaced_in_matrix r q)
 bad_row x y h (Ok z) q a b = let w : Within z = within z a.fitting in absurd (omega (arith, ints))
 bad_row x y h (Err f) q a b = a
 
-pub bad_column : (x y : ℤ) → x <ℤ pos 1099511627776 → pos 1099511627776 ≤ℤ y → (r q : Result ℤ Fault) → TellsResult x r → TellsResult y q → TellsResult y (misplaced_in_matrix r q)
+pub bad_column : (x y : ℤ) → x <ℤ pos 1099511627776 → pos 1099511627776 ≤ℤ y → (r q : Result ℤ Fault) → Encodes x r → Encodes y q → Encodes y (misplaced_in_matrix r q)
 bad_column x y l h (Ok z) (Ok v) a b = let w : Within v = within v b.fitting in absurd (omega (arith, ints))
 bad_column x y l h (Ok z) (Err f) a b = b
 bad_column x y l h (Err f) q a b = let e : x ≡ pos (code f) = a.is in absurd (omega (arith, ints))
 
-pub bad_neither : (x y : ℤ) → x <ℤ pos 1099511627776 → y <ℤ pos 1099511627776 → (r q : Result ℤ Fault) → TellsResult x r → TellsResult y q
-    → TellsResult (pos 1099511627778) (misplaced_in_matrix r q)
-bad_neither x y l h (Ok z) (Ok v) a b = tells_fault BadSubscript
+pub bad_neither : (x y : ℤ) → x <ℤ pos 1099511627776 → y <ℤ pos 1099511627776 → (r q : Result ℤ Fault) → Encodes x r → Encodes y q
+    → Encodes (pos 1099511627778) (misplaced_in_matrix r q)
+bad_neither x y l h (Ok z) (Ok v) a b = encodes_fault BadSubscript
 bad_neither x y l h (Ok z) (Err f) a b = let e : y ≡ pos (code f) = b.is in absurd (omega (arith, ints))
 bad_neither x y l h (Err f) q a b = let e : x ≡ pos (code f) = a.is in absurd (omega (arith, ints))
 
@@ -101,27 +101,27 @@ no_row rows columns i s (pos (suc n)) w e o above =
 
 module _ (registers : List ℤ) (first rows columns i : ℕ) (x y : ℤ) (row : IsOffset x i) where
   -- an element whose row is not there
-  pub matrix_above : (u : ℤ) → rows ≤ i → (r q : Result ℤ Fault) → TellsResult x r → TellsResult y q → TellsResult u (misplaced_in_matrix r q)
-      → TellsResult u (element_at registers first (matrix_place rows columns r q))
+  pub matrix_above : (u : ℤ) → rows ≤ i → (r q : Result ℤ Fault) → Encodes x r → Encodes y q → Encodes u (misplaced_in_matrix r q)
+      → Encodes u (element_at registers first (matrix_place rows columns r q))
   matrix_above u above (Ok z) (Ok w) a b t =
-      subst (λ p. TellsResult u (element_at registers first p)) (sym (no_row rows columns i x z w a.is row above)) t
+      subst (λ p. Encodes u (element_at registers first p)) (sym (no_row rows columns i x z w a.is row above)) t
   matrix_above u above (Ok z) (Err f) a b t = t
   matrix_above u above (Err f) q a b t = t
 
   -- one whose column is not there
   pub matrix_beyond : (j : ℕ) (u : ℤ) → IsOffset y j → i < rows → rows < 4294967296 → columns ≤ j
-      → (r q : Result ℤ Fault) → TellsResult x r → TellsResult y q → TellsResult u (misplaced_in_matrix r q) → TellsResult u (element_at registers first (matrix_place rows columns r q))
+      → (r q : Result ℤ Fault) → Encodes x r → Encodes y q → Encodes u (misplaced_in_matrix r q) → Encodes u (element_at registers first (matrix_place rows columns r q))
   matrix_beyond j u column inside small above (Ok z) (Ok w) a b t =
       let first_row = by_column rows columns i x z w a.is row inside small in
       let none = subscript_out y w j columns b.is column above in
-      subst (λ p. TellsResult u (element_at registers first p)) (sym (first_row ∙ ap (λ k. given k (λ rest. Ok (i + rows * rest))) none)) t
+      subst (λ p. Encodes u (element_at registers first p)) (sym (first_row ∙ ap (λ k. given k (λ rest. Ok (i + rows * rest))) none)) t
   matrix_beyond j u column inside small above (Ok z) (Err f) a b t = t
   matrix_beyond j u column inside small above (Err f) q a b t = t
 
   -- the element of two subscripts within their bounds
   pub matrix_read : (j k : ℕ) (u : ℤ) → IsOffset y j → i < rows → j < columns → rows < 4294967296 → columns < 4294967296 → k ≡ i + rows * j
-      → (r q : Result ℤ Fault) → TellsResult x r → TellsResult y q → TellsResult u (register registers (first + k))
-      → TellsResult u (element_at registers first (matrix_place rows columns r q))
+      → (r q : Result ℤ Fault) → Encodes x r → Encodes y q → Encodes u (register registers (first + k))
+      → Encodes u (element_at registers first (matrix_place rows columns r q))
   matrix_read j k u column inside below small few is (Ok z) (Ok w) a b t =
       let first_row = by_column rows columns i x z w a.is row inside small in
       let one = subscript_in y w j columns b.is column below few in
@@ -129,7 +129,7 @@ module _ (registers : List ℤ) (first rows columns i : ℕ) (x y : ℤ) (row : 
       first_row ∙ ap (λ k. given k (λ rest. Ok (i + rows * rest))) one in
       let none : columns * 0 ≡ 0 = omega arith in
       let here : first + k ≡ first + (i + rows * (j + columns * 0)) = rw none (ap (λ n. first + n) (is ∙ ap (λ n. i + rows * n) (sym (add-zero j)))) in
-      subst (λ p. TellsResult u (element_at registers first p)) (sym place) (subst (λ n. TellsResult u (register registers n)) here t)
+      subst (λ p. Encodes u (element_at registers first p)) (sym place) (subst (λ n. Encodes u (register registers n)) here t)
   matrix_read j k u column inside below small few is (Ok z) (Err f) a b t =
       let h = fault_far f j (far y (pos (code f)) j b.is column) in absurd (omega arith)
   matrix_read j k u column inside below small few is (Err f) q a b t =

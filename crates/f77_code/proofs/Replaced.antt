@@ -1,4 +1,4 @@
--- Code in which one instruction is exchanged for that of another statement of the same frame.
+-- Code in which one instruction is replaced by that of another statement of the same frame.
 use Rattle.std.proofs.Common.{arith, ◌≡◌, ◌<◌, ◌≤◌, ℕ, zero, suc, ◌+◌, ◌*◌, true, List, [], ◌∷◌, length, take, Some, None, refl, sym, ap, ◌∙◌, subst}
 use Rattle.std.specs.Prelude.{Vec, IfSome, not, nat_lt, slice_get, slice_set}
 use Rattle.std.specs.declared.alloc.Global.{Global}
@@ -13,15 +13,15 @@ use Rattle.f77_actions.specs.declared.expression.Number as number
 use Rattle.f77_actions.specs.declared.resolved.Resolved.{Resolved}
 use Rattle.f77_code.specs.declared.code.Code.{Code}
 use Rattle.f77_code.specs.declared.constants.Constants.{Constants}
-use Rattle.f77_code.specs.declared.exchange.ChangedCode.{ChangedCode}
+use Rattle.f77_code.specs.declared.replacing.ChangedCode.{ChangedCode}
 use Rattle.f77_code.specs.declared.instruction.Instruction.{Instruction}
 use Rattle.f77_code.specs.declared.instruction.Operation.{Operation, Next}
 use Rattle.f77_code.specs.Compiled.{is_ready, are_ready, AreCompiled, HasOneFrame, IsInstruction, IsIncrement}
-use Rattle.f77_code.specs.code.Compiled.{IsExchanged}
+use Rattle.f77_code.specs.code.Compiled.{IsReplaced}
 use Rattle.f77_code.specs.code.Compiled.{HaveSameFrames}
 use Rattle.f77_code.specs.code.Constants.{GrowsPlan}
 use Rattle.f77_code.specs.Evaluation.{element_within, number_within}
-use Rattle.f77_code.specs.Exchange.{HasOwn, HaveOneDo, HaveOneOwn, IsChangedCode, IsAllOwn, MayReplace, own_instructions, put_back}
+use Rattle.f77_code.specs.Replacing.{HasOwn, HaveOneDo, HaveOneOwn, IsChangedCode, IsAllOwn, MayReplace, own_instructions, put_back}
 use Rattle.f77_code.specs.Holds.{Plan, IsSlot, AreSlots, do_rank, is_loop_at}
 use Rattle.f77_code.specs.Instructions.{StandsForIncrement, IsLeftDone}
 use Rattle.f77_code.specs.Moves.{is_loop}
@@ -29,7 +29,7 @@ use Rattle.f77_code.specs.Places.{ArePlaces}
 use Rattle.f77_code.specs.Program.{IsCode}
 use Rattle.f77_code.specs.Together.{AgreeButAt}
 use Rattle.f77_code.specs.Typing.{HasSlots, HasNumbers, HasAction}
-use Rattle.f77_code.proofs.Exchanged.{exchanged_code, left_same, loop_kept, one_frame, places_same, rank_same}
+use Rattle.f77_code.proofs.OneReplaced.{replaced_code, left_same, loop_kept, one_frame, places_same, rank_same}
 use Rattle.f77_code.proofs.Instructed.{instruction_later}
 use Rattle.f77_code.proofs.Listed.{all_at, item_at, loop_is, set_here, set_there}
 use Rattle.f77_code.proofs.Reached.{at_most}
@@ -89,7 +89,7 @@ module _ (before after : List Resolved) (same : HaveSameFrames before after) (i 
   do_kept plan (Loop slot x y z end) _ operation one loop ready h has = tt
   do_kept plan _ act operation one loop ready h has = absurd (cc (loop))
 
--- the incrementation of a DO stands where the DO is exchanged for another with its variable and its end
+-- the incrementation of a DO stands where the DO is replaced by another with its variable and its end
 increment_kept : (before after : List Resolved) (i n count : ℕ) (r s : Resolved) (x : Instruction) → HaveSameFrames before after → slice_get before i ≡ Some r
     → slice_get after i ≡ Some s → HaveOneDo r.action s.action → is_loop r.action ≡ true → is_ready n count r.action ≡ true → IsIncrement before i x
     → IsIncrement after i x
@@ -102,7 +102,7 @@ increment_kept before after i n count r s x same old new one loop ready h = reco
 }
 
 -- one statement stands in the place of another
-pub replaced : (before : List Resolved) (i : ℕ) (r s : Resolved) → slice_get before i ≡ Some r → HasOneFrame r s → IsExchanged before i (slice_set before i s)
+pub replaced : (before : List Resolved) (i : ℕ) (r s : Resolved) → slice_get before i ≡ Some r → HasOneFrame r s → IsReplaced before i (slice_set before i s)
 replaced before i r s at frame = record {
   count = length-set before i s;
   others = λ j apart. set_there before i j s (λ e. apart (sym e));
@@ -116,7 +116,7 @@ set_is [] i x below = absurd (omega (arith, below))
 set_is (y ∷ xs) zero x below = refl
 set_is (y ∷ xs) (suc i) x below = set_is xs i x (omega (arith, below))
 
--- what was exchanged and is put back
+-- what was replaced and is put back
 set_back : {A : Type 0} (xs : List A) (i : ℕ) (x y : A) → slice_get xs i ≡ Some y → slice_set (slice_set xs i x) i y ≡ xs
 set_back [] i x y at = refl
 set_back (z ∷ xs) zero x y at = ap (λ y. y ∷ xs) (sym (same_Some _ _ at))
@@ -131,12 +131,12 @@ take_same (x ∷ xs) (y ∷ ys) each = λ k. same_Some _ _ (each 0 x refl) k ∷
 take_whole : {A : Type 0} (n : ℕ) (xs : List A) → length xs ≡ n → take n xs ≡ xs
 take_whole n xs long = ap (λ n. take n xs) (sym long) ∙ take_same xs xs (λ k z at. at)
 
--- the instruction of another statement is exchanged for that of the program, whose incrementation stays
+-- the instruction of another statement replaces that of the program, whose incrementation stays
 module _ (t u : Constants) (statements after : List Resolved) (i : ℕ) (r s : Resolved) (code : List Instruction) (x : Instruction) (set : after ≡ slice_set statements i s)
     (at : slice_get statements i ≡ Some r) (below : i < length statements) (may : MayReplace r s) (ready : are_ready t.slots statements ≡ true)
     (are : AreCompiled t statements code) where
-  change : IsExchanged statements i after
-  change = subst (IsExchanged statements i) (sym set) (replaced statements i r s at may.frame)
+  change : IsReplaced statements i after
+  change = subst (IsReplaced statements i) (sym set) (replaced statements i r s at may.frame)
 
   same : HaveSameFrames statements after
   same = one_frame statements i after change
@@ -154,9 +154,9 @@ module _ (t u : Constants) (statements after : List Resolved) (i : ℕ) (r s : R
       (ap (λ ss. slice_get ss i) set ∙ set_is statements i s below) may.loop (sym (loop_is statements i r at) ∙ own)
       (all_at (λ r. is_ready t.slots (length statements) r.action) statements i r ready at) (are.incremented i y own there)
 
-  pub exchanged_compiled : GrowsPlan t u → IsInstruction u after i x → AreCompiled u after (slice_set code i x)
-  exchanged_compiled g stands =
-      exchanged_code t u statements i after code (slice_set code i x) g change within are (length-set code i x)
+  pub replaced_compiled : GrowsPlan t u → IsInstruction u after i x → AreCompiled u after (slice_set code i x)
+  replaced_compiled g stands =
+      replaced_code t u statements i after code (slice_set code i x) g change within are (length-set code i x)
       (λ y is. subst (IsInstruction u after i) (set_here code i x y is) stands) next (λ j apart far. set_there code i j x (λ e. apart (sym e)))
 
 grown_length : {A : Type 0} (xs ys : List A) → ((k : ℕ) (z : A) → slice_get xs k ≡ Some z → slice_get ys k ≡ Some z) → length xs ≤ length ys
@@ -187,7 +187,7 @@ module _ (before : ChangedCode) (own : IsAllOwn before) where
     -- where no instruction was made there may be constants more
     pub failed_is : (statements : List Resolved) → IsChangedCode statements before
         → IsChangedCode statements
-        (record { code = record { instructions = before.code.instructions; places = before.code.places; constants = u }; own = before.own; exchanged = before.exchanged })
+        (record { code = record { instructions = before.code.instructions; places = before.code.places; constants = u }; own = before.own; replaced = before.replaced })
     failed_is statements is = record {
       places = is.places;
       compiled = λ table has. is.compiled table (grown_table table has.slots has.values);
@@ -196,17 +196,17 @@ module _ (before : ChangedCode) (own : IsAllOwn before) where
     }
 
     pub failed_same : HaveOneOwn before
-        (record { code = record { instructions = before.code.instructions; places = before.code.places; constants = u }; own = before.own; exchanged = before.exchanged })
+        (record { code = record { instructions = before.code.instructions; places = before.code.places; constants = u }; own = before.own; replaced = before.replaced })
     failed_same = record { instructions = refl; count = refl; slots = g.slots; values = grown_own; places = refl }
 
-    -- one instruction is exchanged
+    -- one instruction is replaced
     module _ (i : ℕ) (x new : Instruction) (v : Vec Instruction Global) (put : v.items ≡ slice_set before.code.instructions.items i new)
         (at : slice_get before.code.instructions.items i ≡ Some x) where
       abbrev put_code : ChangedCode
       put_code = record {
         code = record { instructions = v; places = before.code.places; constants = u };
         own = before.own;
-        exchanged = Some (record { place = i; own = x });
+        replaced = Some (record { place = i; own = x });
       }
 
       put_own : own_instructions put_code ≡ own_instructions before
@@ -240,7 +240,7 @@ module _ (before : ChangedCode) (own : IsAllOwn before) where
       let r = item_at statements i below in
       let replaces : MayReplace r.0 s = subst (λ o. IfSome o (λ r. MayReplace r s)) r.1 may in
       let change = replaced statements i r.0 s r.1 replaces.frame in
-      exchanged_compiled before.code.constants u statements (slice_set statements i s) i r.0 s before.code.instructions.items new refl r.1 below replaces ready
+      replaced_compiled before.code.constants u statements (slice_set statements i s) i r.0 s before.code.instructions.items new refl r.1 below replaces ready
       (subst (AreCompiled before.code.constants statements) own_is (is.compiled before.code.constants own_table)) g
       (stands (slice_set statements i s) (one_frame statements i (slice_set statements i s) change) (set_is statements i s below))
 
@@ -280,9 +280,9 @@ compiled_by statements code t u slots values are = record {
   incremented = are.incremented;
 }
 
--- code in which nothing was exchanged yet
+-- code in which nothing was replaced yet
 pub begins_own : (code : Code) (own : ℕ) → own ≡ length code.constants.values.items → (statements : List Resolved) → IsCode statements code
-    → IsChangedCode statements (record { code = code; own = own; exchanged = None })
+    → IsChangedCode statements (record { code = code; own = own; replaced = None })
 begins_own code own count statements is = record {
   places = is.places;
   compiled = λ table has.

@@ -17,7 +17,7 @@ use Rattle.f77_actions.specs.declared.expression.Condition.{Condition, Related}
 use Rattle.f77_actions.specs.declared.expression.Condition as condition
 use Rattle.f77_actions.specs.declared.finish.Fault.{Fault}
 use Rattle.f77_actions.specs.Number.{in_range, negated, without_sign}
-use Rattle.f77_actions.specs.Told.{truth_number, of_truth, negation}
+use Rattle.f77_actions.specs.Encoded.{truth_number, of_truth, negation}
 use Rattle.f77_actions.specs.Value.{given, both, logic, element, pushed}
 use Rattle.f77_code.specs.declared.term.Term.{Term, Register, Element, MatrixAt}
 use Rattle.f77_code.specs.declared.term.Term.{Sum, Difference, Product, Compared, TooLarge, Vector', Matrix'}

@@ -13,10 +13,10 @@ use Rattle.f77_code.specs.Instructions.{AreCode}
 use Rattle.f77_code.specs.Holds.{Plan}
 use Rattle.f77_code.specs.Moves.{State, Move, Goes, Ends, moved}
 use Rattle.f77_code.specs.Operation.{Point, ended_point, ran, operation_within}
-use Rattle.f77_code.specs.Sequences.{AreStatesNested, BlocksAlike, CodeComesBack, moved_by, then_moved}
+use Rattle.f77_code.specs.Sequences.{AreStatesNested, BlocksSimulated, CodeComesBack, moved_by, then_moved}
 use Rattle.f77_code.specs.Simulation.{IsAt, IsMove}
 use Rattle.f77_code.proofs.Listed.{last_or_below}
-use Rattle.f77_code.proofs.Simulation.{moves_alike, there_is}
+use Rattle.f77_code.proofs.Simulation.{moves_simulated, there_is}
 
 pub one_within : (n loops : ℕ) (code : List Instruction) (k : ℕ) (instruction : Instruction) → code_within n loops code ≡ true → slice_get code k ≡ Some instruction
     → operation_within n loops instruction.operation ≡ true
@@ -91,13 +91,13 @@ module _ (plan : Plan) (statements : List Resolved) (code : List Instruction) (a
   nested_on n s t e nested = λ k u below is.
       nested (suc k) u (omega arith) (ap (λ o. option_and_then (then_moved (moved_by statements k)) o) e ∙ is)
 
-  alike : (n : ℕ) (p : Point) (s : State) (move : Move) → IsAt plan statements p s → AreStatesNested statements n s → moved_by statements n s ≡ Some move
+  simulated : (n : ℕ) (p : Point) (s : State) (move : Move) → IsAt plan statements p s → AreStatesNested statements n s → moved_by statements n s ≡ Some move
       → IsMove plan statements (code_after code n p) move
-  alike zero p s move at nested is = let same : Goes s ≡ move = cc (is) in subst (λ m. IsMove plan statements p m) same at
-  alike (suc n) p s move at nested is = by (λ q t. alike n q t move) (moved statements s) refl is
+  simulated zero p s move at nested is = let same : Goes s ≡ move = cc (is) in subst (λ m. IsMove plan statements p m) same at
+  simulated (suc n) p s move at nested is = by (λ q t. simulated n q t move) (moved statements s) refl is
     where
       first : (m : Move) → moved statements s ≡ Some m → IsMove plan statements (one code p) m
-      first m e = moves_alike plan statements code p s m are (nested 0 s (omega arith) refl) at e
+      first m e = moves_simulated plan statements code p s m are (nested 0 s (omega arith) refl) at e
 
       by : ((q : Point) (t : State) → IsAt plan statements q t → AreStatesNested statements n t → moved_by statements n t ≡ Some move → IsMove plan statements (code_after code n q) move)
           → (o : Option Move) → moved statements s ≡ o → option_and_then (then_moved (moved_by statements n)) o ≡ Some move
@@ -109,8 +109,8 @@ module _ (plan : Plan) (statements : List Resolved) (code : List Instruction) (a
           let did = first (Ends finish cells) e in
           subst (λ q. IsMove plan statements q move) (sym (ends n (one code p) finish did.0)) (subst (λ m. IsMove plan statements (one code p) m) same did)
 
-pub blocks_alike : BlocksAlike
-blocks_alike plan statements code p s n move are at nested is = alike plan statements code are n p s move at nested is
+pub blocks_simulated : BlocksSimulated
+blocks_simulated plan statements code p s n move are at nested is = simulated plan statements code are n p s move at nested is
 
 round_again : (code : List Instruction) (n m : ℕ) (p : Point) → code_after code n p ≡ p → code_after code (m * n) p ≡ p
 round_again code n zero p back = let none : 0 * n ≡ 0 = omega arith in ap (λ k. code_after code k p) none
@@ -128,7 +128,7 @@ goes_round code n m p back none =
 
 pub comes_back : CodeComesBack
 comes_back plan statements code p s n m finish cells are at here back nested = λ is.
-    let did = blocks_alike plan statements code p s m (Ends finish cells) are at nested is in
+    let did = blocks_simulated plan statements code p s m (Ends finish cells) are at nested is in
     let far = end_beyond finish in
     let few = are.few in
     let place = did.0 in

@@ -19,11 +19,11 @@ use Rattle.f77_code.specs.Moves as moves
 use Rattle.f77_code.specs.Moves.{Cells, TurnList, Move, Goes, state, turn_at, acted, go_on, is_executed, is_loop, moved, incremented}
 use Rattle.f77_code.specs.Operation as code
 use Rattle.f77_code.specs.Operation.{Point, ran}
-use Rattle.f77_code.specs.Simulation.{IsMove, IsNested, MayLeave, MovesAlike, are_active}
+use Rattle.f77_code.specs.Simulation.{IsMove, IsNested, MayLeave, MovesSimulated, are_active}
 use Rattle.f77_code.specs.Term.{term_value}
-use Rattle.f77_code.proofs.Alike.{fits_of, go_on_alike, used_alike}
+use Rattle.f77_code.proofs.Simulated.{fits_of, go_on_simulated, used_simulated}
 use Rattle.f77_code.proofs.Counters.{rank_below}
-use Rattle.f77_code.proofs.Passes.{begun_alike, incremented_alike}
+use Rattle.f77_code.proofs.Passes.{begun_simulated, incremented_simulated}
 use Rattle.f77_code.proofs.Performed.{performed, tests}
 use Rattle.f77_code.proofs.Fitting.{term_fits}
 use Rattle.f77_code.proofs.SameValue.{same_term}
@@ -45,23 +45,23 @@ module _ (plan : Plan) (statements : List Resolved) (registers : List ℤ) (coun
       let terms = begun.parameters in
       let stand = h.parameters in
       subst (λ p. IsMove plan statements p (acted statements i r (Loop slot first last step t) cells turns)) (sym named)
-      (used_alike plan statements registers counters cells holds (term_value registers terms.first) (number_in cells first)
+      (used_simulated plan statements registers counters cells holds (term_value registers terms.first) (number_in cells first)
       (same_term plan registers cells holds first terms.first stand.first)
       (λ a. code.used_in_code (term_value registers terms.last) registers counters
       (λ b. code.used_in_code (term_value registers terms.step) registers counters
       (λ c. code.begun_in_code slot (do_rank statements i) (i + 1) next a b c registers counters)))
       (λ a. moves.used (number_in cells last) cells
       (λ b. moves.used (number_in cells step) cells (λ c. moves.begun statements i slot t a b c cells turns)))
-      (λ a is. used_alike plan statements registers counters cells holds (term_value registers terms.last) (number_in cells last)
+      (λ a is. used_simulated plan statements registers counters cells holds (term_value registers terms.last) (number_in cells last)
       (same_term plan registers cells holds last terms.last stand.last)
       (λ b. code.used_in_code (term_value registers terms.step) registers counters
       (λ c. code.begun_in_code slot (do_rank statements i) (i + 1) next a b c registers counters))
       (λ b. moves.used (number_in cells step) cells (λ c. moves.begun statements i slot t a b c cells turns))
-      (λ b has. used_alike plan statements registers counters cells holds (term_value registers terms.step) (number_in cells step)
+      (λ b has. used_simulated plan statements registers counters cells holds (term_value registers terms.step) (number_in cells step)
       (same_term plan registers cells holds step terms.step stand.step)
       (λ c. code.begun_in_code slot (do_rank statements i) (i + 1) next a b c registers counters)
       (λ c. moves.begun statements i slot t a b c cells turns)
-      (λ c to. begun_alike plan statements counters turns counts i t next loop h.left may registers cells holds slot h.slot a b c
+      (λ c to. begun_simulated plan statements counters turns counts i t next loop h.left may registers cells holds slot h.slot a b c
       (fits_of (term_value registers terms.first) a (term_fits registers holds.held terms.first) is)))))
     where
       named : code.begun_with begun.variable begun.counter begun.body next (term_value registers begun.parameters.first)
@@ -78,7 +78,7 @@ module _ (plan : Plan) (statements : List Resolved) (registers : List ℤ) (coun
   performs i r (Branch x otherwise) o next loop e all may h =
       tests plan statements registers counters cells holds next x (onward statements r.ends.items r.next) o (go_on r cells turns)
       (Goes (state (Execute otherwise) cells turns))
-      (go_on_alike plan statements counters turns counts r (onward statements r.ends.items r.next) all refl registers cells holds)
+      (go_on_simulated plan statements counters turns counts r (onward statements r.ends.items r.next) all refl registers cells holds)
       (record { place = h.1; holds = holds; counts = counts }) h.0
   performs i r (Loop slot first last step t) (Do variable counter body parameters) next loop e all may h =
       begins i r slot first last step t next (record { variable = variable; counter = counter; body = body; parameters = parameters.value }) loop may h
@@ -93,7 +93,7 @@ module _ (plan : Plan) (statements : List Resolved) (registers : List ℤ) (coun
       → IsMove plan statements (ran o next registers counters) (incremented statements d act turn cells turns)
   increments d (Loop slot first last step t) (Next variable counter body) next loop e may h turn at =
       subst (λ p. IsMove plan statements p (incremented statements d (Loop slot first last step t) turn cells turns)) (sym named)
-      (incremented_alike plan statements counters turns counts d t next loop h.4 may registers cells holds slot h.1 turn at first last step)
+      (incremented_simulated plan statements counters turns counts d t next loop h.4 may registers cells holds slot h.1 turn at first last step)
     where
       named : ran (Next variable counter body) next registers counters ≡ ran (Next slot (do_rank statements d) (d + 1)) next registers counters
       named = λ j. ran (Next (h.0 j) (h.2 j) (h.3 j)) next registers counters
@@ -159,6 +159,6 @@ module _ (plan : Plan) (statements : List Resolved) (code : List Instruction) (a
       by None known is = absurd (cc (is))
       by (Some r) known is = goes_on d at nested r known (is_loop r.action) refl (turn_at turns d) refl is
 
-pub moves_alike : MovesAlike
-moves_alike plan statements code p s move are nested at is =
+pub moves_simulated : MovesSimulated
+moves_simulated plan statements code p s move are nested at is =
     by_statement plan statements code are p s.cells s.turns at.holds at.counts move s.place at.place nested is

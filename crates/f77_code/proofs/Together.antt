@@ -12,8 +12,8 @@ use Rattle.f77_code.specs.declared.instruction.Instruction.{Instruction}
 use Rattle.f77_code.specs.Block.{one, code_after, code_within}
 use Rattle.f77_code.specs.Frame.{with_more}
 use Rattle.f77_code.specs.Operation.{Point, point, ran}
-use Rattle.f77_code.specs.Together.{AgreeButAt, StepAlike, Alongside, Time, IsTime, AreTimes}
-use Rattle.f77_code.specs.Together.{MakesSteps, NeverPart, PartAt, time_of, MakesStep}
+use Rattle.f77_code.specs.Together.{AgreeButAt, SameStep, Alongside, Time, IsTime, AreTimes}
+use Rattle.f77_code.specs.Together.{MakesSteps, NeverDiverge, DivergeAt, time_of, MakesStep}
 use Rattle.f77_code.proofs.Frame.{more_registers, one_behind}
 use Rattle.f77_code.proofs.Sequences.{after_last, after_more}
 
@@ -22,7 +22,7 @@ one_elsewhere : (code other : List Instruction) (i : ℕ) (p : Point) → AgreeB
 one_elsewhere code other i p agree apart =
     ap (λ o. option_map_or (λ instruction. ran instruction.operation instruction.next p.registers p.turns) o p) (agree p.place apart)
 
-along : (code other : List Instruction) (i m : ℕ) (p : Point) → AgreeButAt i code other → StepAlike code other i m p → code_after other m p ≡ code_after code m p
+along : (code other : List Instruction) (i m : ℕ) (p : Point) → AgreeButAt i code other → SameStep code other i m p → code_after other m p ≡ code_after code m p
 along code other i zero p agree steps = refl
 along code other i (suc m) p agree steps = ap (code_after other m) first ∙ along code other i m (one code p) agree (λ k below at. steps (suc k) (omega arith) at)
   where
@@ -43,25 +43,25 @@ none_there (x ∷ xs) (suc k) below none = none_there xs k (omega arith) none
 -- the times of a run, and code that makes the steps of some of them
 module _ (code other : List Instruction) (i : ℕ) (start : Point) (n : ℕ) where
   now : (u : Time) → IsTime code i start u → one other u.before ≡ u.after → (k : ℕ) → k ≡ u.made → one other (code_after code k start) ≡ one code (code_after code k start)
-  now u is alike k made =
+  now u is same_step k made =
       let here : code_after code k start ≡ u.before = ap (λ k. code_after code k start) made ∙ is.reaches in
-      ap (one other) here ∙ alike ∙ sym is.leads ∙ ap (one code) (sym here)
+      ap (one other) here ∙ same_step ∙ sym is.leads ∙ ap (one code) (sym here)
 
   -- the times before one of them
   before : (m : ℕ) (times : List Time) (more : Bool) (j : ℕ) (time : Time) → AreTimes code i start m n times more → slice_get times j ≡ Some time
       → ((a : ℕ) (u : Time) → a < j → slice_get times a ≡ Some u → one other u.before ≡ u.after)
       → (k : ℕ) → m ≤ k → k < time.made → (code_after code k start).place ≡ i → one other (code_after code k start) ≡ one code (code_after code k start)
-  before m [] more j time are there alike k from below at = absurd (cc (there))
-  before m (u ∷ times) more zero time are there alike k from below at =
+  before m [] more j time are there same_step k from below at = absurd (cc (there))
+  before m (u ∷ times) more zero time are there same_step k from below at =
       let same : u ≡ time = same_Some u time there in
       let within : k < u.made = subst (λ (v : Time). k < v.made) (sym same) below in
       absurd (are.2 k from within at)
-  before m (u ∷ times) more (suc j) time are there alike k from below at = elim (cases_lt k u.made) [
+  before m (u ∷ times) more (suc j) time are there same_step k from below at = elim (cases_lt k u.made) [
     | inl early ↦ absurd (are.2 k from early at)
     | inr late ↦ elim (cases_lt u.made k) [
       | inl later ↦
-          before (u.made + 1) times more j time are.4 there (λ a v earlier is. alike (suc a) v (omega (arith, earlier)) is) k (omega (arith, later)) below at
-      | inr not_later ↦ now u are.3 (alike 0 u (omega arith) refl) k (omega (arith, late, not_later))
+          before (u.made + 1) times more j time are.4 there (λ a v earlier is. same_step (suc a) v (omega (arith, earlier)) is) k (omega (arith, later)) below at
+      | inr not_later ↦ now u are.3 (same_step 0 u (omega arith) refl) k (omega (arith, late, not_later))
     ]
   ]
 
@@ -69,12 +69,12 @@ module _ (code other : List Instruction) (i : ℕ) (start : Point) (n : ℕ) whe
   throughout : (m : ℕ) (times : List Time) → AreTimes code i start m n times false
       → ((a : ℕ) (u : Time) → slice_get times a ≡ Some u → one other u.before ≡ u.after)
       → (k : ℕ) → m ≤ k → k < n → (code_after code k start).place ≡ i → one other (code_after code k start) ≡ one code (code_after code k start)
-  throughout m [] are alike k from below at = absurd (are k from below at)
-  throughout m (u ∷ times) are alike k from below at = elim (cases_lt k u.made) [
+  throughout m [] are same_step k from below at = absurd (are k from below at)
+  throughout m (u ∷ times) are same_step k from below at = elim (cases_lt k u.made) [
     | inl early ↦ absurd (are.2 k from early at)
     | inr late ↦ elim (cases_lt u.made k) [
-      | inl later ↦ throughout (u.made + 1) times are.4 (λ a v is. alike (suc a) v is) k (omega (arith, later)) below at
-      | inr not_later ↦ now u are.3 (alike 0 u refl) k (omega (arith, late, not_later))
+      | inl later ↦ throughout (u.made + 1) times are.4 (λ a v is. same_step (suc a) v is) k (omega (arith, later)) below at
+      | inr not_later ↦ now u are.3 (same_step 0 u refl) k (omega (arith, late, not_later))
     ]
   ]
 
@@ -88,16 +88,16 @@ module _ (code other : List Instruction) (i : ℕ) (start : Point) (n : ℕ) whe
     -- code that makes the steps of all times comes to the same
     pub never : (m : ℕ) (times : List Time) → AreTimes code i start 0 n times false → ((a : ℕ) (u : Time) → slice_get times a ≡ Some u → one other u.before ≡ u.after)
         → m ≤ n → code_after other m start ≡ code_after code m start
-    never m times are alike within = alongside code other i n m start agree (λ k below at. throughout 0 times are alike k (omega arith) below at) within
+    never m times are same_step within = alongside code other i n m start agree (λ k below at. throughout 0 times are same_step k (omega arith) below at) within
 
     -- code that makes the steps of the times before one goes on from that one
     pub from_there : (m : ℕ) (times : List Time) (more : Bool) (j : ℕ) (time : Time) → AreTimes code i start 0 n times more → slice_get times j ≡ Some time
         → ((a : ℕ) (u : Time) → a < j → slice_get times a ≡ Some u → one other u.before ≡ u.after)
         → code_after other (time.made + 1 + m) start ≡ code_after other m (one other time.before)
-    from_there m times more j time are there alike =
+    from_there m times more j time are there same_step =
         let is = time_is 0 times more j time are there in
         let same : code_after other time.made start ≡ time.before =
-        alongside code other i time.made time.made start agree (λ k below at. before 0 times more j time are there alike k (omega arith) below at) (omega arith)
+        alongside code other i time.made time.made start agree (λ k below at. before 0 times more j time are there same_step k (omega arith) below at) (omega arith)
         ∙ is.reaches in
         after_more other (time.made + 1) m start ∙ ap (code_after other m) (after_last other time.made start ∙ ap (one other) same)
 
@@ -134,29 +134,29 @@ module _ (code : List Instruction) (loops i : ℕ) (start : Point) (extra : List
   )
 
 -- what is so of each time is so of each with more registers
-alike_more : (other : List Instruction) (extra : List ℤ) (times : List Time) (k : ℕ) → MakesSteps other extra times k
+steps_more : (other : List Instruction) (extra : List ℤ) (times : List Time) (k : ℕ) → MakesSteps other extra times k
     → (a : ℕ) (u : Time) → a < k → slice_get (map (time_more extra) times) a ≡ Some u → one other u.before ≡ u.after
-alike_more other extra times k makes a u below at = by (slice_get times a) refl (sym (slice_get-map (time_more extra) times a) ∙ at)
+steps_more other extra times k makes a u below at = by (slice_get times a) refl (sym (slice_get-map (time_more extra) times a) ∙ at)
   where
     by : (o : Option Time) → slice_get times a ≡ o → option_map (time_more extra) o ≡ Some u → one other u.before ≡ u.after
     by None e is = absurd (cc (is))
     by (Some time) e is = subst (λ (u : Time). one other u.before ≡ u.after) (same_Some _ _ is) (makes a time below e)
 
-pub never_part : NeverPart
-never_part runs n m times may are makes within =
+pub never_diverge : NeverDiverge
+never_diverge runs n m times may are makes within =
     never runs.code runs.other runs.i (with_more runs.start runs.extra) n may.agree m (map (time_more runs.extra) times)
     (times_more runs.code runs.loops runs.i runs.start runs.extra may.within 0 n times false are)
-    (λ a u at. alike_more runs.other runs.extra times (length times) makes a u
+    (λ a u at. steps_more runs.other runs.extra times (length times) makes a u
     (subst (λ k. a < k) (length-map times (time_more runs.extra)) (slice_get_within (map (time_more runs.extra) times) a u at)) at)
     within
     ∙ more_registers runs.code runs.loops m runs.start runs.extra may.within
 
-pub part_at : PartAt
-part_at runs n k m times more time may are there makes =
+pub diverge_at : DivergeAt
+diverge_at runs n k m times more time may are there makes =
     from_there runs.code runs.other runs.i (with_more runs.start runs.extra) n may.agree m (map (time_more runs.extra) times) more k (time_more runs.extra time)
     (times_more runs.code runs.loops runs.i runs.start runs.extra may.within 0 n times more are)
     (slice_get-map (time_more runs.extra) times k ∙ ap (option_map (time_more runs.extra)) there)
-    (alike_more runs.other runs.extra times k makes)
+    (steps_more runs.other runs.extra times k makes)
 
 -- a point whose first registers and whose others are known
 pub point_of : (n place : ℕ) (first rest : List ℤ) (turns : List Turn) (q : Point) → q.place ≡ place → take n q.registers ≡ first → drop n q.registers ≡ rest → q.turns ≡ turns

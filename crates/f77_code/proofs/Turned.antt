@@ -18,7 +18,7 @@ use Rattle.f77_actions.specs.declared.resolved.Resolved.{Resolved}
 use Rattle.f77_actions.specs.declared.finish.Fault.{Fault}
 use Rattle.f77_actions.specs.declared.finish.Fault.TheVariants.{Undefined}
 use Rattle.f77_actions.specs.Number.{in_range, is_same, trip_count}
-use Rattle.f77_actions.specs.Told.{coded}
+use Rattle.f77_actions.specs.Encoded.{coded}
 use Rattle.f77_actions.specs.Value.{given, whole}
 use Rattle.f77_code.specs.declared.control.Turn.{Turn}
 use Rattle.f77_code.specs.declared.instruction.Instruction.{Instruction}
@@ -33,7 +33,7 @@ use Rattle.f77_code.specs.Instructions.{Beginning, BeginsDo, Giving, Comparing, 
 use Rattle.f77_code.specs.Instructions.{StandsForStatement, StandsForIncrement, AreCode, onward}
 use Rattle.f77_code.specs.Moves.{Cells, is_loop}
 use Rattle.f77_code.specs.Operation.{Point, point, used_in_code, put_in_register, put_at, branch, passed, begun_in_code, begun_with, one_less, incremented_in_code, ran}
-use Rattle.f77_code.specs.Registers.{register, told_at, told_by_register}
+use Rattle.f77_code.specs.Registers.{register, decoded_at, decoded}
 use Rattle.f77_code.specs.Standing.{IsTerm, IsTest}
 use Rattle.f77_code.specs.Term.{term_value}
 use Rattle.f77_code.proofs.Listed.{item_at, order}
@@ -225,15 +225,15 @@ module _ (statements : List Resolved) (plan twin : Plan) (registers others : Lis
   stands_turns i r act next away o q h k =
       ran_turns away others turns q (operation_keeps twin act q k.0) ∙ sym (ran_turns next registers turns o (operation_keeps plan act o h.0))
 
-  slot_told : (one : Plan) (rs : List ℤ) (slot : ℕ) → HoldsRegisters one rs cells → IsSlot one Integer slot → register rs slot ≡ whole (held_in cells slot)
-  slot_told one rs slot has is = has.slots slot is.0 ∙ ap (λ kind. read_as kind (held_in cells slot)) is.1
+  slot_value : (one : Plan) (rs : List ℤ) (slot : ℕ) → HoldsRegisters one rs cells → IsSlot one Integer slot → register rs slot ≡ whole (held_in cells slot)
+  slot_value one rs slot has is = has.slots slot is.0 ∙ ap (λ kind. read_as kind (held_in cells slot)) is.1
 
   increments_turns : (d : ℕ) (act : Action) (next away : ℕ) (o q : Operation) → is_loop act ≡ true → StandsForIncrement plan statements d act o next
       → StandsForIncrement twin statements d act q away → (ran q away others turns).turns ≡ (ran o next registers turns).turns
   increments_turns d (action.Loop slot x y z end) next away (Next variable counter body) (Next other count round) loop h k =
       (λ j. (ran (Next other ((k.2 ∙ sym h.2) j) round) away others turns).turns)
       ∙ counted_turns turns counter variable body next other round away registers others (slice_get turns counter)
-      (ap (register others) k.0 ∙ slot_told twin others slot also k.1 ∙ sym (slot_told plan registers slot holds h.1) ∙ ap (register registers) (sym h.0))
+      (ap (register others) k.0 ∙ slot_value twin others slot also k.1 ∙ sym (slot_value plan registers slot holds h.1) ∙ ap (register registers) (sym h.0))
   increments_turns d (action.Loop slot x y z end) next away (Next variable counter body) _ loop h k = absurd k
   increments_turns d (action.Loop slot x y z end) next away _ q loop h k = absurd h
   increments_turns d _ next away o q loop h k = absurd (cc (loop))
@@ -277,18 +277,18 @@ module _ (statements : List Resolved) (plan twin : Plan) (registers others : Lis
             absurd (cc (there, y.1))
 
 -- what a register stands for, as a number again
-told_value : (z : ℤ) → coded (told_by_register z) ≡ z
-told_value (negsuc n) = refl
-told_value (pos n) = by (n == 1099511627776) refl
+coded_decoded : (z : ℤ) → coded (decoded z) ≡ z
+coded_decoded (negsuc n) = refl
+coded_decoded (pos n) = by (n == 1099511627776) refl
   where
     by : (b : Bool) → (n == 1099511627776) ≡ b → coded (if b then Err Undefined else Ok (pos n)) ≡ pos n
     by true t = ap pos (sym (eqb-true n 1099511627776 t))
     by false t = refl
 
 -- registers that stand for the same are equal
-pub told_once : (xs ys : List ℤ) (k : ℕ) → k < length xs → k < length ys → register xs k ≡ register ys k → slice_get xs k ≡ slice_get ys k
-told_once xs ys k below there e =
+pub same_number : (xs ys : List ℤ) (k : ℕ) → k < length xs → k < length ys → register xs k ≡ register ys k → slice_get xs k ≡ slice_get ys k
+same_number xs ys k below there e =
     let z = item_at xs k below in
     let w = item_at ys k there in
-    let told : told_by_register z.0 ≡ told_by_register w.0 = sym (ap told_at z.1) ∙ e ∙ ap told_at w.1 in
-    z.1 ∙ ap Some (sym (told_value z.0) ∙ ap coded told ∙ told_value w.0) ∙ sym w.1
+    let equal : decoded z.0 ≡ decoded w.0 = sym (ap decoded_at z.1) ∙ e ∙ ap decoded_at w.1 in
+    z.1 ∙ ap Some (sym (coded_decoded z.0) ∙ ap coded equal ∙ coded_decoded w.0) ∙ sym w.1

@@ -13,12 +13,12 @@ use Rattle.f77_code.specs.Operation.{Point, point}
 use Rattle.f77_code.specs.Sequences.{AreStatesNested, moved_by, then_moved}
 use Rattle.f77_code.specs.Simulation.{IsAt, IsMove}
 use Rattle.f77_code.specs.Together.{AreTimes, IsTime, KeptTime, time_of}
-use Rattle.f77_code.specs.Twins.{AreTwins, HaveSlots, SameSlots, TimesOfTwins, Twins, TwinsAlike}
+use Rattle.f77_code.specs.Twins.{AreTwins, HaveSlots, SameSlots, TimesOfTwins, Twins, TwinsEqual}
 use Rattle.f77_code.proofs.Frame.{leaves_behind}
-use Rattle.f77_code.proofs.Sequences.{after_last, blocks_alike, ends, nested_on}
-use Rattle.f77_code.proofs.Simulation.{moves_alike}
+use Rattle.f77_code.proofs.Sequences.{after_last, blocks_simulated, ends, nested_on}
+use Rattle.f77_code.proofs.Simulation.{moves_simulated}
 use Rattle.f77_code.proofs.Together.{point_of}
-use Rattle.f77_code.proofs.Turned.{one_turns, told_once}
+use Rattle.f77_code.proofs.Turned.{one_turns, same_number}
 use Rattle.f77_code.proofs.Writes.{writes_slots}
 
 module _ (twins : Twins) (are : AreTwins twins) where
@@ -28,7 +28,7 @@ module _ (twins : Twins) (are : AreTwins twins) where
       let room = holds.room in
       let space = also.room in
       let there : k < twins.plan_of_other.slots = omega (arith, below, are.slots) in
-      told_once q.registers p.registers k (omega (arith, there, space)) (omega (arith, below, room))
+      same_number q.registers p.registers k (omega (arith, there, space)) (omega (arith, below, room))
       (also.slots k there ∙ (λ j. read_as (are.kind j k) (held_in cells k)) ∙ sym (holds.slots k below))
 
   turns_after : (n : ℕ) (p q : Point) (s : State) (move : Move) → IsAt twins.plan twins.statements p s → IsAt twins.plan_of_other twins.statements q s
@@ -47,10 +47,10 @@ module _ (twins : Twins) (are : AreTwins twins) where
           p.place
 
       mine : (m : Move) → moved twins.statements s ≡ Some m → IsMove twins.plan twins.statements (one twins.code p) m
-      mine m e = moves_alike twins.plan twins.statements twins.code p s m are.code (nested 0 s (omega arith) refl) at e
+      mine m e = moves_simulated twins.plan twins.statements twins.code p s m are.code (nested 0 s (omega arith) refl) at e
 
       theirs : (m : Move) → moved twins.statements s ≡ Some m → IsMove twins.plan_of_other twins.statements (one twins.other q) m
-      theirs m e = moves_alike twins.plan_of_other twins.statements twins.other q s m are.other (nested 0 s (omega arith) refl) there e
+      theirs m e = moves_simulated twins.plan_of_other twins.statements twins.other q s m are.other (nested 0 s (omega arith) refl) there e
 
       by : ((p q : Point) (t : State) → IsAt twins.plan twins.statements p t → IsAt twins.plan_of_other twins.statements q t → q.turns ≡ p.turns
           → AreStatesNested twins.statements n t → moved_by twins.statements n t ≡ Some move → (code_after twins.other n q).turns ≡ (code_after twins.code n p).turns)
@@ -75,11 +75,11 @@ module _ (twins : Twins) (are : AreTwins twins) where
   }
   moves_same p q (Ends finish cells) at there turns = record { place = there.0 ∙ sym at.0; slots = same_slots p q cells at.1 there.1; turns = turns }
 
-pub twins_alike : TwinsAlike
-twins_alike twins n move are nested is =
+pub twins_equal : TwinsEqual
+twins_equal twins n move are nested is =
     moves_same twins are (code_after twins.code n twins.start) (code_after twins.other n twins.start_of_other) move
-    (blocks_alike twins.plan twins.statements twins.code twins.start twins.state n move are.code are.at nested is)
-    (blocks_alike twins.plan_of_other twins.statements twins.other twins.start_of_other twins.state n move are.other are.at_other nested is)
+    (blocks_simulated twins.plan twins.statements twins.code twins.start twins.state n move are.code are.at nested is)
+    (blocks_simulated twins.plan_of_other twins.statements twins.other twins.start_of_other twins.state n move are.other are.at_other nested is)
     (turns_after twins are n twins.start twins.start_of_other twins.state move are.at are.at_other are.turns nested is)
 
 -- the first items of a list
@@ -89,9 +89,9 @@ first_items (x ∷ xs) rest [] each = absurd (cc (each 0 (omega arith)))
 first_items (x ∷ xs) rest (y ∷ ys) each = λ j. same_Some _ _ (each 0 (omega arith)) j ∷ first_items xs rest ys (λ k below. each (suc k) (omega (arith, below))) j
 
 -- a point whose slots are those of another one
-retold : (n place : ℕ) (slots behind other : List ℤ) (turns : List Turn) (p q : Point) → SameSlots n p q → p ≡ point place (slots ++ behind) turns → length slots ≡ n
+twin_point : (n place : ℕ) (slots behind other : List ℤ) (turns : List Turn) (p q : Point) → SameSlots n p q → p ≡ point place (slots ++ behind) turns → length slots ≡ n
     → drop n q.registers ≡ other → q ≡ point place (slots ++ other) turns
-retold n place slots behind other turns p q same is long rest =
+twin_point n place slots behind other turns p q same is long rest =
     point_of n place slots other turns q (same.place ∙ ap (λ (p : Point). p.place) is)
     (ap (λ n. take n q.registers) (sym long)
     ∙ first_items slots behind q.registers
@@ -112,12 +112,12 @@ module _ (twins : Twins) (behind behind_other : List ℤ) (i n : ℕ) (are : Are
       → code_after twins.code k twins.start ≡ point place (slots ++ behind) turns
       → code_after twins.other k twins.start_of_other ≡ point place (slots ++ behind_other) turns
   there k place slots turns within long is =
-      retold twins.plan.slots place slots behind behind_other turns (code_after twins.code k twins.start) (code_after twins.other k twins.start_of_other) (same k within)
+      twin_point twins.plan.slots place slots behind behind_other turns (code_after twins.code k twins.start) (code_after twins.other k twins.start_of_other) (same k within)
       is long (stay k)
 
-  time_retold : (kept : KeptTime) → kept.made < n → (length kept.slots ≡ twins.plan.slots) × (length kept.slots_after ≡ twins.plan.slots)
+  twin_time : (kept : KeptTime) → kept.made < n → (length kept.slots ≡ twins.plan.slots) × (length kept.slots_after ≡ twins.plan.slots)
       → IsTime twins.code i twins.start (time_of i behind kept) → IsTime twins.other i twins.start_of_other (time_of i behind_other kept)
-  time_retold kept below long is =
+  twin_time kept below long is =
       let before = there kept.made i kept.slots kept.turns (omega (arith, below)) long.0 is.reaches in
       let after = there (kept.made + 1) kept.place kept.slots_after kept.turns_after (omega (arith, below)) long.1
       (after_last twins.code kept.made twins.start ∙ ap (one twins.code) is.reaches ∙ is.leads) in
@@ -127,21 +127,21 @@ module _ (twins : Twins) (behind behind_other : List ℤ) (i n : ℕ) (are : Are
         leads = ap (one twins.other) (sym before) ∙ sym (after_last twins.other kept.made twins.start_of_other) ∙ after;
       }
 
-  times_retold : (m : ℕ) (kept : List KeptTime) (more : Bool) → HaveSlots twins.plan.slots kept
+  twin_times : (m : ℕ) (kept : List KeptTime) (more : Bool) → HaveSlots twins.plan.slots kept
       → AreTimes twins.code i twins.start m n (map (time_of i behind) kept) more
       → AreTimes twins.other i twins.start_of_other m n (map (time_of i behind_other) kept) more
-  times_retold m [] false long are = λ k from below at. are k from below (sym (same k (omega (arith, below))).place ∙ at)
-  times_retold m [] true long once =
+  twin_times m [] false long are = λ k from below at. are k from below (sym (same k (omega (arith, below))).place ∙ at)
+  twin_times m [] true long once =
       let below = once.below in
       record { made = once.made; from = once.from; below = below; is = (same once.made (omega (arith, below))).place ∙ once.is }
-  times_retold m (u ∷ kept) more long are = (
+  twin_times m (u ∷ kept) more long are = (
     are.0,
     are.1,
     λ k from below at. let late = are.1 in are.2 k from below (sym (same k (omega (arith, below, late))).place ∙ at),
-    time_retold u are.1 (long 0 u refl) are.3,
-    times_retold (u.made + 1) kept more (λ j one at. long (suc j) one at) are.4,
+    twin_time u are.1 (long 0 u refl) are.3,
+    twin_times (u.made + 1) kept more (λ j one at. long (suc j) one at) are.4,
   )
 
 pub times_of_twins : TimesOfTwins
 times_of_twins twins behind behind_other i n kept more are same rest long times =
-    times_retold twins behind behind_other i n are same rest 0 kept more long times
+    twin_times twins behind behind_other i n are same rest 0 kept more long times

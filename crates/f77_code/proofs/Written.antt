@@ -10,13 +10,13 @@ use Rattle.f77_actions.specs.declared.value.Value.TheVariants as held
 use Rattle.f77_code.specs.Evaluation.{held_in}
 use Rattle.f77_code.specs.Holds.{Plan, HoldsRegisters, IsSlot, read_as}
 use Rattle.f77_code.specs.Moves.{Cells}
-use Rattle.f77_code.specs.Registers.{register, told_by_register, is_held, are_held}
+use Rattle.f77_code.specs.Registers.{register, decoded, is_held, are_held}
 use Rattle.f77_actions.specs.Number.{fits}
-use Rattle.f77_actions.specs.Told.{IsValueOrFault, truth_number}
+use Rattle.f77_actions.specs.Encoded.{IsValueOrFault, truth_number}
 use Rattle.f77_actions.proofs.Bounds.{fits_truth}
 use Rattle.f77_actions.proofs.Operations.{value_fits}
 
-register_same : (registers : List ℤ) (k : ℕ) (z : ℤ) → k < length registers → register (slice_set registers k z) k ≡ told_by_register z
+register_same : (registers : List ℤ) (k : ℕ) (z : ℤ) → k < length registers → register (slice_set registers k z) k ≡ decoded z
 register_same [] k z below = absurd (omega arith)
 register_same (x ∷ xs) zero z below = refl
 register_same (x ∷ xs) (suc k) z below = register_same xs k z (omega arith)
@@ -44,11 +44,11 @@ at_other (x ∷ xs) zero (suc j) v apart = refl
 at_other (x ∷ xs) (suc k) zero v apart = refl
 at_other (x ∷ xs) (suc k) (suc j) v apart = at_other xs k j v (λ e. apart (omega arith))
 
-pub told_fits : (z : ℤ) → fits z ≡ true → told_by_register z ≡ Ok z
-told_fits (negsuc n) e = refl
-told_fits (pos n) e = by (n == 1099511627776) refl
+pub decoded_fits : (z : ℤ) → fits z ≡ true → decoded z ≡ Ok z
+decoded_fits (negsuc n) e = refl
+decoded_fits (pos n) e = by (n == 1099511627776) refl
   where
-    by : (b : Bool) → (n == 1099511627776) ≡ b → told_by_register (pos n) ≡ Ok (pos n)
+    by : (b : Bool) → (n == 1099511627776) ≡ b → decoded (pos n) ≡ Ok (pos n)
     by true t = let same = eqb-true n 1099511627776 t in let below = ltb-true n 2147483648 e in absurd (omega arith)
     by false t = rw t refl
 
@@ -86,7 +86,7 @@ value_written plan registers cells holds k z v is e read = record {
     among = let count = holds.count in omega arith
 
     here : register (slice_set registers k z) k ≡ read_as (plan.kind k) (held_in (slice_set cells k (Some v)) k)
-    here = register_same registers k z within ∙ told_fits z e ∙ sym (ap (read_as (plan.kind k)) (at_same cells k (Some v) among) ∙ read)
+    here = register_same registers k z within ∙ decoded_fits z e ∙ sym (ap (read_as (plan.kind k)) (at_same cells k (Some v) among) ∙ read)
 
     slots : (j : ℕ) → j < plan.slots → (j ≡ k) ⊎ (j ≢ k) → register (slice_set registers k z) j ≡ read_as (plan.kind j) (held_in (slice_set cells k (Some v)) j)
     slots j below (inl same) =

@@ -12,7 +12,7 @@ use Rattle.f77_code.specs.declared.control.Turn.{Turn}
 use Rattle.f77_code.specs.Evaluation.{held_in}
 use Rattle.f77_code.specs.Moves.{Cells, TurnList, turn_at, is_loop}
 use Rattle.f77_code.specs.Registers.{register, are_held}
-use Rattle.f77_actions.specs.Told.{of_truth}
+use Rattle.f77_actions.specs.Encoded.{of_truth}
 use Rattle.f77_actions.specs.Value.{whole, logic}
 
 -- a plan of registers: the number of slots, their kinds, and the constants in the registers behind

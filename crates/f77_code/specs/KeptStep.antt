@@ -2,7 +2,7 @@
 use Rattle.std.specs.Prelude.{◌≡◌, ◌++◌, ℕ, Bool, List, [], ◌∷◌, drop, length, ℤ}
 use Rattle.f77_code.specs.declared.kept_step.KeptStep.{KeptStep}
 use Rattle.f77_code.specs.Frame.{AllWriteBelow}
-use Rattle.f77_code.specs.Together.{AreTimes, KeptTime, MayPart, TwoRuns, time_of}
+use Rattle.f77_code.specs.Together.{AreTimes, KeptTime, MayDiverge, TwoRuns, time_of}
 
 -- the time of which a step is kept
 abbrev pub kept_time : KeptStep → KeptTime
@@ -16,17 +16,17 @@ kept_time kept = record {
 }
 
 -- two runs, and the registers behind those of slots in the run of the program
-pub record PartedRuns : Type 0 where
+pub record DivergingRuns : Type 0 where
   pub runs : TwoRuns
   pub behind : List ℤ
 
 -- what is kept of the first time at which control was at the changed instruction is true of the
 -- run, `more` says whether control was there again, and the registers behind the slots are those of
 -- the program with more behind them
-pub record IsKept (parted : PartedRuns) (kept : KeptStep) (more : Bool) (steps : ℕ)
+pub record IsKept (diverging : DivergingRuns) (kept : KeptStep) (more : Bool) (steps : ℕ)
     (registers : List ℤ) : Type 0 where
-  pub may : MayPart parted.runs
-  pub times : AreTimes parted.runs.code parted.runs.i parted.runs.start 0 steps
-      (time_of parted.runs.i parted.behind (kept_time kept) ∷ []) more
-  pub behind : drop (length kept.slots.items) registers ≡ parted.behind ++ parted.runs.extra
-  pub writes : AllWriteBelow (length kept.slots.items) parted.runs.other
+  pub may : MayDiverge diverging.runs
+  pub times : AreTimes diverging.runs.code diverging.runs.i diverging.runs.start 0 steps
+      (time_of diverging.runs.i diverging.behind (kept_time kept) ∷ []) more
+  pub behind : drop (length kept.slots.items) registers ≡ diverging.behind ++ diverging.runs.extra
+  pub writes : AllWriteBelow (length kept.slots.items) diverging.runs.other

@@ -4,7 +4,6 @@ pub mod Compiled
 pub mod Compiling
 pub mod Constants
 pub mod Evaluation
-pub mod Exchange
 pub mod Follow
 pub mod Frame
 pub mod Holds
@@ -15,6 +14,7 @@ pub mod Operation
 pub mod Places
 pub mod Program
 pub mod Registers
+pub mod Replacing
 pub mod Sequences
 pub mod Simulation
 pub mod Standing

@@ -17,7 +17,7 @@ use Rattle.f77_code.specs.Evaluation.{calculated}
 use Rattle.f77_code.specs.Registers.{register, vector_place, matrix_place, element_at}
 use Rattle.f77_code.specs.Term.{related_number, term_value, term_within}
 use Rattle.f77_actions.specs.Number.{in_range, is_same, trip_count}
-use Rattle.f77_actions.specs.Told.{fault_number}
+use Rattle.f77_actions.specs.Encoded.{fault_number}
 use Rattle.f77_actions.specs.Value.{given, both}
 
 -- the state of a run of code: where control is or how the run ended, the registers, and the
@@ -44,17 +44,17 @@ used_in_code (Err fault) registers turns f = point (ended_point (Failed fault)) 
 
 -- a register is given a result, unless that is a fault
 abbrev pub put_in_register : ℕ → Result ℤ Fault → ℕ → List ℤ → List Turn → Point
-put_in_register to told next registers turns =
-    used_in_code told registers turns (λ z. point next (slice_set registers to z) turns)
+put_in_register to value next registers turns =
+    used_in_code value registers turns (λ z. point next (slice_set registers to z) turns)
 
 -- the element at a place of an array is given a result, unless one of them is a fault
 abbrev pub put_at : ℕ → Result ℕ Fault → Result ℤ Fault → ℕ → List ℤ → List Turn → Point
-put_at first place told next registers turns =
-    used_in_code place registers turns (λ k. put_in_register (first + k) told next registers turns)
+put_at first place value next registers turns =
+    used_in_code place registers turns (λ k. put_in_register (first + k) value next registers turns)
 
 -- a truth value decides where control goes
 abbrev pub branch : Result ℤ Fault → ℕ → ℕ → List ℤ → List Turn → Point
-branch told there next registers turns = used_in_code told registers turns
+branch truth there next registers turns = used_in_code truth registers turns
     (λ z. point (if is_same z (pos 0) then next else there) registers turns)
 
 -- a DO has so many passes left

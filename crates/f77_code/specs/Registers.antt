@@ -9,9 +9,9 @@ use Rattle.f77_actions.specs.Number.{fits}
 use Rattle.f77_actions.specs.Value.{given, both, element}
 
 -- what a number in a register stands for: a value, or that there is none
-abbrev pub told_by_register : ℤ → Result ℤ Fault
-told_by_register (pos n) = if n == 1099511627776 then Err Undefined else Ok (pos n)
-told_by_register (negsuc n) = Ok (negsuc n)
+abbrev pub decoded : ℤ → Result ℤ Fault
+decoded (pos n) = if n == 1099511627776 then Err Undefined else Ok (pos n)
+decoded (negsuc n) = Ok (negsuc n)
 
 -- the number stands for a value, or for none
 abbrev pub is_held : ℤ → Bool
@@ -22,13 +22,13 @@ is_held (negsuc n) = fits (negsuc n)
 abbrev pub are_held : List ℤ → Bool
 are_held registers = list_all is_held registers
 
-abbrev pub told_at : Option ℤ → Result ℤ Fault
-told_at (Some z) = told_by_register z
-told_at None = Err Undefined
+abbrev pub decoded_at : Option ℤ → Result ℤ Fault
+decoded_at (Some z) = decoded z
+decoded_at None = Err Undefined
 
 -- what register r stands for
 abbrev pub register : List ℤ → ℕ → Result ℤ Fault
-register registers r = told_at (slice_get registers r)
+register registers r = decoded_at (slice_get registers r)
 
 -- the place of an element in its array, from 0, by the results of its subscripts
 abbrev pub vector_place : ℕ → Result ℤ Fault → Result ℕ Fault

@@ -28,8 +28,8 @@ AreStatesNested statements n s =
     (k : ℕ) (t : State) → k < n → moved_by statements k s ≡ Some (Goes t) → IsNested statements t
 
 -- n instructions lead to where n steps of the machine lead, or to the same end
-abbrev pub BlocksAlike : Type 0
-BlocksAlike = (plan : Plan) (statements : List Resolved) (code : List Instruction) (p : Point)
+abbrev pub BlocksSimulated : Type 0
+BlocksSimulated = (plan : Plan) (statements : List Resolved) (code : List Instruction) (p : Point)
     (s : State) (n : ℕ) (move : Move)
     → AreCode plan statements code → IsAt plan statements p s
     → AreStatesNested statements n s → moved_by statements n s ≡ Some move

@@ -56,8 +56,8 @@ IsNested statements s = at s.place
         (r : Resolved) → slice_get statements d ≡ Some r → MayLeave statements d r.action s.turns
 
 -- where the machine makes a step, the code makes the same one
-abbrev pub MovesAlike : Type 0
-MovesAlike = (plan : Plan) (statements : List Resolved) (code : List Instruction) (p : Point)
+abbrev pub MovesSimulated : Type 0
+MovesSimulated = (plan : Plan) (statements : List Resolved) (code : List Instruction) (p : Point)
     (s : State) (move : Move)
     → AreCode plan statements code
     → IsNested statements s → IsAt plan statements p s → moved statements s ≡ Some move

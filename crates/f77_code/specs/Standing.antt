@@ -14,7 +14,7 @@ use Rattle.f77_code.specs.declared.term.Term.{Compared, TooLarge, Vector', Matri
 use Rattle.f77_code.specs.declared.term.Term.{Add', Subtract', Multiply', Calculated'}
 use Rattle.f77_code.specs.declared.term.Term.{Negated', Absolute', ZeroPush', Related', Connected', Not'}
 use Rattle.f77_code.specs.Holds.{Plan, IsSlot, AreSlots, IsConstant}
-use Rattle.f77_actions.specs.Told.{truth_number}
+use Rattle.f77_actions.specs.Encoded.{truth_number}
 
 abbrev mutual
   -- the term stands for a variable or an array element of this kind

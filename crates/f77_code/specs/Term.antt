@@ -13,7 +13,7 @@ use Rattle.f77_code.specs.declared.term.Term.{Negated', Absolute', ZeroPush', Re
 use Rattle.f77_code.specs.Evaluation.{calculated, compared}
 use Rattle.f77_code.specs.Registers.{register, vector_place, matrix_place, element_at}
 use Rattle.f77_actions.specs.Number.{in_range, negated, without_sign}
-use Rattle.f77_actions.specs.Told.{truth_number, conjunction, disjunction, equivalence, exclusion, negation}
+use Rattle.f77_actions.specs.Encoded.{truth_number, conjunction, disjunction, equivalence, exclusion, negation}
 use Rattle.f77_actions.specs.Value.{given, both, pushed}
 
 -- the result of a relation of numbers, as a number

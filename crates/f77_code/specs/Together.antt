@@ -14,14 +14,14 @@ AgreeButAt i code other = (j : ℕ) → j ≢ i → slice_get other j ≡ slice_
 
 -- the other code makes the same step each time that control is at the instruction i within n steps
 -- of the run from p
-abbrev pub StepAlike : List Instruction → List Instruction → ℕ → ℕ → Point → Type 0
-StepAlike code other i n p = (k : ℕ) → k < n → (code_after code k p).place ≡ i
+abbrev pub SameStep : List Instruction → List Instruction → ℕ → ℕ → Point → Type 0
+SameStep code other i n p = (k : ℕ) → k < n → (code_after code k p).place ≡ i
     → one other (code_after code k p) ≡ one code (code_after code k p)
 
 -- codes that differ in one instruction come to the same while they make the same steps there
 abbrev pub Alongside : Type 0
 Alongside = (code other : List Instruction) (i n m : ℕ) (p : Point)
-    → AgreeButAt i code other → StepAlike code other i n p → m ≤ n
+    → AgreeButAt i code other → SameStep code other i n p → m ≤ n
     → code_after other m p ≡ code_after code m p
 
 -- a time at which control was at an instruction: the number of steps before it, the point there,
@@ -76,24 +76,24 @@ pub record TwoRuns : Type 0 where
 
 -- the two codes have the same instructions, apart from one, and the run has the registers that the
 -- first one names
-pub record MayPart (runs : TwoRuns) : Type 0 where
+pub record MayDiverge (runs : TwoRuns) : Type 0 where
   pub within : code_within (length runs.start.registers) runs.loops runs.code ≡ true
   pub agree : AgreeButAt runs.i runs.code runs.other
 
 -- if the other code makes the steps of all times at which control is at the changed instruction,
 -- its run comes to what the run comes to
-abbrev pub NeverPart : Type 0
-NeverPart = (runs : TwoRuns) (n m : ℕ) (times : List Time)
-    → MayPart runs → AreTimes runs.code runs.i runs.start 0 n times false
+abbrev pub NeverDiverge : Type 0
+NeverDiverge = (runs : TwoRuns) (n m : ℕ) (times : List Time)
+    → MayDiverge runs → AreTimes runs.code runs.i runs.start 0 n times false
     → MakesSteps runs.other runs.extra times (length times) → m ≤ n
     → code_after runs.other m (with_more runs.start runs.extra)
     ≡ with_more (code_after runs.code m runs.start) runs.extra
 
 -- if the other code makes the steps of the first k times, its run from the next time on comes to
 -- what its run from the start comes to
-abbrev pub PartAt : Type 0
-PartAt = (runs : TwoRuns) (n k m : ℕ) (times : List Time) (more : Bool) (time : Time)
-    → MayPart runs → AreTimes runs.code runs.i runs.start 0 n times more
+abbrev pub DivergeAt : Type 0
+DivergeAt = (runs : TwoRuns) (n k m : ℕ) (times : List Time) (more : Bool) (time : Time)
+    → MayDiverge runs → AreTimes runs.code runs.i runs.start 0 n times more
     → slice_get times k ≡ Some time → MakesSteps runs.other runs.extra times k
     → code_after runs.other (time.made + 1 + m) (with_more runs.start runs.extra)
     ≡ code_after runs.other m (one runs.other (with_more time.before runs.extra))

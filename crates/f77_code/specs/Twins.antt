@@ -39,8 +39,8 @@ pub record AreTwins (twins : Twins) : Type 0 where
   pub turns : twins.start_of_other.turns ≡ twins.start.turns
 
 -- after n steps of both, slots and counters are the same
-abbrev pub TwinsAlike : Type 0
-TwinsAlike = (twins : Twins) (n : ℕ) (move : Move) → AreTwins twins
+abbrev pub TwinsEqual : Type 0
+TwinsEqual = (twins : Twins) (n : ℕ) (move : Move) → AreTwins twins
     → AreStatesNested twins.statements n twins.state
     → moved_by twins.statements n twins.state ≡ Some move
     → SameSlots twins.plan.slots (code_after twins.code n twins.start)

@@ -8,13 +8,13 @@ ghost use Rattle.f77_code.specs.Operation as meaning;
 ghost use Rattle.f77_code.specs.Operation.{point, ran};
 ghost use Rattle.f77_code.specs.Registers.{are_held, vector_place, matrix_place};
 ghost use Rattle.f77_code.specs.Term.{term_value, term_within};
-ghost use Rattle.f77_actions.specs.Told.{TellsResult, IsValueOrFault};
+ghost use Rattle.f77_actions.specs.Encoded.{Encodes, IsValueOrFault};
 
 use crate::ending::{failed, off_matrix, off_vector};
 use crate::evaluate::{difference_at, element_of, operand, product_at, sum_at};
 use crate::registers::{matrix_offset, offset, read};
 use crate::term::{Pair, Term};
-use f77_actions::told::UNDEFINED;
+use f77_actions::encoded::UNDEFINED;
 
 #[inline(always)]
 pub(crate) fn write(registers: &mut [i64], to: usize, x: i64)
@@ -31,7 +31,7 @@ fn put(to: usize, x: i64, next: u32, registers: &mut [i64]) -> usize
     requires to { to < length registers.old }
     requires x { IsValueOrFault x }
     requires held { are_held registers.old ≡ true }
-    ensures runs { (r : Result ℤ Fault) (turns : List Turn) → TellsResult x r
+    ensures runs { (r : Result ℤ Fault) (turns : List Turn) → Encodes x r
         → point result registers.new turns ≡ meaning.put_in_register to r next registers.old turns }
     ensures held { are_held registers.new ≡ true }
 {

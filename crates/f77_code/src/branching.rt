@@ -9,7 +9,7 @@ ghost use Rattle.f77_code.specs.Operation as meaning;
 ghost use Rattle.f77_code.specs.Operation.{point, ran, used_in_code};
 ghost use Rattle.f77_code.specs.Registers.{are_held};
 ghost use Rattle.f77_code.specs.Term.{related_number, term_value, term_within};
-ghost use Rattle.f77_actions.specs.Told.{TellsResult, IsValueOrFault};
+ghost use Rattle.f77_actions.specs.Encoded.{Encodes, IsValueOrFault};
 ghost use Rattle.f77_actions.specs.Value.{both};
 
 use crate::ending::failed;
@@ -17,14 +17,14 @@ use crate::evaluate::{compared_at, operand};
 use crate::operators::compared;
 use crate::term::{Pair, Term};
 use f77_actions::Relation;
-use f77_actions::told::UNDEFINED;
+use f77_actions::encoded::UNDEFINED;
 
 /// The place to which a truth value leads: `there` for true, `next` for false.
 #[inline(always)]
 #[tactic(auto, using(crate::proofs::Points::least_from))]
 fn branch(x: i64, there: u32, next: u32) -> usize
     requires { IsValueOrFault x }
-    ensures { (r : Result ℤ Fault) (registers : List ℤ) (turns : List Turn) → TellsResult x r
+    ensures { (r : Result ℤ Fault) (registers : List ℤ) (turns : List Turn) → Encodes x r
         → point result registers turns ≡ meaning.branch r there next registers turns }
 {
     if UNDEFINED <= x {

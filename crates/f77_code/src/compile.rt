@@ -5,7 +5,7 @@ ghost use Rattle.f77_code.specs.code.Compile.{IsReadTerm, IsNumberTerm, IsTestTe
 ghost use Rattle.f77_code.specs.code.Compile.{IsVectorOf, IsMatrixOf, IsCalculationOf, IsRelationOf};
 ghost use Rattle.f77_code.specs.code.Constants.{GrowsPlan};
 ghost use Rattle.f77_code.specs.Evaluation.{element_within, number_within, condition_within};
-ghost use Rattle.f77_actions.specs.Told as meaning;
+ghost use Rattle.f77_actions.specs.Encoded as meaning;
 
 use crate::constants::Constants;
 use crate::fault::CodeFault;

@@ -6,9 +6,9 @@ ghost use Rattle.f77_actions.specs.declared.finish.Finish.{Finish};
 ghost use Rattle.f77_actions.specs.declared.finish.Finish.TheVariants.{Failed, StepLimit};
 ghost use Rattle.f77_code.specs.Operation as meaning;
 ghost use Rattle.f77_code.specs.Registers.{vector_place, matrix_place};
-ghost use Rattle.f77_actions.specs.Told.{TellsResult, IsValueOrFault, fault_number};
+ghost use Rattle.f77_actions.specs.Encoded.{Encodes, IsValueOrFault, fault_number};
 
-use f77_actions::told::{BAD_SUBSCRIPT, UNDEFINED};
+use f77_actions::encoded::{BAD_SUBSCRIPT, UNDEFINED};
 use f77_actions::{Fault, Finish};
 
 /// From this place on, a place says how the run ended. The first seven are for faults.
@@ -24,9 +24,9 @@ pub const TRAPPED: usize = 4_294_967_300;
 #[cold]
 #[inline(never)]
 pub(crate) fn failed(x: i64) -> usize
-    requires told { IsValueOrFault x }
+    requires valid { IsValueOrFault x }
     requires fault { pos 1099511627776 ≤ℤ x }
-    ensures { (fault : Fault) → TellsResult x (Err fault) → result ≡ meaning.ended_point (Failed fault) }
+    ensures { (fault : Fault) → Encodes x (Err fault) → result ≡ meaning.ended_point (Failed fault) }
 {
     ENDS + (x - UNDEFINED) as usize
 }
@@ -34,11 +34,11 @@ pub(crate) fn failed(x: i64) -> usize
 /// The place of an end by a subscript that names no element: by the fault of the subscript, or else by BadSubscript.
 #[cold]
 #[inline(never)]
-#[tactic(auto, using(crate::proofs::Points::bad_told, crate::proofs::Points::least_from))]
+#[tactic(auto, using(crate::proofs::Points::bad_code_valid, crate::proofs::Points::least_from))]
 pub(crate) fn off_vector(subscript: i64) -> usize
     requires { IsValueOrFault subscript }
     ensures { (bound : ℕ) (r : Result ℤ Fault) (fault : Fault)
-        → TellsResult subscript r → vector_place bound r ≡ Err fault
+        → Encodes subscript r → vector_place bound r ≡ Err fault
         → result ≡ meaning.ended_point (Failed fault) }
 {
     if UNDEFINED <= subscript {
@@ -54,7 +54,7 @@ pub(crate) fn off_vector(subscript: i64) -> usize
 pub(crate) fn off_matrix(row: i64, column: i64) -> usize
     requires row { IsValueOrFault row }
     requires column { IsValueOrFault column }
-    ensures { (rows columns : ℕ) (r q : Result ℤ Fault) (fault : Fault) → TellsResult row r → TellsResult column q
+    ensures { (rows columns : ℕ) (r q : Result ℤ Fault) (fault : Fault) → Encodes row r → Encodes column q
         → matrix_place rows columns r q ≡ Err fault → result ≡ meaning.ended_point (Failed fault) }
 {
     if UNDEFINED <= row {

@@ -7,13 +7,13 @@ ghost use Rattle.f77_code.specs.Registers.{are_held, register, vector_place, mat
 ghost use Rattle.f77_code.specs.Term as terms;
 ghost use Rattle.f77_code.specs.Term.{term_value, term_within};
 ghost use Rattle.f77_actions.specs.Number.{fits, in_range, negated, without_sign};
-ghost use Rattle.f77_actions.specs.Told.{TellsResult, negation};
+ghost use Rattle.f77_actions.specs.Encoded.{Encodes, negation};
 ghost use Rattle.f77_actions.specs.Value.{given, both, pushed};
 
 use crate::operators::{calculated, compared, connected};
 use crate::registers::{element, matrix_element, read};
 use crate::term::{Pair, Term};
-use f77_actions::told::{self, OVERFLOW, UNDEFINED};
+use f77_actions::encoded::{self, OVERFLOW, UNDEFINED};
 use f77_actions::{Arithmetic, Connective, Relation};
 
 #[inline(always)]
@@ -21,7 +21,7 @@ pub(crate) fn element_of(registers: &[i64], first: u32, bound: u32, subscript: u
     requires held { are_held registers.now ≡ true }
     requires array { first + bound ≤ length registers.now }
     requires subscript { subscript < length registers.now }
-    ensures { TellsResult result
+    ensures { Encodes result
         (element_at registers.now first (vector_place bound (register registers.now subscript))) }
 {
     element(registers, first, bound, read(registers, subscript))
@@ -33,7 +33,7 @@ fn matrix_at(registers: &[i64], first: u32, rows: u32, columns: u32, row: u32, c
     requires array { first + rows * columns ≤ length registers.now }
     requires row { row < length registers.now }
     requires column { column < length registers.now }
-    ensures { TellsResult result (element_at registers.now first
+    ensures { Encodes result (element_at registers.now first
         (matrix_place rows columns (register registers.now row) (register registers.now column))) }
 {
     let row = read(registers, row);
@@ -46,10 +46,10 @@ pub(crate) fn sum_at(registers: &[i64], left: u32, right: u32) -> i64
     requires held { are_held registers.now ≡ true }
     requires left { left < length registers.now }
     requires right { right < length registers.now }
-    ensures { TellsResult result
+    ensures { Encodes result
         (both (meaning.calculated arithmetic.Add) (register registers.now left) (register registers.now right)) }
 {
-    told::sum(read(registers, left), read(registers, right))
+    encoded::sum(read(registers, left), read(registers, right))
 }
 
 #[inline(always)]
@@ -57,10 +57,10 @@ pub(crate) fn difference_at(registers: &[i64], left: u32, right: u32) -> i64
     requires held { are_held registers.now ≡ true }
     requires left { left < length registers.now }
     requires right { right < length registers.now }
-    ensures { TellsResult result
+    ensures { Encodes result
         (both (meaning.calculated arithmetic.Subtract) (register registers.now left) (register registers.now right)) }
 {
-    told::difference(read(registers, left), read(registers, right))
+    encoded::difference(read(registers, left), read(registers, right))
 }
 
 #[inline(always)]
@@ -68,10 +68,10 @@ pub(crate) fn product_at(registers: &[i64], left: u32, right: u32) -> i64
     requires held { are_held registers.now ≡ true }
     requires left { left < length registers.now }
     requires right { right < length registers.now }
-    ensures { TellsResult result
+    ensures { Encodes result
         (both (meaning.calculated arithmetic.Multiply) (register registers.now left) (register registers.now right)) }
 {
-    told::product(read(registers, left), read(registers, right))
+    encoded::product(read(registers, left), read(registers, right))
 }
 
 #[inline(always)]
@@ -79,7 +79,7 @@ pub(crate) fn compared_at(registers: &[i64], relation: Relation, left: u32, righ
     requires held { are_held registers.now ≡ true }
     requires left { left < length registers.now }
     requires right { right < length registers.now }
-    ensures { TellsResult result
+    ensures { Encodes result
         (both (terms.related_number relation) (register registers.now left) (register registers.now right)) }
 {
     compared(relation, read(registers, left), read(registers, right))
@@ -88,11 +88,11 @@ pub(crate) fn compared_at(registers: &[i64], relation: Relation, left: u32, righ
 /// The value of a term. A node with terms below it has a function of its own.
 #[cycle(values)]
 #[inline(never)]
-#[tactic(auto, using(crate::proofs::Reading::overflow_told))]
+#[tactic(auto, using(crate::proofs::Reading::overflow_encodes))]
 pub(crate) fn evaluated(term: &Term, registers: &[i64]) -> i64
     requires held { are_held registers.now ≡ true }
     requires within { term_within (length registers.now) term.now ≡ true }
-    ensures { TellsResult result (term_value registers.now term.now) }
+    ensures { Encodes result (term_value registers.now term.now) }
 {
     match term {
         Term::Register(r) => read(registers, *r),
@@ -147,7 +147,7 @@ pub(crate) fn evaluated(term: &Term, registers: &[i64]) -> i64
 pub(crate) fn operand(term: &Term, registers: &[i64]) -> i64
     requires held { are_held registers.now ≡ true }
     requires within { term_within (length registers.now) term.now ≡ true }
-    ensures { TellsResult result (term_value registers.now term.now) }
+    ensures { Encodes result (term_value registers.now term.now) }
 {
     match term {
         Term::Register(r) => read(registers, *r),
@@ -165,7 +165,7 @@ pub(crate) fn operand(term: &Term, registers: &[i64]) -> i64
 pub(crate) fn condition(term: &Term, registers: &[i64]) -> i64
     requires held { are_held registers.now ≡ true }
     requires within { term_within (length registers.now) term.now ≡ true }
-    ensures { TellsResult result (term_value registers.now term.now) }
+    ensures { Encodes result (term_value registers.now term.now) }
 {
     match term {
         Term::Compared {
@@ -183,7 +183,7 @@ fn vector_of(registers: &[i64], first: u32, bound: u32, subscript: &Term) -> i64
     requires held { are_held registers.now ≡ true }
     requires array { first + bound ≤ length registers.now }
     requires within { term_within (length registers.now) subscript.now ≡ true }
-    ensures { TellsResult result
+    ensures { Encodes result
         (element_at registers.now first (vector_place bound (term_value registers.now subscript.now))) }
 {
     element(registers, first, bound, operand(subscript, registers))
@@ -196,7 +196,7 @@ fn matrix_of(registers: &[i64], first: u32, rows: u32, columns: u32, pair: &Pair
     requires array { first + rows * columns ≤ length registers.now }
     requires row { term_within (length registers.now) pair.now.left ≡ true }
     requires column { term_within (length registers.now) pair.now.right ≡ true }
-    ensures { TellsResult result
+    ensures { Encodes result
         (element_at registers.now first (matrix_place rows columns (term_value registers.now pair.now.left)
         (term_value registers.now pair.now.right))) }
 {
@@ -211,12 +211,12 @@ fn sum_of(pair: &Pair, registers: &[i64]) -> i64
     requires held { are_held registers.now ≡ true }
     requires left { term_within (length registers.now) pair.now.left ≡ true }
     requires right { term_within (length registers.now) pair.now.right ≡ true }
-    ensures { TellsResult result (both (meaning.calculated arithmetic.Add)
+    ensures { Encodes result (both (meaning.calculated arithmetic.Add)
         (term_value registers.now pair.now.left) (term_value registers.now pair.now.right)) }
 {
     let left = operand(&pair.left, registers);
     let right = operand(&pair.right, registers);
-    told::sum(left, right)
+    encoded::sum(left, right)
 }
 
 #[cycle(values)]
@@ -225,12 +225,12 @@ fn difference_of(pair: &Pair, registers: &[i64]) -> i64
     requires held { are_held registers.now ≡ true }
     requires left { term_within (length registers.now) pair.now.left ≡ true }
     requires right { term_within (length registers.now) pair.now.right ≡ true }
-    ensures { TellsResult result (both (meaning.calculated arithmetic.Subtract)
+    ensures { Encodes result (both (meaning.calculated arithmetic.Subtract)
         (term_value registers.now pair.now.left) (term_value registers.now pair.now.right)) }
 {
     let left = operand(&pair.left, registers);
     let right = operand(&pair.right, registers);
-    told::difference(left, right)
+    encoded::difference(left, right)
 }
 
 #[cycle(values)]
@@ -239,12 +239,12 @@ fn product_of(pair: &Pair, registers: &[i64]) -> i64
     requires held { are_held registers.now ≡ true }
     requires left { term_within (length registers.now) pair.now.left ≡ true }
     requires right { term_within (length registers.now) pair.now.right ≡ true }
-    ensures { TellsResult result (both (meaning.calculated arithmetic.Multiply)
+    ensures { Encodes result (both (meaning.calculated arithmetic.Multiply)
         (term_value registers.now pair.now.left) (term_value registers.now pair.now.right)) }
 {
     let left = operand(&pair.left, registers);
     let right = operand(&pair.right, registers);
-    told::product(left, right)
+    encoded::product(left, right)
 }
 
 #[cycle(values)]
@@ -253,7 +253,7 @@ fn calculated_of(operation: Arithmetic, pair: &Pair, registers: &[i64]) -> i64
     requires held { are_held registers.now ≡ true }
     requires left { term_within (length registers.now) pair.now.left ≡ true }
     requires right { term_within (length registers.now) pair.now.right ≡ true }
-    ensures { TellsResult result (both (meaning.calculated operation) (term_value registers.now pair.now.left)
+    ensures { Encodes result (both (meaning.calculated operation) (term_value registers.now pair.now.left)
         (term_value registers.now pair.now.right)) }
 {
     let left = operand(&pair.left, registers);
@@ -267,7 +267,7 @@ fn related_of(relation: Relation, pair: &Pair, registers: &[i64]) -> i64
     requires held { are_held registers.now ≡ true }
     requires left { term_within (length registers.now) pair.now.left ≡ true }
     requires right { term_within (length registers.now) pair.now.right ≡ true }
-    ensures { TellsResult result (both (terms.related_number relation) (term_value registers.now pair.now.left)
+    ensures { Encodes result (both (terms.related_number relation) (term_value registers.now pair.now.left)
         (term_value registers.now pair.now.right)) }
 {
     let left = operand(&pair.left, registers);
@@ -281,7 +281,7 @@ fn connected_of(connective: Connective, pair: &Pair, registers: &[i64]) -> i64
     requires held { are_held registers.now ≡ true }
     requires left { term_within (length registers.now) pair.now.left ≡ true }
     requires right { term_within (length registers.now) pair.now.right ≡ true }
-    ensures { TellsResult result (both (terms.connected_number connective) (term_value registers.now pair.now.left)
+    ensures { Encodes result (both (terms.connected_number connective) (term_value registers.now pair.now.left)
         (term_value registers.now pair.now.right)) }
 {
     let left = operand(&pair.left, registers);
@@ -294,9 +294,9 @@ fn connected_of(connective: Connective, pair: &Pair, registers: &[i64]) -> i64
 fn negated_of(term: &Term, registers: &[i64]) -> i64
     requires held { are_held registers.now ≡ true }
     requires within { term_within (length registers.now) term.now ≡ true }
-    ensures { TellsResult result (given (term_value registers.now term.now) (λ z. in_range (negated z))) }
+    ensures { Encodes result (given (term_value registers.now term.now) (λ z. in_range (negated z))) }
 {
-    told::negated(operand(term, registers))
+    encoded::negated(operand(term, registers))
 }
 
 #[cycle(values)]
@@ -304,9 +304,9 @@ fn negated_of(term: &Term, registers: &[i64]) -> i64
 fn absolute_of(term: &Term, registers: &[i64]) -> i64
     requires held { are_held registers.now ≡ true }
     requires within { term_within (length registers.now) term.now ≡ true }
-    ensures { TellsResult result (given (term_value registers.now term.now) (λ z. in_range (without_sign z))) }
+    ensures { Encodes result (given (term_value registers.now term.now) (λ z. in_range (without_sign z))) }
 {
-    told::absolute(operand(term, registers))
+    encoded::absolute(operand(term, registers))
 }
 
 #[cycle(values)]
@@ -314,9 +314,9 @@ fn absolute_of(term: &Term, registers: &[i64]) -> i64
 fn pushed_of(term: &Term, registers: &[i64]) -> i64
     requires held { are_held registers.now ≡ true }
     requires within { term_within (length registers.now) term.now ≡ true }
-    ensures { TellsResult result (given (term_value registers.now term.now) pushed) }
+    ensures { Encodes result (given (term_value registers.now term.now) pushed) }
 {
-    told::pushed(operand(term, registers))
+    encoded::pushed(operand(term, registers))
 }
 
 #[cycle(values)]
@@ -324,7 +324,7 @@ fn pushed_of(term: &Term, registers: &[i64]) -> i64
 fn not_of(term: &Term, registers: &[i64]) -> i64
     requires held { are_held registers.now ≡ true }
     requires within { term_within (length registers.now) term.now ≡ true }
-    ensures { TellsResult result (given (term_value registers.now term.now) (λ z. Ok (negation z))) }
+    ensures { Encodes result (given (term_value registers.now term.now) (λ z. Ok (negation z))) }
 {
-    told::negation(operand(term, registers))
+    encoded::negation(operand(term, registers))
 }

@@ -1,9 +1,9 @@
-//! The start of a changed run: it begins where it may part from the run of the program.
+//! The start of a changed run: it begins where it may diverge from the run of the program.
 
 ghost use Rattle.std.specs.Prelude.{◌≡◌, ◌≤◌, ◌+◌, ◌++◌, ℕ, drop, length, take, true, IfNone, IfSome};
 ghost use Rattle.f77_code.specs.Block.{code_after, code_within};
 ghost use Rattle.f77_code.specs.Frame.{with_more};
-ghost use Rattle.f77_code.specs.KeptStep.{IsKept, PartedRuns};
+ghost use Rattle.f77_code.specs.KeptStep.{IsKept, DivergingRuns};
 ghost use Rattle.f77_code.specs.Operation.{point};
 ghost use Rattle.f77_code.specs.Registers.{are_held};
 
@@ -75,14 +75,17 @@ pub fn first_step(
     requires slots { length kept.now.slots.items ≤ length registers.old }
     requires after { length kept.now.slots_after.items ≡ length kept.now.slots.items }
     requires turns { length kept.now.turns.items ≡ length turns.old }
-    ensures same { IfNone result ((parted : PartedRuns) (steps : ℕ)
-        → code.now ≡ parted.runs.other → place ≡ parted.runs.i → IsKept parted kept.now more steps registers.old
-        → code_after code.now steps (with_more parted.runs.start parted.runs.extra)
-        ≡ with_more (code_after parted.runs.code steps parted.runs.start) parted.runs.extra) }
-    ensures other { IfSome result (λ next. (parted : PartedRuns) (steps : ℕ)
-        → code.now ≡ parted.runs.other → place ≡ parted.runs.i → IsKept parted kept.now more steps registers.old
+    ensures same { IfNone result ((diverging : DivergingRuns) (steps : ℕ)
+        → code.now ≡ diverging.runs.other → place ≡ diverging.runs.i
+        → IsKept diverging kept.now more steps registers.old
+        → code_after code.now steps (with_more diverging.runs.start diverging.runs.extra)
+        ≡ with_more (code_after diverging.runs.code steps diverging.runs.start)
+        diverging.runs.extra) }
+    ensures other { IfSome result (λ next. (diverging : DivergingRuns) (steps : ℕ)
+        → code.now ≡ diverging.runs.other → place ≡ diverging.runs.i
+        → IsKept diverging kept.now more steps registers.old
         → (m : ℕ) → code_after code.now m (point next registers.new turns.new)
-        ≡ code_after code.now (kept.now.made + 1 + m) (with_more parted.runs.start parted.runs.extra)) }
+        ≡ code_after code.now (kept.now.made + 1 + m) (with_more diverging.runs.start diverging.runs.extra)) }
     ensures held { are_held registers.new ≡ true }
 {
     kept.load(registers, turns);

@@ -1,16 +1,16 @@
 //! Laws of the code of every program.
 
 ghost use Rattle.f77_code.specs.Frame.{LeavesBehind, MoreRegisters, WritesSlots};
-ghost use Rattle.f77_code.specs.Sequences.{BlocksAlike, CodeComesBack};
-ghost use Rattle.f77_code.specs.Simulation.{MovesAlike};
-ghost use Rattle.f77_code.specs.Together.{Alongside, MakesStep, NeverPart, PartAt};
-ghost use Rattle.f77_code.specs.Twins.{TimesOfTwins, TwinsAlike};
+ghost use Rattle.f77_code.specs.Sequences.{BlocksSimulated, CodeComesBack};
+ghost use Rattle.f77_code.specs.Simulation.{MovesSimulated};
+ghost use Rattle.f77_code.specs.Together.{Alongside, MakesStep, NeverDiverge, DivergeAt};
+ghost use Rattle.f77_code.specs.Twins.{TimesOfTwins, TwinsEqual};
 
 /// A step of the code is a step of the machine over slots, and many steps of the code are as many of the machine.
-#[tactic(auto, using(crate::proofs::Simulation::moves_alike, crate::proofs::Sequences::blocks_alike))]
-pub fn moves_alike()
-    ensures moves { MovesAlike }
-    ensures blocks { BlocksAlike }
+#[tactic(auto, using(crate::proofs::Simulation::moves_simulated, crate::proofs::Sequences::blocks_simulated))]
+pub fn moves_simulated()
+    ensures moves { MovesSimulated }
+    ensures blocks { BlocksSimulated }
 {}
 
 /// Code that comes back to a state in which it was never ends.
@@ -26,17 +26,17 @@ pub fn more_registers()
     ensures slots { WritesSlots }
 {}
 
-/// Code with one instruction exchanged comes to what the code of the program comes to, as long as it makes the same
+/// Code with one instruction replaced comes to what the code of the program comes to, as long as it makes the same
 /// step there. Where it makes another step, its run may begin with that step.
 pub fn codes_go_together()
     ensures alongside { Alongside }
-    ensures never { NeverPart }
-    ensures at { PartAt }
+    ensures never { NeverDiverge }
+    ensures at { DivergeAt }
     ensures step { MakesStep }
 {}
 
 /// Two codes of one program do the same, even with constants in other registers.
 pub fn twins_do_the_same()
-    ensures alike { TwinsAlike }
+    ensures equal { TwinsEqual }
     ensures times { TimesOfTwins }
 {}

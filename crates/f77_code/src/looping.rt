@@ -9,7 +9,7 @@ ghost use Rattle.f77_code.specs.Operation.{point, ran};
 ghost use Rattle.f77_code.specs.Registers.{are_held, register};
 ghost use Rattle.f77_code.specs.Term.{term_value, term_within};
 ghost use Rattle.f77_actions.specs.Number as exact;
-ghost use Rattle.f77_actions.specs.Told.{TellsResult, IsValueOrFault, HasValue};
+ghost use Rattle.f77_actions.specs.Encoded.{Encodes, IsValueOrFault, HasValue};
 ghost use Rattle.f77_actions.specs.Value.{given};
 
 use crate::assignment::write;
@@ -18,8 +18,8 @@ use crate::ending::failed;
 use crate::evaluate::operand;
 use crate::instruction::Parameters;
 use crate::registers::read;
+use f77_actions::encoded::{UNDEFINED, ZERO_STEP, sum};
 use f77_actions::number::trip_count;
-use f77_actions::told::{UNDEFINED, ZERO_STEP, sum};
 
 /// Sets the counter of a DO, and goes to its body if it has a pass to make.
 #[inline(always)]
@@ -39,7 +39,7 @@ fn pass(counter: u32, body: u32, next: u32, passes: u64, step: i32, turns: &mut 
 /// A number that stands for a value, in 32 bits.
 #[inline(always)]
 fn value(x: i64) -> i32
-    requires told { IsValueOrFault x }
+    requires valid { IsValueOrFault x }
     requires value { HasValue x }
     ensures { result ≡ x }
 {
@@ -66,7 +66,7 @@ fn passes_within(first: i64, last: i64, step: i64) -> u64
 
 /// Begins a DO with these parameters, or ends the run by the first of them that stands for a fault.
 #[inline(always)]
-#[tactic(auto, using(crate::proofs::Points::zero_told, crate::proofs::Points::least_from))]
+#[tactic(auto, using(crate::proofs::Points::zero_code_valid, crate::proofs::Points::least_from))]
 fn begun(
     variable: u32,
     counter: u32,
@@ -84,7 +84,7 @@ fn begun(
     requires first { IsValueOrFault first }
     requires last { IsValueOrFault last }
     requires step { IsValueOrFault step }
-    ensures runs { (a b c : Result ℤ Fault) → TellsResult first a → TellsResult last b → TellsResult step c
+    ensures runs { (a b c : Result ℤ Fault) → Encodes first a → Encodes last b → Encodes step c
         → point result registers.new turns.new
         ≡ meaning.begun_with variable counter body next a b c registers.old turns.old }
     ensures held { are_held registers.new ≡ true }
@@ -180,11 +180,11 @@ fn one_less(passes: u64) -> u64
 
 /// The next value of a DO variable.
 #[inline(always)]
-#[tactic(auto, using(crate::proofs::Points::narrow_told))]
+#[tactic(auto, using(crate::proofs::Points::narrow_valid))]
 fn advanced(value: i64, step: i32) -> i64
     requires { IsValueOrFault value }
     ensures { (r : Result ℤ Fault)
-        → TellsResult value r → TellsResult result (given r (λ z. exact.in_range (z +ℤ step))) }
+        → Encodes value r → Encodes result (given r (λ z. exact.in_range (z +ℤ step))) }
 {
     sum(value, i64::from(step))
 }

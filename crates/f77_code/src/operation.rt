@@ -15,7 +15,7 @@ use crate::evaluate::condition;
 use crate::instruction::Operation;
 use crate::looping::{begin, count, increment};
 use crate::term::Term;
-use f77_actions::told::UNDEFINED;
+use f77_actions::encoded::UNDEFINED;
 
 /// Executes an operation from which control goes on to `next`, and gives the next place. It is inlined in the inner
 /// loop, which the compiler does up to a size, so some long operations have functions of their own.

@@ -4,27 +4,27 @@ ghost use Rattle.std.specs.Prelude.{◌≡◌, ℤ, Result, Ok};
 ghost use Rattle.f77_actions.specs.declared.finish.Fault.{Fault};
 ghost use Rattle.f77_code.specs.Evaluation as meaning;
 ghost use Rattle.f77_code.specs.Term as terms;
-ghost use Rattle.f77_actions.specs.Told.{TellsResult, IsValueOrFault};
+ghost use Rattle.f77_actions.specs.Encoded.{Encodes, IsValueOrFault};
 ghost use Rattle.f77_actions.specs.Value.{both};
 
-use f77_actions::{Arithmetic, Connective, Relation, told};
+use f77_actions::{Arithmetic, Connective, Relation, encoded};
 
 #[inline(always)]
 pub(crate) fn calculated(operation: Arithmetic, x: i64, y: i64) -> i64
     requires x { IsValueOrFault x }
     requires y { IsValueOrFault y }
     ensures { (r q : Result ℤ Fault)
-        → TellsResult x r → TellsResult y q → TellsResult result (both (meaning.calculated operation) r q) }
+        → Encodes x r → Encodes y q → Encodes result (both (meaning.calculated operation) r q) }
 {
     match operation {
-        Arithmetic::Add => told::sum(x, y),
-        Arithmetic::Subtract => told::difference(x, y),
-        Arithmetic::Multiply => told::product(x, y),
-        Arithmetic::Divide => told::quotient(x, y),
-        Arithmetic::Power => told::power(x, y),
-        Arithmetic::Modulus => told::modulus(x, y),
-        Arithmetic::Least => told::lesser(x, y),
-        Arithmetic::Greatest => told::greater(x, y),
+        Arithmetic::Add => encoded::sum(x, y),
+        Arithmetic::Subtract => encoded::difference(x, y),
+        Arithmetic::Multiply => encoded::product(x, y),
+        Arithmetic::Divide => encoded::quotient(x, y),
+        Arithmetic::Power => encoded::power(x, y),
+        Arithmetic::Modulus => encoded::modulus(x, y),
+        Arithmetic::Least => encoded::lesser(x, y),
+        Arithmetic::Greatest => encoded::greater(x, y),
     }
 }
 
@@ -45,9 +45,9 @@ fn holds(relation: Relation, x: i64, y: i64) -> bool
 #[inline(always)]
 pub(crate) fn compared(relation: Relation, x: i64, y: i64) -> i64
     ensures { (r q : Result ℤ Fault)
-        → TellsResult x r → TellsResult y q → TellsResult result (both (terms.related_number relation) r q) }
+        → Encodes x r → Encodes y q → Encodes result (both (terms.related_number relation) r q) }
 {
-    told::settled(x, y, told::truth(holds(relation, x, y)))
+    encoded::settled(x, y, encoded::truth(holds(relation, x, y)))
 }
 
 #[inline(always)]
@@ -57,8 +57,8 @@ fn joined(connective: Connective, x: i64, y: i64) -> i64
     match connective {
         Connective::And => if x == 0 { x } else { y },
         Connective::Or => if x == 0 { y } else { x },
-        Connective::Equivalent => told::truth(x == y),
-        Connective::NotEquivalent => told::truth(x != y),
+        Connective::Equivalent => encoded::truth(x == y),
+        Connective::NotEquivalent => encoded::truth(x != y),
     }
 }
 
@@ -68,7 +68,7 @@ pub(crate) fn connected(connective: Connective, x: i64, y: i64) -> i64
     requires x { IsValueOrFault x }
     requires y { IsValueOrFault y }
     ensures { (r q : Result ℤ Fault)
-        → TellsResult x r → TellsResult y q → TellsResult result (both (terms.connected_number connective) r q) }
+        → Encodes x r → Encodes y q → Encodes result (both (terms.connected_number connective) r q) }
 {
-    told::settled(x, y, joined(connective, x, y))
+    encoded::settled(x, y, joined(connective, x, y))
 }

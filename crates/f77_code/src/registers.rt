@@ -5,26 +5,26 @@ ghost use Rattle.f77_actions.specs.declared.finish.Fault.{Fault};
 ghost use Rattle.f77_code.specs.code.Registers as meaning;
 ghost use Rattle.f77_code.specs.Registers.{are_held, register, vector_place, matrix_place, element_at};
 ghost use Rattle.f77_code.specs.code.Registers.{IsOffset};
-ghost use Rattle.f77_actions.specs.Told.{TellsResult, IsValueOrFault};
+ghost use Rattle.f77_actions.specs.Encoded.{Encodes, IsValueOrFault};
 
-use f77_actions::told::{BAD_SUBSCRIPT, UNDEFINED};
+use f77_actions::encoded::{BAD_SUBSCRIPT, UNDEFINED};
 
 #[inline(always)]
-#[tactic(auto, using(crate::proofs::Reading::read_tells))]
+#[tactic(auto, using(crate::proofs::Reading::read_encodes))]
 pub(crate) fn read(registers: &[i64], r: u32) -> i64
     requires held { are_held registers.now ≡ true }
     requires within { r < length registers.now }
-    ensures { TellsResult result (register registers.now r) }
+    ensures { Encodes result (register registers.now r) }
 {
     registers[r as usize]
 }
 
 #[inline(always)]
-#[tactic(auto, using(crate::proofs::Reading::read_tells))]
+#[tactic(auto, using(crate::proofs::Reading::read_encodes))]
 fn read_at(registers: &[i64], first: u32, place: usize) -> i64
     requires held { are_held registers.now ≡ true }
     requires within { first + place < length registers.now }
-    ensures { TellsResult result (register registers.now (first + place)) }
+    ensures { Encodes result (register registers.now (first + place)) }
 {
     registers[first as usize + place]
 }
@@ -47,7 +47,7 @@ pub(crate) fn element(registers: &[i64], first: u32, bound: u32, subscript: i64)
     requires within { first + bound ≤ length registers.now }
     requires subscript { IsValueOrFault subscript }
     ensures { (r : Result ℤ Fault)
-        → TellsResult subscript r → TellsResult result (element_at registers.now first (vector_place bound r)) }
+        → Encodes subscript r → Encodes result (element_at registers.now first (vector_place bound r)) }
 {
     let offset = offset(subscript);
     if offset < u64::from(bound) {
@@ -77,7 +77,7 @@ pub(crate) fn matrix_offset(rows: u32, columns: u32, row: u64, column: u64) -> u
 #[tactic(auto, using(crate::proofs::Reading::bad_row, crate::proofs::Reading::bad_column, crate::proofs::Reading::bad_neither))]
 pub(crate) fn misplaced(row: i64, column: i64) -> i64
     ensures { (r q : Result ℤ Fault)
-        → TellsResult row r → TellsResult column q → TellsResult result (meaning.misplaced_in_matrix r q) }
+        → Encodes row r → Encodes column q → Encodes result (meaning.misplaced_in_matrix r q) }
 {
     if UNDEFINED <= row {
         return row;
@@ -102,8 +102,8 @@ pub(crate) fn matrix_element(
     requires within { first + rows * columns ≤ length registers.now }
     requires row { IsValueOrFault row }
     requires column { IsValueOrFault column }
-    ensures { (r q : Result ℤ Fault) → TellsResult row r → TellsResult column q
-        → TellsResult result (element_at registers.now first (matrix_place rows columns r q)) }
+    ensures { (r q : Result ℤ Fault) → Encodes row r → Encodes column q
+        → Encodes result (element_at registers.now first (matrix_place rows columns r q)) }
 {
     let down = offset(row);
     if u64::from(rows) <= down {

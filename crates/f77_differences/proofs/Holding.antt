@@ -8,7 +8,7 @@ use Rattle.f77_tree.specs.declared.tree.Kind.{Kind}
 use Rattle.f77_legal.specs.Blocks.{first_numbers}
 use Rattle.f77_legal.specs.Heading.{dummies}
 use Rattle.f77_legal.specs.Names.{Symbol, some_items, kind_of, bounds_of}
-use Rattle.f77_legal.specs.Presets.{product, element_count}
+use Rattle.f77_legal.specs.InitialValues.{product, element_count}
 use Rattle.f77_check.specs.Checked.{shape_of, shapes}
 use Rattle.f77_check.specs.Slots.{first_slot}
 use Rattle.f77_actions.specs.declared.value.Value.{Value}

@@ -18,7 +18,7 @@ use Rattle.f77_meaning.specs.declared.outcome.Outcome.{Outcome}
 use Rattle.f77_meaning.specs.declared.outcome.Outcome.TheVariants as outcome
 use Rattle.f77_meaning.specs.Control.{Comes}
 use Rattle.f77_meaning.specs.Endless.{Reaches}
-use Rattle.f77_meaning.specs.Interpreter.{AreFitting, AreArguments, IsOutcomeOf, Tells, told_outcome, values_in}
+use Rattle.f77_meaning.specs.Interpreter.{AreFitting, AreArguments, IsOutcomeOf, Reports, fault_outcome, values_in}
 use Rattle.f77_meaning.specs.States.{values_of}
 use Rattle.f77_meaning.proofs.StateDefinitions.{config_of}
 use Rattle.f77_meaning.specs.Outcome.{IsOutcome}
@@ -30,7 +30,7 @@ use Rattle.f77_meaning.specs.Value.{Store}
 use Rattle.f77_meaning.proofs.Moving.{ComesIn, moves_by, comes_by}
 use Rattle.f77_meaning.proofs.OneAnswer.{one_start}
 use Rattle.f77_meaning.proofs.OneWay.{one_outcome}
-use Rattle.f77_meaning.proofs.Unreached.{starts_same, tells_same}
+use Rattle.f77_meaning.proofs.Unreached.{starts_same, reports_same}
 use Rattle.f77_equivalence.specs.Changed.{EndsAlike, EquivalentWhereEndsAlike, HoldAlike, IsChange, IsEnding}
 use Rattle.f77_equivalence.proofs.Changed.{EndsAlikeWithin}
 use Rattle.f77_equivalence.specs.Equivalent.{IsEnd}
@@ -39,7 +39,7 @@ use Rattle.f77_equivalence.specs.Storable.{AreStorable}
 use Rattle.f77_equivalence.proofs.Throughout.{runs_there, starts_there}
 
 -- no fault is told as an end
-told_otherwise : (fault : Fault) → IsEnd (told_outcome fault) → ⊥
+told_otherwise : (fault : Fault) → IsEnd (fault_outcome fault) → ⊥
 told_otherwise fault.Overflow end = end
 told_otherwise fault.DivideByZero end = end
 told_otherwise fault.ZeroPower end = end
@@ -54,7 +54,7 @@ limit_met p zero c d here = (refl, ap (λ (x : Config). x.values) here)
 limit_met p (suc n) c d on = inr (on.0, on.1, limit_met p n on.0 d on.2)
 
 -- what is told as an end is one
-pub is_ending : (p : List LineFields) (end : Finish) (values : Store) (answer : Outcome) → Tells p end values answer → IsEnd answer → IsEnding end
+pub is_ending : (p : List LineFields) (end : Finish) (values : Store) (answer : Outcome) → Reports p end values answer → IsEnd answer → IsEnding end
 is_ending p finish.Returned values answer tells end = tt
 is_ending p finish.Stopped values answer tells end = tt
 is_ending p finish.StepLimit values answer tells end = subst IsEnd tells end
@@ -66,7 +66,7 @@ arguments_alike : (p : List LineFields) (s t : Store) (arguments : List Arg) →
 arguments_alike p s t arguments same are = record { fitting = are.fitting; values = same ∙ are.values }
 
 tells_alike : (p : List LineFields) (end : Finish) (s t : Store) (answer : Outcome) → argument_values p t ≡ argument_values p s → IsEnding end
-    → Tells p end s answer → Tells p end t answer
+    → Reports p end s answer → Reports p end t answer
 tells_alike p finish.Returned s t (outcome.Returned arguments) same is tells = arguments_alike p s t arguments same tells
 tells_alike p finish.Returned s t _ same is tells = absurd tells
 tells_alike p finish.Stopped s t (outcome.Stopped arguments) same is tells = arguments_alike p s t arguments same tells
@@ -110,20 +110,20 @@ module _ (checked : CheckedFields) (i : ℕ) (program : List LineFields) (change
   }
 
   -- the run of the changed program that ends alike
-  ends_there : (limit : ℕ) (end : Finish) (cells others : Cells) (answer : Outcome) → IsEnding end → Tells p end (values_at at cells) answer
+  ends_there : (limit : ℕ) (end : Finish) (cells others : Cells) (answer : Outcome) → IsEnding end → Reports p end (values_at at cells) answer
       → moved_by changed limit start ≡ Some (Ends end others) → HoldAlike checked cells others → IsOutcomeOf program arguments limit answer
   ends_there limit end cells others answer is tells e alike =
       let came : ComesIn there changed limit (stands_for there start) (Ends end others)
       = comes_by there changed limit start (Ends end others) running_there e in
-      let told : Tells program end (values_at at others) answer
-      = tells_same p program change.frame end (values_at at others) answer (tells_alike p end (values_at at cells) (values_at at others) answer alike is tells) in
+      let told : Reports program end (values_at at others) answer
+      = reports_same p program change.frame end (values_at at others) answer (tells_alike p end (values_at at cells) (values_at at others) answer alike is tells) in
       record {
         start = stands_for there start;
         starts = starts;
         finish = end;
         values = values_at there others;
         ends = came.0;
-        tells = subst (λ b. Tells program end (values_of b checked.names others) answer) bounds told;
+        reports = subst (λ b. Reports program end (values_of b checked.names others) answer) bounds told;
       }
 
   -- what the program comes to, the changed one does, under a limit that spares so many steps
@@ -135,7 +135,7 @@ module _ (checked : CheckedFields) (i : ℕ) (program : List LineFields) (change
       one = one_start p (map values_in arguments) is.start (stands_for at start) is.starts (starts_there checked change.own arguments fits)
 
       ending : IsEnding is.finish
-      ending = is_ending p is.finish is.values answer is.tells end
+      ending = is_ending p is.finish is.values answer is.reports end
 
       outcome_here : IsOutcome p limit (stands_for at start) is.finish is.values
       outcome_here = subst (λ c. IsOutcome p limit c is.finish is.values) one is.ends
@@ -152,8 +152,8 @@ module _ (checked : CheckedFields) (i : ℕ) (program : List LineFields) (change
       by (Ends f cells) e came =
           let same = one_outcome p limit (stands_for at start) is.finish f is.values (values_at at cells) outcome_here came.0 in
           let is_end : IsEnding f = subst IsEnding same.0 ending in
-          let tells : Tells p f (values_at at cells) answer
-          = subst (λ end. Tells p end (values_at at cells) answer) same.0 (subst (λ s. Tells p is.finish s answer) same.1 is.tells) in
+          let tells : Reports p f (values_at at cells) answer
+          = subst (λ end. Reports p end (values_at at cells) answer) same.0 (subst (λ s. Reports p is.finish s answer) same.1 is.reports) in
           let other = alike limit f cells is_end e in
           ends_there (limit + spare) f cells other.0 answer is_end tells other.1 other.2
 

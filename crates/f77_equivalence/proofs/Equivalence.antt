@@ -13,7 +13,7 @@ use Rattle.f77_meaning.specs.Outcome.{IsOutcome}
 use Rattle.f77_meaning.specs.code.Running.{site_of}
 use Rattle.f77_meaning.proofs.OneAnswer.{one_start}
 use Rattle.f77_meaning.proofs.InRun.{stands_for}
-use Rattle.f77_meaning.proofs.Unreached.{starts_same, tells_same}
+use Rattle.f77_meaning.proofs.Unreached.{starts_same, reports_same}
 use Rattle.f77_equivalence.specs.Changed.{IsChange, IsEnding, SameWhereChanged, EquivalentWhereSame}
 use Rattle.f77_equivalence.specs.Equivalent.{KeepsEnds}
 use Rattle.f77_equivalence.specs.Start.{start_state, StartsIn}
@@ -38,7 +38,7 @@ keeps_ends checked i program changed entries change inductive same arguments fit
     let start = stands_for (site_of checked arguments) (start_state checked arguments) in
     let one : is.start ≡ start
     = one_start p (map values_in arguments) is.start start is.starts (starts_there checked change.own arguments fits) in
-    let safe = ending_safe is.finish (is_ending p is.finish is.values outcome is.tells end) in
+    let safe = ending_safe is.finish (is_ending p is.finish is.values outcome is.reports end) in
     let ends : IsOutcome program limit start is.finish is.values
     = same_end checked i program changed entries change same arguments inductive limit (start_state checked arguments) is.finish is.values
     (runs_there checked change.own arguments fits) begins safe (subst (λ c. IsOutcome p limit c is.finish is.values) one is.ends) in
@@ -48,7 +48,7 @@ keeps_ends checked i program changed entries change inductive same arguments fit
       finish = is.finish;
       values = is.values;
       ends = subst (λ c. IsOutcome program limit c is.finish is.values) (sym one) ends;
-      tells = tells_same p program change.frame is.finish is.values outcome is.tells;
+      reports = reports_same p program change.frame is.finish is.values outcome is.reports;
     }
 
 -- whatever arguments fit whose numbers INTEGER holds

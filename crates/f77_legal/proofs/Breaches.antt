@@ -148,8 +148,8 @@ module _ (p : List LineFields) where
     first_here : slice_get (own expression_clauses ++ own control_clauses) 0 ≡ Some found
     first_here = sym (ap (λ all. slice_get all 0) in_two) ∙ sym is
 
-    pub expression_told : nat_lt (rank found.0) 2 ≡ true → slice_get (clause_faults expression_clauses p) 0 ≡ Some (fault_of found)
-    expression_told early = ap (λ all. slice_get all 0) (faults_by expression_clauses) ∙ by (own expression_clauses) first_here
+    pub expression_reported : nat_lt (rank found.0) 2 ≡ true → slice_get (clause_faults expression_clauses p) 0 ≡ Some (fault_of found)
+    expression_reported early = ap (λ all. slice_get all 0) (faults_by expression_clauses) ∙ by (own expression_clauses) first_here
       where
         by : (all : List (Clause × ℕ)) → slice_get (all ++ own control_clauses) 0 ≡ Some found → slice_get (map fault_of all) 0 ≡ Some (fault_of found)
         by [] e = let late = control_late found e in let contrary : nat_lt (rank found.0) 2 ≡ false = not_before (rank found.0) 2 late in absurd (cc (early, contrary))
@@ -166,8 +166,8 @@ module _ (p : List LineFields) where
             let yes : nat_lt (rank found.0) 2 ≡ true = before (rank found.0) 2 early in
             absurd (cc (late, yes))
 
-    pub control_told : clause_faults expression_clauses p ≡ [] → slice_get (clause_faults control_clauses p) 0 ≡ Some (fault_of found)
-    control_told none = ap (λ all. slice_get all 0) (faults_by control_clauses) ∙ by (own control_clauses) (sym (ap (λ all. slice_get (all ++ own control_clauses) 0) nothing) ∙ first_here)
+    pub control_reported : clause_faults expression_clauses p ≡ [] → slice_get (clause_faults control_clauses p) 0 ≡ Some (fault_of found)
+    control_reported none = ap (λ all. slice_get all 0) (faults_by control_clauses) ∙ by (own control_clauses) (sym (ap (λ all. slice_get (all ++ own control_clauses) 0) nothing) ∙ first_here)
       where
         nothing : own expression_clauses ≡ []
         nothing = map_none fault_of (own expression_clauses) (sym (faults_by expression_clauses) ∙ none)

@@ -22,8 +22,8 @@ use Rattle.f77_legal.specs.Loops.{terminal}
 use Rattle.f77_legal.specs.Names.{Symbol, symbols, is_real, is_twice}
 use Rattle.f77_legal.specs.Patches.{IsStock}
 use Rattle.f77_legal.specs.Alone.{MayStandAt}
-use Rattle.f77_legal.specs.Presets.{groups_of, presets_badly}
-use Rattle.f77_legal.proofs.FrameNames.{presets_badly_same}
+use Rattle.f77_legal.specs.InitialValues.{groups_of, has_bad_data}
+use Rattle.f77_legal.proofs.FrameNames.{has_bad_data_same}
 use Rattle.f77_legal.proofs.Frames.{groups_of-framed, terminal_label-framed}
 use Rattle.f77_legal.proofs.LegalGives.{kept_by}
 use Rattle.f77_legal.proofs.NoFaults.{not_large}
@@ -56,9 +56,9 @@ numbered_at k (x ∷ xs) (suc i) =
     let e : k + 1 + i ≡ k + suc i = omega arith in
     numbered_at (k + 1) xs i ∙ ap (λ n. option_map (λ x. (n, x)) (slice_get xs i)) e
 
-told_if : {X Y : Type 0} (f : X → Y) (b : Bool) (x : X) → map f (cond b (x ∷ []) []) ≡ cond b (f x ∷ []) []
-told_if f true x = refl
-told_if f false x = refl
+mapped_if : {X Y : Type 0} (f : X → Y) (b : Bool) (x : X) → map f (cond b (x ∷ []) []) ≡ cond b (f x ∷ []) []
+mapped_if f true x = refl
+mapped_if f false x = refl
 
 -- where the statements of all other lines fail the test, only this line can be found
 one_line : (test : ℕ → Statement → Bool) (p : List LineFields) (i : ℕ) (line : LineFields) → slice_get p i ≡ Some line
@@ -67,7 +67,7 @@ one_line : (test : ℕ → Statement → Bool) (p : List LineFields) (i : ℕ) (
 one_line test p i line at fail =
     ap (map (λ n. n.1.line)) (only_one passes (enumerate_from 0 p) i others)
     ∙ ap (λ o. map (λ n. n.1.line) (option_map_or (λ n. cond (passes n) (n ∷ []) []) o [])) (here i line at)
-    ∙ told_if (λ (n : ℕ × LineFields). n.1.line) (test i line.stmt) (i, line)
+    ∙ mapped_if (λ (n : ℕ × LineFields). n.1.line) (test i line.stmt) (i, line)
   where
     passes : ℕ × LineFields → Bool
     passes n = test n.0 n.1.stmt
@@ -89,13 +89,13 @@ one_line test p i line at fail =
             sym (ap passes same) ∙ fail j l.stmt apart (ap (option_map (λ x. x.stmt)) some)
 
 -- the first fault of one line is that of the first clause that has one there
-one_each : (tells : Clause → Bool) (fault : Clause → CheckFault) (cs : List Clause)
-    → slice_get (flat_map (λ c. cond (tells c) (fault c ∷ []) []) cs) 0 ≡ option_map fault (find tells cs)
-one_each tells fault [] = refl
-one_each tells fault (c ∷ cs) = by (tells c) (one_each tells fault cs)
+one_each : (is_broken : Clause → Bool) (fault : Clause → CheckFault) (cs : List Clause)
+    → slice_get (flat_map (λ c. cond (is_broken c) (fault c ∷ []) []) cs) 0 ≡ option_map fault (find is_broken cs)
+one_each is_broken fault [] = refl
+one_each is_broken fault (c ∷ cs) = by (is_broken c) (one_each is_broken fault cs)
   where
-    by : (b : Bool) → slice_get (flat_map (λ c. cond (tells c) (fault c ∷ []) []) cs) 0 ≡ option_map fault (find tells cs)
-        → slice_get (cond b (fault c ∷ []) [] ++ flat_map (λ c. cond (tells c) (fault c ∷ []) []) cs) 0 ≡ option_map fault (cond b (Some c) (find tells cs))
+    by : (b : Bool) → slice_get (flat_map (λ c. cond (is_broken c) (fault c ∷ []) []) cs) 0 ≡ option_map fault (find is_broken cs)
+        → slice_get (cond b (fault c ∷ []) [] ++ flat_map (λ c. cond (is_broken c) (fault c ∷ []) []) cs) 0 ≡ option_map fault (cond b (Some c) (find is_broken cs))
     by true later = refl
     by false later = later
 
@@ -165,48 +165,48 @@ module _ (p q : List LineFields) (i : ℕ) (line : LineFields) (s : Statement) (
       (λ c apart. same_breaks q p same c apart j t ∙ (keeps_every_rule p legal).statements c j t (elsewhere_in_p j t other is)) c
 
   -- a clause finds a fault in the changed statement alone
-  told : (c : Clause) → faults_of c q ≡ cond (breaks c q i s) (clause_fault c line.line ∷ []) []
-  told c =
+  found_here : (c : Clause) → faults_of c q ≡ cond (breaks c q i s) (clause_fault c line.line ∷ []) []
+  found_here c =
       ap (map (clause_fault c)) (one_line (breaks c q) q i (record (line) { stmt = s }) here (others c))
-      ∙ told_if (clause_fault c) (breaks c q i s) line.line
+      ∙ mapped_if (clause_fault c) (breaks c q i s) line.line
 
   labels_kept : label_faults q ≡ []
   labels_kept = (λ k. map DoubleLabel (filter (λ label. is_double_same q p same label k) (labels_same q p same k))) ∙ (kept_by p legal).doubles
 
-  presets_kept : data_faults q ≡ []
-  presets_kept =
-      ap (map BadData) (one_line (presets_badly q) q i (record (line) { stmt = s }) here
-      (λ j t other is. presets_badly_same q p same j t t refl ∙ (keeps_every_rule p legal).presets j t (elsewhere_in_p j t other is))
-      ∙ ap (λ b. cond b (line.line ∷ []) []) (presets_badly_same q p same i s line.stmt groups ∙ (keeps_every_rule p legal).presets i line.stmt line_in_p))
+  data_same : data_faults q ≡ []
+  data_same =
+      ap (map BadData) (one_line (has_bad_data q) q i (record (line) { stmt = s }) here
+      (λ j t other is. has_bad_data_same q p same j t t refl ∙ (keeps_every_rule p legal).initial_values j t (elsewhere_in_p j t other is))
+      ∙ ap (λ b. cond b (line.line ∷ []) []) (has_bad_data_same q p same i s line.stmt groups ∙ (keeps_every_rule p legal).initial_values i line.stmt line_in_p))
     where
       groups : groups_of s ≡ groups_of line.stmt
       groups = sym (groups_of-framed s) ∙ ap groups_of kept ∙ groups_of-framed line.stmt
 
   -- where the names and the sizes are still right, the first fault is that of the first clause that the statement breaks
-  told_by_itself : name_faults q ≡ [] → too_large_faults q ≡ [] → first_fault q ≡ option_map (λ c. clause_fault c line.line) (first_clause q i s)
-  told_by_itself names sizes =
+  found_by_itself : name_faults q ≡ [] → too_large_faults q ≡ [] → first_fault q ≡ option_map (λ c. clause_fault c line.line) (first_clause q i s)
+  found_by_itself names sizes =
       ap (λ all. slice_get all 0)
       (whole
-      ∙ regrouped (told_of Kinds) (told_of Bounds) (told_of NamedLabels) (told_of Targets) (told_of Terminals) (told_of Nests) (told_of Jumps) (told_of Variables))
+      ∙ regrouped (own_faults Kinds) (own_faults Bounds) (own_faults NamedLabels) (own_faults Targets) (own_faults Terminals) (own_faults Nests) (own_faults Jumps) (own_faults Variables))
       ∙ one_each (λ c. breaks c q i s) (λ c. clause_fault c line.line) clauses
     where
-      told_of : Clause → List CheckFault
-      told_of c = cond (breaks c q i s) (clause_fault c line.line ∷ []) []
+      own_faults : Clause → List CheckFault
+      own_faults c = cond (breaks c q i s) (clause_fault c line.line ∷ []) []
 
       whole : faults q
-          ≡ (told_of Kinds ++ (told_of Bounds ++ []))
-          ++ ((told_of NamedLabels ++ (told_of Targets ++ (told_of Terminals ++ (told_of Nests ++ (told_of Jumps ++ (told_of Variables ++ [])))))) ++ [])
+          ≡ (own_faults Kinds ++ (own_faults Bounds ++ []))
+          ++ ((own_faults NamedLabels ++ (own_faults Targets ++ (own_faults Terminals ++ (own_faults Nests ++ (own_faults Jumps ++ (own_faults Variables ++ [])))))) ++ [])
       whole = λ k.
           names k
-          ++ ((told Kinds k ++ (told Bounds k ++ []))
+          ++ ((found_here Kinds k ++ (found_here Bounds k ++ []))
           ++ (labels_kept k
-          ++ ((told NamedLabels k
-          ++ (told Targets k
-          ++ (told Terminals k
-          ++ (told Nests k
-          ++ (told Jumps k
-          ++ (told Variables k ++ []))))))
-          ++ (presets_kept k ++ sizes k))))
+          ++ ((found_here NamedLabels k
+          ++ (found_here Targets k
+          ++ (found_here Terminals k
+          ++ (found_here Nests k
+          ++ (found_here Jumps k
+          ++ (found_here Variables k ++ []))))))
+          ++ (data_same k ++ sizes k))))
 
   -- the changed statement names its terminal statement as the one before did
   ends_as_before : breaks Terminals q i s ≡ breaks Terminals p i s
@@ -222,9 +222,9 @@ module _ (p q : List LineFields) (i : ℕ) (line : LineFields) (s : Statement) (
   broken_same : (c : Clause) → breaks c q i s ≡ breaks c p i s
   broken_same = of_each (λ c. breaks c q i s ≡ breaks c p i s) ends_as_before (λ c apart. same_breaks q p same c apart i s)
 
-  told_by_frame : name_faults q ≡ [] → too_large_faults q ≡ [] → first_fault q ≡ option_map (λ c. clause_fault c line.line) (first_clause p i s)
-  told_by_frame names sizes =
-      told_by_itself names sizes ∙ (λ k. option_map (λ c. clause_fault c line.line) (find (λ c. broken_same c k) clauses))
+  found_by_frame : name_faults q ≡ [] → too_large_faults q ≡ [] → first_fault q ≡ option_map (λ c. clause_fault c line.line) (first_clause p i s)
+  found_by_frame names sizes =
+      found_by_itself names sizes ∙ (λ k. option_map (λ c. clause_fault c line.line) (find (λ c. broken_same c k) clauses))
 
 few_lines : (p : List LineFields) → IsLegal p → length p ≤ 500
 few_lines p legal = within (length p) (or_parts (nat_lt 500 (length p)) _ (not_large p legal)).0
@@ -237,7 +237,7 @@ few_lines p legal = within (length p) (or_parts (nat_lt 500 (length p)) _ (not_l
 pub changed_fault : (p : List LineFields) (i : ℕ) (line : LineFields) (s : Statement) (names : List Symbol) → slice_get p i ≡ Some line → IsLegal p
     → framed s ≡ framed line.stmt → MayStandAt p i s → IsStock names (replaced p i s) → first_fault (replaced p i s) ≡ option_map (λ c. clause_fault c line.line) (first_clause p i s)
 changed_fault p i line s names at legal kept ends stock =
-    told_by_frame p q i line s legal at (changed_line p i line s at) (λ j apart. other_line p i j s apart) (replaced_frame p i line s at kept) kept ends
+    found_by_frame p q i line s legal at (changed_line p i line s at) (λ j apart. other_line p i j s apart) (replaced_frame p i line s at kept) kept ends
     no_name (ap (λ b. cond b (TooMany ∷ []) []) (stock_sizes names q stock short))
   where
     q : List LineFields

@@ -11,7 +11,7 @@ use Rattle.f77_tree.specs.Statement.{statement_of}
 use Rattle.f77_program.specs.declared.program.Line.{Line}
 use Rattle.f77_legal.specs.Blocks.{first_numbers, begins_branch, branch_end}
 use Rattle.f77_legal.specs.Labels.{label_place, nth_statement, terminal_label}
-use Rattle.f77_legal.specs.Holders.{end_or_parent}
+use Rattle.f77_legal.specs.Enclosing.{end_or_parent}
 use Rattle.f77_legal.specs.LoopTable.{IsTerminals, IsBranches}
 use Rattle.f77_legal.proofs.Nesting.{entry_number, entry_past}
 use Rattle.f77_legal.specs.code.Tables.{terminal_of, closed_branch_end}

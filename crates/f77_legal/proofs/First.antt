@@ -18,17 +18,17 @@ pub line_here : (lines : List Line) (i : ℕ) (x : Line) → x ≡ get_or lines 
 line_here lines i x at lt = slice_get-map line_of lines i ∙ ap (option_map line_of) (slice_get_read lines (length lines) i x refl lt at)
 
 -- the first fault of two lists, where the first list has none
-pub second_told : {X A : Type 0} (f g : X → A) (xs ys : List X) (y : X) → slice_get xs 0 ≡ None → slice_get ys 0 ≡ Some y
+pub first_of_second : {X A : Type 0} (f g : X → A) (xs ys : List X) (y : X) → slice_get xs 0 ≡ None → slice_get ys 0 ≡ Some y
     → slice_get (map f xs ++ map g ys) 0 ≡ Some (g y)
-second_told f g xs ys y none some = rw (empty_from xs none) (slice_get-map g ys 0 ∙ ap (option_map g) some)
+first_of_second f g xs ys y none some = rw (empty_from xs none) (slice_get-map g ys 0 ∙ ap (option_map g) some)
 
-pub nothing_told : {X A : Type 0} (f g : X → A) (xs ys : List X) → slice_get xs 0 ≡ None → slice_get ys 0 ≡ None → map f xs ++ map g ys ≡ []
-nothing_told f g xs ys none no_more = rw (empty_from xs none, empty_from ys no_more) refl
+pub none_of_both : {X A : Type 0} (f g : X → A) (xs ys : List X) → slice_get xs 0 ≡ None → slice_get ys 0 ≡ None → map f xs ++ map g ys ≡ []
+none_of_both f g xs ys none no_more = rw (empty_from xs none, empty_from ys no_more) refl
 
 -- the first fault behind lists that have none
-pub told_behind : {X : Type 0} (xs ys : List X) (x : X) → xs ≡ [] → slice_get ys 0 ≡ Some x → slice_get (xs ++ ys) 0 ≡ Some x
-told_behind xs ys x none told = rw none told
+pub first_behind : {X : Type 0} (xs ys : List X) (x : X) → xs ≡ [] → slice_get ys 0 ≡ Some x → slice_get (xs ++ ys) 0 ≡ Some x
+first_behind xs ys x none found = rw none found
 
-pub told_before : {X : Type 0} (xs ys : List X) (x : X) → slice_get xs 0 ≡ Some x → slice_get (xs ++ ys) 0 ≡ Some x
-told_before [] ys x told = absurd (cc (told))
-told_before (y ∷ xs) ys x told = told
+pub first_before : {X : Type 0} (xs ys : List X) (x : X) → slice_get xs 0 ≡ Some x → slice_get (xs ++ ys) 0 ≡ Some x
+first_before [] ys x found = absurd (cc (found))
+first_before (y ∷ xs) ys x found = found

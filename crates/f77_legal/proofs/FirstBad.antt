@@ -15,7 +15,7 @@ use Rattle.f77_legal.specs.Names.{Symbol, kind_of, bounds_of}
 use Rattle.f77_legal.proofs.Lookups.{same_bounds, same_kinds, same_dummy_at}
 use Rattle.f77_legal.specs.NameTable.{kind_at, array_bounds, IsNameTable}
 use Rattle.f77_legal.specs.code.NameTable.{dummy_at}
-use Rattle.f77_legal.specs.Presets.{presets_badly, groups_of, names_preset, is_dummy_name, is_filled}
+use Rattle.f77_legal.specs.InitialValues.{has_bad_data, groups_of, names_in_data, is_dummy_name, is_filled}
 use Rattle.f77_legal.specs.code.Runs.{breaks_data, names_of_groups}
 use Rattle.f77_legal.specs.declared.names.Names.{Names}
 
@@ -36,17 +36,17 @@ take_front : (before : List LineFields) (line : LineFields) (rest : List LineFie
 take_front [] line rest = refl
 take_front (b ∷ bs) line rest = ap (λ xs. b ∷ xs) (take_front bs line rest)
 
-preset_more : (before : List LineFields) (line : LineFields) → names_preset (before ++ line ∷ []) ≡ names_preset before ++ names_of_groups (groups_of line.stmt)
-preset_more before line =
+names_in_more : (before : List LineFields) (line : LineFields) → names_in_data (before ++ line ∷ []) ≡ names_in_data before ++ names_of_groups (groups_of line.stmt)
+names_in_more before line =
     flat_map-append (λ line. names_of_groups (groups_of line.stmt)) before (line ∷ [])
-    ∙ ap (λ xs. names_preset before ++ xs) (append-nil (names_of_groups (groups_of line.stmt)))
+    ∙ ap (λ xs. names_in_data before ++ xs) (append-nil (names_of_groups (groups_of line.stmt)))
 
 badly_is : (p before : List LineFields) (line : LineFields) (rest : List LineFields) (i : ℕ) → p ≡ before ++ line ∷ rest → i ≡ length before
-    → presets_badly p i line.stmt ≡ breaks_data (bounds_of p) (kind_of p) (is_dummy_name p) (names_preset before) line.stmt
+    → has_bad_data p i line.stmt ≡ breaks_data (bounds_of p) (kind_of p) (is_dummy_name p) (names_in_data before) line.stmt
 badly_is p before line rest i e f =
     ap (λ all. list_any (λ name. is_dummy_name p name || nat_le 2 (length (filter (bytes_eq name) all))) (names_of_groups (groups_of line.stmt))
     || list_any (λ g. not (is_filled p g)) (groups_of line.stmt))
-    (ap (λ n. names_preset (take (suc n) p)) f ∙ ap (λ q. names_preset (take (suc (length before)) q)) e ∙ ap names_preset (take_front before line rest) ∙ preset_more before line)
+    (ap (λ n. names_in_data (take (suc n) p)) f ∙ ap (λ q. names_in_data (take (suc (length before)) q)) e ∙ ap names_in_data (take_front before line rest) ∙ names_in_more before line)
 
 step : (b d : Bool) (n : ℕ) (line : LineFields) (x : Option ℕ) (others : List (ℕ × LineFields)) → d ≡ b → x ≡ slice_get (map (λ numbered. numbered.1.line) others) 0
     → cond b (Some line.line) x ≡ slice_get (map (λ numbered. numbered.1.line) (cond d ((n, line) ∷ others) others)) 0
@@ -56,19 +56,19 @@ step true false n line x others e f = absurd (true≢false (sym e))
 step false true n line x others e f = absurd (true≢false e)
 
 first_from : (p before rest : List LineFields) (i : ℕ) → p ≡ before ++ rest → i ≡ length before
-    → first_bad (bounds_of p) (kind_of p) (is_dummy_name p) (names_preset before) rest
-    ≡ slice_get (map (λ numbered. numbered.1.line) (filter (λ numbered. presets_badly p numbered.0 numbered.1.stmt) (enumerate_from i rest))) 0
+    → first_bad (bounds_of p) (kind_of p) (is_dummy_name p) (names_in_data before) rest
+    ≡ slice_get (map (λ numbered. numbered.1.line) (filter (λ numbered. has_bad_data p numbered.0 numbered.1.stmt) (enumerate_from i rest))) 0
 first_from p before [] i e f = refl
 first_from p before (line ∷ rest) i e f =
-    step (breaks_data (bounds_of p) (kind_of p) (is_dummy_name p) (names_preset before) line.stmt) (presets_badly p i line.stmt) i line _ _
+    step (breaks_data (bounds_of p) (kind_of p) (is_dummy_name p) (names_in_data before) line.stmt) (has_bad_data p i line.stmt) i line _ _
     (badly_is p before line rest i e f)
-    (ap (λ names. first_bad (bounds_of p) (kind_of p) (is_dummy_name p) names rest) (sym (preset_more before line))
+    (ap (λ names. first_bad (bounds_of p) (kind_of p) (is_dummy_name p) names rest) (sym (names_in_more before line))
     ∙ first_from p (before ++ line ∷ []) rest (i + 1) (e ∙ sym (append_assoc before (line ∷ []) rest)) (omega (arith, length-append before (line ∷ []))))
 
 pub first_is : (names : Names) (p : List LineFields) → IsNameTable names p
-    → first_bad (array_bounds names) (kind_at names) (dummy_at names) [] p ≡ slice_get (lines_where (presets_badly p) p) 0
-first_is names p told =
-    (λ j. first_bad (same_bounds names p told j) (same_kinds names p told j) (λ name. same_dummy_at names p told name j) [] p)
+    → first_bad (array_bounds names) (kind_at names) (dummy_at names) [] p ≡ slice_get (lines_where (has_bad_data p) p) 0
+first_is names p table =
+    (λ j. first_bad (same_bounds names p table j) (same_kinds names p table j) (λ name. same_dummy_at names p table name j) [] p)
     ∙ first_from p [] p 0 refl refl
 
 -- the first such line from line i on, by line i and those behind it

@@ -92,12 +92,12 @@ module _ (names : Names) where
     pub binary_adds : (own operands : Kind) (op : Operator) (a b : Box Expr Global) (x y : Expr) → expr ≡ views.Binary op a b → x ≡ a.value → y ≡ b.value
         → own ≡ result_kind op → operands ≡ operand_kind op → Adds f g true (same_kind own kind) true → AddsTree g h operands (tree_of x) → AddsTree h k operands (tree_of y)
         → AddsTree f k kind (tree_of expr)
-    binary_adds own operands op a b x y is left right result wanted first second third =
+    binary_adds own operands op a b x y is left right result required first second third =
         subst (AddsTree f k kind) (sym (ap tree_of is ∙ binary_view op a b))
         (adds_same (joined first (joined second third))
         (λ i. tree_passes (has_name names) (tree_of (left i)) && tree_passes (has_name names) (tree_of (right i)))
         (λ i. same_kind (result i) kind
-        && (is_of_kind (kind_at names) (wanted i) (tree_of (left i)) && is_of_kind (kind_at names) (wanted i) (tree_of (right i))))
+        && (is_of_kind (kind_at names) (required i) (tree_of (left i)) && is_of_kind (kind_at names) (required i) (tree_of (right i))))
         (λ i. fits_bounds (array_bounds names) (tree_of (left i)) && fits_bounds (array_bounds names) (tree_of (right i))))
 
     pub call_adds : (function : Intrinsic) (arguments : Vec Expr Global) (xs : List Expr) (count : ℕ) (are_right : Bool) → expr ≡ views.Call function arguments
@@ -112,10 +112,10 @@ module _ (names : Names) where
     pub reference_adds : (own : Kind) (r : Ref) (xs : List Expr) (count : ℕ) → expr ≡ views.Reference r → xs ≡ r.subscripts.items → count ≡ length r.subscripts.items
         → own ≡ kind_at names r.name → Adds f g (has_name names r.name) true (count == length (array_bounds names r.name)) → Adds g h true (same_kind own kind) true
         → AddsItems h k (trees (map tree_of xs)) → AddsTree f k kind (tree_of expr)
-    reference_adds own r xs count is same long told first second third =
+    reference_adds own r xs count is same long kind_is first second third =
         subst (AddsTree f k kind) (sym (ap tree_of is ∙ reference_view r))
         (adds_same (joined first (joined second third)) (λ i. has_name names r.name && items_pass (has_name names) (trees (map tree_of (same i))))
-        (λ i. same_kind (told i) kind && are_integer (kind_at names) (trees (map tree_of (same i))))
+        (λ i. same_kind (kind_is i) kind && are_integer (kind_at names) (trees (map tree_of (same i))))
         (λ i. counted r.subscripts.items count long (length (array_bounds names r.name)) i && all_fit (array_bounds names) (trees (map tree_of (same i)))))
 
   module _ (s : Stmt) (f g h : Flaws) where
@@ -123,12 +123,12 @@ module _ (names : Names) where
         → count ≡ length target.subscripts.items → own ≡ kind_at names target.name
         → Adds f g (has_name names target.name) true (count == length (array_bounds names target.name)) → AddsItems g h (trees (map tree_of xs))
         → AddsTree h k own (tree_of value) → AddsStatement f k (statement_of s)
-    assign_adds k own target value xs count is same long told first second third =
+    assign_adds k own target value xs count is same long kind_is first second third =
         subst (AddsStatement f k)
         (sym (ap statement_of is ∙ assign_view target value ∙ ap (λ (r : List ℕ × List Tree). Statement.Assign r.0 (trees r.1) (tree_of value)) (ref_view target)))
         (adds_same (joined first (joined second third))
         (λ i. has_name names target.name && (items_pass (has_name names) (trees (map tree_of (same i))) && tree_passes (has_name names) (tree_of value)))
-        (λ i. are_integer (kind_at names) (trees (map tree_of (same i))) && is_of_kind (kind_at names) (told i) (tree_of value))
+        (λ i. are_integer (kind_at names) (trees (map tree_of (same i))) && is_of_kind (kind_at names) (kind_is i) (tree_of value))
         (λ i. counted target.subscripts.items count long (length (array_bounds names target.name)) i
         && (all_fit (array_bounds names) (trees (map tree_of (same i))) && fits_bounds (array_bounds names) (tree_of value))))
 
@@ -142,12 +142,12 @@ module _ (names : Names) where
         → s ≡ forms.Loop label variable from to step → by ≡ option_map tree_of step → own ≡ kind_at names variable
         → Adds f g (has_name names variable) true (0 == length (array_bounds names variable)) → Adds g h true (same_kind own Integer) true
         → AddsTree h k Integer (tree_of from) → AddsTree k m Integer (tree_of to) → AddsValue m n by → AddsStatement f n (statement_of s)
-    loop_adds k m n own label variable from to step by is given told first second third fourth fifth =
+    loop_adds k m n own label variable from to step by is given kind_is first second third fourth fifth =
         subst (AddsStatement f n) (sym (ap statement_of is ∙ loop_view label variable from to step))
         (adds_same (joined first (joined second (joined third (joined fourth fifth))))
         (λ i. has_name names variable
         && (tree_passes (has_name names) (tree_of from) && (tree_passes (has_name names) (tree_of to) && value_passes (has_name names) (given i))))
-        (λ i. same_kind (told i) Integer
+        (λ i. same_kind (kind_is i) Integer
         && (is_of_kind (kind_at names) Integer (tree_of from)
         && (is_of_kind (kind_at names) Integer (tree_of to) && is_of_kind_if_given (kind_at names) Integer (given i))))
         (λ i. zero_same (length (array_bounds names variable)) i

@@ -14,8 +14,8 @@ use Rattle.f77_tree.specs.Statement.{stmt_step, statement_of, Statement}
 use Rattle.f77_legal.specs.Heading.{dummies_of}
 use Rattle.f77_legal.specs.Labels.{terminal_label}
 use Rattle.f77_legal.specs.Loops.{do_variable_of}
-use Rattle.f77_legal.specs.Names.{Plain, mentions_of, unit_name_of}
-use Rattle.f77_legal.specs.Presets.{groups_of}
+use Rattle.f77_legal.specs.Names.{Plain, uses_of, unit_name_of}
+use Rattle.f77_legal.specs.InitialValues.{groups_of}
 
 abbrev pub IsNoSubroutine : Stmt → Type 0
 IsNoSubroutine s = (name : List ℕ) (arguments : Vec (List ℕ) Global) → s ≢ Subroutine name arguments
@@ -51,11 +51,11 @@ unfolding boxed.out-Stmt denote.Hole.Carrier.out
 no_variable (Loop label variable first last step) other = absurd (other label variable first last step refl)
 no_variable s other = ap do_variable_of (fold_out-Stmt Statement stmt_step s)
 
-pub plain_mentions : (s : Stmt) → IsNoSubroutine s → ((kind : Kind) (items : Vec Decl Global) → s ≢ Declare kind items)
-    → ((items : Vec Decl Global) → s ≢ Dimension items) → mentions_of (statement_of s) ≡ map Plain (names_of (statement_of s))
+pub plain_uses : (s : Stmt) → IsNoSubroutine s → ((kind : Kind) (items : Vec Decl Global) → s ≢ Declare kind items)
+    → ((items : Vec Decl Global) → s ≢ Dimension items) → uses_of (statement_of s) ≡ map Plain (names_of (statement_of s))
 unfolding boxed.out-Stmt denote.Hole.Carrier.out
-plain_mentions (Subroutine name arguments) no_subroutine no_declaration no_dimension = absurd (no_subroutine name arguments refl)
-plain_mentions (Declare kind items) no_subroutine no_declaration no_dimension = absurd (no_declaration kind items refl)
-plain_mentions (Dimension items) no_subroutine no_declaration no_dimension = absurd (no_dimension items refl)
-plain_mentions s no_subroutine no_declaration no_dimension =
-    subst (λ other. mentions_of other ≡ map Plain (names_of other)) (sym (fold_out-Stmt Statement stmt_step s)) refl
+plain_uses (Subroutine name arguments) no_subroutine no_declaration no_dimension = absurd (no_subroutine name arguments refl)
+plain_uses (Declare kind items) no_subroutine no_declaration no_dimension = absurd (no_declaration kind items refl)
+plain_uses (Dimension items) no_subroutine no_declaration no_dimension = absurd (no_dimension items refl)
+plain_uses s no_subroutine no_declaration no_dimension =
+    subst (λ other. uses_of other ≡ map Plain (names_of other)) (sym (fold_out-Stmt Statement stmt_step s)) refl

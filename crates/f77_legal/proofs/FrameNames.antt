@@ -16,10 +16,10 @@ use Rattle.f77_legal.specs.Frames.{framed, framed_line, frame, HaveOneFrame}
 use Rattle.f77_legal.specs.Heading.{dummies}
 use Rattle.f77_tree.specs.Comparing.{same_kind}
 use Rattle.f77_legal.specs.Legal.{is_array}
-use Rattle.f77_legal.specs.Names.{Symbol, Mention, Dummy, Typed, Dimensioned, Plain, name_in, mentions_of, mentions, is_dummy, kind_in, some_items, bounds_in}
+use Rattle.f77_legal.specs.Names.{Symbol, NameUse, Dummy, Typed, Dimensioned, Plain, name_in, uses_of, uses, is_dummy, kind_in, some_items, bounds_in}
 use Rattle.f77_legal.specs.Names.{dummies_given, kinds_given, bounds_given, first_item_or, kind_of, bounds_of, is_integer_name, is_real}
 use Rattle.f77_legal.specs.Names.{unit_name, is_twice}
-use Rattle.f77_legal.specs.Presets.{product, element_count, is_dummy_name, names_preset, is_preset_twice, groups_of, given_kinds, wanted_kinds, presets_badly}
+use Rattle.f77_legal.specs.InitialValues.{product, element_count, is_dummy_name, names_in_data, is_twice_in_data, groups_of, given_kinds, needed_kinds, has_bad_data}
 use Rattle.f77_legal.proofs.Frames.{declares, declared_in-framed, groups_of-framed, dummies_of-framed, unit_name_of-framed}
 
 -- what follows from the frame is the same for two programs of one frame
@@ -27,16 +27,16 @@ pub by_frame : {X : Type 0} (f : List LineFields → X) → ((p : List LineField
     → f p ≡ f q
 by_frame f kept p q same = sym (kept p) ∙ ap f same ∙ kept q
 
--- the mentions of a program that say more of a name than that it is there
-abbrev declared : List LineFields → List Mention
-declared p = filter declares (mentions p)
+-- the uses of names in a program that say more of a name than that it is there
+abbrev declared : List LineFields → List NameUse
+declared p = filter declares (uses p)
 
 declared-frame : (p : List LineFields) → declared (frame p) ≡ declared p
 declared-frame [] = refl
 declared-frame (line ∷ lines) =
-    filter-append declares (mentions_of (framed line.stmt)) (mentions (frame lines))
+    filter-append declares (uses_of (framed line.stmt)) (uses (frame lines))
     ∙ (λ k. declared_in-framed line.stmt k ++ declared-frame lines k)
-    ∙ sym (filter-append declares (mentions_of line.stmt) (mentions lines))
+    ∙ sym (filter-append declares (uses_of line.stmt) (uses lines))
 
 -- two tests may be done in either order
 either_first : {X : Type 0} (a b : X → Bool) (xs : List X) → filter a (filter b xs) ≡ filter b (filter a xs)
@@ -49,8 +49,8 @@ either_first a b (x ∷ xs) = by (a x) (b x) refl refl (either_first a b xs)
     by false true e f rest = rw (f, e) rest
     by false false e f rest = rw (f, e) rest
 
--- what a mention gives that declares nothing is nothing
-given_by_declared : {Y : Type 0} (give : Mention → Option Y) → ((name : Symbol) → give (Plain name) ≡ None) → (all : List Mention)
+-- a use that declares nothing gives nothing
+given_by_declared : {Y : Type 0} (give : NameUse → Option Y) → ((name : Symbol) → give (Plain name) ≡ None) → (all : List NameUse)
     → filter_map give (filter declares all) ≡ filter_map give all
 given_by_declared give plain [] = refl
 given_by_declared give plain (Dummy name ∷ all) = ap (cons_option (give (Dummy name))) (given_by_declared give plain all)
@@ -59,40 +59,40 @@ given_by_declared give plain (Dimensioned declaration ∷ all) = ap (cons_option
 given_by_declared give plain (Plain name ∷ all) =
     given_by_declared give plain all ∙ ap (λ o. cons_option o (filter_map give all)) (sym (plain name))
 
-dummies_by_declared : (all : List Mention) → filter is_dummy (filter declares all) ≡ filter is_dummy all
+dummies_by_declared : (all : List NameUse) → filter is_dummy (filter declares all) ≡ filter is_dummy all
 dummies_by_declared [] = refl
 dummies_by_declared (Dummy name ∷ all) = ap (λ rest. Dummy name ∷ rest) (dummies_by_declared all)
 dummies_by_declared (Typed kind declaration ∷ all) = dummies_by_declared all
 dummies_by_declared (Dimensioned declaration ∷ all) = dummies_by_declared all
 dummies_by_declared (Plain name ∷ all) = dummies_by_declared all
 
-abbrev names_it : Symbol → Mention → Bool
-names_it name mention = bytes_eq name (name_in mention)
+abbrev names_it : Symbol → NameUse → Bool
+names_it name name_use = bytes_eq name (name_in name_use)
 
-pub dummies_given-frame : (p : List LineFields) (name : Symbol) → dummies_given (mentions (frame p)) name ≡ dummies_given (mentions p) name
+pub dummies_given-frame : (p : List LineFields) (name : Symbol) → dummies_given (uses (frame p)) name ≡ dummies_given (uses p) name
 dummies_given-frame p name =
     of_declared (frame p) ∙ (λ k. filter is_dummy (filter (names_it name) (declared-frame p k))) ∙ sym (of_declared p)
   where
-    of_declared : (p : List LineFields) → dummies_given (mentions p) name ≡ filter is_dummy (filter (names_it name) (declared p))
+    of_declared : (p : List LineFields) → dummies_given (uses p) name ≡ filter is_dummy (filter (names_it name) (declared p))
     of_declared p =
-        sym (dummies_by_declared (filter (names_it name) (mentions p)))
-        ∙ ap (filter is_dummy) (either_first declares (names_it name) (mentions p))
+        sym (dummies_by_declared (filter (names_it name) (uses p)))
+        ∙ ap (filter is_dummy) (either_first declares (names_it name) (uses p))
 
 -- what is given of a name
-given-frame : {Y : Type 0} (give : Mention → Option Y) → ((name : Symbol) → give (Plain name) ≡ None) → (p : List LineFields) (name : Symbol)
-    → filter_map give (filter (names_it name) (mentions (frame p))) ≡ filter_map give (filter (names_it name) (mentions p))
+given-frame : {Y : Type 0} (give : NameUse → Option Y) → ((name : Symbol) → give (Plain name) ≡ None) → (p : List LineFields) (name : Symbol)
+    → filter_map give (filter (names_it name) (uses (frame p))) ≡ filter_map give (filter (names_it name) (uses p))
 given-frame give plain p name =
     of_declared (frame p) ∙ (λ k. filter_map give (filter (names_it name) (declared-frame p k))) ∙ sym (of_declared p)
   where
-    of_declared : (p : List LineFields) → filter_map give (filter (names_it name) (mentions p)) ≡ filter_map give (filter (names_it name) (declared p))
+    of_declared : (p : List LineFields) → filter_map give (filter (names_it name) (uses p)) ≡ filter_map give (filter (names_it name) (declared p))
     of_declared p =
-        sym (given_by_declared give plain (filter (names_it name) (mentions p)))
-        ∙ ap (filter_map give) (either_first declares (names_it name) (mentions p))
+        sym (given_by_declared give plain (filter (names_it name) (uses p)))
+        ∙ ap (filter_map give) (either_first declares (names_it name) (uses p))
 
-pub kinds_given-frame : (p : List LineFields) (name : Symbol) → kinds_given (mentions (frame p)) name ≡ kinds_given (mentions p) name
+pub kinds_given-frame : (p : List LineFields) (name : Symbol) → kinds_given (uses (frame p)) name ≡ kinds_given (uses p) name
 kinds_given-frame = given-frame kind_in (λ name. refl)
 
-pub bounds_given-frame : (p : List LineFields) (name : Symbol) → bounds_given (mentions (frame p)) name ≡ bounds_given (mentions p) name
+pub bounds_given-frame : (p : List LineFields) (name : Symbol) → bounds_given (uses (frame p)) name ≡ bounds_given (uses p) name
 bounds_given-frame = given-frame bounds_in (λ name. refl)
 
 pub kind_of-frame : (p : List LineFields) (name : Symbol) → kind_of (frame p) name ≡ kind_of p name
@@ -124,13 +124,13 @@ is_array-frame p name = λ k. is_some (some_items (bounds_of-frame p name k))
 pub elements-frame : (p : List LineFields) (name : Symbol) → element_count (frame p) name ≡ element_count p name
 elements-frame p name = ap product (bounds_of-frame p name)
 
-pub names_preset-frame : (p : List LineFields) → names_preset (frame p) ≡ names_preset p
-names_preset-frame [] = refl
-names_preset-frame (line ∷ lines) = λ k. flat_map (λ (group : GroupFields). group.names) (groups_of-framed line.stmt k) ++ names_preset-frame lines k
+pub names_in_data-frame : (p : List LineFields) → names_in_data (frame p) ≡ names_in_data p
+names_in_data-frame [] = refl
+names_in_data-frame (line ∷ lines) = λ k. flat_map (λ (group : GroupFields). group.names) (groups_of-framed line.stmt k) ++ names_in_data-frame lines k
 
-pub is_preset_twice-frame : (p : List LineFields) (i : ℕ) (name : Symbol) → is_preset_twice (frame p) i name ≡ is_preset_twice p i name
-is_preset_twice-frame p i name =
-    ap (λ names. nat_le 2 (length (filter (bytes_eq name) names))) (ap names_preset (take-map framed_line (suc i) p) ∙ names_preset-frame (take (suc i) p))
+pub is_twice_in_data-frame : (p : List LineFields) (i : ℕ) (name : Symbol) → is_twice_in_data (frame p) i name ≡ is_twice_in_data p i name
+is_twice_in_data-frame p i name =
+    ap (λ names. nat_le 2 (length (filter (bytes_eq name) names))) (ap names_in_data (take-map framed_line (suc i) p) ∙ names_in_data-frame (take (suc i) p))
 
 pub dummies-frame : (p : List LineFields) → dummies (frame p) ≡ dummies p
 dummies-frame [] = refl
@@ -159,17 +159,17 @@ module _ (p q : List LineFields) (same : HaveOneFrame p q) where
   pub elements_same : (name : Symbol) → element_count p name ≡ element_count q name
   elements_same name = by_frame (λ r. element_count r name) (λ r. elements-frame r name) p q same
 
-  pub is_preset_twice_same : (i : ℕ) (name : Symbol) → is_preset_twice p i name ≡ is_preset_twice q i name
-  is_preset_twice_same i name = by_frame (λ r. is_preset_twice r i name) (λ r. is_preset_twice-frame r i name) p q same
+  pub is_twice_in_data_same : (i : ℕ) (name : Symbol) → is_twice_in_data p i name ≡ is_twice_in_data q i name
+  is_twice_in_data_same i name = by_frame (λ r. is_twice_in_data r i name) (λ r. is_twice_in_data-frame r i name) p q same
 
   pub dummies_same : dummies p ≡ dummies q
   dummies_same = by_frame dummies dummies-frame p q same
 
   -- DATA with the same groups
-  pub presets_badly_same : (i : ℕ) (s t : Statement) → groups_of s ≡ groups_of t → presets_badly p i s ≡ presets_badly q i t
-  presets_badly_same i s t groups = λ k.
-      list_any (λ name. is_dummy_name_same name k || is_preset_twice_same i name k) (flat_map (λ (group : GroupFields). group.names) (groups k))
-      || list_any (λ group. not (pointwise same_kind (wanted group k) (given_kinds group))) (groups k)
+  pub has_bad_data_same : (i : ℕ) (s t : Statement) → groups_of s ≡ groups_of t → has_bad_data p i s ≡ has_bad_data q i t
+  has_bad_data_same i s t groups = λ k.
+      list_any (λ name. is_dummy_name_same name k || is_twice_in_data_same i name k) (flat_map (λ (group : GroupFields). group.names) (groups k))
+      || list_any (λ group. not (pointwise same_kind (needed group k) (given_kinds group))) (groups k)
     where
-      wanted : (group : GroupFields) → wanted_kinds p group ≡ wanted_kinds q group
-      wanted group = λ k. flat_map (λ name. replicate (elements_same name k) (kind_of_same name k)) group.names
+      needed : (group : GroupFields) → needed_kinds p group ≡ needed_kinds q group
+      needed group = λ k. flat_map (λ name. replicate (elements_same name k) (kind_of_same name k)) group.names

@@ -9,8 +9,8 @@ use Rattle.f77_legal.specs.code.Frames.{is_framed_out}
 use Rattle.f77_legal.specs.Heading.{dummies_of}
 use Rattle.f77_legal.specs.Labels.{terminal_label, is_target}
 use Rattle.f77_legal.specs.Loops.{do_variable_of}
-use Rattle.f77_legal.specs.Names.{Symbol, Mention, Dummy, Typed, Dimensioned, Plain, mentions_of, unit_name_of}
-use Rattle.f77_legal.specs.Presets.{groups_of}
+use Rattle.f77_legal.specs.Names.{Symbol, NameUse, Dummy, Typed, Dimensioned, Plain, uses_of, unit_name_of}
+use Rattle.f77_legal.specs.InitialValues.{groups_of}
 
 pub framed_out : (s : Statement) → is_framed_out (form_of s) ≡ true → framed s ≡ Statement.Continue
 framed_out (Statement.Assign name items tree) out = refl
@@ -64,8 +64,8 @@ pub unit_name_of-framed : (s : Statement) → unit_name_of (framed s) ≡ unit_n
 unit_name_of-framed (Statement.Subroutine name names) = refl
 unit_name_of-framed _ = refl
 
--- a mention that says more of a name than that it is there
-abbrev pub declares : Mention → Bool
+-- a use that says more of a name than that it is there
+abbrev pub declares : NameUse → Bool
 declares (Dummy name) = true
 declares (Typed kind declaration) = true
 declares (Dimensioned declaration) = true
@@ -75,7 +75,7 @@ none_plain : (names : List Symbol) → filter declares (map Plain names) ≡ []
 none_plain [] = refl
 none_plain (name ∷ names) = none_plain names
 
-pub declared_in-framed : (s : Statement) → filter declares (mentions_of (framed s)) ≡ filter declares (mentions_of s)
+pub declared_in-framed : (s : Statement) → filter declares (uses_of (framed s)) ≡ filter declares (uses_of s)
 declared_in-framed (Statement.Subroutine name names) = refl
 declared_in-framed (Statement.Declare kind declarations) = refl
 declared_in-framed (Statement.Dimension declarations) = refl

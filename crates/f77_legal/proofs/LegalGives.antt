@@ -76,7 +76,7 @@ pub record Kept (p : List LineFields) : Type 0 where
   pub nests : faults_of Nests p ≡ []
   pub jumps : faults_of Jumps p ≡ []
   pub variables : faults_of Variables p ≡ []
-  pub presets : data_faults p ≡ []
+  pub initial_values : data_faults p ≡ []
   pub sizes : too_large_faults p ≡ []
 
 pub kept_by : (p : List LineFields) → IsLegal p → Kept p
@@ -103,7 +103,7 @@ kept_by p legal =
       nests = none_before (faults_of Nests p) (clause_faults (Jumps ∷ (Variables ∷ [])) p) third;
       jumps = none_before (faults_of Jumps p) (clause_faults (Variables ∷ []) p) fourth;
       variables = none_before (faults_of Variables p) (clause_faults [] p) fifth;
-      presets = none_before (data_faults p) (too_large_faults p) last;
+      initial_values = none_before (data_faults p) (too_large_faults p) last;
       sizes = none_behind (data_faults p) (too_large_faults p) last;
     }
 

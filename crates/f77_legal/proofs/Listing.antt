@@ -6,21 +6,21 @@ use Rattle.std.proofs.lemmas.List.Elements.{filter_map-append}
 use Rattle.std.proofs.lemmas.List.Sums.{fold-append}
 use Rattle.f77_tree.specs.declared.node.Node.{Node}
 use Rattle.f77_tree.specs.Node.{NodeOf, node_of, node_name}
-use Rattle.f77_legal.specs.Names.{Symbol, Mention}
+use Rattle.f77_legal.specs.Names.{Symbol, NameUse}
 use Rattle.f77_legal.specs.NameTable.{Entries}
-use Rattle.f77_legal.specs.code.NameTable.{with_mention, with_mentions}
+use Rattle.f77_legal.specs.code.NameTable.{with_use, with_uses}
 
 pub one_more : {X : Type 0} (xs : List X) (i : ℕ) (x : X) → i < length xs → x ≡ get_or xs i x → take (i + 1) xs ≡ take i xs ++ x ∷ []
 one_more xs i x here is = take_more xs i x here ∙ ap (λ z. take i xs ++ z ∷ []) (sym is)
 
--- the table with the names of these nodes, each as a plain mention
+-- the table with the names of these nodes, each as a plain use
 abbrev pub with_names : Entries → List NodeOf → Entries
-with_names es nodes = with_mentions es (map Mention.Plain (filter_map node_name nodes))
+with_names es nodes = with_uses es (map NameUse.Plain (filter_map node_name nodes))
 
 -- the table with this name, if there is one
 abbrev pub with_name : Entries → Option Symbol → Entries
 with_name es None = es
-with_name es (Some name) = with_mention es (Mention.Plain name)
+with_name es (Some name) = with_use es (NameUse.Plain name)
 
 one_node : (es : Entries) (node : NodeOf) (name : Option Symbol) → node_name node ≡ name → with_names es (node ∷ []) ≡ with_name es name
 one_node es node None is = rw is refl
@@ -28,9 +28,9 @@ one_node es node (Some name) is = rw is refl
 
 names_push : (es : Entries) (nodes : List NodeOf) (node : NodeOf) → with_names es (nodes ++ node ∷ []) ≡ with_name (with_names es nodes) (node_name node)
 names_push es nodes node =
-    ap (λ z. with_mentions es (map Mention.Plain z)) (filter_map-append node_name nodes (node ∷ []))
-    ∙ ap (with_mentions es) (map-append Mention.Plain (filter_map node_name nodes) (filter_map node_name (node ∷ [])))
-    ∙ fold-append with_mention es (map Mention.Plain (filter_map node_name nodes)) (map Mention.Plain (filter_map node_name (node ∷ [])))
+    ap (λ z. with_uses es (map NameUse.Plain z)) (filter_map-append node_name nodes (node ∷ []))
+    ∙ ap (with_uses es) (map-append NameUse.Plain (filter_map node_name nodes) (filter_map node_name (node ∷ [])))
+    ∙ fold-append with_use es (map NameUse.Plain (filter_map node_name nodes)) (map NameUse.Plain (filter_map node_name (node ∷ [])))
     ∙ one_node (with_names es nodes) node (node_name node) refl
 
 pub names_more : (es : Entries) (nodes : List Node) (i : ℕ) (node : Node) → i < length nodes → node ≡ get_or nodes i node

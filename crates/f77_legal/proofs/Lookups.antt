@@ -11,11 +11,11 @@ use Rattle.f77_tree.specs.Intrinsic.{function_named}
 use Rattle.f77_program.specs.Program.{LineFields}
 use Rattle.f77_legal.specs.declared.names.Facts.{Facts}
 use Rattle.f77_legal.specs.declared.names.Names.{Names}
-use Rattle.f77_legal.specs.Names.{Symbol, Mention, name_in, mentions, symbols, names_once, is_integer_name, is_real}
+use Rattle.f77_legal.specs.Names.{Symbol, NameUse, name_in, uses, symbols, names_once, is_integer_name, is_real}
 use Rattle.f77_legal.specs.Names.{is_twice, unit_name_of, kind_of, bounds_of, kinds_given, bounds_given, dummies_given}
 use Rattle.f77_legal.specs.NameTable.{FactsFields, Entries, IsNameTable, facts_fields, entry_of, table_entries, how_often, facts_of, table, kind_at, array_bounds}
-use Rattle.f77_legal.specs.code.NameTable.{no_facts, dummy_at, is_never, is_more, tells_real, tells_twice}
-use Rattle.f77_legal.specs.Presets.{is_dummy_name}
+use Rattle.f77_legal.specs.code.NameTable.{no_facts, dummy_at, is_never, is_more, is_real_entry, is_twice_entry}
+use Rattle.f77_legal.specs.InitialValues.{is_dummy_name}
 use Rattle.f77_legal.proofs.Digests.{facts_none}
 use Rattle.f77_legal.proofs.Symbols.{same_symbol, any_once}
 use Rattle.f77_legal.proofs.NameTables.{rows}
@@ -53,7 +53,7 @@ facts_row f q (x ∷ xs) = by (bytes_eq q x) refl (facts_row f q xs)
     by true e rest = rw e (ap f (sym (same_symbol q x e)))
     by false e rest = rw e rest
 
-facts_table : (ms : List Mention) (q : Symbol) → facts_at (table ms) q ≡ facts_of ms q
+facts_table : (ms : List NameUse) (q : Symbol) → facts_at (table ms) q ≡ facts_of ms q
 facts_table ms q =
     facts_row (facts_of ms) q (names_once (map name_in ms))
     ∙ ap (row_at (facts_of ms) q) (any_once q (map name_in ms))
@@ -64,8 +64,8 @@ facts_table ms q =
     by false e = sym (facts_none ms q e)
 
 module _ (names : Names) (program : List LineFields) (is : IsNameTable names program) (q : Symbol) where
-  looked : facts_at (table_entries names) q ≡ facts_of (mentions program) q
-  looked = ap (λ es. facts_at es q) is ∙ facts_table (mentions program) q
+  looked : facts_at (table_entries names) q ≡ facts_of (uses program) q
+  looked = ap (λ es. facts_at es q) is ∙ facts_table (uses program) q
 
   found : option_map facts_fields (lookup (bytes_eq q) names.facts.entries) ≡ lookup (bytes_eq q) (table_entries names)
   found = sym (lookup-map_values facts_fields (bytes_eq q) names.facts.entries)
@@ -74,21 +74,21 @@ module _ (names : Names) (program : List LineFields) (is : IsNameTable names pro
   read look None = refl
   read look (Some f) = refl
 
-  told : {Y : Type 0} (look : FactsFields → Y) → option_map_or (λ f. look (facts_fields f)) (lookup (bytes_eq q) names.facts.entries) (look no_facts) ≡ look (facts_of (mentions program) q)
-  told look =
+  known : {Y : Type 0} (look : FactsFields → Y) → option_map_or (λ f. look (facts_fields f)) (lookup (bytes_eq q) names.facts.entries) (look no_facts) ≡ look (facts_of (uses program) q)
+  known look =
       read look (lookup (bytes_eq q) names.facts.entries)
       ∙ ap (λ o. look (option_map_or (λ f. f) o no_facts)) found
       ∙ ap look looked
 
   -- the kind of the name, its bounds, and whether it is a dummy argument
   pub same_kind_at : kind_at names q ≡ kind_of program q
-  same_kind_at = told (λ f. f.kind)
+  same_kind_at = known (λ f. f.kind)
 
   pub same_bounds_at : array_bounds names q ≡ bounds_of program q
-  same_bounds_at = told (λ f. f.bounds)
+  same_bounds_at = known (λ f. f.bounds)
 
   pub same_dummy_at : dummy_at names q ≡ is_dummy_name program q
-  same_dummy_at = told (λ f. not (is_never f.dummy)) ∙ said_some _
+  same_dummy_at = known (λ f. not (is_never f.dummy)) ∙ said_some _
 
 -- kinds, bounds and dummy arguments as functions of the name
 pub same_kinds : (names : Names) (program : List LineFields) → IsNameTable names program → kind_at names ≡ kind_of program
@@ -120,19 +120,19 @@ find_row p f test same (x ∷ xs) = by (test x) refl (find_row p f test same xs)
     by false t rest = let u : p (x, f x) ≡ false = same x ∙ t in rw (u, t) rest
 
 module _ (names : Names) (program : List LineFields) (is : IsNameTable names program) where
-  first_with : (p : Symbol × FactsFields → Bool) (test : Symbol → Bool) → ((q : Symbol) → p (q, facts_of (mentions program) q) ≡ test q)
+  first_with : (p : Symbol × FactsFields → Bool) (test : Symbol → Bool) → ((q : Symbol) → p (q, facts_of (uses program) q) ≡ test q)
       → option_map key_of (find (λ e. p (entry_of e)) names.facts.entries) ≡ slice_get (filter test (symbols program)) 0
   first_with p test same =
       find_fields p names.facts.entries
       ∙ ap (λ es. option_map key_of (find p es)) is
-      ∙ find_row p (facts_of (mentions program)) test same (symbols program)
+      ∙ find_row p (facts_of (uses program)) test same (symbols program)
 
-  pub first_real_is : option_map key_of (find (λ e. tells_real (entry_of e)) names.facts.entries) ≡ slice_get (filter (is_real program) (symbols program)) 0
-  first_real_is = first_with tells_real (is_real program) (λ q. ap (λ b. b && not (is_integer_name q)) (never_none _))
+  pub first_real_is : option_map key_of (find (λ e. is_real_entry (entry_of e)) names.facts.entries) ≡ slice_get (filter (is_real program) (symbols program)) 0
+  first_real_is = first_with is_real_entry (is_real program) (λ q. ap (λ b. b && not (is_integer_name q)) (never_none _))
 
   pub first_twice_is : (unit : Option Symbol) → unit ≡ option_and_then (λ line. unit_name_of line.stmt) (slice_get program 0)
-      → option_map key_of (find (λ e. tells_twice unit (entry_of e)) names.facts.entries) ≡ slice_get (filter (is_twice program) (symbols program)) 0
+      → option_map key_of (find (λ e. is_twice_entry unit (entry_of e)) names.facts.entries) ≡ slice_get (filter (is_twice program) (symbols program)) 0
   first_twice_is unit first =
-      let ms = mentions program in
-      first_with (tells_twice unit) (is_twice program)
+      let ms = uses program in
+      first_with (is_twice_entry unit) (is_twice program)
       (λ q i. more_two (kinds_given ms q) i || (more_two (bounds_given ms q) i || (more_two (dummies_given ms q) i || (option_map_or (bytes_eq q) (first i) false || is_some (function_named q)))))

@@ -14,17 +14,17 @@ use Rattle.std.proofs.lemmas.Map.Views.{any-filter_same}
 use Rattle.f77_program.specs.Program.{LineFields}
 use Rattle.f77_tree.specs.Statement.{Statement}
 use Rattle.f77_legal.specs.Blocks.{first_numbers, statement_numbers, has_at, is_end_if, is_alternative, is_level, begins_branch, branch_end, branch_holds}
-use Rattle.f77_legal.specs.Holders.{end_or_parent, is_in_do_range, in_branch, innermost_holder}
-use Rattle.f77_legal.specs.code.Holders.{ancestors, precedes}
+use Rattle.f77_legal.specs.Enclosing.{end_or_parent, is_in_do_range, in_branch, innermost_enclosing}
+use Rattle.f77_legal.specs.code.Enclosing.{ancestors, precedes}
 use Rattle.f77_legal.specs.Labels.{nth_statement, label_place, bears, terminal_label}
 use Rattle.f77_legal.specs.Loops.{terminal, range_holds, is_left, left_by, ends_at, loops_ending, enclosing, ends_outside, breaks_range, AreNested, goes_in, do_variable_of, holds_with}
 use Rattle.f77_legal.specs.code.LoopTable as table
 use Rattle.f77_legal.specs.LoopTable.{IsRangeTable}
 use Rattle.f77_legal.specs.code.LoopTable.{ancestors_of, holds_by, leaves_range, leaves_branch, is_held_with, enters, crosses}
 use Rattle.f77_legal.specs.Names.{Symbol}
-use Rattle.f77_legal.specs.declared.holders.Ranges.{Ranges}
+use Rattle.f77_legal.specs.declared.enclosing.Ranges.{Ranges}
 use Rattle.f77_legal.proofs.LoopLists.{left_out, all_kept, same_filters, any_agree, filter_none, found_within}
-use Rattle.f77_legal.proofs.Nesting.{entry_number, entry_past, holders_kept, find_kept}
+use Rattle.f77_legal.proofs.Nesting.{entry_number, entry_past, enclosing_kept, find_kept}
 use Rattle.f77_legal.proofs.Prefixes.{last_of, is_behind, begins_is}
 
 -- nothing holds what stands behind the last statement
@@ -98,14 +98,14 @@ kept_backwards p (x ∷ xs) =
 -- a list of parents that is not as long as the program's has none behind it
 no_parent : (ranges : Ranges) (k : ℕ) → length ranges.terminals.items ≤ k → end_or_parent ranges.parents.items k ≡ None
 no_parent ranges k past =
-    ap (λ parents. end_or_parent parents k) ranges.innermost ∙ entry_past (innermost_holder ranges.terminals.items ranges.branch_ends.items) (length ranges.terminals.items) k past
+    ap (λ parents. end_or_parent parents k) ranges.innermost ∙ entry_past (innermost_enclosing ranges.terminals.items ranges.branch_ends.items) (length ranges.terminals.items) k past
 
 -- the ancestors of k that hold it are what holds it in the program, the innermost first
-holders_are : (ranges : Ranges) (program : List LineFields) → IsRangeTable ranges program → (k : ℕ) → filter (holds_by ranges k) (ancestors_of ranges k) ≡ reverse (enclosing program k)
-holders_are ranges program is k = elim (cases_lt k (length ranges.terminals.items)) [
+enclosing_are : (ranges : Ranges) (program : List LineFields) → IsRangeTable ranges program → (k : ℕ) → filter (holds_by ranges k) (ancestors_of ranges k) ≡ reverse (enclosing program k)
+enclosing_are ranges program is k = elim (cases_lt k (length ranges.terminals.items)) [
   | inl within ↦
       ap (λ parents. filter (holds_by ranges k) (ancestors parents (end_or_parent parents k))) ranges.innermost
-      ∙ holders_kept ranges.terminals.items ranges.branch_ends.items (length ranges.terminals.items) k within
+      ∙ enclosing_kept ranges.terminals.items ranges.branch_ends.items (length ranges.terminals.items) k within
       ∙ kept_backwards (holds_by ranges k) (first_numbers k)
       ∙ ap reverse (enclosing_before ranges program is k (let same = is.entries in omega arith))
   | inr past ↦
@@ -118,7 +118,7 @@ parent_is : (ranges : Ranges) (program : List LineFields) → IsRangeTable range
 parent_is ranges program is k = elim (cases_lt k (length ranges.terminals.items)) [
   | inl within ↦
       ap (λ parents. end_or_parent parents k) ranges.innermost
-      ∙ entry_number (innermost_holder ranges.terminals.items ranges.branch_ends.items) (length ranges.terminals.items) k within
+      ∙ entry_number (innermost_enclosing ranges.terminals.items ranges.branch_ends.items) (length ranges.terminals.items) k within
       ∙ find_kept (holds_by ranges k) (reverse (first_numbers k))
       ∙ ap (λ xs. slice_get xs zero) (kept_backwards (holds_by ranges k) (first_numbers k))
       ∙ ap last_of (enclosing_before ranges program is k (let same = is.entries in omega arith))
@@ -145,7 +145,7 @@ kept_of : (ranges : Ranges) (program : List LineFields) → IsRangeTable ranges 
 kept_of ranges program is k p q same held =
     filter_agree p q same (ancestors_of ranges k)
     ∙ sym (kept_twice (holds_by ranges k) q (ancestors_of ranges k) (λ d h. holds_is ranges program is k d ∙ held d h))
-    ∙ ap (filter q) (holders_are ranges program is k)
+    ∙ ap (filter q) (enclosing_are ranges program is k)
     ∙ kept_backwards q (enclosing program k)
     ∙ ap reverse (kept_twice (held_by program k) q (statement_numbers program) held)
 
@@ -169,7 +169,7 @@ any_of : (ranges : Ranges) (program : List LineFields) → IsRangeTable ranges p
 any_of ranges program is k p q same held =
     any_agree p q same (ancestors_of ranges k)
     ∙ sym (any-filter_same q (holds_by ranges k) true (λ d h. holds_is ranges program is k d ∙ held d h) (ancestors_of ranges k))
-    ∙ ap (list_any q) (holders_are ranges program is k)
+    ∙ ap (list_any q) (enclosing_are ranges program is k)
     ∙ any_backwards q (enclosing program k)
     ∙ any-filter_same q (held_by program k) true held (statement_numbers program)
 

@@ -1,4 +1,4 @@
--- The table of a list of mentions, made by one after another.
+-- The table of a list of uses of names, made from one after another.
 use Rattle.std.proofs.Common.{◌≡◌, ℕ, ◌+◌, ◌<◌, length, List, [], ◌∷◌, ◌++◌, Bool, true, false, refl, ap, sym, ◌∙◌, subst, append_assoc, take, get_or}
 use Rattle.std.specs.Prelude.{map}
 use Rattle.std.specs.List.{list_any}
@@ -9,9 +9,9 @@ use Rattle.std.proofs.lemmas.List.Sums.{fold-append}
 use Rattle.f77_program.specs.declared.program.Line.{Line}
 use Rattle.f77_program.specs.Program.{LineFields, line_of}
 use Rattle.f77_tree.specs.Statement.{statement_of}
-use Rattle.f77_legal.specs.Names.{Symbol, Mention, name_in, mentions_of, mentions, names_once}
+use Rattle.f77_legal.specs.Names.{Symbol, NameUse, name_in, uses_of, uses, names_once}
 use Rattle.f77_legal.specs.NameTable.{FactsFields, Entries, facts_of, table}
-use Rattle.f77_legal.specs.code.NameTable.{with_fact, no_facts, with_mention, with_mentions}
+use Rattle.f77_legal.specs.code.NameTable.{with_fact, no_facts, with_use, with_uses}
 use Rattle.f77_legal.proofs.Digests.{facts_hit, facts_miss, facts_none}
 use Rattle.f77_legal.proofs.Listing.{one_more}
 use Rattle.f77_legal.proofs.Symbols.{or_false, same_symbol, symbol_refl, Apart, any_once, once_push, once_apart}
@@ -19,8 +19,8 @@ use Rattle.f77_legal.proofs.Symbols.{or_false, same_symbol, symbol_refl, Apart, 
 abbrev pub rows : (Symbol → FactsFields) → List Symbol → Entries
 rows f xs = map (λ q. (q, f q)) xs
 
--- one more mention, where it is known what it adds to its own name
-module _ (m : Mention) (f g : Symbol → FactsFields)
+-- one more use, where it is known what it adds to its own name
+module _ (m : NameUse) (f g : Symbol → FactsFields)
     (hit : (q : Symbol) → bytes_eq (name_in m) q ≡ true → g q ≡ with_fact (f q) m)
     (miss : (q : Symbol) → bytes_eq (name_in m) q ≡ false → g q ≡ f q) where
   same_rows : (xs : List Symbol) → list_any (bytes_eq (name_in m)) xs ≡ false → rows f xs ≡ rows g xs
@@ -30,31 +30,31 @@ module _ (m : Mention) (f g : Symbol → FactsFields)
       λ i. (x, sym (miss x h.0) i) ∷ same_rows xs h.1 i
 
   row_here : (x : Symbol) (xs : List Symbol) (b : Bool) → bytes_eq (name_in m) x ≡ b → Apart (x ∷ xs) → list_any (bytes_eq (name_in m)) (x ∷ xs) ≡ true
-      → (list_any (bytes_eq (name_in m)) xs ≡ true → with_mention (rows f xs) m ≡ rows g xs) → with_mention (rows f (x ∷ xs)) m ≡ rows g (x ∷ xs)
+      → (list_any (bytes_eq (name_in m)) xs ≡ true → with_use (rows f xs) m ≡ rows g xs) → with_use (rows f (x ∷ xs)) m ≡ rows g (x ∷ xs)
   row_here x xs true t apart some rest =
       let none = subst (λ z. list_any (bytes_eq z) xs ≡ false) (sym (same_symbol (name_in m) x t)) apart.0 in
       rw t (λ i. (x, sym (hit x t) i) ∷ same_rows xs none i)
   row_here x xs false t apart some rest = let later = rw t at some in rw t (λ i. (x, sym (miss x t) i) ∷ rest later i)
 
-  pub row_there : (xs : List Symbol) → Apart xs → list_any (bytes_eq (name_in m)) xs ≡ true → with_mention (rows f xs) m ≡ rows g xs
+  pub row_there : (xs : List Symbol) → Apart xs → list_any (bytes_eq (name_in m)) xs ≡ true → with_use (rows f xs) m ≡ rows g xs
   row_there [] apart some = cc
   row_there (x ∷ xs) apart some = row_here x xs (bytes_eq (name_in m) x) refl apart some (row_there xs apart.1)
 
   pub row_new : (xs : List Symbol) → list_any (bytes_eq (name_in m)) xs ≡ false → g (name_in m) ≡ with_fact no_facts m
-      → with_mention (rows f xs) m ≡ rows g (xs ++ name_in m ∷ [])
+      → with_use (rows f xs) m ≡ rows g (xs ++ name_in m ∷ [])
   row_new [] none first = λ i. (name_in m, sym first i) ∷ []
   row_new (x ∷ xs) none first =
       let h = or_false (bytes_eq (name_in m) x) (list_any (bytes_eq (name_in m)) xs) none in
       let apart : bytes_eq (name_in m) x ≡ false = h.0 in
       rw apart (λ i. (x, sym (miss x apart) i) ∷ row_new xs h.1 first i)
 
-table_push : (ms : List Mention) (m : Mention) → with_mention (table ms) m ≡ table (ms ++ m ∷ [])
+table_push : (ms : List NameUse) (m : NameUse) → with_use (table ms) m ≡ table (ms ++ m ∷ [])
 table_push ms m = by (list_any (bytes_eq (name_in m)) (map name_in ms)) refl
   where
     names : names_once (map name_in (ms ++ m ∷ [])) ≡ names_once (map name_in ms ++ name_in m ∷ [])
     names = ap names_once (map-append name_in ms (m ∷ []))
 
-    by : (b : Bool) → list_any (bytes_eq (name_in m)) (map name_in ms) ≡ b → with_mention (table ms) m ≡ table (ms ++ m ∷ [])
+    by : (b : Bool) → list_any (bytes_eq (name_in m)) (map name_in ms) ≡ b → with_use (table ms) m ≡ table (ms ++ m ∷ [])
     by true e =
         row_there m (facts_of ms) (facts_of (ms ++ m ∷ [])) (facts_hit ms m) (facts_miss ms m) (names_once (map name_in ms))
         (once_apart (map name_in ms)) (any_once (name_in m) (map name_in ms) ∙ e)
@@ -65,25 +65,25 @@ table_push ms m = by (list_any (bytes_eq (name_in m)) (map name_in ms)) refl
         (facts_hit ms m (name_in m) (symbol_refl (name_in m)) ∙ ap (λ z. with_fact z m) (facts_none ms (name_in m) e))
         ∙ ap (rows (facts_of (ms ++ m ∷ []))) (sym (names ∙ once_push (map name_in ms) (name_in m) ∙ rw e refl))
 
-table_more : (ms ns : List Mention) → with_mentions (table ms) ns ≡ table (ms ++ ns)
+table_more : (ms ns : List NameUse) → with_uses (table ms) ns ≡ table (ms ++ ns)
 table_more ms [] = ap table (sym (append-nil ms))
 table_more ms (m ∷ ns) =
-    ap (λ z. with_mentions z ns) (table_push ms m)
+    ap (λ z. with_uses z ns) (table_push ms m)
     ∙ table_more (ms ++ m ∷ []) ns
     ∙ ap table (append_assoc ms (m ∷ []) ns)
 
 -- the table that the lines make
 abbrev pub noted : List Line → Entries
-noted lines = with_mentions [] (mentions (map line_of lines))
+noted lines = with_uses [] (uses (map line_of lines))
 
-pub noted_all : (lines : List Line) → noted lines ≡ table (mentions (map line_of lines))
-noted_all lines = table_more [] (mentions (map line_of lines))
+pub noted_all : (lines : List Line) → noted lines ≡ table (uses (map line_of lines))
+noted_all lines = table_more [] (uses (map line_of lines))
 
 pub noted_more : (lines : List Line) (i : ℕ) (line : Line) → i < length lines → line ≡ get_or lines i line
-    → noted (take (i + 1) lines) ≡ with_mentions (noted (take i lines)) (mentions_of (statement_of line.stmt))
+    → noted (take (i + 1) lines) ≡ with_uses (noted (take i lines)) (uses_of (statement_of line.stmt))
 noted_more lines i line here is =
     ap noted (one_more lines i line here is)
-    ∙ ap (λ z. with_mentions [] (mentions z)) (map-append line_of (take i lines) (line ∷ []))
-    ∙ ap (with_mentions []) (flat_map-append (λ (l : LineFields). mentions_of l.stmt) (map line_of (take i lines)) (line_of line ∷ []))
-    ∙ fold-append with_mention [] (mentions (map line_of (take i lines))) (mentions_of (statement_of line.stmt) ++ [])
-    ∙ ap (with_mentions (noted (take i lines))) (append-nil (mentions_of (statement_of line.stmt)))
+    ∙ ap (λ z. with_uses [] (uses z)) (map-append line_of (take i lines) (line ∷ []))
+    ∙ ap (with_uses []) (flat_map-append (λ (l : LineFields). uses_of l.stmt) (map line_of (take i lines)) (line_of line ∷ []))
+    ∙ fold-append with_use [] (uses (map line_of (take i lines))) (uses_of (statement_of line.stmt) ++ [])
+    ∙ ap (with_uses (noted (take i lines))) (append-nil (uses_of (statement_of line.stmt)))

@@ -8,8 +8,8 @@ use Rattle.std.proofs.lemmas.Bool.Decides.{nat_tests}
 use Rattle.std.proofs.lemmas.List.{reverse-append}
 use Rattle.std.proofs.lemmas.Option.{slice_get-map, slice_get_past}
 use Rattle.f77_legal.specs.Blocks.{first_numbers}
-use Rattle.f77_legal.specs.Holders.{end_or_parent, is_in_do_range, in_branch, holds, innermost_holder, parents_of}
-use Rattle.f77_legal.specs.code.Holders.{IsFalling, ancestors_below, ancestors}
+use Rattle.f77_legal.specs.Enclosing.{end_or_parent, is_in_do_range, in_branch, holds, innermost_enclosing, parents_of}
+use Rattle.f77_legal.specs.code.Enclosing.{IsFalling, ancestors_below, ancestors}
 use Rattle.f77_legal.proofs.LoopLists.{count_numbers, get_number}
 use Rattle.f77_legal.proofs.Walks.{IsBelow, below_is}
 
@@ -100,8 +100,8 @@ held_kept : (terminals ends : List (Option ℕ)) (m k n : ℕ) (first : Option �
     → IsBelow first n → ((i : ℕ) → i < n → holds terminals ends k i ≡ true → Reaches first i)
     → filter (holds terminals ends k) (ancestors_below (parents_of terminals ends m) n first) ≡ filter (holds terminals ends k) (reverse (first_numbers n))
 held_kept terminals ends m k n first within before bound reach =
-    let at : (j : ℕ) → j < n → end_or_parent (parents_of terminals ends m) j ≡ innermost_holder terminals ends j =
-    λ j lt. entry_number (innermost_holder terminals ends) m j (omega arith) in
+    let at : (j : ℕ) → j < n → end_or_parent (parents_of terminals ends m) j ≡ innermost_enclosing terminals ends j =
+    λ j lt. entry_number (innermost_enclosing terminals ends) m j (omega arith) in
     kept (parents_of terminals ends m) (holds terminals ends k) n first
     (λ j i lt below held. subst (λ o. Reaches o i) (sym (at j lt)) (last_reaches (holds terminals ends j) j i below (held_before terminals ends i j k below (omega arith) held)))
     (λ j lt. subst (λ o. IsBelow o j) (sym (at j lt)) (last_below (holds terminals ends j) j))
@@ -109,16 +109,16 @@ held_kept terminals ends m k n first within before bound reach =
 
 pub parents_fall : (terminals ends : List (Option ℕ)) (m : ℕ) → IsFalling (parents_of terminals ends m)
 parents_fall terminals ends m k i e = elim (cases_lt k m) [
-  | inl below ↦ last_below (holds terminals ends k) k i (sym (entry_number (innermost_holder terminals ends) m k below) ∙ e)
-  | inr past ↦ absurd (let none : None ≡ Some i = sym (entry_past (innermost_holder terminals ends) m k past) ∙ e in cc)
+  | inl below ↦ last_below (holds terminals ends k) k i (sym (entry_number (innermost_enclosing terminals ends) m k below) ∙ e)
+  | inr past ↦ absurd (let none : None ≡ Some i = sym (entry_past (innermost_enclosing terminals ends) m k past) ∙ e in cc)
 ]
 
 -- the ancestors of k that hold it are all that do
-pub holders_kept : (terminals ends : List (Option ℕ)) (m k : ℕ) → k < m
+pub enclosing_kept : (terminals ends : List (Option ℕ)) (m k : ℕ) → k < m
     → filter (holds terminals ends k) (ancestors (parents_of terminals ends m) (end_or_parent (parents_of terminals ends m) k)) ≡ filter (holds terminals ends k) (reverse (first_numbers k))
-holders_kept terminals ends m k lt =
+enclosing_kept terminals ends m k lt =
     let parents : List (Option ℕ) = parents_of terminals ends m in
-    let at : end_or_parent parents k ≡ innermost_holder terminals ends k = entry_number (innermost_holder terminals ends) m k lt in
+    let at : end_or_parent parents k ≡ innermost_enclosing terminals ends k = entry_number (innermost_enclosing terminals ends) m k lt in
     let low : IsBelow (end_or_parent parents k) k = parents_fall terminals ends m k in
     ap (filter (holds terminals ends k)) (sym (below_is parents k (end_or_parent parents k) low))
     ∙ held_kept terminals ends m k k (end_or_parent parents k) (omega arith) (omega arith) low
@@ -134,7 +134,7 @@ find_kept p (x ∷ xs) = go (p x) (find_kept p xs)
     go false rest = rest
 
 -- the innermost that holds k is the statement before it or one of that one's ancestors
-innermost_found : (terminals ends : List (Option ℕ)) (k : ℕ) → find (holds terminals ends (suc k)) (ancestors (parents_of terminals ends (suc k)) (Some k)) ≡ innermost_holder terminals ends (suc k)
+innermost_found : (terminals ends : List (Option ℕ)) (k : ℕ) → find (holds terminals ends (suc k)) (ancestors (parents_of terminals ends (suc k)) (Some k)) ≡ innermost_enclosing terminals ends (suc k)
 innermost_found terminals ends k =
     let parents : List (Option ℕ) = parents_of terminals ends (suc k) in
     let p : ℕ → Bool = holds terminals ends (suc k) in
@@ -145,7 +145,7 @@ innermost_found terminals ends k =
     ∙ sym (find_kept p (reverse (first_numbers (suc k))))
 
 pub innermost_from : (terminals ends : List (Option ℕ)) (k : ℕ) (before : Option ℕ) → SomeIff before (1 ≤ k) (k - 1)
-    → find (holds terminals ends k) (ancestors (parents_of terminals ends k) before) ≡ innermost_holder terminals ends k
+    → find (holds terminals ends k) (ancestors (parents_of terminals ends k) before) ≡ innermost_enclosing terminals ends k
 innermost_from terminals ends zero None none = refl
 innermost_from terminals ends (suc k) None none = absurd (none (omega arith))
 innermost_from terminals ends zero (Some j) some = absurd (let le : 1 ≤ zero = some.0 in omega arith)

@@ -9,7 +9,7 @@ use Rattle.f77_legal.specs.Clause.{breaks, clause_fault, lines_where}
 use Rattle.f77_legal.specs.Dimensions.{dimensions_fit}
 use Rattle.f77_legal.specs.Legal.{IsLegal, is_array, is_too_large, too_large_faults}
 use Rattle.f77_legal.specs.Names.{symbols, bounds_of}
-use Rattle.f77_legal.specs.Presets.{element_count}
+use Rattle.f77_legal.specs.InitialValues.{element_count}
 use Rattle.f77_legal.proofs.LegalGives.{kept_by, map_none}
 use Rattle.f77_legal.proofs.Symbols.{or_false}
 

@@ -25,47 +25,47 @@ use Rattle.f77_program.specs.declared.group.Group.TheVariants.{Executable}
 use Rattle.f77_program.proofs.StatementForming.{is_formed}
 use Rattle.f77_tree.proofs.Tests.{and_true}
 use Rattle.f77_legal.specs.declared.names.Names.{Names}
-use Rattle.f77_legal.specs.Names.{Symbol, Mention, name_in, mentions_of, mentions, symbols}
+use Rattle.f77_legal.specs.Names.{Symbol, NameUse, name_in, uses_of, uses, symbols}
 use Rattle.f77_legal.specs.Patches.{is_name_among, tree_passes, items_pass, value_passes, names_pass}
 use Rattle.f77_legal.specs.Alone.{NamesAmong}
 use Rattle.f77_legal.proofs.Among.{all_once, once_all}
 
--- each mention of the changed program is one of another line or of the statement
-module _ (test : Mention → Bool) where
-  apart : (line : LineFields) (program : List LineFields) → list_all test (mentions (line ∷ program)) ≡ (list_all test (mentions_of line.stmt) && list_all test (mentions program))
+-- each use of a name in the changed program is one in another line or in the statement
+module _ (test : NameUse → Bool) where
+  apart : (line : LineFields) (program : List LineFields) → list_all test (uses (line ∷ program)) ≡ (list_all test (uses_of line.stmt) && list_all test (uses program))
   apart line program =
-      ap (list_all test) (flat_map-cons (λ (line : LineFields). mentions_of line.stmt) line program)
-      ∙ list_all-append test (mentions_of line.stmt) (mentions program)
+      ap (list_all test) (flat_map-cons (λ (line : LineFields). uses_of line.stmt) line program)
+      ∙ list_all-append test (uses_of line.stmt) (uses program)
 
-  pub replaced_pass : (program : List LineFields) (i : ℕ) (s : Statement) → list_all test (mentions program) ≡ true → list_all test (mentions_of s) ≡ true
-      → list_all test (mentions (replaced program i s)) ≡ true
+  pub replaced_pass : (program : List LineFields) (i : ℕ) (s : Statement) → list_all test (uses program) ≡ true → list_all test (uses_of s) ≡ true
+      → list_all test (uses (replaced program i s)) ≡ true
   replaced_pass [] i s all new = refl
   replaced_pass (line ∷ program) zero s all new =
-      let both = and_true (list_all test (mentions_of line.stmt)) (list_all test (mentions program)) (sym (apart line program) ∙ all) in
+      let both = and_true (list_all test (uses_of line.stmt)) (list_all test (uses program)) (sym (apart line program) ∙ all) in
       apart (record (line) { stmt = s }) program ∙ (λ i. new i && both.1 i)
   replaced_pass (line ∷ program) (suc n) s all new =
-      let both = and_true (list_all test (mentions_of line.stmt)) (list_all test (mentions program)) (sym (apart line program) ∙ all) in
+      let both = and_true (list_all test (uses_of line.stmt)) (list_all test (uses program)) (sym (apart line program) ∙ all) in
       let rest = replaced_pass program n s both.1 new in
       apart line (replaced program n s) ∙ (λ i. both.0 i && rest i)
 
--- names among others, said of each mention
+-- names among others, said of each use
 module _ (names : List Symbol) where
-  abbrev mention_among : Mention → Bool
-  mention_among mention = is_name_among names (name_in mention)
+  abbrev use_among : NameUse → Bool
+  use_among name_use = is_name_among names (name_in name_use)
 
-  pub symbols_pass : (program : List LineFields) → All (λ name. is_name_among names name ≡ true) (symbols program) → list_all mention_among (mentions program) ≡ true
+  pub symbols_pass : (program : List LineFields) → All (λ name. is_name_among names name ≡ true) (symbols program) → list_all use_among (uses program) ≡ true
   symbols_pass program all =
-      sym (list_all-map (is_name_among names) name_in (mentions program))
-      ∙ list_all-from_AllPass (is_name_among names) (map name_in (mentions program)) (once_all (λ name. is_name_among names name ≡ true) (map name_in (mentions program)) all)
+      sym (list_all-map (is_name_among names) name_in (uses program))
+      ∙ list_all-from_AllPass (is_name_among names) (map name_in (uses program)) (once_all (λ name. is_name_among names name ≡ true) (map name_in (uses program)) all)
 
-  pub pass_symbols : (program : List LineFields) → list_all mention_among (mentions program) ≡ true → All (λ name. is_name_among names name ≡ true) (symbols program)
+  pub pass_symbols : (program : List LineFields) → list_all use_among (uses program) ≡ true → All (λ name. is_name_among names name ≡ true) (symbols program)
   pass_symbols program all =
-      all_once (λ name. is_name_among names name ≡ true) (map name_in (mentions program))
-      (AllPass-from_list_all (is_name_among names) (map name_in (mentions program)) (list_all-map (is_name_among names) name_in (mentions program) ∙ all))
+      all_once (λ name. is_name_among names name ≡ true) (map name_in (uses program))
+      (AllPass-from_list_all (is_name_among names) (map name_in (uses program)) (list_all-map (is_name_among names) name_in (uses program) ∙ all))
 
   pub replaced_among : (program : List LineFields) (i : ℕ) (s : Statement) → All (λ name. is_name_among names name ≡ true) (symbols program) → NamesAmong names s
       → All (λ name. is_name_among names name ≡ true) (symbols (replaced program i s))
-  replaced_among program i s all new = pass_symbols (replaced program i s) (replaced_pass mention_among program i s (symbols_pass program all) new)
+  replaced_among program i s all new = pass_symbols (replaced program i s) (replaced_pass use_among program i s (symbols_pass program all) new)
 
 -- a name of the table
 pub among_keys : (names : Names) (name : Symbol) → is_name_among (keys names.facts) name ≡ is_some (get bytes_eq names.facts name)
@@ -153,12 +153,12 @@ module _ (test : Symbol → Bool) where
       ∙ (λ i. tree_is a i && (pass_append (tree_nodes b) (step_parts c) ∙ (λ j. tree_is b j && step_is c j)) i))
   statement_is _ h = refl
 
-  plain_is : (xs : List Symbol) → list_all test (map name_in (map Mention.Plain xs)) ≡ list_all test xs
+  plain_is : (xs : List Symbol) → list_all test (map name_in (map NameUse.Plain xs)) ≡ list_all test xs
   plain_is [] = refl
   plain_is (x ∷ xs) = ap (λ b. test x && b) (plain_is xs)
 
   -- each name of a statement passes where the walk over its trees finds none that fails
-  pub names_tested : (s : Statement) → is_executed s ≡ true → list_all test (map name_in (mentions_of s)) ≡ names_pass test s
+  pub names_tested : (s : Statement) → is_executed s ≡ true → list_all test (map name_in (uses_of s)) ≡ names_pass test s
   names_tested (Statement.Subroutine name names) h = absurd (cc (h))
   names_tested (Statement.Declare kind declarations) h = absurd (cc (h))
   names_tested (Statement.Dimension declarations) h = absurd (cc (h))
@@ -166,7 +166,7 @@ module _ (test : Symbol → Bool) where
 
 -- the walk finds whether the names are among others
 pub among_tested : (names : List Symbol) (s : Statement) → is_executed s ≡ true → names_pass (is_name_among names) s ≡ true → NamesAmong names s
-among_tested names s h pass = sym (list_all-map (is_name_among names) name_in (mentions_of s)) ∙ names_tested (is_name_among names) s h ∙ pass
+among_tested names s h pass = sym (list_all-map (is_name_among names) name_in (uses_of s)) ∙ names_tested (is_name_among names) s h ∙ pass
 
 pub among_kept : (names : Names) (s : Statement) → is_executed s ≡ true → names_pass (λ name. is_some (get bytes_eq names.facts name)) s ≡ true
     → NamesAmong (keys names.facts) s

@@ -8,7 +8,7 @@ use Rattle.std.proofs.lemmas.List.{append-nil, reverse-append}
 use Rattle.std.proofs.lemmas.List.Elements.{All-nil, All-cons, All-head, All-tail, All-append, All-filter, filter-append}
 use Rattle.std.proofs.lemmas.List.Folds.{list_any-append}
 use Rattle.f77_legal.specs.Blocks.{first_numbers}
-use Rattle.f77_legal.specs.code.Holders.{precedes}
+use Rattle.f77_legal.specs.code.Enclosing.{precedes}
 use Rattle.f77_legal.specs.Loops.{same_numbers}
 use Rattle.f77_legal.proofs.FirstNumbers.{any_same}
 use Rattle.f77_legal.proofs.LoopLists.{left_out, same_filters}
@@ -130,13 +130,13 @@ begins_is p q (suc n) =
     below : (r : ℕ → Bool) → AreBelow n (filter r (first_numbers n))
     below r = All-filter r (λ x. x < n) (first_numbers n) (are_below n n (omega arith))
 
-    told : (a b r c : Bool) → p n ≡ a → q n ≡ b → list_any (is_behind p q (last_of (filter q (first_numbers n ++ n ∷ [])))) (first_numbers n) ≡ r
+    known : (a b r c : Bool) → p n ≡ a → q n ≡ b → list_any (is_behind p q (last_of (filter q (first_numbers n ++ n ∷ [])))) (first_numbers n) ≡ r
         → precedes n (last_of (filter q (first_numbers n ++ n ∷ []))) ≡ c
         → not (either a b (left_out q p (first_numbers n)) r c)
         ≡ not (either
         (p n) (q n) (left_out q p (first_numbers n)) (list_any (is_behind p q (last_of (filter q (first_numbers n ++ n ∷ [])))) (first_numbers n))
         (precedes n (last_of (filter q (first_numbers n ++ n ∷ [])))))
-    told a b r c e f g h = rw (e, f, g, h) refl
+    known a b r c e f g h = rw (e, f, g, h) refl
 
     go : (a b : Bool) → p n ≡ a → q n ≡ b
         → begins (filter p (first_numbers n)) (filter q (first_numbers n)) ≡ not (left_out q p (first_numbers n) || list_any (is_behind p q (last_of (filter q (first_numbers n)))) (first_numbers n))
@@ -150,7 +150,7 @@ begins_is p q (suc n) =
         ∙ behind_both n (filter p (first_numbers n)) (filter q (first_numbers n)) (below p) (below q)
         ∙ same_filters q p (first_numbers n)
         ∙ ap not (sym (either_both (left_out q p (first_numbers n)) (left_out p q (first_numbers n)) (precedes n (last_of (filter q (first_numbers n ++ n ∷ []))))))
-        ∙ told true true (left_out p q (first_numbers n)) _ e f
+        ∙ known true true (left_out p q (first_numbers n)) _ e f
         (ap (λ o. list_any (is_behind p q o) (first_numbers n)) (ap last_of (kept_more q n true f) ∙ last_more (filter q (first_numbers n)) n) ∙ all_behind p q n) refl
     go false true e f rest =
         ap (λ xs. begins xs (filter q (first_numbers n ++ n ∷ []))) (kept_more p n false e ∙ append-nil (filter p (first_numbers n)))
@@ -159,17 +159,17 @@ begins_is p q (suc n) =
         ∙ ap not (sym
         (either_needle (left_out q p (first_numbers n)) (list_any (is_behind p q (last_of (filter q (first_numbers n ++ n ∷ [])))) (first_numbers n))
         (precedes n (last_of (filter q (first_numbers n ++ n ∷ []))))))
-        ∙ told false true _ _ e f refl refl
+        ∙ known false true _ _ e f refl refl
     go true false e f rest =
         ap (λ xs. begins xs (filter q (first_numbers n ++ n ∷ []))) (kept_more p n true e)
         ∙ ap (begins (filter p (first_numbers n) ++ n ∷ [])) (kept_more q n false f ∙ append-nil (filter q (first_numbers n)))
         ∙ behind_first n (filter p (first_numbers n)) (filter q (first_numbers n)) (below q)
         ∙ rest
         ∙ ap not (sym (either_first (left_out q p (first_numbers n)) (list_any (is_behind p q (last_of (filter q (first_numbers n)))) (first_numbers n))))
-        ∙ told true false _ false e f (ap (λ o. list_any (is_behind p q o) (first_numbers n)) (same_last f)) (ap (precedes n) (same_last f) ∙ last_below q n n (omega arith))
+        ∙ known true false _ false e f (ap (λ o. list_any (is_behind p q o) (first_numbers n)) (same_last f)) (ap (precedes n) (same_last f) ∙ last_below q n n (omega arith))
     go false false e f rest =
         ap (λ xs. begins xs (filter q (first_numbers n ++ n ∷ []))) (kept_more p n false e ∙ append-nil (filter p (first_numbers n)))
         ∙ ap (begins (filter p (first_numbers n))) (kept_more q n false f ∙ append-nil (filter q (first_numbers n)))
         ∙ rest
         ∙ ap not (sym (either_none (left_out q p (first_numbers n)) (list_any (is_behind p q (last_of (filter q (first_numbers n)))) (first_numbers n))))
-        ∙ told false false _ false e f (ap (λ o. list_any (is_behind p q o) (first_numbers n)) (same_last f)) (ap (precedes n) (same_last f) ∙ last_below q n n (omega arith))
+        ∙ known false false _ false e f (ap (λ o. list_any (is_behind p q o) (first_numbers n)) (same_last f)) (ap (precedes n) (same_last f) ∙ last_below q n n (omega arith))

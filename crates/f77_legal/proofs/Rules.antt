@@ -12,7 +12,7 @@ use Rattle.f77_legal.specs.Labels.{labels, nth_statement, is_double}
 use Rattle.f77_legal.specs.Law.{KeepsEveryRule}
 use Rattle.f77_legal.specs.Legal.{IsLegal, name_faults, clause_faults, expression_clauses, control_clauses, label_faults, data_faults, too_large_faults}
 use Rattle.f77_legal.specs.Names.{symbols, is_real, is_twice}
-use Rattle.f77_legal.specs.Presets.{presets_badly}
+use Rattle.f77_legal.specs.InitialValues.{has_bad_data}
 use Rattle.f77_legal.proofs.LegalGives.{Kept, kept_by, none_before, none_behind, map_none, test_kept}
 use Rattle.f77_legal.proofs.NoFaults.{not_large}
 
@@ -79,7 +79,7 @@ keeps_every_rule program legal =
       once = none_passes (is_twice program) (symbols program) (map_none _ _ (none_behind _ _ kept.names));
       distinct = none_passes (is_double program) (labels program) (map_none _ _ kept.doubles);
       statements = λ c. test_kept (breaks c program) program (map_none _ _ (no_fault program kept c));
-      presets = test_kept (presets_badly program) program (map_none _ _ kept.presets);
+      initial_values = test_kept (has_bad_data program) program (map_none _ _ kept.initial_values);
       sizes = not_large program legal;
     }
 
@@ -96,10 +96,10 @@ legal_by_rules program rules =
     (ap (map RealName) (all_fail (is_real program) (symbols program) rules.typed))
     (ap (map Twice) (all_fail (is_twice program) (symbols program) rules.once)) in
     let doubles : label_faults program ≡ [] = ap (map DoubleLabel) (all_fail (is_double program) (labels program) rules.distinct) in
-    let presets : data_faults program ≡ [] = ap (map BadData) (no_line (presets_badly program) program rules.presets) in
+    let initial_values : data_faults program ≡ [] = ap (map BadData) (no_line (has_bad_data program) program rules.initial_values) in
     let sizes : too_large_faults program ≡ [] = ap (λ b. cond b (TooMany ∷ []) []) rules.sizes in
     both_none (name_faults program) _ names
     (both_none (clause_faults expression_clauses program) _ (no_clause_faults program rules expression_clauses)
     (both_none (label_faults program) _ doubles
     (both_none (clause_faults control_clauses program) _ (no_clause_faults program rules control_clauses)
-    (both_none (data_faults program) (too_large_faults program) presets sizes))))
+    (both_none (data_faults program) (too_large_faults program) initial_values sizes))))

@@ -12,8 +12,8 @@ use Rattle.f77_tree.specs.declared.data.Value.{Value}
 use Rattle.f77_tree.specs.declared.tree.Kind.{Kind}
 use Rattle.f77_tree.specs.Comparing.{same_kind}
 use Rattle.f77_legal.specs.Names.{Symbol}
-use Rattle.f77_legal.specs.Presets.{product}
-use Rattle.f77_legal.specs.code.Runs.{kinds_in, behind_kinds, kinds_wanted}
+use Rattle.f77_legal.specs.InitialValues.{product}
+use Rattle.f77_legal.specs.code.Runs.{kinds_in, behind_kinds, kinds_needed}
 
 -- one value more
 count_more : (v : Value) (vs : List Value) → length (kinds_in (v ∷ vs)) ≡ v.times + length (kinds_in vs)
@@ -31,7 +31,7 @@ gives m b h = by (m == 0) refl h
     by true e h = inl (eqb-true m 0 e)
     by false e h = inr h
 
--- a run of the kind, no longer than what is wanted
+-- a run of the kind, no longer than what is needed
 run_same : (m n t : ℕ) (k other : Kind) (g : List Kind) → t ≡ m + n → same_kind k other ≡ true
     → behind_kinds t k (replicate m other ++ g) ≡ behind_kinds n k g
 run_same zero n t k other g e h = let f : t ≡ n = omega arith in rw f refl
@@ -46,25 +46,25 @@ shorter m n t k other g e h = by (gives m (same_kind k other) h)
     by (inl z) = let f : t ≡ n = omega arith in rw z (rw f refl)
     by (inr s) = run_same m n t k other g e s
 
--- a run of the kind, no shorter than what is wanted
+-- a run of the kind, no shorter than what is needed
 run_within : (m t r : ℕ) (k other : Kind) (g : List Kind) → m ≡ t + r → same_kind k other ≡ true
     → behind_kinds t k (replicate m other ++ g) ≡ Some (replicate r other ++ g)
 run_within m zero r k other g e h = let f : m ≡ r = omega arith in rw f refl
 run_within zero (suc t) r k other g e h = absurd (omega arith)
 run_within (suc m) (suc t) r k other g e h = rw h (run_within m t r k other g (omega arith) h)
 
-none_wanted : (m t : ℕ) (k other : Kind) (g : List Kind) → t ≡ 0 → behind_kinds t k (replicate m other ++ g) ≡ Some (replicate (m - t) other ++ g)
-none_wanted m t k other g e = let f : m - t ≡ m = omega arith in rw (f, e) refl
+none_needed : (m t : ℕ) (k other : Kind) (g : List Kind) → t ≡ 0 → behind_kinds t k (replicate m other ++ g) ≡ Some (replicate (m - t) other ++ g)
+none_needed m t k other g e = let f : m - t ≡ m = omega arith in rw (f, e) refl
 
 pub within : (m t : ℕ) (k other : Kind) (g : List Kind) → t ≤ m → (m == 0 || same_kind k other) ≡ true
     → behind_kinds t k (replicate m other ++ g) ≡ Some (replicate (m - t) other ++ g)
 within m t k other g p h = by (gives m (same_kind k other) h)
   where
     by : (m ≡ 0) ⊎ (same_kind k other ≡ true) → behind_kinds t k (replicate m other ++ g) ≡ Some (replicate (m - t) other ++ g)
-    by (inl z) = none_wanted m t k other g (omega arith)
+    by (inl z) = none_needed m t k other g (omega arith)
     by (inr s) = run_within m t (m - t) k other g (omega arith) s
 
--- what is wanted first decides
+-- what is needed first decides
 pointwise_run : (n : ℕ) (k : Kind) (w g : List Kind) → pointwise same_kind (replicate n k ++ w) g ≡ option_map_or (pointwise same_kind w) (behind_kinds n k g) false
 pointwise_run zero k w g = refl
 pointwise_run (suc n) k w [] = refl
@@ -108,10 +108,10 @@ capped n most k g h = by (cases n most)
 
 pub fill_step : (bounds : Symbol → List ℕ) (kinds : Symbol → Kind) (name : Symbol) (names : List Symbol) (g : List Kind) (most : ℕ)
     → length g < most
-    → pointwise same_kind (kinds_wanted bounds kinds (name ∷ names)) g
-    ≡ option_map_or (pointwise same_kind (kinds_wanted bounds kinds names)) (behind_kinds (min (product (bounds name)) most) (kinds name) g) false
+    → pointwise same_kind (kinds_needed bounds kinds (name ∷ names)) g
+    ≡ option_map_or (pointwise same_kind (kinds_needed bounds kinds names)) (behind_kinds (min (product (bounds name)) most) (kinds name) g) false
 fill_step bounds kinds name names g most h =
-    rw (capped (product (bounds name)) most (kinds name) g h) (pointwise_run (product (bounds name)) (kinds name) (kinds_wanted bounds kinds names) g)
+    rw (capped (product (bounds name)) most (kinds name) g h) (pointwise_run (product (bounds name)) (kinds name) (kinds_needed bounds kinds names) g)
 
 -- the front run is passed over, and a value follows or none
 pub passed : (m t : ℕ) (k other : Kind) (g : List Kind) → m < t → (m == 0 || same_kind k other) ≡ true
@@ -145,11 +145,11 @@ pub used_up : (m : ℕ) (other : Kind) (values : List Value) → (length (replic
 used_up m other values = sym (one_used m (length (kinds_in values)) (length (replicate m other ++ kinds_in values))
     (list_all (λ v. v.times == 0) values) (simp (length-append, length-replicate)) (all_used values))
 
--- the name in turn takes what it wants, or cannot
+-- the name in turn takes what it needs, or cannot
 pub fill_at : (bounds : Symbol → List ℕ) (kinds : Symbol → Kind) (names : List Symbol) (i : ℕ) (name : Symbol) (g : List Kind) (need most : ℕ) (k : Kind)
     → i < length names → name ≡ get_or names i name → length g < most → need ≡ min (product (bounds name)) most → k ≡ kinds name
-    → pointwise same_kind (kinds_wanted bounds kinds (drop i names)) g
-    ≡ option_map_or (pointwise same_kind (kinds_wanted bounds kinds (drop (i + 1) names))) (behind_kinds need k g) false
+    → pointwise same_kind (kinds_needed bounds kinds (drop i names)) g
+    ≡ option_map_or (pointwise same_kind (kinds_needed bounds kinds (drop (i + 1) names))) (behind_kinds need k g) false
 fill_at bounds kinds names i name g need most k p e h f d =
     let s : drop i names ≡ name ∷ drop (i + 1) names = rw add-one (drop-cons names i name p ∙ ap (λ x. x ∷ drop (suc i) names) (sym e)) in
     rw (s, f, d) (fill_step bounds kinds name (drop (i + 1) names) g most h)

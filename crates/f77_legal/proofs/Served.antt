@@ -9,7 +9,7 @@ use Rattle.f77_legal.specs.LabelTable.{distinct, IsLabelTable}
 use Rattle.f77_legal.specs.LoopTable.{IsRangeTable}
 use Rattle.f77_legal.specs.Tables.{AreTables, Serve}
 use Rattle.f77_legal.specs.declared.blocks.Blocks.{Blocks}
-use Rattle.f77_legal.specs.declared.holders.Ranges.{Ranges}
+use Rattle.f77_legal.specs.declared.enclosing.Ranges.{Ranges}
 use Rattle.f77_legal.specs.declared.labels.Labels.{Labels}
 use Rattle.f77_legal.specs.declared.tables.Tables.{Tables}
 use Rattle.f77_legal.proofs.Frames.{is_block_if-framed}
@@ -36,7 +36,7 @@ module _ (p q : List LineFields) (same : HaveOneFrame p q) where
   }
 
   tabled_same : {X : Type 0} (value : List LineFields → ℕ → X) → ((i : ℕ) → value p i ≡ value q i) → tabled value p ≡ tabled value q
-  tabled_same value alike = λ k. map (λ i. alike i k) (numbers_same p q same k)
+  tabled_same value equal = λ k. map (λ i. equal i k) (numbers_same p q same k)
 
   block_end_at_same : (i : ℕ) → block_end_at p i ≡ block_end_at q i
   block_end_at_same i = λ k. if has_at_same p q same is_block_if is_block_if-framed i k then block_end_same p q same i k else None

@@ -11,10 +11,10 @@ use Rattle.f77_program.specs.Program.{LineFields}
 use Rattle.f77_legal.specs.declared.names.Facts.{Facts}
 use Rattle.f77_legal.specs.declared.names.Names.{Names}
 use Rattle.f77_legal.specs.Legal.{is_array}
-use Rattle.f77_legal.specs.Names.{Symbol, mentions, symbols, some_items}
+use Rattle.f77_legal.specs.Names.{Symbol, uses, symbols, some_items}
 use Rattle.f77_legal.specs.NameTable.{FactsFields, IsNameTable, facts_fields, entry_of, facts_of}
 use Rattle.f77_legal.specs.code.NameTable.{array_size}
-use Rattle.f77_legal.specs.Presets.{product, element_count}
+use Rattle.f77_legal.specs.InitialValues.{product, element_count}
 use Rattle.f77_legal.proofs.NameTables.{rows}
 
 product_push : (xs : List ℕ) (x : ℕ) → product (xs ++ x ∷ []) ≡ product xs * x
@@ -96,4 +96,4 @@ over_is names program n limit is below =
     ∙ ap (nat_lt limit)
     (sum_fields names.facts.entries
     ∙ ap (λ es. sum (map (λ e. array_size e.1) es)) is
-    ∙ sum_rows (facts_of (mentions program)) (symbols program))
+    ∙ sum_rows (facts_of (uses program)) (symbols program))

@@ -6,9 +6,9 @@ use Rattle.std.proofs.lemmas.Bool.Decides.{nat_tests}
 use Rattle.std.proofs.lemmas.List.Elements.{All-weaker}
 use Rattle.f77_program.specs.Program.{LineFields}
 use Rattle.f77_legal.specs.Legal.{IsLegal, is_array, is_too_large}
-use Rattle.f77_legal.specs.Names.{Symbol, name_in, mentions, symbols, is_real, is_twice}
+use Rattle.f77_legal.specs.Names.{Symbol, name_in, uses, symbols, is_real, is_twice}
 use Rattle.f77_legal.specs.Patches.{is_name_among, IsStock}
-use Rattle.f77_legal.specs.Presets.{element_count}
+use Rattle.f77_legal.specs.InitialValues.{element_count}
 use Rattle.f77_legal.proofs.Among.{among_holds, among_itself, each_counted, once_fewer, once_smaller}
 use Rattle.f77_legal.proofs.NoFaults.{few_symbols, few_elements}
 use Rattle.f77_legal.proofs.Rules.{keeps_every_rule}
@@ -19,7 +19,7 @@ stock_of_legal program legal =
     let rules = keeps_every_rule program legal in
     record {
       covers = among_itself (symbols program);
-      once = each_counted (symbols program) (once_apart (map name_in (mentions program)));
+      once = each_counted (symbols program) (once_apart (map name_in (uses program)));
       typed = rules.typed;
       declared = rules.once;
       few = few_symbols program legal;
@@ -39,8 +39,8 @@ module _ (names : List Symbol) (program : List LineFields) (stock : IsStock name
 
   pub stock_sizes : length program ≤ 500 → is_too_large program ≡ false
   stock_sizes short =
-      let fewer = once_fewer (map name_in (mentions program)) names stock.covers in
-      let smaller = once_smaller (map name_in (mentions program)) names stock.covers (element_count program) (is_array program) in
+      let fewer = once_fewer (map name_in (uses program)) names stock.covers in
+      let smaller = once_smaller (map name_in (uses program)) names stock.covers (element_count program) (is_array program) in
       let few : length (symbols program) ≤ 100 = omega (arith, fewer, stock.few) in
       let small : sum (map (element_count program) (filter (is_array program) (symbols program))) ≤ 10000 = omega (arith, smaller, stock.small) in
       let lines : nat_lt 500 (length program) ≡ false = grind (arith, nat_tests) in

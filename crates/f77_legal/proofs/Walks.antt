@@ -3,8 +3,8 @@ use Rattle.std.proofs.Common.{◌≡◌, ℕ, zero, suc, ◌<◌, List, [], ◌�
 use Rattle.std.specs.Prelude.{◌==◌, if◌then◌else◌}
 use Rattle.std.proofs.lemmas.Bool.{eqb-true}
 use Rattle.std.proofs.lemmas.Bool.Decides.{nat_tests}
-use Rattle.f77_legal.specs.Holders.{end_or_parent}
-use Rattle.f77_legal.specs.code.Holders.{IsFalling, ancestors_below, ancestors}
+use Rattle.f77_legal.specs.Enclosing.{end_or_parent}
+use Rattle.f77_legal.specs.code.Enclosing.{IsFalling, ancestors_below, ancestors}
 
 abbrev pub IsBelow : Option ℕ → ℕ → Type 0
 IsBelow first n = (i : ℕ) → first ≡ Some i → i < n

@@ -6,7 +6,7 @@ use Rattle.f77_tree.specs.Statement.{Statement}
 use Rattle.f77_legal.specs.Frames.{framed}
 use Rattle.f77_legal.specs.Labels.{is_terminal}
 use Rattle.f77_legal.specs.Loops.{terminal}
-use Rattle.f77_legal.specs.Names.{Symbol, mentions_of, name_in}
+use Rattle.f77_legal.specs.Names.{Symbol, uses_of, name_in}
 use Rattle.f77_legal.specs.Patches.{is_name_among}
 
 -- if a DO ends at statement i, the new statement may be a terminal statement
@@ -17,7 +17,7 @@ MayStandAt program i statement =
 -- each name of the statement is among these
 abbrev pub NamesAmong : List Symbol → Statement → Type 0
 NamesAmong names statement =
-    list_all (λ mention. is_name_among names (name_in mention)) (mentions_of statement) ≡ true
+    list_all (λ name_use. is_name_among names (name_in name_use)) (uses_of statement) ≡ true
 
 -- The change of statement i can be judged by the new statement alone: the frame stays, the new
 -- statement may end the DOs that end there, and its names are among these.

@@ -10,6 +10,6 @@ has_known_names UnknownName = false
 has_known_names _ = true
 
 -- the first clause in the order of test that the statement breaks, if it breaks one
-abbrev pub clause_told : Broken → Option Clause
-clause_told (First clause) = Some clause
-clause_told _ = None
+abbrev pub clause_found : Broken → Option Clause
+clause_found (First clause) = Some clause
+clause_found _ = None

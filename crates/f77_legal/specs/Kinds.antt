@@ -1,4 +1,4 @@
--- The kinds that expressions have and statements want (ANSI X3.9-1978, sections 6, 10 and 11).
+-- The kinds that expressions have and statements require (ANSI X3.9-1978, sections 6, 10 and 11).
 use Rattle.std.specs.Prelude.{◌&&◌, Bool, true, Option, Some, None}
 use Rattle.f77_tree.specs.Comparing.{same_kind}
 use Rattle.f77_tree.specs.Tree.{Tree, Trees}

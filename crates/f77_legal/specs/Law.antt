@@ -8,7 +8,7 @@ use Rattle.f77_legal.specs.Clause.{breaks}
 use Rattle.f77_legal.specs.Labels.{labels, nth_statement, is_double}
 use Rattle.f77_legal.specs.Legal.{is_too_large}
 use Rattle.f77_legal.specs.Names.{symbols, is_real, is_twice}
-use Rattle.f77_legal.specs.Presets.{presets_badly}
+use Rattle.f77_legal.specs.InitialValues.{has_bad_data}
 
 -- Rule: C2 to C14, and their order
 -- The program keeps every rule: no statement breaks a clause, and its names, labels, DATA
@@ -27,7 +27,7 @@ pub record KeepsEveryRule (program : List LineFields) : Type 0 where
       → breaks clause program i statement ≡ false
   -- no DATA statement has a dummy argument, or a name that stood in DATA before, or other values
   -- than its names need
-  pub presets : (i : ℕ) (statement : Statement)
-      → nth_statement program i ≡ Some statement → presets_badly program i statement ≡ false
+  pub initial_values : (i : ℕ) (statement : Statement)
+      → nth_statement program i ≡ Some statement → has_bad_data program i statement ≡ false
   -- at most 500 statements, 100 variables and arrays, and 10,000 elements over all arrays
   pub sizes : is_too_large program ≡ false

@@ -14,7 +14,7 @@ use Rattle.f77_legal.specs.declared.fault.CheckFault.TheVariants.{DoubleLabel, B
 use Rattle.f77_legal.specs.Clause.{breaks, faults_of, lines_where}
 use Rattle.f77_legal.specs.Names.{Symbol, symbols, is_real, is_twice, bounds_of, some_items}
 use Rattle.f77_legal.specs.Labels.{labels, is_double}
-use Rattle.f77_legal.specs.Presets.{element_count, presets_badly}
+use Rattle.f77_legal.specs.InitialValues.{element_count, has_bad_data}
 
 -- the name is that of an array
 abbrev pub is_array : List LineFields → Symbol → Bool
@@ -45,7 +45,7 @@ label_faults program = map DoubleLabel (filter (is_double program) (labels progr
 
 -- C13 for each line whose DATA statement has a name or a value that may not stand there
 abbrev pub data_faults : List LineFields → List CheckFault
-data_faults program = map BadData (lines_where (presets_badly program) program)
+data_faults program = map BadData (lines_where (has_bad_data program) program)
 
 -- C14 for a program with too many statements, names or elements
 abbrev pub too_large_faults : List LineFields → List CheckFault
@@ -92,7 +92,7 @@ IsLegal program = faults program ≡ []
 abbrev pub first_fault : List LineFields → Option CheckFault
 first_fault program = slice_get (faults program) 0
 
--- the call finds no fault where there is none; else it reports the first, or want of memory
-abbrev pub TellsFirstFault : Result (Unit {0}) CheckFault → List CheckFault → Type 0
-TellsFirstFault (Ok unit) faults = faults ≡ []
-TellsFirstFault (Err fault) faults = (fault ≡ Memory) ⊎ (slice_get faults 0 ≡ Some fault)
+-- the call finds no fault where there is none; else it reports the first, or that memory ran out
+abbrev pub ReportsFirstFault : Result (Unit {0}) CheckFault → List CheckFault → Type 0
+ReportsFirstFault (Ok unit) faults = faults ≡ []
+ReportsFirstFault (Err fault) faults = (fault ≡ Memory) ⊎ (slice_get faults 0 ≡ Some fault)

@@ -8,9 +8,9 @@ pub mod Heading
 pub mod Blocks
 pub mod BlockTable
 pub mod Loops
-pub mod Holders
+pub mod Enclosing
 pub mod LoopTable
-pub mod Presets
+pub mod InitialValues
 pub mod Clause
 pub mod Tables
 pub mod Legal

@@ -2,9 +2,9 @@
 use Rattle.std.specs.Prelude.{◌≡◌, ℕ, List, length, Option}
 use Rattle.f77_program.specs.Program.{LineFields}
 use Rattle.f77_legal.specs.Blocks.{branch_holds}
-use Rattle.f77_legal.specs.Holders.{end_or_parent, in_branch}
+use Rattle.f77_legal.specs.Enclosing.{end_or_parent, in_branch}
 use Rattle.f77_legal.specs.Loops.{terminal}
-use Rattle.f77_legal.specs.declared.holders.Ranges.{Ranges}
+use Rattle.f77_legal.specs.declared.enclosing.Ranges.{Ranges}
 
 -- these are the terminal statements of the DOs of the program, and the ends of its branches
 abbrev pub IsTerminals : List (Option ℕ) → List LineFields → Type 0

@@ -11,7 +11,7 @@ use Rattle.f77_legal.specs.declared.names.Facts.{Facts}
 use Rattle.f77_legal.specs.declared.names.Names.{Names}
 use Rattle.f77_legal.specs.declared.names.Times.{Times}
 use Rattle.f77_legal.specs.declared.names.Times.TheVariants.{Never, Once, More}
-use Rattle.f77_legal.specs.Names.{Symbol, Mention, name_in, mentions, names_once, dummies_given}
+use Rattle.f77_legal.specs.Names.{Symbol, NameUse, name_in, uses, names_once, dummies_given}
 use Rattle.f77_legal.specs.Names.{kinds_given, bounds_given, first_item_or}
 
 -- the name is in the table
@@ -51,8 +51,8 @@ how_often [] = Never
 how_often (x ∷ []) = Once
 how_often (x ∷ (y ∷ xs)) = More
 
--- what the mentions say of a name: its kind and its bounds are the first that are given
-abbrev pub facts_of : List Mention → Symbol → FactsFields
+-- what its uses say of a name: its kind and its bounds are the first that are given
+abbrev pub facts_of : List NameUse → Symbol → FactsFields
 facts_of all name = record {
   dummy = how_often (dummies_given all name);
   typed = how_often (kinds_given all name);
@@ -71,10 +71,10 @@ entry_of entry = (entry.0, facts_fields entry.1)
 abbrev pub table_entries : Names → Entries
 table_entries names = map entry_of names.facts.entries
 
--- the table that a list of mentions makes
-abbrev pub table : List Mention → Entries
+-- the table that a list of uses makes
+abbrev pub table : List NameUse → Entries
 table all = map (λ name. (name, facts_of all name)) (names_once (map name_in all))
 
 -- the table has the names of the program, each with what the program says of it
 abbrev pub IsNameTable : Names → List LineFields → Type 0
-IsNameTable names program = table_entries names ≡ table (mentions program)
+IsNameTable names program = table_entries names ≡ table (uses program)

@@ -17,31 +17,31 @@ use Rattle.f77_tree.specs.declared.tree.Kind.TheVariants.{Integer}
 abbrev pub Symbol : Type 0
 Symbol = List ℕ
 
--- How a statement mentions a name: as a dummy argument, with a type
+-- How a statement uses a name: as a dummy argument, with a type
 -- and maybe bounds, with bounds in DIMENSION, or without any of these.
-pub data Mention : Type 0 where
-  Dummy : Symbol → Mention
-  Typed : Kind → DeclFields → Mention
-  Dimensioned : DeclFields → Mention
-  Plain : Symbol → Mention
+pub data NameUse : Type 0 where
+  Dummy : Symbol → NameUse
+  Typed : Kind → DeclFields → NameUse
+  Dimensioned : DeclFields → NameUse
+  Plain : Symbol → NameUse
 
--- the name that is mentioned
-abbrev pub name_in : Mention → Symbol
+-- the name that is used
+abbrev pub name_in : NameUse → Symbol
 name_in (Dummy name) = name
 name_in (Typed kind declaration) = declaration.name
 name_in (Dimensioned declaration) = declaration.name
 name_in (Plain name) = name
 
--- the mentions of names in a statement, in order; the unit's own name is none
-abbrev pub mentions_of : Statement → List Mention
-mentions_of (Statement.Subroutine name names) = map Dummy names
-mentions_of (Statement.Declare kind declarations) = map (Typed kind) declarations
-mentions_of (Statement.Dimension declarations) = map Dimensioned declarations
-mentions_of statement = map Plain (names_of statement)
+-- the uses of names in a statement, in order; the unit's own name is none
+abbrev pub uses_of : Statement → List NameUse
+uses_of (Statement.Subroutine name names) = map Dummy names
+uses_of (Statement.Declare kind declarations) = map (Typed kind) declarations
+uses_of (Statement.Dimension declarations) = map Dimensioned declarations
+uses_of statement = map Plain (names_of statement)
 
--- the mentions of names in a program, in order
-abbrev pub mentions : List LineFields → List Mention
-mentions program = flat_map (λ line. mentions_of line.stmt) program
+-- the uses of names in a program, in order
+abbrev pub uses : List LineFields → List NameUse
+uses program = flat_map (λ line. uses_of line.stmt) program
 
 -- each name once, where it stands first
 abbrev pub names_once : List Symbol → List Symbol
@@ -51,14 +51,14 @@ names_once (name ∷ names) = name ∷ filter (λ other. not (bytes_eq name othe
 -- Rule: names, kinds, bounds; C2, C3 (4.1.2, 8.1, 8.4)
 -- the variables and arrays in order of first appearance, dummy arguments first
 abbrev pub symbols : List LineFields → List Symbol
-symbols program = names_once (map name_in (mentions program))
+symbols program = names_once (map name_in (uses program))
 
-abbrev pub is_dummy : Mention → Bool
+abbrev pub is_dummy : NameUse → Bool
 is_dummy (Dummy name) = true
 is_dummy _ = false
 
--- the kind that a mention gives
-abbrev pub kind_in : Mention → Option Kind
+-- the kind that a use gives
+abbrev pub kind_in : NameUse → Option Kind
 kind_in (Typed kind declaration) = Some kind
 kind_in _ = None
 
@@ -67,27 +67,27 @@ abbrev pub some_items : List ℕ → Option (List ℕ)
 some_items [] = None
 some_items (x ∷ xs) = Some (x ∷ xs)
 
--- the bounds that a mention gives
-abbrev pub bounds_in : Mention → Option (List ℕ)
+-- the bounds that a use gives
+abbrev pub bounds_in : NameUse → Option (List ℕ)
 bounds_in (Typed kind declaration) = some_items declaration.bounds
 bounds_in (Dimensioned declaration) = some_items declaration.bounds
 bounds_in _ = None
 
--- the mentions of a name
-abbrev pub mentions_with : List Mention → Symbol → List Mention
-mentions_with all name = filter (λ mention. bytes_eq name (name_in mention)) all
+-- the uses of a name
+abbrev pub uses_with : List NameUse → Symbol → List NameUse
+uses_with all name = filter (λ name_use. bytes_eq name (name_in name_use)) all
 
--- the mentions of a name as a dummy argument
-abbrev pub dummies_given : List Mention → Symbol → List Mention
-dummies_given all name = filter is_dummy (mentions_with all name)
+-- the uses of a name as a dummy argument
+abbrev pub dummies_given : List NameUse → Symbol → List NameUse
+dummies_given all name = filter is_dummy (uses_with all name)
 
 -- the kinds that type statements give a name
-abbrev pub kinds_given : List Mention → Symbol → List Kind
-kinds_given all name = filter_map kind_in (mentions_with all name)
+abbrev pub kinds_given : List NameUse → Symbol → List Kind
+kinds_given all name = filter_map kind_in (uses_with all name)
 
 -- the bounds that declarations give a name
-abbrev pub bounds_given : List Mention → Symbol → List (List ℕ)
-bounds_given all name = filter_map bounds_in (mentions_with all name)
+abbrev pub bounds_given : List NameUse → Symbol → List (List ℕ)
+bounds_given all name = filter_map bounds_in (uses_with all name)
 
 abbrev pub first_item_or : {X : Type 0} → X → List X → X
 first_item_or other [] = other
@@ -96,12 +96,12 @@ first_item_or other (x ∷ xs) = x
 -- Rule: names, kinds, bounds; C2, C3 (4.1.2, 8.1, 8.4)
 -- the kind of a name: INTEGER where no type statement gives one (4.1.2 and 8.4)
 abbrev pub kind_of : List LineFields → Symbol → Kind
-kind_of program name = first_item_or Integer (kinds_given (mentions program) name)
+kind_of program name = first_item_or Integer (kinds_given (uses program) name)
 
 -- Rule: names, kinds, bounds; C2, C3 (4.1.2, 8.1, 8.4)
 -- the bounds of a name: none for a variable (8.1 and 8.4)
 abbrev pub bounds_of : List LineFields → Symbol → List ℕ
-bounds_of program name = first_item_or [] (bounds_given (mentions program) name)
+bounds_of program name = first_item_or [] (bounds_given (uses program) name)
 
 -- the first letter of the name is I to N (4.1.2)
 abbrev pub is_integer_name : Symbol → Bool
@@ -112,7 +112,7 @@ is_integer_name (letter ∷ rest) = nat_le 73 letter && nat_le letter 78
 -- the name is REAL by its first letter (4.1.2)
 abbrev pub is_real : List LineFields → Symbol → Bool
 is_real program name =
-    (length (kinds_given (mentions program) name) == 0) && not (is_integer_name name)
+    (length (kinds_given (uses program) name) == 0) && not (is_integer_name name)
 
 -- the name of the unit, if the statement is a SUBROUTINE
 abbrev pub unit_name_of : Statement → Option Symbol
@@ -132,7 +132,7 @@ names_unit program name = option_map_or (bytes_eq name) (unit_name program) fals
 -- a function (8.1 and 8.4)
 abbrev pub is_twice : List LineFields → Symbol → Bool
 is_twice program name =
-    nat_le 2 (length (kinds_given (mentions program) name))
-    || (nat_le 2 (length (bounds_given (mentions program) name))
-    || (nat_le 2 (length (dummies_given (mentions program) name))
+    nat_le 2 (length (kinds_given (uses program) name))
+    || (nat_le 2 (length (bounds_given (uses program) name))
+    || (nat_le 2 (length (dummies_given (uses program) name))
     || (names_unit program name || is_some (function_named name))))

@@ -8,7 +8,7 @@ use Rattle.f77_tree.specs.Tree.{Tree, Trees}
 use Rattle.f77_tree.specs.Statement.{Statement, value_of}
 use Rattle.f77_legal.specs.Legal.{is_array}
 use Rattle.f77_legal.specs.Names.{Symbol, symbols, is_real, is_twice}
-use Rattle.f77_legal.specs.Presets.{element_count}
+use Rattle.f77_legal.specs.InitialValues.{element_count}
 
 -- the name is one of these
 abbrev pub is_name_among : List Symbol → Symbol → Bool

@@ -9,7 +9,7 @@ ghost use Rattle.f77_program.specs.Program.{line_of};
 ghost use Rattle.f77_tree.specs.Comparing as comparing;
 ghost use Rattle.f77_tree.specs.Statement.{statement_of};
 ghost use Rattle.f77_tree.specs.View.{tree_of, trees};
-ghost use Rattle.f77_legal.specs.Broken.{clause_told, has_known_names};
+ghost use Rattle.f77_legal.specs.Broken.{clause_found, has_known_names};
 ghost use Rattle.f77_legal.specs.Clause.{breaks};
 ghost use Rattle.f77_legal.specs.Dimensions.{all_fit, dimensions_fit, fits_bounds, value_fits};
 ghost use Rattle.f77_legal.specs.Kinds.{are_integer, is_of_kind, is_of_kind_if_given, kinds_agree};
@@ -54,11 +54,11 @@ pub(crate) struct Flaws {
 }
 
 impl Flaws {
-    /// A part of the kind `own` stands where one of the kind `wanted` is required.
-    fn check_kind(&mut self, own: Kind, wanted: Kind)
-        ensures { Adds self.old self.new true (comparing.same_kind own wanted) true }
+    /// A part of the kind `own` stands where the kind `required` is needed.
+    fn check_kind(&mut self, own: Kind, required: Kind)
+        ensures { Adds self.old self.new true (comparing.same_kind own required) true }
     {
-        if !same_kind(own, wanted) {
+        if !same_kind(own, required) {
             self.kinds = true;
         }
     }
@@ -282,7 +282,7 @@ impl Tables {
     pub fn first_broken(&self, lines: &[Shared<Line>], i: usize, stmt: &Stmt) -> Broken
         ensures names { names_pass (has_name self.now.names) (statement_of stmt.now) ≡ has_known_names result }
         ensures first { let program = map line_of lines.now in Serve self.now program → has_known_names result ≡ true
-            → clause_told result ≡ legal.first_clause program i (statement_of stmt.now) }
+            → clause_found result ≡ legal.first_clause program i (statement_of stmt.now) }
     {
         let flaws = Flaws::of(&self.names, stmt);
         if flaws.names {

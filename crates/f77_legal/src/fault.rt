@@ -7,8 +7,8 @@ use f77_tree::Name;
 use std::alloc::{AllocError, AllocFailed};
 use thiserror::Error;
 
-/// The first fault of a program (ANSI X3.9-1978), or want of memory. The number of a line is the `line` of a line of
-/// the program.
+/// The first fault of a program (ANSI X3.9-1978), or that memory ran out. The number of a line is
+/// the `line` of a line of the program.
 #[derive(Debug, PartialEq, Eq, Drop, Error)]
 pub enum CheckFault {
     /// C1: memory ran out.

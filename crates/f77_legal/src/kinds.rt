@@ -1,5 +1,5 @@
-//! The kinds of the operands and results of operators. A place wants one kind, so kinds are asked from the top of an
-//! expression, and nothing is inferred.
+//! The kinds of the operands and results of operators. A place requires one kind, so kinds are
+//! asked from the top of an expression, and nothing is inferred.
 
 ghost use Rattle.std.specs.Prelude.{◌≡◌};
 ghost use Rattle.f77_tree.specs.Comparing as comparing;

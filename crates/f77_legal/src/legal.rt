@@ -2,10 +2,15 @@
 
 ghost use Rattle.std.specs.Prelude.{◌≡◌, ◌++◌, List, [], map, slice_get, Some, Err};
 ghost use Rattle.f77_program.specs.Program.{LineFields, line_of};
-ghost use Rattle.f77_legal.specs.Legal.{TellsFirstFault, name_faults, clause_faults, label_faults};
+ghost use Rattle.f77_legal.specs.Legal.{
+  ReportsFirstFault,
+  name_faults,
+  clause_faults,
+  label_faults,
+};
 ghost use Rattle.f77_legal.specs.Legal.{expression_clauses, control_clauses};
 ghost use Rattle.f77_legal.specs.code.Broken.{first_breach};
-ghost use Rattle.f77_legal.specs.code.Legal.{TellsFirst};
+ghost use Rattle.f77_legal.specs.code.Legal.{ReportsFirst};
 ghost use Rattle.f77_legal.specs.Legal.{data_faults, too_large_faults, statement_faults, faults};
 ghost use Rattle.f77_legal.specs.LabelTable.{IsLabelTable};
 ghost use Rattle.f77_legal.specs.NameTable.{IsNameTable};
@@ -14,9 +19,9 @@ ghost use Rattle.f77_legal.specs.Tables.{AreTables};
 use crate::clause::Clause;
 use crate::fault::CheckFault;
 use crate::heading::unit;
+use crate::initial_values::first_bad_data;
 use crate::labels::Labels;
 use crate::names::Names;
-use crate::presets::first_bad_data;
 use crate::tables::Tables;
 use f77_program::Line;
 use f77_tree::Shared;
@@ -29,7 +34,8 @@ const MOST_NAMES: usize = 100;
 const MOST_ELEMENTS: u32 = 10_000;
 
 fn check_names(names: &Names, lines: &[Shared<Line>]) -> Result<(), CheckFault>
-    ensures { IsNameTable names.now (map line_of lines.now) → TellsFirst result (name_faults (map line_of lines.now)) }
+    ensures { IsNameTable names.now (map line_of lines.now)
+        → ReportsFirst result (name_faults (map line_of lines.now)) }
 {
     if let Some(name) = names.first_real() {
         return Err(CheckFault::RealName(*name));
@@ -43,7 +49,7 @@ fn check_names(names: &Names, lines: &[Shared<Line>]) -> Result<(), CheckFault>
 /// The fault of the first breach, if that is of a clause on expressions.
 fn check_expressions(first: Option<(Clause, u32)>) -> Result<(), CheckFault>
     ensures { (program : List LineFields) → first ≡ first_breach program
-        → TellsFirst result (clause_faults expression_clauses program) }
+        → ReportsFirst result (clause_faults expression_clauses program) }
 {
     let Some((clause, line)) = first else {
         return Ok(());
@@ -57,7 +63,8 @@ fn check_expressions(first: Option<(Clause, u32)>) -> Result<(), CheckFault>
 /// The fault of the first breach, where no clause on expressions is broken.
 fn check_control(first: Option<(Clause, u32)>) -> Result<(), CheckFault>
     ensures { (program : List LineFields) → first ≡ first_breach program
-        → clause_faults expression_clauses program ≡ [] → TellsFirst result (clause_faults control_clauses program) }
+        → clause_faults expression_clauses program ≡ []
+        → ReportsFirst result (clause_faults control_clauses program) }
 {
     match first {
         Some((clause, line)) => Err(clause.fault(line)),
@@ -66,7 +73,8 @@ fn check_control(first: Option<(Clause, u32)>) -> Result<(), CheckFault>
 }
 
 fn check_labels(labels: &Labels) -> Result<(), CheckFault>
-    ensures { (program : List LineFields) → IsLabelTable labels.now program → TellsFirst result (label_faults program) }
+    ensures { (program : List LineFields) → IsLabelTable labels.now program
+        → ReportsFirst result (label_faults program) }
 {
     match labels.first_double() {
         Some(label) => Err(CheckFault::DoubleLabel(label)),
@@ -76,7 +84,7 @@ fn check_labels(labels: &Labels) -> Result<(), CheckFault>
 
 fn check_data(alloc: Global, names: &Names, lines: &[Shared<Line>]) -> Result<(), CheckFault>
     ensures { IsNameTable names.now (map line_of lines.now)
-        → TellsFirstFault result (data_faults (map line_of lines.now)) }
+        → ReportsFirstFault result (data_faults (map line_of lines.now)) }
 {
     match first_bad_data(alloc, names, lines)? {
         Some(line) => Err(CheckFault::BadData(line)),
@@ -86,7 +94,7 @@ fn check_data(alloc: Global, names: &Names, lines: &[Shared<Line>]) -> Result<()
 
 fn check_size(names: &Names, lines: &[Shared<Line>]) -> Result<(), CheckFault>
     ensures { IsNameTable names.now (map line_of lines.now)
-        → TellsFirst result (too_large_faults (map line_of lines.now)) }
+        → ReportsFirst result (too_large_faults (map line_of lines.now)) }
 {
     if lines.len() > MOST_STATEMENTS || names.len() > MOST_NAMES || names.has_over(MOST_ELEMENTS) {
         return Err(CheckFault::TooMany);
@@ -99,9 +107,10 @@ fn check_size(names: &Names, lines: &[Shared<Line>]) -> Result<(), CheckFault>
 /// Memory is taken for the names in DATA alone. So a fault of a name, a statement or a label is reported however little
 /// memory there is.
 pub fn judge(alloc: Global, tables: &Tables, lines: &[Shared<Line>]) -> Result<(), CheckFault>
-    ensures tells { AreTables tables.now (map line_of lines.now)
-        → TellsFirstFault result (faults (map line_of lines.now)) }
-    ensures told { let program = map line_of lines.now in (fault : CheckFault) → AreTables tables.now program
+    ensures reports { AreTables tables.now (map line_of lines.now)
+        → ReportsFirstFault result (faults (map line_of lines.now)) }
+    ensures reported { let program = map line_of lines.now in (fault : CheckFault)
+        → AreTables tables.now program
         → slice_get (name_faults program ++ statement_faults program) 0 ≡ Some fault → result ≡ Err fault }
 {
     check_names(&tables.names, lines)?;

@@ -10,7 +10,7 @@ ghost use Rattle.f77_legal.specs.Loops as loops;
 ghost use Rattle.f77_legal.specs.code.LoopTable as table;
 ghost use Rattle.f77_legal.specs.LoopTable.{IsRangeTable};
 
-use crate::holders::Ranges;
+use crate::enclosing::Ranges;
 use f77_program::Line;
 use f77_tree::{Name, Shared, Stmt};
 

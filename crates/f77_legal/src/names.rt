@@ -16,8 +16,8 @@ ghost use Rattle.f77_legal.specs.Names.{symbols, is_real, is_twice, unit_name};
 ghost use Rattle.f77_legal.specs.code.NameTable as table_code;
 ghost use Rattle.f77_legal.specs.NameTable.{IsNameTable, kind_at, array_bounds, facts_fields, entry_of};
 ghost use Rattle.f77_legal.specs.code.NameTable.{dummy_at};
-ghost use Rattle.f77_legal.specs.Presets as presets;
-ghost use Rattle.f77_legal.specs.Presets.{product};
+ghost use Rattle.f77_legal.specs.InitialValues as initial_values;
+ghost use Rattle.f77_legal.specs.InitialValues.{product};
 
 use crate::fault::CheckFault;
 use f77_program::Line;
@@ -81,8 +81,8 @@ fn is_integer_name(name: &Name) -> bool
     }
 }
 
-fn tells_real(name: &Name, facts: &Facts) -> bool
-    ensures { result ≡ table_code.tells_real (name.now, facts_fields facts.now) }
+fn is_real_entry(name: &Name, facts: &Facts) -> bool
+    ensures { result ≡ table_code.is_real_entry (name.now, facts_fields facts.now) }
 {
     facts.typed.is_never() && !is_integer_name(name)
 }
@@ -94,8 +94,9 @@ fn is_taken(name: &Name, unit: Option<&Name>) -> bool
     unit.is_some_and(|own| name == own) || Intrinsic::named(name.as_str().as_bytes()).is_some()
 }
 
-fn tells_twice(name: &Name, facts: &Facts, unit: Option<&Name>) -> bool
-    ensures { result ≡ table_code.tells_twice (option_map (λ n. n.now) unit.entry) (name.now, facts_fields facts.now) }
+fn is_twice_entry(name: &Name, facts: &Facts, unit: Option<&Name>) -> bool
+    ensures { result ≡ table_code.is_twice_entry (option_map (λ n. n.now) unit.entry)
+        (name.now, facts_fields facts.now) }
 {
     facts.typed.is_more()
         || facts.dimensioned.is_more()
@@ -105,7 +106,7 @@ fn tells_twice(name: &Name, facts: &Facts, unit: Option<&Name>) -> bool
 
 /// The product of the bounds, or the largest `u64` if it is larger.
 pub fn product(bounds: &[u32]) -> u64
-    ensures { result ≡ min (presets.product bounds.now) (2 ^ 64 - 1) }
+    ensures { result ≡ min (initial_values.product bounds.now) (2 ^ 64 - 1) }
 {
     let mut size: u64 = 1;
     for bound in bounds {
@@ -178,11 +179,12 @@ impl Names {
     }
 
     fn find_real(&self) -> Option<(&Name, &Facts)>
-        ensures { option_map deref_pair result ≡ find (λ e. table_code.tells_real (entry_of e)) self.now.facts.entries }
+        ensures { option_map deref_pair result
+            ≡ find (λ e. table_code.is_real_entry (entry_of e)) self.now.facts.entries }
     {
         self.facts
             .iter()
-            .find(|(name, facts)| tells_real(name, facts))
+            .find(|(name, facts)| is_real_entry(name, facts))
     }
 
     /// The first name that is REAL by its first letter (4.1.2).
@@ -195,12 +197,13 @@ impl Names {
 
     fn find_twice(&self, unit: Option<&Name>) -> Option<(&Name, &Facts)>
         ensures { option_map deref_pair result
-            ≡ find (λ e. table_code.tells_twice (option_map (λ n. n.now) unit.entry) (entry_of e))
+            ≡ find
+            (λ e. table_code.is_twice_entry (option_map (λ n. n.now) unit.entry) (entry_of e))
             self.now.facts.entries }
     {
         self.facts
             .iter()
-            .find(|(name, facts)| tells_twice(name, facts, unit))
+            .find(|(name, facts)| is_twice_entry(name, facts, unit))
     }
 
     /// The first name that is typed, given bounds or a dummy argument twice, or that is also the name of the unit or of
@@ -228,7 +231,9 @@ impl Names {
     pub(crate) fn has_over(&self, limit: u32) -> bool
         ensures { (program : List LineFields) → IsNameTable self.now program
             → result
-            ≡ nat_lt limit (sum (map (presets.element_count program) (filter (is_array program) (symbols program)))) }
+            ≡ nat_lt limit
+            (sum (map (initial_values.element_count program)
+            (filter (is_array program) (symbols program)))) }
     {
         self.elements() > u64::from(limit)
     }

@@ -15,8 +15,8 @@ ghost use Rattle.f77_legal.specs.code.Tables.{terminal_of, closed_branch_end};
 ghost use Rattle.f77_legal.specs.declared.fault.CheckFault.TheVariants.{Memory};
 
 use crate::blocks::Blocks;
+use crate::enclosing::Ranges;
 use crate::fault::CheckFault;
-use crate::holders::Ranges;
 use crate::labels::{Labels, terminal_label};
 use crate::names::Names;
 use f77_program::Line;

@@ -13,12 +13,12 @@ use Rattle.f77_check.specs.Checked.{CheckedFields, IsChecked, shapes}
 use Rattle.f77_check.specs.declared.checked.Shape.{Shape}
 use Rattle.f77_legal.specs.Names.{Symbol, bounds_of, symbols}
 use Rattle.f77_legal.specs.Patches.{is_name_among}
-use Rattle.f77_legal.specs.Presets.{element_count, product}
+use Rattle.f77_legal.specs.InitialValues.{element_count, product}
 use Rattle.f77_check.specs.Slots.{slot_count}
 use Rattle.f77_legal.specs.Heading.{dummies}
-use Rattle.f77_check.specs.Start.{preset_value}
+use Rattle.f77_check.specs.Start.{initial_value}
 use Rattle.f77_legal.proofs.Among.{among_holds}
-use Rattle.f77_check.proofs.Unpreset.{unpreset}
+use Rattle.f77_check.proofs.NoInitialValue.{no_initial_value}
 use Rattle.f77_meaning.specs.declared.argument.Arg.{Arg}
 use Rattle.f77_actions.specs.declared.value.Value.{Value}
 use Rattle.f77_meaning.specs.Interpreter.{AreFitting, AreArguments, values_in}
@@ -82,7 +82,7 @@ module _ (checked : CheckedFields) (is : IsChecked checked) where
 
   -- what DATA gives an element
   abbrev given_at : Symbol → ℕ → Option Value
-  given_at name k = option_map constant_value (preset_value program name k)
+  given_at name k = option_map constant_value (initial_value program name k)
 
   -- the slots before the arguments are there
   abbrev pub empty : Cells
@@ -91,8 +91,8 @@ module _ (checked : CheckedFields) (is : IsChecked checked) where
   laid : empty ≡ flat_map (λ name. map (given_at name) (first_numbers (product (bounds name)))) checked.names
   laid =
       ap (map (option_map constant_value)) is.start.initial
-      ∙ map_joined (option_map constant_value) (λ name. map (preset_value program name) (first_numbers (element_count program name))) checked.names
-      ∙ same_joined _ _ (λ name. map_twice (option_map constant_value) (preset_value program name) (first_numbers (element_count program name))) checked.names
+      ∙ map_joined (option_map constant_value) (λ name. map (initial_value program name) (first_numbers (element_count program name))) checked.names
+      ∙ same_joined _ _ (λ name. map_twice (option_map constant_value) (initial_value program name) (first_numbers (element_count program name))) checked.names
 
   pub empty_size : length empty ≡ slot_count bounds checked.names
   empty_size = ap length laid ∙ laid_all bounds checked.names given_at
@@ -105,7 +105,7 @@ module _ (checked : CheckedFields) (is : IsChecked checked) where
       by false apart =
           unlaid_values bounds checked.names name apart empty
           ∙ same_mapped (λ k. None) (given_at name)
-          (λ k. sym (ap (option_map constant_value) (unpreset program name (other (list_any (bytes_eq name) (symbols program)) refl apart) k)))
+          (λ k. sym (ap (option_map constant_value) (no_initial_value program name (other (list_any (bytes_eq name) (symbols program)) refl apart) k)))
           (first_numbers (element_count program name))
         where
           other : (b : Bool) → list_any (bytes_eq name) (symbols program) ≡ b → list_any (bytes_eq name) checked.names ≡ false → list_any (bytes_eq name) (symbols program) ≡ false

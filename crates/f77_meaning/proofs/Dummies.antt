@@ -12,7 +12,7 @@ use Rattle.f77_program.specs.Program.{LineFields}
 use Rattle.f77_tree.specs.Statement.{Statement}
 use Rattle.f77_legal.specs.Heading.{dummies, dummies_of}
 use Rattle.f77_legal.specs.Legal.{IsLegal, name_faults}
-use Rattle.f77_legal.specs.Names.{Symbol, Mention, Dummy, name_in, mentions_of, mentions, names_once, symbols, is_real, is_twice, dummies_given}
+use Rattle.f77_legal.specs.Names.{Symbol, NameUse, Dummy, name_in, uses_of, uses, names_once, symbols, is_real, is_twice, dummies_given}
 use Rattle.f77_legal.specs.declared.fault.CheckFault.TheVariants.{RealName, Twice}
 use Rattle.f77_legal.proofs.LegalGives.{none_before, none_behind, map_none}
 
@@ -61,15 +61,15 @@ once_among name (x ∷ xs) among = by (bytes_eq name x) refl (once_among name xs
 under_two : (n : ℕ) → nat_le 2 n ≡ false → n < 2
 under_two n e = grind (arith, nat_tests)
 
--- a name that is mentioned is a dummy once at most
-given_once : (p : List LineFields) (name : Symbol) → IsLegal p → list_any (bytes_eq name) (map name_in (mentions p)) ≡ true → length (dummies_given (mentions p) name) < 2
+-- a name that is used is a dummy once at most
+given_once : (p : List LineFields) (name : Symbol) → IsLegal p → list_any (bytes_eq name) (map name_in (uses p)) ≡ true → length (dummies_given (uses p) name) < 2
 given_once p name legal among =
     let names : name_faults p ≡ [] = none_before (name_faults p) _ legal in
     let twice = map_none Twice (filter (is_twice p) (symbols p)) (none_behind (map RealName (filter (is_real p) (symbols p))) _ names) in
-    let once = none_kept (is_twice p) name (symbols p) twice (once_among name (map name_in (mentions p)) among) in
-    under_two (length (dummies_given (mentions p) name)) (or_parts _ _ (or_parts _ _ (or_parts _ _ once).1).1).0
+    let once = none_kept (is_twice p) name (symbols p) twice (once_among name (map name_in (uses p)) among) in
+    under_two (length (dummies_given (uses p) name)) (or_parts _ _ (or_parts _ _ (or_parts _ _ once).1).1).0
 
-module _ (others : List Mention) where
+module _ (others : List NameUse) where
   abbrev times : List Symbol → Symbol → ℕ
   times names name = length (dummies_given (map Dummy names ++ others) name)
 
@@ -96,9 +96,9 @@ module _ (others : List Mention) where
           let rest = later (sym (ap (λ b. b || list_any (bytes_eq name) names) e) ∙ among) in
           omega (arith, times_there x names name e, rest)
 
-  mentioned : (names : List Symbol) (name : Symbol) → list_any (bytes_eq name) names ≡ true → list_any (bytes_eq name) (map name_in (map Dummy names ++ others)) ≡ true
-  mentioned [] name among = absurd (cc (among))
-  mentioned (x ∷ names) name among = by (bytes_eq name x) refl (mentioned names name)
+  are_used : (names : List Symbol) (name : Symbol) → list_any (bytes_eq name) names ≡ true → list_any (bytes_eq name) (map name_in (map Dummy names ++ others)) ≡ true
+  are_used [] name among = absurd (cc (among))
+  are_used (x ∷ names) name among = by (bytes_eq name x) refl (are_used names name)
     where
       by : (b : Bool) → bytes_eq name x ≡ b → (list_any (bytes_eq name) names ≡ true → list_any (bytes_eq name) (map name_in (map Dummy names ++ others)) ≡ true)
           → list_any (bytes_eq name) (map name_in (map Dummy (x ∷ names) ++ others)) ≡ true
@@ -130,9 +130,9 @@ dummies_apart (line ∷ lines) legal = by line.stmt refl
   where
     by : (s : Statement) → line.stmt ≡ s → AreApart (dummies_of s)
     by (Statement.Subroutine unit names) e =
-        let all : mentions (line ∷ lines) ≡ map Dummy names ++ mentions lines = ap (λ s. mentions_of s ++ mentions lines) e in
-        apart_by (mentions lines) names
+        let all : uses (line ∷ lines) ≡ map Dummy names ++ uses lines = ap (λ s. uses_of s ++ uses lines) e in
+        apart_by (uses lines) names
         (λ name among.
         subst (λ ms. length (dummies_given ms name) < 2) all
-        (given_once (line ∷ lines) name legal (ap (λ ms. list_any (bytes_eq name) (map name_in ms)) all ∙ mentioned (mentions lines) names name among)))
+        (given_once (line ∷ lines) name legal (ap (λ ms. list_any (bytes_eq name) (map name_in ms)) all ∙ are_used (uses lines) names name among)))
     by _ e = tt

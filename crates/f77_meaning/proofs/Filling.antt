@@ -12,7 +12,7 @@ use Rattle.f77_check.specs.Checked.{shape_of, shapes}
 use Rattle.f77_legal.specs.Heading.{dummies}
 use Rattle.f77_legal.specs.Legal.{IsLegal}
 use Rattle.f77_legal.specs.Names.{Symbol, bounds_of}
-use Rattle.f77_legal.specs.Presets.{product}
+use Rattle.f77_legal.specs.InitialValues.{product}
 use Rattle.f77_check.specs.Slots.{slot_count, first_slot}
 use Rattle.f77_meaning.specs.declared.argument.Arg.{Arg}
 use Rattle.f77_actions.specs.declared.value.Value.{Value}

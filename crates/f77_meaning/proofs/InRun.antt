@@ -45,7 +45,7 @@ pub record ComesToEnd (p : List LineFields) (steps : ℕ) (c : Config) (made : �
   pub ends : IsOutcome p made c finish values
   pub held : Store
   pub outcome : IsOutcome p steps c finish held
-  pub told : finish ≢ StepLimit → held ≡ values
+  pub agrees : finish ≢ StepLimit → held ≡ values
 
 -- the dummy arguments hold the same
 abbrev pub AgreeOnDummies : List LineFields → Store → Store → Type 0

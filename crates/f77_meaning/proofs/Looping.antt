@@ -14,7 +14,7 @@ use Rattle.f77_actions.specs.declared.resolved.Resolved.{Resolved}
 use Rattle.f77_legal.specs.Labels.{bears, label_place, nth_statement, terminal_label}
 use Rattle.f77_legal.specs.Loops.{terminal}
 use Rattle.f77_legal.specs.Names.{Symbol, bounds_of}
-use Rattle.f77_legal.specs.Presets.{product}
+use Rattle.f77_legal.specs.InitialValues.{product}
 use Rattle.f77_check.specs.Resolved.{IsResolved, AreResolved}
 use Rattle.f77_check.specs.Slots.{slot_count, first_slot}
 use Rattle.f77_actions.specs.declared.finish.Fault.{Fault}

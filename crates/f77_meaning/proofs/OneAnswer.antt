@@ -15,7 +15,7 @@ use Rattle.f77_actions.specs.declared.finish.Finish.TheVariants as finish
 use Rattle.f77_meaning.specs.declared.outcome.Outcome.{Outcome}
 use Rattle.f77_meaning.specs.declared.outcome.Outcome.TheVariants as outcome
 use Rattle.f77_actions.specs.declared.value.Value.{Value}
-use Rattle.f77_meaning.specs.Interpreter.{values_in, is_count, is_single, has_shape, AreFitting, AreArguments, Tells, OneAnswer}
+use Rattle.f77_meaning.specs.Interpreter.{values_in, is_count, is_single, has_shape, AreFitting, AreArguments, Reports, OneAnswer}
 use Rattle.f77_meaning.specs.Outcome.{IsOutcome}
 use Rattle.f77_meaning.specs.Start.{IsStart, start_values}
 use Rattle.f77_meaning.specs.Step.{Config, config, Execute}
@@ -78,15 +78,15 @@ one_end : (p : List LineFields) (s : Store) (xs ys : List Arg) → AreArguments 
 one_end p s xs ys f g =
     one_list (shapes p) xs ys f.fitting g.fitting (sym f.values ∙ g.values)
 
-pub told_once : (p : List LineFields) (end : Finish) (s : Store) (answer other : Outcome) → Tells p end s answer → Tells p end s other → answer ≡ other
-told_once p finish.Returned s (outcome.Returned xs) (outcome.Returned ys) f g = ap outcome.Returned (one_end p s xs ys f g)
-told_once p finish.Returned s (outcome.Returned xs) _ f g = absurd g
-told_once p finish.Returned s _ _ f g = absurd f
-told_once p finish.Stopped s (outcome.Stopped xs) (outcome.Stopped ys) f g = ap outcome.Stopped (one_end p s xs ys f g)
-told_once p finish.Stopped s (outcome.Stopped xs) _ f g = absurd g
-told_once p finish.Stopped s _ _ f g = absurd f
-told_once p (finish.Failed fault) s answer other f g = f ∙ sym g
-told_once p finish.StepLimit s answer other f g = f ∙ sym g
+pub outcome_once : (p : List LineFields) (end : Finish) (s : Store) (answer other : Outcome) → Reports p end s answer → Reports p end s other → answer ≡ other
+outcome_once p finish.Returned s (outcome.Returned xs) (outcome.Returned ys) f g = ap outcome.Returned (one_end p s xs ys f g)
+outcome_once p finish.Returned s (outcome.Returned xs) _ f g = absurd g
+outcome_once p finish.Returned s _ _ f g = absurd f
+outcome_once p finish.Stopped s (outcome.Stopped xs) (outcome.Stopped ys) f g = ap outcome.Stopped (one_end p s xs ys f g)
+outcome_once p finish.Stopped s (outcome.Stopped xs) _ f g = absurd g
+outcome_once p finish.Stopped s _ _ f g = absurd f
+outcome_once p (finish.Failed fault) s answer other f g = f ∙ sym g
+outcome_once p finish.StepLimit s answer other f g = f ∙ sym g
 
 pub one_start : (p : List LineFields) (given : List (List Value)) (c b : Config) → IsStart p given c → IsStart p given b → c ≡ b
 one_start p given c b f g =
@@ -97,6 +97,6 @@ pub one_answer : OneAnswer
 one_answer p arguments steps answer other f g =
     let same = one_start p (map values_in arguments) f.start g.start f.starts g.starts in
     let ends = one_outcome p steps g.start f.finish g.finish f.values g.values (subst (λ c. IsOutcome p steps c f.finish f.values) same f.ends) g.ends in
-    let tells : Tells p g.finish g.values answer
-    = subst (λ end. Tells p end g.values answer) ends.0 (subst (λ s. Tells p f.finish s answer) ends.1 f.tells) in
-    told_once p g.finish g.values answer other tells g.tells
+    let answered : Reports p g.finish g.values answer
+    = subst (λ end. Reports p end g.values answer) ends.0 (subst (λ s. Reports p f.finish s answer) ends.1 f.reports) in
+    outcome_once p g.finish g.values answer other answered g.reports

@@ -6,7 +6,7 @@ use Rattle.std.proofs.lemmas.List.Concat.{get_or-flat_map}
 use Rattle.std.proofs.lemmas.Option.{slice_get-get_or}
 use Rattle.f77_tree.specs.declared.tree.Kind.{Kind}
 use Rattle.f77_legal.specs.Names.{Symbol}
-use Rattle.f77_legal.specs.Presets.{product}
+use Rattle.f77_legal.specs.InitialValues.{product}
 use Rattle.f77_check.specs.Slots.{slot_count, first_slot, slot_kinds}
 use Rattle.f77_meaning.proofs.Spans.{count_more, starts_at, span_within}
 

@@ -9,7 +9,7 @@ use Rattle.std.proofs.lemmas.Option.{unwrap_or-slice_get}
 use Rattle.std.proofs.lemmas.Slice.Eq.{bytes_eq-Decides}
 use Rattle.f77_legal.specs.Blocks.{first_numbers}
 use Rattle.f77_legal.specs.Names.{Symbol}
-use Rattle.f77_legal.specs.Presets.{product}
+use Rattle.f77_legal.specs.InitialValues.{product}
 use Rattle.f77_check.specs.Slots.{slot_count, first_slot}
 use Rattle.f77_actions.specs.declared.value.Value.{Value}
 use Rattle.f77_code.specs.Evaluation.{held_in}

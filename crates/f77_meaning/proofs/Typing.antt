@@ -21,7 +21,7 @@ use Rattle.f77_legal.specs.Kinds.{kinds_agree}
 use Rattle.f77_legal.specs.Labels.{nth_statement}
 use Rattle.f77_legal.specs.Legal.{IsLegal}
 use Rattle.f77_legal.specs.Names.{Symbol, some_items, kind_of, bounds_of}
-use Rattle.f77_legal.specs.Presets.{product, element_count}
+use Rattle.f77_legal.specs.InitialValues.{product, element_count}
 use Rattle.f77_legal.proofs.LegalGives.{clause_kept, kept_by, not_false}
 use Rattle.f77_meaning.specs.declared.argument.Arg.{Arg}
 use Rattle.f77_meaning.specs.declared.argument.Arg.TheVariants.{Int, Truth, Ints, Truths}

@@ -12,7 +12,7 @@ use Rattle.f77_legal.specs.Labels.{nth_statement}
 use Rattle.f77_legal.specs.Names.{Symbol, kind_of, bounds_of}
 use Rattle.f77_legal.proofs.FrameNames.{kind_of_same, bounds_of_same, elements_same, dummies_same}
 use Rattle.f77_legal.proofs.SameFrame.{place_of_same, range_holds_same, branch_end_same, terminal_same, behind_same}
-use Rattle.f77_check.proofs.Carried.{entry_same, preset_at_same, shapes_same}
+use Rattle.f77_check.proofs.Carried.{entry_same, initial_at_same, shapes_same}
 use Rattle.f77_meaning.specs.declared.argument.Arg.{Arg}
 use Rattle.f77_actions.specs.declared.finish.Fault.{Fault}
 use Rattle.f77_actions.specs.declared.finish.Finish.{Finish}
@@ -22,7 +22,7 @@ use Rattle.f77_meaning.specs.declared.outcome.Outcome.TheVariants as outcome
 use Rattle.f77_actions.specs.declared.value.Value.{Value}
 use Rattle.f77_actions.specs.declared.value.Value.TheVariants as held
 use Rattle.f77_code.specs.Choice.{by_sign, item_chosen}
-use Rattle.f77_meaning.specs.Interpreter.{AreFitting, AreArguments, Tells, values_in}
+use Rattle.f77_meaning.specs.Interpreter.{AreFitting, AreArguments, Reports, values_in}
 use Rattle.f77_actions.specs.Number.{in_range, trip_count}
 use Rattle.f77_meaning.specs.Outcome.{IsOutcome}
 use Rattle.f77_meaning.specs.Reached.{statement_number, IsReached, AreSameBut, MayBeAnother}
@@ -170,7 +170,7 @@ module _ (p q : List LineFields) (same : HaveOneFrame p q) where
   start_values_same : (given : List (List Value)) → start_values p given ≡ start_values q given
   start_values_same given = λ k name.
       option_map_or (λ i. option_map_or (map (λ v. Some v)) (slice_get given i) []) (position (bytes_eq name) (dummies_same p q same k))
-      (map (λ m. option_map constant_value (preset_at_same p q same name m k)) (first_numbers (elements_same p q same name k)))
+      (map (λ m. option_map constant_value (initial_at_same p q same name m k)) (first_numbers (elements_same p q same name k)))
 
   pub starts_same : (given : List (List Value)) (c : Config) → IsStart p given c → IsStart q given c
   starts_same given c is =
@@ -182,12 +182,12 @@ module _ (p q : List LineFields) (same : HaveOneFrame p q) where
     values = ap (map s) (sym (dummies_same p q same)) ∙ are.values;
   }
 
-  pub tells_same : (end : Finish) (s : Store) (answer : Outcome) → Tells p end s answer → Tells q end s answer
-  tells_same finish.Returned s (outcome.Returned arguments) f = arguments_same s arguments f
-  tells_same finish.Stopped s (outcome.Stopped arguments) f = arguments_same s arguments f
-  tells_same (finish.Failed fault) s answer f = f
-  tells_same finish.StepLimit s answer f = f
-  tells_same _ s _ f = absurd f
+  pub reports_same : (end : Finish) (s : Store) (answer : Outcome) → Reports p end s answer → Reports q end s answer
+  reports_same finish.Returned s (outcome.Returned arguments) f = arguments_same s arguments f
+  reports_same finish.Stopped s (outcome.Stopped arguments) f = arguments_same s arguments f
+  reports_same (finish.Failed fault) s answer f = f
+  reports_same finish.StepLimit s answer f = f
+  reports_same _ s _ f = absurd f
 
 pub may_be_another : MayBeAnother
 may_be_another p q i arguments steps answer same others never is = record {
@@ -196,5 +196,5 @@ may_be_another p q i arguments steps answer same others never is = record {
   finish = is.finish;
   values = is.values;
   ends = run_same p q same i others steps is.start is.finish is.values (λ reached. never (record { start = is.start; starts = is.starts; reached = reached })) is.ends;
-  tells = tells_same p q same is.finish is.values answer is.tells;
+  reports = reports_same p q same is.finish is.values answer is.reports;
 }

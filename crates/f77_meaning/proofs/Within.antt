@@ -14,7 +14,7 @@ use Rattle.f77_actions.specs.declared.expression.Condition.{Condition, Not', Rel
 use Rattle.f77_actions.specs.declared.expression.Condition as condition
 use Rattle.f77_check.specs.Expression.{IsElement, IsNumber, IsChosen, IsCondition}
 use Rattle.f77_legal.specs.Names.{Symbol}
-use Rattle.f77_legal.specs.Presets.{product}
+use Rattle.f77_legal.specs.InitialValues.{product}
 use Rattle.f77_check.specs.Slots.{slot_count, first_slot}
 use Rattle.f77_code.specs.Evaluation.{element_within, number_within, condition_within}
 use Rattle.f77_meaning.proofs.Spans.{span_within}

@@ -77,24 +77,24 @@ pub record AreArguments (program : List LineFields) (store : Store)
       ≡ map (λ argument. map (λ v. Some v) (values_in argument)) arguments
 
 -- the outcome of a run that failed
-abbrev pub told_outcome : Fault → Outcome
-told_outcome fault.Overflow = outcome.Overflow
-told_outcome fault.DivideByZero = outcome.DivideByZero
-told_outcome fault.ZeroPower = outcome.ZeroPower
-told_outcome fault.BadSubscript = outcome.BadSubscript
-told_outcome fault.ZeroStep = outcome.ZeroStep
-told_outcome fault.Undefined = outcome.Undefined
-told_outcome fault.Trapped = outcome.Trapped
+abbrev pub fault_outcome : Fault → Outcome
+fault_outcome fault.Overflow = outcome.Overflow
+fault_outcome fault.DivideByZero = outcome.DivideByZero
+fault_outcome fault.ZeroPower = outcome.ZeroPower
+fault_outcome fault.BadSubscript = outcome.BadSubscript
+fault_outcome fault.ZeroStep = outcome.ZeroStep
+fault_outcome fault.Undefined = outcome.Undefined
+fault_outcome fault.Trapped = outcome.Trapped
 
 -- the outcome reports this end, with the values that the dummy arguments have then
-abbrev pub Tells : List LineFields → Finish → Store → Outcome → Type 0
-Tells program finish.Returned store (outcome.Returned arguments) =
+abbrev pub Reports : List LineFields → Finish → Store → Outcome → Type 0
+Reports program finish.Returned store (outcome.Returned arguments) =
     AreArguments program store arguments
-Tells program finish.Stopped store (outcome.Stopped arguments) =
+Reports program finish.Stopped store (outcome.Stopped arguments) =
     AreArguments program store arguments
-Tells program (finish.Failed fault) store answer = answer ≡ told_outcome fault
-Tells program finish.StepLimit store answer = answer ≡ outcome.StepLimit
-Tells program _ store _ = ⊥
+Reports program (finish.Failed fault) store answer = answer ≡ fault_outcome fault
+Reports program finish.StepLimit store answer = answer ≡ outcome.StepLimit
+Reports program _ store _ = ⊥
 
 -- Rule: the outcome; one at most
 -- `answer` is the outcome of the run with these arguments within this limit on steps
@@ -105,7 +105,7 @@ pub record IsOutcomeOf (program : List LineFields) (arguments : List Arg) (steps
   pub finish : Finish
   pub values : Store
   pub ends : IsOutcome program steps start finish values
-  pub tells : Tells program finish values answer
+  pub reports : Reports program finish values answer
 
 -- Rule: the outcome; one at most
 -- a run with given arguments has at most one outcome

@@ -7,9 +7,9 @@ use Rattle.f77_program.specs.Program.{LineFields}
 use Rattle.f77_tree.specs.declared.data.Constant.{Constant}
 use Rattle.f77_tree.specs.declared.data.Constant.TheVariants.{Number, Truth}
 use Rattle.f77_legal.specs.Blocks.{first_numbers}
-use Rattle.f77_legal.specs.Presets.{element_count}
+use Rattle.f77_legal.specs.InitialValues.{element_count}
 use Rattle.f77_legal.specs.Heading.{dummies}
-use Rattle.f77_check.specs.Start.{preset_value}
+use Rattle.f77_check.specs.Start.{initial_value}
 use Rattle.f77_tree.specs.Statement.{is_executable_statement}
 use Rattle.f77_meaning.specs.Value.{Store}
 use Rattle.f77_meaning.specs.Step.{Config, config, Execute}
@@ -28,7 +28,7 @@ abbrev pub start_values : List LineFields → List (List Value) → Store
 start_values p given name =
     option_map_or (λ i. option_map_or (map (λ v. Some v)) (slice_get given i) [])
     (position (bytes_eq name) (dummies p))
-    (map (λ k. option_map constant_value (preset_value p name k))
+    (map (λ k. option_map constant_value (initial_value p name k))
     (first_numbers (element_count p name)))
 
 -- Rule: the start of a run (9, 15.9)

@@ -4,7 +4,7 @@ use Rattle.std.specs.Prelude.{ℕ, ◌+◌, List, map}
 use Rattle.std.specs.Option.{option_and_then}
 use Rattle.f77_legal.specs.Blocks.{first_numbers}
 use Rattle.f77_legal.specs.Names.{Symbol}
-use Rattle.f77_legal.specs.Presets.{product}
+use Rattle.f77_legal.specs.InitialValues.{product}
 use Rattle.f77_check.specs.Slots.{first_slot}
 use Rattle.f77_code.specs.declared.control.Place.{Place}
 use Rattle.f77_code.specs.declared.control.Place.TheVariants.{Execute, Increment}

@@ -12,4 +12,4 @@ pub mod Order
 pub mod Texts
 pub mod Patches
 pub mod Lines
-pub mod Told
+pub mod Reported

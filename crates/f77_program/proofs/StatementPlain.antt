@@ -11,7 +11,7 @@ use Rattle.f77_tree.specs.Statement.{Statement}
 use Rattle.f77_tree.specs.Joined.{has_items, separated}
 use Rattle.f77_tree.specs.StatementGrammar.{SpellsStatement, IsFormed, IsUnmutated}
 use Rattle.f77_tree.specs.Grammar.{is_letter, is_word, is_name}
-use Rattle.f77_tree.proofs.Constants.{told_by_part}
+use Rattle.f77_tree.proofs.Constants.{decided_by_part}
 use Rattle.f77_program.specs.Canonical.{text_of, list_text, step_text, statement_text}
 use Rattle.f77_program.specs.code.Formed.{formed, all_formed, value_formed, statement_formed}
 use Rattle.f77_program.specs.Formed.{is_action}
@@ -190,4 +190,4 @@ statement_starts Statement.End f = refl
 pub reads_back : (s : Statement) → IsFormed s → IsUnmutated s → statement_constants s ≡ true → SpellsStatement (squeezed (statement_text s)) s
 reads_back s f u k =
     let formed = is_formed s f in
-    subst (λ z. SpellsStatement z s) (sym (squeezed_statement s formed)) (back_statement s u formed (sym (told_by_part s) ∙ k))
+    subst (λ z. SpellsStatement z s) (sym (squeezed_statement s formed)) (back_statement s u formed (sym (decided_by_part s) ∙ k))

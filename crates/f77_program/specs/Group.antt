@@ -42,13 +42,13 @@ may_stand (Some before) group = comes_later (group_rank before) (group_rank grou
 
 -- this many declarations, DATA and executable statements, and then END
 abbrev pub behind_heading : ℕ → ℕ → ℕ → List Group
-behind_heading declarations presets executables =
+behind_heading declarations initial_values executables =
     replicate declarations Declaration
-    ++ (replicate presets Data ++ (replicate executables Executable ++ (End ∷ [])))
+    ++ (replicate initial_values Data ++ (replicate executables Executable ++ (End ∷ [])))
 
 -- Rule: the order of statements (3.5)
 -- SUBROUTINE, then declarations, then DATA, then executable statements, any number of each, and END
 abbrev pub AreInOrder : List Group → Type 0
 AreInOrder groups =
-    (declarations : ℕ) × (presets : ℕ) × (executables : ℕ)
-    × (groups ≡ Subroutine ∷ behind_heading declarations presets executables)
+    (declarations : ℕ) × (initial_values : ℕ) × (executables : ℕ)
+    × (groups ≡ Subroutine ∷ behind_heading declarations initial_values executables)

@@ -36,5 +36,5 @@ unnumbered line = (line.label, line.stmt)
 
 -- Rule: a program; the same program
 -- two programs are equal apart from line numbers
-abbrev pub AreAlike : List LineFields → List LineFields → Type 0
-AreAlike program other = map unnumbered program ≡ map unnumbered other
+abbrev pub AreEqualUnnumbered : List LineFields → List LineFields → Type 0
+AreEqualUnnumbered program other = map unnumbered program ≡ map unnumbered other

@@ -5,7 +5,7 @@ ghost use Rattle.std.specs.List.{slice_get};
 ghost use Rattle.f77_program.specs.Program.{line_of};
 ghost use Rattle.f77_program.specs.Printing as printing;
 ghost use Rattle.f77_program.specs.Printing.{printed, print_faults};
-ghost use Rattle.f77_program.specs.code.Printing.{told_fault};
+ghost use Rattle.f77_program.specs.code.Printing.{reported_fault};
 
 use crate::canonical::print_stmt;
 use crate::fault::SyntaxFault;
@@ -15,9 +15,9 @@ use f77_tree::Shared;
 use std::alloc::Global;
 
 /// The fault of the program for a fault of a card. Canonical texts are printable, so no other faults come here.
-fn told(fault: FormFault) -> SyntaxFault
-    requires { IsSome (told_fault fault) }
-    ensures { told_fault fault ≡ Some result }
+fn reported(fault: FormFault) -> SyntaxFault
+    requires { IsSome (reported_fault fault) }
+    ensures { reported_fault fault ≡ Some result }
 {
     match fault {
         FormFault::BadLabel(line) => SyntaxFault::BadConstant(line),
@@ -61,6 +61,6 @@ pub fn print(alloc: Global, program: &Program) -> Result<String, SyntaxFault>
     let cards = cards_of(alloc, program.lines())?;
     match write_form(alloc, &cards) {
         Ok(text) => Ok(text),
-        Err(fault) => Err(told(fault)),
+        Err(fault) => Err(reported(fault)),
     }
 }

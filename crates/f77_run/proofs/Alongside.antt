@@ -1,4 +1,4 @@
--- The run of a changed program beside that of the program: what it comes to where the two do not part, and where they do.
+-- The run of a changed program beside that of the program: what it comes to where the two do not diverge, and where they do.
 use Rattle.std.proofs.Common.{arith, ◌≡◌, ◌∙◌, ◌+◌, ◌-◌, ◌≤◌, ◌<◌, ◌⊎◌, ◌++◌, ◌&&◌, ℕ, suc, ℤ, Bool, true, false, List, [], ◌∷◌, drop, length, map, inl, inr}
 use Rattle.std.proofs.Common.{refl, sym, ap, subst, append_assoc, length-append}
 use Rattle.std.specs.Prelude.{Some, None, IfSome, slice_get}
@@ -19,43 +19,43 @@ use Rattle.f77_code.specs.declared.kept_step.KeptStep.{KeptStep}
 use Rattle.f77_code.specs.Block.{code_after, code_within}
 use Rattle.f77_code.specs.Follow.{HasSizes, first_time}
 use Rattle.f77_code.specs.Frame.{AllWriteBelow, with_more}
-use Rattle.f77_code.specs.KeptStep.{IsKept, PartedRuns, kept_time}
+use Rattle.f77_code.specs.KeptStep.{IsKept, DivergingRuns, kept_time}
 use Rattle.f77_code.specs.Moves.{Cells}
 use Rattle.f77_code.specs.Operation.{Point, point, ended_point}
-use Rattle.f77_code.specs.Registers.{are_held, is_held, told_by_register}
-use Rattle.f77_code.specs.Together.{AreTimes, MayPart, TwoRuns, time_of}
+use Rattle.f77_code.specs.Registers.{are_held, is_held, decoded}
+use Rattle.f77_code.specs.Together.{AreTimes, MayDiverge, TwoRuns, time_of}
 use Rattle.f77_code.proofs.Listed.{get_left}
-use Rattle.f77_code.proofs.Together.{never_part}
+use Rattle.f77_code.proofs.Together.{never_diverge}
 use Rattle.f77_code.proofs.Writes.{writes_slots}
 use Rattle.f77_meaning.specs.declared.outcome.Outcome.{Outcome}
-use Rattle.f77_meaning.specs.Interpreter.{IsOutcomeOf, Tells}
+use Rattle.f77_meaning.specs.Interpreter.{IsOutcomeOf, Reports}
 use Rattle.f77_meaning.specs.Site.{held}
 use Rattle.f77_meaning.proofs.OneAnswer.{one_answer}
 use Rattle.f77_run.specs.declared.registers.Registers.{Registers}
 use Rattle.f77_run.specs.Registers.{AreLoaded, loaded}
 use Rattle.f77_run.specs.code.Registers.{shown_as, shown_cells}
 use Rattle.f77_run.specs.Visits.{AreAtStart, cells_at_start}
-use Rattle.f77_run.specs.code.Ends.{RunOf, TellsOf}
-use Rattle.f77_run.specs.code.Parting.{IsParting, Parting}
+use Rattle.f77_run.specs.code.Ends.{RunOf, ReportsOf}
+use Rattle.f77_run.specs.code.Diverging.{IsDivergence, Divergence}
 use Rattle.f77_run.specs.code.Running.{CameBack}
 use Rattle.f77_run.specs.code.Runs.{HasCode}
 use Rattle.f77_run.specs.code.Site.{HoldDummies, shown_by}
 use Rattle.f77_run.proofs.Ends as ends
-use Rattle.f77_run.proofs.Finished.{finish_of, finish_told, finish_limit}
+use Rattle.f77_run.proofs.Finished.{finish_of, finish_ended, finish_limit}
 use Rattle.f77_run.proofs.Loaded.{loaded_count, loaded_room}
 use Rattle.f77_run.proofs.Starting.{initial_cells, own_run as run_itself, own_compiled as compiled_itself, slots_counted}
-use Rattle.f77_run.proofs.Telling.{tells_one}
+use Rattle.f77_run.proofs.Reporting.{some_outcome}
 
 -- two runs whose registers have the same for each slot show the same values
-shown_alike : (kinds : List Kind) (xs ys : List ℤ) → length kinds ≤ length xs → ((k : ℕ) → k < length kinds → slice_get ys k ≡ slice_get xs k)
+shown_equal : (kinds : List Kind) (xs ys : List ℤ) → length kinds ≤ length xs → ((k : ℕ) → k < length kinds → slice_get ys k ≡ slice_get xs k)
     → shown_cells kinds ys ≡ shown_cells kinds xs
-shown_alike [] xs ys room each = refl
-shown_alike (kind ∷ kinds) [] ys room each = absurd (omega (arith, room))
-shown_alike (kind ∷ kinds) (x ∷ xs) [] room each = absurd (cc (each 0 (omega arith)))
-shown_alike (kind ∷ kinds) (x ∷ xs) (y ∷ ys) room each =
+shown_equal [] xs ys room each = refl
+shown_equal (kind ∷ kinds) [] ys room each = absurd (omega (arith, room))
+shown_equal (kind ∷ kinds) (x ∷ xs) [] room each = absurd (cc (each 0 (omega arith)))
+shown_equal (kind ∷ kinds) (x ∷ xs) (y ∷ ys) room each =
     let first : y ≡ x = same_Some y x (each 0 (omega arith)) in
-    let rest = shown_alike kinds xs ys (omega (arith, room)) (λ k below. each (suc k) (omega (arith, below))) in
-    λ i. shown_as kind (told_by_register (first i)) ∷ rest i
+    let rest = shown_equal kinds xs ys (omega (arith, room)) (λ k below. each (suc k) (omega (arith, below))) in
+    λ i. shown_as kind (decoded (first i)) ∷ rest i
 
 -- there are as many registers as slots and constants
 loaded_length : (kinds : List Kind) (cells : Cells) (constants registers : List ℤ) → AreLoaded kinds cells constants registers
@@ -76,19 +76,19 @@ loaded_constants kinds cells constants registers are =
     (sym (list_all-append is_held (loaded kinds cells) constants) ∙ ap are_held (sym are.items) ∙ are.held)).1
 
 -- the checked program is that of the run
-pub as_run : (parting : Parting) (checked : CheckedFields) (code : Code) (image : Registers) → IsParting parting checked code image
-    → IsParting parting parting.run.checked code image
-as_run parting checked code image is = subst (λ ch. IsParting parting ch code image) (sym is.checked_is) is
+pub as_run : (divergence : Divergence) (checked : CheckedFields) (code : Code) (image : Registers) → IsDivergence divergence checked code image
+    → IsDivergence divergence divergence.run.checked code image
+as_run divergence checked code image is = subst (λ ch. IsDivergence divergence ch code image) (sym is.checked_is) is
 
-module _ (parting : Parting) (code : Code) (image : Registers) (is : IsParting parting parting.run.checked code image) where
+module _ (divergence : Divergence) (code : Code) (image : Registers) (is : IsDivergence divergence divergence.run.checked code image) where
   abbrev run : RunOf
-  run = parting.run
+  run = divergence.run
 
   abbrev checked : CheckedFields
-  checked = parting.run.checked
+  checked = divergence.run.checked
 
   abbrev p : List LineFields
-  p = map line_of parting.run.checked.program
+  p = map line_of divergence.run.checked.program
 
   abbrev changed : List Instruction
   changed = code.instructions.items
@@ -168,38 +168,38 @@ module _ (parting : Parting) (code : Code) (image : Registers) (is : IsParting p
   runs = record {
     code = is.own.instructions.items;
     other = changed;
-    i = parting.place;
+    i = divergence.place;
     loops = length is.start.turns;
     start = is.start;
     extra = is.extra;
   }
 
-  abbrev parted : PartedRuns
-  parted = record { runs = runs; behind = drop checked.slots is.start.registers }
+  abbrev diverging : DivergingRuns
+  diverging = record { runs = runs; behind = drop checked.slots is.start.registers }
 
-  may : MayPart runs
+  may : MayDiverge runs
   may = record {
     within = ends.within own_run checked.statements is.own own_compiled is.start.registers is.start.turns is.starts.begins;
     agree = is.agree;
   }
 
   -- the first time that is kept
-  module _ (kept : KeptStep) (first : parting.passed.first ≡ Some kept) where
+  module _ (kept : KeptStep) (first : divergence.passed.first ≡ Some kept) where
     pub sizes : HasSizes checked.slots (length is.start.turns) kept
     sizes = subst (λ o. IfSome o (HasSizes checked.slots (length is.start.turns))) first is.sizes
 
-    times : AreTimes is.own.instructions.items parting.place is.start 0 parting.steps (time_of parting.place parted.behind (kept_time kept) ∷ []) parting.passed.more
+    times : AreTimes is.own.instructions.items divergence.place is.start 0 divergence.steps (time_of divergence.place diverging.behind (kept_time kept) ∷ []) divergence.passed.more
     times =
-        subst (λ o. AreTimes is.own.instructions.items parting.place is.start 0 parting.steps (map (time_of parting.place parted.behind) (first_time o)) parting.passed.more)
+        subst (λ o. AreTimes is.own.instructions.items divergence.place is.start 0 divergence.steps (map (time_of divergence.place diverging.behind) (first_time o)) divergence.passed.more)
         first is.passed_is
 
-    pub kept_within : kept.made < parting.steps
+    pub kept_within : kept.made < divergence.steps
     kept_within = times.1
 
-    is_kept : (more : Bool) → parting.passed.more ≡ more → IsKept parted kept more parting.steps image.items.items
+    is_kept : (more : Bool) → divergence.passed.more ≡ more → IsKept diverging kept more divergence.steps image.items.items
     is_kept more same = record {
       may = may;
-      times = subst (AreTimes is.own.instructions.items parting.place is.start 0 parting.steps (time_of parting.place parted.behind (kept_time kept) ∷ [])) same times;
+      times = subst (AreTimes is.own.instructions.items divergence.place is.start 0 divergence.steps (time_of divergence.place diverging.behind (kept_time kept) ∷ [])) same times;
       behind = ap (λ n. drop n image.items.items) sizes.before ∙ behind;
       writes = subst (λ n. AllWriteBelow n changed) (slots_are ∙ sym sizes.before)
           (writes_slots _ is.statements changed (ends.code_is run is.statements code is.compiled start.registers start.turns begun));
@@ -207,23 +207,23 @@ module _ (parting : Parting) (code : Code) (image : Registers) (is : IsParting p
 
   -- the changed code stands where the code of the program stands behind all steps
   abbrev pub StayTogether : Type 0
-  StayTogether = code_after changed parting.steps start ≡ with_more (code_after is.own.instructions.items parting.steps is.start) is.extra
+  StayTogether = code_after changed divergence.steps start ≡ with_more (code_after is.own.instructions.items divergence.steps is.start) is.extra
 
-  pub never_there : parting.passed.first ≡ None → parting.passed.more ≡ false → StayTogether
+  pub never_there : divergence.passed.first ≡ None → divergence.passed.more ≡ false → StayTogether
   never_there first more =
-      ap (code_after changed parting.steps) (sym start_is)
-      ∙ never_part runs parting.steps parting.steps [] may
-      (subst (AreTimes is.own.instructions.items parting.place is.start 0 parting.steps []) more
-      (subst (λ o. AreTimes is.own.instructions.items parting.place is.start 0 parting.steps (map (time_of parting.place parted.behind) (first_time o)) parting.passed.more)
+      ap (code_after changed divergence.steps) (sym start_is)
+      ∙ never_diverge runs divergence.steps divergence.steps [] may
+      (subst (AreTimes is.own.instructions.items divergence.place is.start 0 divergence.steps []) more
+      (subst (λ o. AreTimes is.own.instructions.items divergence.place is.start 0 divergence.steps (map (time_of divergence.place diverging.behind) (first_time o)) divergence.passed.more)
       first is.passed_is))
       (λ j time none at. absurd (omega (arith, none))) (omega arith)
 
   -- where the changed code stands after all steps
   abbrev last : Point
-  last = code_after is.own.instructions.items parting.steps is.start
+  last = code_after is.own.instructions.items divergence.steps is.start
 
-  last_is : last ≡ code_after is.own.instructions.items parting.steps (point checked.start.entry is.start.registers is.start.turns)
-  last_is = λ i. code_after is.own.instructions.items parting.steps (point (is.starts.place i) is.start.registers is.start.turns)
+  last_is : last ≡ code_after is.own.instructions.items divergence.steps (point checked.start.entry is.start.registers is.start.turns)
+  last_is = λ i. code_after is.own.instructions.items divergence.steps (point (is.starts.place i) is.start.registers is.start.turns)
 
   abbrev finish : Finish
   finish = finish_of last.place
@@ -231,32 +231,32 @@ module _ (parting : Parting) (code : Code) (image : Registers) (is : IsParting p
   own_room : length checked.start.kinds.items ≤ length last.registers
   own_room =
       ends.room own_run checked.statements is.own own_compiled is.start.registers is.start.turns is.starts.begins
-      parting.steps parting.steps last.place last.registers last.turns last_is (omega arith) (λ less. absurd (omega (arith, less)))
-      finish (finish_told last.place) (finish_limit last.place)
+      divergence.steps divergence.steps last.place last.registers last.turns last_is (omega arith) (λ less. absurd (omega (arith, less)))
+      finish (finish_ended last.place) (finish_limit last.place)
 
   own_dummies : HoldDummies checked (shown_by checked last.registers)
   own_dummies =
       ends.dummies own_run checked.statements is.own own_compiled is.start.registers is.start.turns is.starts.begins
-      parting.steps parting.steps last.place last.registers last.turns last_is (omega arith) (λ less. absurd (omega (arith, less)))
-      finish (finish_told last.place) (finish_limit last.place)
+      divergence.steps divergence.steps last.place last.registers last.turns last_is (omega arith) (λ less. absurd (omega (arith, less)))
+      finish (finish_ended last.place) (finish_limit last.place)
 
-  own_tells : (answer : Outcome) → Tells p finish (held checked (shown_by checked last.registers)) answer → IsOutcomeOf p run.arguments parting.steps answer
-  own_tells =
-      ends.tells own_run checked.statements is.own own_compiled is.start.registers is.start.turns is.starts.begins
-      parting.steps parting.steps last.place last.registers last.turns last_is (omega arith) (λ less. absurd (omega (arith, less)))
-      finish (finish_told last.place) (finish_limit last.place)
+  own_reports : (answer : Outcome) → Reports p finish (held checked (shown_by checked last.registers)) answer → IsOutcomeOf p run.arguments divergence.steps answer
+  own_reports =
+      ends.reports own_run checked.statements is.own own_compiled is.start.registers is.start.turns is.starts.begins
+      divergence.steps divergence.steps last.place last.registers last.turns last_is (omega arith) (λ less. absurd (omega (arith, less)))
+      finish (finish_ended last.place) (finish_limit last.place)
 
   -- the outcome of the program reports this end
-  outcome_told : (outcome : Outcome) → IsOutcomeOf p run.arguments parting.steps outcome → Tells p finish (held checked (shown_by checked last.registers)) outcome
-  outcome_told outcome given =
-      let some = tells_one p finish (held checked (shown_by checked last.registers)) own_dummies.typed in
-      subst (Tells p finish (held checked (shown_by checked last.registers)))
-      (one_answer p run.arguments parting.steps some.0 outcome (own_tells some.0 some.1) given) some.1
+  outcome_reports : (outcome : Outcome) → IsOutcomeOf p run.arguments divergence.steps outcome → Reports p finish (held checked (shown_by checked last.registers)) outcome
+  outcome_reports outcome given =
+      let some = some_outcome p finish (held checked (shown_by checked last.registers)) own_dummies.typed in
+      subst (Reports p finish (held checked (shown_by checked last.registers)))
+      (one_answer p run.arguments divergence.steps some.0 outcome (own_reports some.0 some.1) given) some.1
 
   -- the outcome also reports the end of the run of the changed program, which stands there too
   module _ (together : StayTogether) where
     abbrev there : Point
-    there = code_after changed parting.steps start
+    there = code_after changed divergence.steps start
 
     place_is : there.place ≡ last.place
     place_is = ap (λ (q : Point). q.place) together
@@ -266,51 +266,51 @@ module _ (parting : Parting) (code : Code) (image : Registers) (is : IsParting p
         let many = own_room in
         ap (λ (q : Point). slice_get q.registers k) together ∙ get_left last.registers is.extra k (omega (arith, below, many))
 
-    comes_to_same : (outcome : Outcome) → IsOutcomeOf p run.arguments parting.steps outcome → IsOutcomeOf run.program run.arguments parting.steps outcome
+    comes_to_same : (outcome : Outcome) → IsOutcomeOf p run.arguments divergence.steps outcome → IsOutcomeOf run.program run.arguments divergence.steps outcome
     comes_to_same outcome given =
-        ends.tells run is.statements code is.compiled start.registers start.turns begun
-        parting.steps parting.steps there.place there.registers there.turns refl (omega arith) (λ less. absurd (omega (arith, less)))
-        finish (λ f at. finish_told last.place f (sym place_is ∙ at)) (λ below. finish_limit last.place (subst (λ n. n < 4294967296) place_is below))
+        ends.reports run is.statements code is.compiled start.registers start.turns begun
+        divergence.steps divergence.steps there.place there.registers there.turns refl (omega arith) (λ less. absurd (omega (arith, less)))
+        finish (λ f at. finish_ended last.place f (sym place_is ∙ at)) (λ below. finish_limit last.place (subst (λ n. n < 4294967296) place_is below))
         outcome
-        (subst (λ cells. Tells p finish (held checked cells) outcome) (sym (shown_alike checked.start.kinds.items last.registers there.registers own_room same_slots))
-        (outcome_told outcome given))
+        (subst (λ cells. Reports p finish (held checked cells) outcome) (sym (shown_equal checked.start.kinds.items last.registers there.registers own_room same_slots))
+        (outcome_reports outcome given))
 
-    pub told_alike : (program : CheckedFields) → run.checked ≡ program → (steps : ℕ) → steps ≡ parting.steps → (outcome : Outcome)
+    pub same_outcome : (program : CheckedFields) → run.checked ≡ program → (steps : ℕ) → steps ≡ divergence.steps → (outcome : Outcome)
         → IsOutcomeOf (map line_of program.program) run.arguments steps outcome
         → (other : Outcome) × IsOutcomeOf run.program run.arguments steps other × Decides true (outcome ≡ other)
-    told_alike program is_it steps many outcome given =
+    same_outcome program is_it steps many outcome given =
         let here = subst (λ n. IsOutcomeOf p run.arguments n outcome) many
         (subst (λ (program : CheckedFields). IsOutcomeOf (map line_of program.program) run.arguments steps outcome) (sym is_it) given) in
         (outcome, subst (λ n. IsOutcomeOf run.program run.arguments n outcome) (sym many) (comes_to_same outcome here), (λ e. refl, λ e. refl))
 
   -- a step was made from the first time that is kept, and the changed code went on from there
-  module _ (kept : KeptStep) (more : Bool) (first : parting.passed.first ≡ Some kept) (once : parting.passed.more ≡ more) (place : ℕ) (place_is : place ≡ parting.place)
+  module _ (kept : KeptStep) (more : Bool) (first : divergence.passed.first ≡ Some kept) (once : divergence.passed.more ≡ more) (place : ℕ) (place_is : place ≡ divergence.place)
       (registers : List ℤ) (loads : registers ≡ image.items.items) (list : List Instruction) (listed : list ≡ changed) where
-    kept_there : IsKept parted kept more parting.steps registers
-    kept_there = subst (IsKept parted kept more parting.steps) (sym loads) (is_kept kept first more once)
+    kept_there : IsKept diverging kept more divergence.steps registers
+    kept_there = subst (IsKept diverging kept more divergence.steps) (sym loads) (is_kept kept first more once)
 
-    pub same_run : ((parted : PartedRuns) (steps : ℕ) → list ≡ parted.runs.other → place ≡ parted.runs.i → IsKept parted kept more steps registers
-        → code_after list steps (with_more parted.runs.start parted.runs.extra) ≡ with_more (code_after parted.runs.code steps parted.runs.start) parted.runs.extra)
+    pub same_run : ((diverging : DivergingRuns) (steps : ℕ) → list ≡ diverging.runs.other → place ≡ diverging.runs.i → IsKept diverging kept more steps registers
+        → code_after list steps (with_more diverging.runs.start diverging.runs.extra) ≡ with_more (code_after diverging.runs.code steps diverging.runs.start) diverging.runs.extra)
         → StayTogether
     same_run same =
-        ap (code_after changed parting.steps) (sym start_is) ∙ ap (λ list. code_after list parting.steps (with_more is.start is.extra)) (sym listed)
-        ∙ same parted parting.steps listed place_is kept_there
+        ap (code_after changed divergence.steps) (sym start_is) ∙ ap (λ list. code_after list divergence.steps (with_more is.start is.extra)) (sym listed)
+        ∙ same diverging divergence.steps listed place_is kept_there
 
-    pub leads : (q : Point) → ((parted : PartedRuns) (steps : ℕ) → list ≡ parted.runs.other → place ≡ parted.runs.i → IsKept parted kept more steps registers
-        → (m : ℕ) → code_after list m q ≡ code_after list (kept.made + 1 + m) (with_more parted.runs.start parted.runs.extra))
+    pub leads : (q : Point) → ((diverging : DivergingRuns) (steps : ℕ) → list ≡ diverging.runs.other → place ≡ diverging.runs.i → IsKept diverging kept more steps registers
+        → (m : ℕ) → code_after list m q ≡ code_after list (kept.made + 1 + m) (with_more diverging.runs.start diverging.runs.extra))
         → (m : ℕ) → code_after changed m q ≡ code_after changed (kept.made + 1 + m) start
     leads q other m =
         subst (λ list. code_after list m q ≡ code_after list (kept.made + 1 + m) (with_more is.start is.extra)) listed
-        (other parted parting.steps listed place_is kept_there m)
+        (other diverging divergence.steps listed place_is kept_there m)
         ∙ ap (code_after changed (kept.made + 1 + m)) start_is
 
   -- the run of the changed program stands behind some steps where another point stands, and goes on from there
-  module _ (before : ℕ) (below : before < parting.steps) (q r : Point) (same : r ≡ q) (list : List Instruction) (listed : list ≡ changed)
+  module _ (before : ℕ) (below : before < divergence.steps) (q r : Point) (same : r ≡ q) (list : List Instruction) (listed : list ≡ changed)
       (leads : (m : ℕ) → code_after changed m q ≡ code_after changed (before + 1 + m) start)
-      (steps : ℕ) (steps_are : steps ≡ parting.steps) (made place : ℕ) (registers : List ℤ) (turns : List Turn)
+      (steps : ℕ) (steps_are : steps ≡ divergence.steps) (made place : ℕ) (registers : List ℤ) (turns : List Turn)
       (stands : point place registers turns ≡ code_after list made r) (few : made ≤ steps - before - 1)
       (rest : made < steps - before - 1 → (length list ≤ place) ⊎ CameBack list r made)
-      (finish : Finish) (told : (f : Finish) → place ≡ ended_point f → finish ≡ f) (limit : place < 4294967296 → finish ≡ StepLimit) where
+      (finish : Finish) (at_end : (f : Finish) → place ≡ ended_point f → finish ≡ f) (limit : place < 4294967296 → finish ≡ StepLimit) where
     -- what came back on the way from there came back on the way from the start
     back : CameBack changed q made → CameBack changed start (before + 1 + made)
     back b = record {
@@ -321,7 +321,7 @@ module _ (parting : Parting) (code : Code) (image : Registers) (is : IsParting p
       back = subst (λ (r : Point). code_after changed (suc b.since) r ≡ r) (leads b.before) b.back;
     }
 
-    rest_of_all : before + 1 + made < parting.steps → (length changed ≤ place) ⊎ CameBack changed start (before + 1 + made)
+    rest_of_all : before + 1 + made < divergence.steps → (length changed ≤ place) ⊎ CameBack changed start (before + 1 + made)
     rest_of_all less =
         by (subst (λ list. (length list ≤ place) ⊎ CameBack list q made) listed
         (subst (λ r. (length list ≤ place) ⊎ CameBack list r made) same (rest (omega (arith, less, below, steps_are)))))
@@ -333,20 +333,20 @@ module _ (parting : Parting) (code : Code) (image : Registers) (is : IsParting p
     stands_so : point place registers turns ≡ code_after changed (before + 1 + made) start
     stands_so = stands ∙ (λ i. code_after (listed i) made (same i)) ∙ leads made
 
-    few_of_all : before + 1 + made ≤ parting.steps
+    few_of_all : before + 1 + made ≤ divergence.steps
     few_of_all = omega (arith, few, below, steps_are)
 
     -- the registers show how the run has ended
     pub shown : (length checked.start.kinds.items ≤ length registers) × HoldDummies checked (shown_by checked registers)
-        × ((answer : Outcome) (same : Bool) → Decides same (TellsOf run finish registers answer)
+        × ((answer : Outcome) (same : Bool) → Decides same (ReportsOf run finish registers answer)
         → (other : Outcome) × IsOutcomeOf run.program run.arguments steps other × Decides same (answer ≡ other))
     shown = (
       ends.room run is.statements code is.compiled start.registers start.turns begun
-          parting.steps (before + 1 + made) place registers turns stands_so few_of_all rest_of_all finish told limit,
+          divergence.steps (before + 1 + made) place registers turns stands_so few_of_all rest_of_all finish at_end limit,
       ends.dummies run is.statements code is.compiled start.registers start.turns begun
-          parting.steps (before + 1 + made) place registers turns stands_so few_of_all rest_of_all finish told limit,
+          divergence.steps (before + 1 + made) place registers turns stands_so few_of_all rest_of_all finish at_end limit,
       λ answer same decided.
           subst (λ n. (other : Outcome) × IsOutcomeOf run.program run.arguments n other × Decides same (answer ≡ other)) (sym steps_are)
           (ends.decides run is.statements code is.compiled start.registers start.turns begun
-          parting.steps (before + 1 + made) place registers turns stands_so few_of_all rest_of_all finish told limit answer same decided),
+          divergence.steps (before + 1 + made) place registers turns stands_so few_of_all rest_of_all finish at_end limit answer same decided),
     )

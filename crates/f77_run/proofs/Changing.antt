@@ -29,9 +29,9 @@ use Rattle.f77_check.specs.Checked.{CheckedFields, IsChecked}
 use Rattle.f77_check.specs.Patching.{IsInPlace}
 use Rattle.f77_check.specs.Resolved.{AreResolved}
 use Rattle.f77_check.specs.Slots.{first_slot, slot_count}
-use Rattle.f77_code.specs.declared.exchange.ChangedCode.{ChangedCode}
+use Rattle.f77_code.specs.declared.replacing.ChangedCode.{ChangedCode}
 use Rattle.f77_code.specs.Compiled.{are_ready, is_ready}
-use Rattle.f77_code.specs.Exchange.{HaveOneDo, HaveOneOwn, IsAllOwn, IsChangedCode, MayReplace, own_instructions}
+use Rattle.f77_code.specs.Replacing.{HaveOneDo, HaveOneOwn, IsAllOwn, IsChangedCode, MayReplace, own_instructions}
 use Rattle.f77_code.specs.Moves.{Cells}
 use Rattle.f77_code.specs.Places.{has_places, have_places}
 use Rattle.f77_code.specs.Program.{IsCode}
@@ -76,7 +76,7 @@ resolved_do p q names i _ other (Loop variable x y z t) (Loop counter u v w k) o
 resolved_do p q names i one other (Loop variable x y z t) _ same end bounds h g = tt
 resolved_do p q names i one other _ s same end bounds h g = tt
 
--- what stands at one place of two programs of one frame may be exchanged when it is resolved
+-- what stands at one place of two programs of one frame may be replaced when it is resolved
 module _ (p q : List LineFields) (same : HaveOneFrame p q) (names : List Symbol) (before after : List Resolved) (old : AreResolved p names before)
     (new : AreResolved q names after) where
   may_replace : (i : ℕ) (r s : Resolved) → slice_get before i ≡ Some r → slice_get after i ≡ Some s → MayReplace r s

@@ -47,9 +47,9 @@ module _ (checked : CheckedFields) (arguments : List Arg) (code : Code) (registe
         → (made < steps → (length instructions ≤ place) ⊎ CameBack instructions start made)
         → are_held after_registers ≡ true → (finish : Finish) → ((f : Finish) → place ≡ ended_point f → finish ≡ f) → (place < 4294967296 → finish ≡ StepLimit)
         → HasEnded run steps made finish after_registers
-    ends_there steps made place after_registers after_turns stands few there rest held finish told limit =
+    ends_there steps made place after_registers after_turns stands few there rest held finish at_end limit =
         ends.ended run statements code is registers turns begins steps made place after_registers after_turns
         (stands ∙ (λ i. code_after (instructions_are i) made (start_is i))) few
         (λ k below. subst (λ (at : List Instruction × Point). (code_after at.0 k at.1).place < length at.0) both (there k below))
         (λ less. subst (λ (at : List Instruction × Point). (length at.0 ≤ place) ⊎ CameBack at.0 at.1 made) both (rest less))
-        held finish told limit
+        held finish at_end limit

@@ -26,7 +26,7 @@ use Rattle.f77_code.specs.Operation.{Point, point, ended_point}
 use Rattle.f77_code.specs.Registers.{are_held}
 use Rattle.f77_meaning.specs.declared.outcome.Outcome.{Outcome}
 use Rattle.f77_meaning.specs.Control.{Comes}
-use Rattle.f77_meaning.specs.Interpreter.{AreFitting, IsOutcomeOf, Tells, values_in}
+use Rattle.f77_meaning.specs.Interpreter.{AreFitting, IsOutcomeOf, Reports, values_in}
 use Rattle.f77_meaning.specs.Outcome.{IsOutcome}
 use Rattle.f77_meaning.specs.Site.{held}
 use Rattle.f77_meaning.specs.code.Running.{site_of}
@@ -39,11 +39,11 @@ use Rattle.f77_meaning.specs.code.Typed.{has_kind, IsTyped}
 use Rattle.f77_meaning.proofs.Beginning.{filled_size, state_starts}
 use Rattle.f77_meaning.proofs.SlotKinds.{kinds_count}
 use Rattle.f77_meaning.proofs.Typing.{outcome_typed, start_typed}
-use Rattle.f77_meaning.proofs.Unreached.{starts_same, tells_same}
+use Rattle.f77_meaning.proofs.Unreached.{starts_same, reports_same}
 use Rattle.f77_run.specs.Registers.{counters_of}
 use Rattle.f77_run.specs.code.Registers.{shown_cells}
 use Rattle.f77_run.specs.Visits.{AreAtStart, cells_at_start}
-use Rattle.f77_run.specs.code.Ends.{HasEnded, RunOf, TellsOf}
+use Rattle.f77_run.specs.code.Ends.{HasEnded, RunOf, ReportsOf}
 use Rattle.f77_run.specs.code.Running.{CameBack}
 use Rattle.f77_run.specs.code.Runs.{HasCode, IsRun, site_in}
 use Rattle.f77_run.specs.code.Site.{HoldDummies, shown_by}
@@ -51,8 +51,8 @@ use Rattle.f77_run.proofs.Framed.{counters_same}
 use Rattle.f77_run.proofs.Going as going
 use Rattle.f77_run.proofs.Held.{decided_of}
 use Rattle.f77_run.proofs.Loaded.{shown_count}
-use Rattle.f77_run.proofs.Retold.{same_shown, tells_alike, typed_alike}
-use Rattle.f77_run.proofs.Telling.{told_within}
+use Rattle.f77_run.proofs.SameReports.{same_shown, reports_in_both, typed_in_both}
+use Rattle.f77_run.proofs.Reporting.{reports_within}
 
 module _ (run : RunOf) (statements : List Resolved) (is : IsRun run statements) where
   abbrev p : List LineFields
@@ -121,15 +121,15 @@ module _ (run : RunOf) (statements : List Resolved) (is : IsRun run statements) 
         each = subst (λ kind. list_all (has_kind kind) (s name) ≡ true) (sym (kind_of_same p q is.frame name)) own.each;
       }
 
-  pub told_there : (cells : Cells) (end : Finish) (answer : Outcome) → Tells p end (held run.checked cells) answer
-      → Tells q end (values_at (site_in run) cells) answer
-  told_there cells end answer tells =
-      subst (λ s. Tells q end s answer) (sym (same_held cells)) (tells_same p q is.frame end (held run.checked cells) answer tells)
+  pub reports_there : (cells : Cells) (end : Finish) (answer : Outcome) → Reports p end (held run.checked cells) answer
+      → Reports q end (values_at (site_in run) cells) answer
+  reports_there cells end answer reports =
+      subst (λ s. Reports q end s answer) (sym (same_held cells)) (reports_same p q is.frame end (held run.checked cells) answer reports)
 
-  pub told_here : (cells : Cells) (end : Finish) (answer : Outcome) → Tells q end (values_at (site_in run) cells) answer
-      → Tells p end (held run.checked cells) answer
-  told_here cells end answer tells =
-      tells_same q p (sym is.frame) end (held run.checked cells) answer (subst (λ s. Tells q end s answer) (same_held cells) tells)
+  pub reports_here : (cells : Cells) (end : Finish) (answer : Outcome) → Reports q end (values_at (site_in run) cells) answer
+      → Reports p end (held run.checked cells) answer
+  reports_here cells end answer reports =
+      reports_same q p (sym is.frame) end (held run.checked cells) answer (subst (λ s. Reports q end s answer) (same_held cells) reports)
 
   slots_counted : (n : ℕ) → n ≡ run.checked.slots → n ≡ length run.checked.start.kinds.items
   slots_counted n same = same ∙ is.checked.slots ∙ sym (ap length is.checked.start.kinds ∙ kinds_count (kind_of p) (bounds_of p) run.checked.names)
@@ -171,12 +171,12 @@ module _ (run : RunOf) (statements : List Resolved) (code : Code) (is : HasCode 
   module _ (steps made place : ℕ) (after_registers : List ℤ) (after_turns : List Turn)
       (stands : point place after_registers after_turns ≡ code_after code.instructions.items made start) (few : made ≤ steps)
       (rest : made < steps → (length code.instructions.items ≤ place) ⊎ CameBack code.instructions.items start made)
-      (finish : Finish) (told : (f : Finish) → place ≡ ended_point f → finish ≡ f) (limit : place < 4294967296 → finish ≡ StepLimit) where
+      (finish : Finish) (at_end : (f : Finish) → place ≡ ended_point f → finish ≡ f) (limit : place < 4294967296 → finish ≡ StepLimit) where
     pub end : ComesToCells (site_in run) steps (stands_for (site_in run) (begins run statements is.of)) made finish (shown_cells slots_of after_registers)
     end =
         going.comes_to_cells (site_in run) statements (begins run statements is.of) (running run statements is.of) slots_of (kinds_there run statements is.of) code
         is.code_is many registers begun.loaded.items begun.loaded.held begun.loaded.values begun.loaded.numbers turns counts
-        (begins_typed run statements is.of) steps made place after_registers after_turns stands few rest finish told limit
+        (begins_typed run statements is.of) steps made place after_registers after_turns stands few rest finish at_end limit
 
     typed : IsTyped program end.values
     typed = typed_at run statements is.of made finish end.values end.ends.ends
@@ -192,42 +192,42 @@ module _ (run : RunOf) (statements : List Resolved) (code : Code) (is : HasCode 
       count = shown_count slots_of after_registers room ∙ many_cells run statements is.of;
       typed = own_typed run statements is.of (held run.checked (shown_cells slots_of after_registers))
           (subst (IsTyped program) (same_held run statements is.of (shown_cells slots_of after_registers))
-          (typed_alike program end.values (values_at (site_in run) (shown_cells slots_of after_registers)) end.dummies typed));
+          (typed_in_both program end.values (values_at (site_in run) (shown_cells slots_of after_registers)) end.dummies typed));
     }
 
     -- an outcome that reports the registers reports the end of the run
-    told_of_run : (answer : Outcome) → TellsOf run finish after_registers answer → Tells program finish end.values answer
-    told_of_run answer tells =
-        tells_alike program finish (values_at (site_in run) (shown_cells slots_of after_registers)) end.values answer (λ name among. sym (end.dummies name among))
-        (told_there run statements is.of (shown_cells slots_of after_registers) finish answer tells)
+    reports_of_run : (answer : Outcome) → ReportsOf run finish after_registers answer → Reports program finish end.values answer
+    reports_of_run answer reports =
+        reports_in_both program finish (values_at (site_in run) (shown_cells slots_of after_registers)) end.values answer (λ name among. sym (end.dummies name among))
+        (reports_there run statements is.of (shown_cells slots_of after_registers) finish answer reports)
 
     -- whether an outcome reports the registers says whether it is that of the run
-    pub decides : (answer : Outcome) (same : Bool) → Decides same (TellsOf run finish after_registers answer)
+    pub decides : (answer : Outcome) (same : Bool) → Decides same (ReportsOf run finish after_registers answer)
         → (other : Outcome) × IsOutcomeOf run.program run.arguments steps other × Decides same (answer ≡ other)
     decides answer same decided =
         same_shown program run.arguments steps (stands_for (site_in run) (begins run statements is.of)) made finish end.values
         (values_at (site_in run) (shown_cells slots_of after_registers)) answer same (starts run statements is.of) end.ends typed end.dummies
-        (decided_of same decided (told_there run statements is.of (shown_cells slots_of after_registers) finish answer)
-        (told_here run statements is.of (shown_cells slots_of after_registers) finish answer))
+        (decided_of same decided (reports_there run statements is.of (shown_cells slots_of after_registers) finish answer)
+        (reports_here run statements is.of (shown_cells slots_of after_registers) finish answer))
 
-    pub tells : (answer : Outcome) → TellsOf run finish after_registers answer → IsOutcomeOf run.program run.arguments steps answer
-    tells answer told_so = record {
+    pub reports : (answer : Outcome) → ReportsOf run finish after_registers answer → IsOutcomeOf run.program run.arguments steps answer
+    reports answer is_reported = record {
       start = stands_for (site_in run) (begins run statements is.of);
       starts = starts run statements is.of;
       finish = finish;
       values = end.ends.held;
       ends = end.ends.outcome;
-      tells = told_within program steps (stands_for (site_in run) (begins run statements is.of)) made finish end.values answer end.ends (told_of_run answer told_so);
+      reports = reports_within program steps (stands_for (site_in run) (begins run statements is.of)) made finish end.values answer end.ends (reports_of_run answer is_reported);
     }
 
-    pub sooner : (answer : Outcome) → TellsOf run finish after_registers answer → IsOutcomeOf run.program run.arguments made answer
-    sooner answer told_so = record {
+    pub sooner : (answer : Outcome) → ReportsOf run finish after_registers answer → IsOutcomeOf run.program run.arguments made answer
+    sooner answer is_reported = record {
       start = stands_for (site_in run) (begins run statements is.of);
       starts = starts run statements is.of;
       finish = finish;
       values = end.values;
       ends = end.ends.ends;
-      tells = told_of_run answer told_so;
+      reports = reports_of_run answer is_reported;
     }
 
   -- the end of the run, where the code was at an instruction before
@@ -236,16 +236,16 @@ module _ (run : RunOf) (statements : List Resolved) (code : Code) (is : HasCode 
       (there : (k : ℕ) → k < made → (code_after code.instructions.items k start).place < length code.instructions.items)
       (rest : made < steps → (length code.instructions.items ≤ place) ⊎ CameBack code.instructions.items start made)
       (all_held : are_held after_registers ≡ true)
-      (finish : Finish) (told : (f : Finish) → place ≡ ended_point f → finish ≡ f) (limit : place < 4294967296 → finish ≡ StepLimit) where
+      (finish : Finish) (at_end : (f : Finish) → place ≡ ended_point f → finish ≡ f) (limit : place < 4294967296 → finish ≡ StepLimit) where
     pub ended : HasEnded run steps made finish after_registers
     ended = record {
       held = all_held;
-      room = room steps made place after_registers after_turns stands few rest finish told limit;
-      dummies = dummies steps made place after_registers after_turns stands few rest finish told limit;
+      room = room steps made place after_registers after_turns stands few rest finish at_end limit;
+      dummies = dummies steps made place after_registers after_turns stands few rest finish at_end limit;
       within = few;
-      decides = decides steps made place after_registers after_turns stands few rest finish told limit;
-      tells = tells steps made place after_registers after_turns stands few rest finish told limit;
-      sooner = sooner steps made place after_registers after_turns stands few rest finish told limit;
+      decides = decides steps made place after_registers after_turns stands few rest finish at_end limit;
+      reports = reports steps made place after_registers after_turns stands few rest finish at_end limit;
+      sooner = sooner steps made place after_registers after_turns stands few rest finish at_end limit;
       unended = λ n below.
           let goes = going.still_goes (site_in run) statements (begins run statements is.of) (running run statements is.of) slots_of (kinds_there run statements is.of) code
           is.code_is many registers begun.loaded.items begun.loaded.held begun.loaded.values begun.loaded.numbers turns counts n (there n below) in
@@ -255,6 +255,6 @@ module _ (run : RunOf) (statements : List Resolved) (code : Code) (is : HasCode 
             finish = StepLimit;
             values = goes.0;
             ends = goes.1;
-            tells = refl;
+            reports = refl;
           };
     }

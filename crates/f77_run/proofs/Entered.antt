@@ -11,11 +11,11 @@ use Rattle.std.proofs.lemmas.Simd.{map-map}
 use Rattle.f77_tree.specs.declared.tree.Kind.{Kind}
 use Rattle.f77_actions.specs.declared.value.Value.{Value}
 use Rattle.f77_actions.specs.declared.value.Value.TheVariants as held
-use Rattle.f77_actions.specs.Told.{coded, is_fitting}
+use Rattle.f77_actions.specs.Encoded.{coded, is_fitting}
 use Rattle.f77_code.specs.Evaluation.{held_in}
 use Rattle.f77_code.specs.Holds.{read_as}
 use Rattle.f77_code.specs.Moves.{Cells}
-use Rattle.f77_code.specs.Registers.{is_held, told_at, told_by_register}
+use Rattle.f77_code.specs.Registers.{is_held, decoded_at, decoded}
 use Rattle.f77_meaning.specs.declared.argument.Arg.{Arg}
 use Rattle.f77_meaning.specs.Interpreter.{values_in}
 use Rattle.f77_run.specs.Registers.{AreLoaded, loaded, values_fit}
@@ -146,10 +146,10 @@ module _ (dummies : List ℕ) (arguments : List Arg) (kinds : List Kind) (old : 
 
 -- a slot that is shown has the value that its register stands for, by its kind
 pub slot_shown : (kinds : List Kind) (registers : List ℤ) (k : ℕ) (d : Kind) (e : ℤ) → length kinds ≤ length registers → k < length kinds
-    → held_in (shown_cells kinds registers) k ≡ shown_as (get_or kinds k d) (told_by_register (get_or registers k e))
+    → held_in (shown_cells kinds registers) k ≡ shown_as (get_or kinds k d) (decoded (get_or registers k e))
 slot_shown kinds registers k d e room below =
     let at : slice_get registers k ≡ Some (get_or registers k e) = slice_get-get_or registers k e (omega (arith, room, below)) in
-    shown_at kinds registers room k (get_or kinds k d) (slice_get-get_or kinds k d below) ∙ ap (λ told. shown_as (get_or kinds k d) (told_at told)) at
+    shown_at kinds registers room k (get_or kinds k d) (slice_get-get_or kinds k d below) ∙ ap (λ number. shown_as (get_or kinds k d) (decoded_at number)) at
 
 module _ {A : Type 0} (f : A → Value) (xs : List A) (cells : Cells) (first : ℕ) where
   -- the slots have the first k of the values

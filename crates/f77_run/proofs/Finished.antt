@@ -28,8 +28,8 @@ ended_is (Failed DivideByZero) = refl
 ended_is (Failed ZeroPower) = refl
 ended_is StepLimit = refl
 
-pub finish_told : (place : ℕ) (finish : Finish) → place ≡ ended_point finish → finish_of place ≡ finish
-finish_told place finish at = ap finish_of at ∙ ended_is finish
+pub finish_ended : (place : ℕ) (finish : Finish) → place ≡ ended_point finish → finish_of place ≡ finish
+finish_ended place finish at = ap finish_of at ∙ ended_is finish
 
 pub finish_limit : (place : ℕ) → place < 4294967296 → finish_of place ≡ StepLimit
 finish_limit place below = grind (arith, nat_tests)

@@ -16,7 +16,7 @@ use Rattle.f77_code.specs.Program.{IsCode}
 use Rattle.f77_code.proofs.Writes.{writes_slots}
 use Rattle.f77_meaning.specs.declared.argument.Arg.{Arg}
 use Rattle.f77_meaning.specs.declared.outcome.Outcome.{Outcome}
-use Rattle.f77_meaning.specs.Interpreter.{AreFitting, IsOutcomeOf, Tells}
+use Rattle.f77_meaning.specs.Interpreter.{AreFitting, IsOutcomeOf, Reports}
 use Rattle.f77_meaning.specs.Site.{held}
 use Rattle.f77_run.specs.declared.visits.Visits.{Visits}
 use Rattle.f77_run.specs.Visits.{AreAtStart, IsFollowed, cells_at_start}
@@ -73,20 +73,20 @@ module _ (checked : CheckedFields) (is : IsChecked checked) (arguments : List Ar
     -- where the code stands after all steps
     module _ (steps place : ℕ) (after_registers : List ℤ) (after_turns : List Turn)
         (stands : point place after_registers after_turns ≡ code_after instructions steps start)
-        (finish : Finish) (told : (f : Finish) → place ≡ ended_point f → finish ≡ f) (limit : place < 4294967296 → finish ≡ StepLimit) where
+        (finish : Finish) (at_end : (f : Finish) → place ≡ ended_point f → finish ≡ f) (limit : place < 4294967296 → finish ≡ StepLimit) where
       stands_there : point place after_registers after_turns ≡ code_after code.instructions.items steps (point checked.start.entry registers turns)
       stands_there = stands ∙ (λ i. code_after (instructions_are i) steps (start_is i))
 
       pub dummies_there : HoldDummies checked (shown_by checked after_registers)
       dummies_there =
           ends.dummies run checked.statements code compiled registers turns begun steps steps place after_registers after_turns stands_there
-          (omega arith) (λ less. absurd (omega (arith, less))) finish told limit
+          (omega arith) (λ less. absurd (omega (arith, less))) finish at_end limit
 
-      pub outcome_there : (answer : Outcome) → Tells (map line_of checked.program) finish (held checked (shown_by checked after_registers)) answer
+      pub outcome_there : (answer : Outcome) → Reports (map line_of checked.program) finish (held checked (shown_by checked after_registers)) answer
           → IsOutcomeOf (map line_of checked.program) arguments steps answer
       outcome_there =
-          ends.tells run checked.statements code compiled registers turns begun steps steps place after_registers after_turns stands_there
-          (omega arith) (λ less. absurd (omega (arith, less))) finish told limit
+          ends.reports run checked.statements code compiled registers turns begun steps steps place after_registers after_turns stands_there
+          (omega arith) (λ less. absurd (omega (arith, less))) finish at_end limit
 
     -- what is noted of the steps
     pub followed : (steps n : ℕ) → n ≡ checked.slots → (visits : Visits) → length visits.list.items ≡ length checked.program

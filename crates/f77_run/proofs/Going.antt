@@ -29,7 +29,7 @@ use Rattle.f77_code.specs.Simulation.{IsAt, IsMove}
 use Rattle.f77_code.proofs.Assembled.{code_stands}
 use Rattle.f77_code.proofs.Listed.{item_at, order}
 use Rattle.f77_code.proofs.Reached.{code_there}
-use Rattle.f77_code.proofs.Sequences.{blocks_alike, goes_round}
+use Rattle.f77_code.proofs.Sequences.{blocks_simulated, goes_round}
 use Rattle.f77_meaning.proofs.StateDefinitions.{turn_of}
 use Rattle.f77_meaning.specs.Outcome.{IsOutcome}
 use Rattle.f77_meaning.specs.Value.{Store}
@@ -123,7 +123,7 @@ module _ (at : RunSite) (statements : List Resolved) (s : State) (is : IsRunning
 
     pub did : (n : ℕ) (move : Move) → moved_by statements n s ≡ Some move → IsMove plan statements (code_after code.instructions.items n begin) move
     did n move e =
-        blocks_alike plan statements code.instructions.items begin s n move are starts (all_nested at statements n s is) e
+        blocks_simulated plan statements code.instructions.items begin s n move are starts (all_nested at statements n s is) e
 
     -- an end has no instruction
     far_there : (n : ℕ) (o : Finish) (cells : Cells) → moved_by statements n s ≡ Some (Ends o cells)
@@ -165,7 +165,7 @@ module _ (at : RunSite) (statements : List Resolved) (s : State) (is : IsRunning
     module _ (typed : IsTyped at.program (values_at at s.cells)) (steps made place : ℕ) (after_registers : List ℤ) (after_counters : List Turn)
         (stands : point place after_registers after_counters ≡ code_after code.instructions.items made begin) (few : made ≤ steps)
         (rest : made < steps → (length code.instructions.items ≤ place) ⊎ CameBack code.instructions.items begin made)
-        (finish : Finish) (told : (f : Finish) → place ≡ ended_point f → finish ≡ f) (limit : place < 4294967296 → finish ≡ StepLimit) where
+        (finish : Finish) (at_end : (f : Finish) → place ≡ ended_point f → finish ≡ f) (limit : place < 4294967296 → finish ≡ StepLimit) where
       -- the registers behind them, and what the dummy arguments hold
       agree : (cells : Cells) → HoldsRegisters plan (code_after code.instructions.items made begin).registers cells → IsTyped at.program (values_at at cells)
           → AgreeOnDummies at.program (values_at at cells) (values_at at (shown_cells kinds after_registers))
@@ -183,7 +183,7 @@ module _ (at : RunSite) (statements : List Resolved) (s : State) (is : IsRunning
           → ComesIn at statements made (stands_for at s) (Ends o cells) → IsMove plan statements (code_after code.instructions.items made begin) (Ends o cells)
           → ComesToCells at steps (stands_for at s) made finish (shown_cells kinds after_registers)
       ends_there o cells e comes is_end =
-          let same : finish ≡ o = told o (ap (λ (p : Point). p.place) stands ∙ is_end.0) in
+          let same : finish ≡ o = at_end o (ap (λ (p : Point). p.place) stands ∙ is_end.0) in
           let later = moves steps in
           let last : later.0 ≡ Ends o cells
           = same_Some later.0 (Ends o cells) (sym later.1 ∙ ends_later at statements made steps s o cells few e) in
@@ -195,7 +195,7 @@ module _ (at : RunSite) (statements : List Resolved) (s : State) (is : IsRunning
               ends = subst (λ f. IsOutcome at.program made (stands_for at s) f (values_at at cells)) (sym same) comes.0;
               held = values_at at cells;
               outcome = subst (λ f. IsOutcome at.program steps (stands_for at s) f (values_at at cells)) (sym same) whole.0;
-              told = λ other. refl;
+              agrees = λ other. refl;
             };
             dummies = agree cells is_end.1 (typed_then o cells comes.0);
           }
@@ -262,7 +262,7 @@ module _ (at : RunSite) (statements : List Resolved) (s : State) (is : IsRunning
               held = values_at at u.cells;
               outcome = subst (λ f. IsOutcome at.program steps (stands_for at s) f (values_at at u.cells)) (sym same)
                   (limit_met at.program steps (stands_for at s) (stands_for at u) whole.0);
-              told = λ other. absurd (other same);
+              agrees = λ other. absurd (other same);
             };
             dummies = agree t.cells is_at.holds (typed_then StepLimit t.cells met);
           }

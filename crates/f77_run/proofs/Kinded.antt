@@ -1,4 +1,4 @@
--- The slots that the resolved statements of a legal program name are there, and of the kinds that their places want.
+-- The slots that the resolved statements of a legal program name are there, and of the kinds that their places ask for.
 use Rattle.std.proofs.Common.{arith, ◌≡◌, ◌<◌, ℕ, ◌+◌, ◌*◌, ◌&&◌, true, List, [], ◌∷◌, length, Option, Some, None, refl, sym, ap, subst, ◌∙◌}
 use Rattle.std.specs.Prelude.{unwrap_or}
 use Rattle.std.proofs.lemmas.Bool.{and_parts}
@@ -27,7 +27,7 @@ use Rattle.f77_tree.specs.Comparing.{same_kind}
 use Rattle.f77_legal.specs.Kinds.{result_kind, operand_kind, is_of_kind, are_integer, is_of_kind_if_given, kinds_agree}
 use Rattle.f77_legal.specs.Legal.{IsLegal}
 use Rattle.f77_legal.specs.Names.{Symbol, kind_of, bounds_of}
-use Rattle.f77_legal.specs.Presets.{product}
+use Rattle.f77_legal.specs.InitialValues.{product}
 use Rattle.f77_legal.proofs.LegalGives.{clause_kept, kept_by, not_false}
 use Rattle.f77_check.specs.Action.{IsIncrementation, IsAssignment, IsAction}
 use Rattle.f77_check.specs.Expression.{IsElement, IsNumber, IsChosen, IsCondition}

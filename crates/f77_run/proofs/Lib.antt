@@ -14,8 +14,8 @@ mod Pushed
 mod Advancing
 mod Going
 mod Entered
-mod Telling
-mod Retold
+mod Reporting
+mod SameReports
 mod Ended
 mod Ends
 mod Starting

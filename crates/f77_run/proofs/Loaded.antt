@@ -12,16 +12,16 @@ use Rattle.f77_actions.specs.declared.resolved.Resolved.{Resolved}
 use Rattle.f77_actions.specs.declared.value.Value.{Value}
 use Rattle.f77_actions.specs.declared.value.Value.TheVariants as held
 use Rattle.f77_actions.specs.Number.{fits}
-use Rattle.f77_actions.specs.Told.{coded, is_fitting}
+use Rattle.f77_actions.specs.Encoded.{coded, is_fitting}
 use Rattle.f77_code.specs.declared.constants.Constants.{Constants}
 use Rattle.f77_code.specs.declared.control.Turn.{Turn}
 use Rattle.f77_code.specs.Evaluation.{held_in}
 use Rattle.f77_code.specs.Holds.{HoldsRegisters, HoldsCounters, read_as, loop_count, do_rank, is_loop_at}
 use Rattle.f77_code.specs.Moves.{Cells, TurnList, turn_at, is_loop}
-use Rattle.f77_code.specs.Registers.{register, told_by_register, told_at, are_held}
+use Rattle.f77_code.specs.Registers.{register, decoded, decoded_at, are_held}
 use Rattle.f77_code.proofs.Counters.{weight, more}
 use Rattle.f77_code.proofs.Listed.{all_at, get_behind, one_if}
-use Rattle.f77_code.proofs.Written.{told_fits}
+use Rattle.f77_code.proofs.Written.{decoded_fits}
 use Rattle.f77_run.specs.Registers.{AreLoaded, values_fit, loaded, counter_of, counters_of}
 use Rattle.f77_run.specs.code.Registers.{plan_of, shown_as, shown_cells}
 use Rattle.f77_meaning.specs.code.Typed.{has_kind}
@@ -33,41 +33,41 @@ loaded_count (kind ∷ kinds) [] long = absurd (omega (arith, long))
 loaded_count (kind ∷ kinds) (cell ∷ cells) long = ap suc (loaded_count kinds cells (omega (arith, long)))
 
 -- the number for what is read from a slot stands for it, where that is a value of 32 bits or that there is none
-read_told : (kind : Kind) (value : Option Value) → is_fitting (read_as kind value) ≡ true → told_by_register (coded (read_as kind value)) ≡ read_as kind value
-read_told Integer None e = refl
-read_told Integer (Some (held.Number z)) e = told_fits z e
-read_told Integer (Some (held.Truth b)) e = refl
-read_told Logical None e = refl
-read_told Logical (Some (held.Number z)) e = refl
-read_told Logical (Some (held.Truth true)) e = refl
-read_told Logical (Some (held.Truth false)) e = refl
+decoded_coded : (kind : Kind) (value : Option Value) → is_fitting (read_as kind value) ≡ true → decoded (coded (read_as kind value)) ≡ read_as kind value
+decoded_coded Integer None e = refl
+decoded_coded Integer (Some (held.Number z)) e = decoded_fits z e
+decoded_coded Integer (Some (held.Truth b)) e = refl
+decoded_coded Logical None e = refl
+decoded_coded Logical (Some (held.Number z)) e = refl
+decoded_coded Logical (Some (held.Truth true)) e = refl
+decoded_coded Logical (Some (held.Truth false)) e = refl
 
 -- the register of a slot stands for what is read from the slot
-slot_told : (kinds : List Kind) (cells : Cells) (others : List ℤ) → length cells ≡ length kinds → values_fit kinds cells ≡ true → (k : ℕ) → k < length kinds
+slot_decoded : (kinds : List Kind) (cells : Cells) (others : List ℤ) → length cells ≡ length kinds → values_fit kinds cells ≡ true → (k : ℕ) → k < length kinds
     → register (loaded kinds cells ++ others) k ≡ read_as (unwrap_or (slice_get kinds k) Integer) (held_in cells k)
-slot_told [] cells others long fit k below = absurd (omega (arith, below))
-slot_told (kind ∷ kinds) [] others long fit k below = absurd (omega (arith, long))
-slot_told (kind ∷ kinds) (cell ∷ cells) others long fit zero below =
-    read_told kind cell (and_parts (is_fitting (read_as kind cell)) (values_fit kinds cells) fit).0
-slot_told (kind ∷ kinds) (cell ∷ cells) others long fit (suc k) below =
-    slot_told kinds cells others (omega (arith, long)) (and_parts (is_fitting (read_as kind cell)) (values_fit kinds cells) fit).1 k (omega (arith, below))
+slot_decoded [] cells others long fit k below = absurd (omega (arith, below))
+slot_decoded (kind ∷ kinds) [] others long fit k below = absurd (omega (arith, long))
+slot_decoded (kind ∷ kinds) (cell ∷ cells) others long fit zero below =
+    decoded_coded kind cell (and_parts (is_fitting (read_as kind cell)) (values_fit kinds cells) fit).0
+slot_decoded (kind ∷ kinds) (cell ∷ cells) others long fit (suc k) below =
+    slot_decoded kinds cells others (omega (arith, long)) (and_parts (is_fitting (read_as kind cell)) (values_fit kinds cells) fit).1 k (omega (arith, below))
 
 -- the register behind those of the slots stands for its constant
-constant_told : (kinds : List Kind) (cells : Cells) (values : List ℤ) → length cells ≡ length kinds → list_all fits values ≡ true → (k : ℕ) (z : ℤ)
+constant_decoded : (kinds : List Kind) (cells : Cells) (values : List ℤ) → length cells ≡ length kinds → list_all fits values ≡ true → (k : ℕ) (z : ℤ)
     → slice_get values k ≡ Some z → register (loaded kinds cells ++ values) (length kinds + k) ≡ Ok z
-constant_told kinds cells values long small k z at =
+constant_decoded kinds cells values long small k z at =
     let count : length kinds ≡ length (loaded kinds cells) = sym (loaded_count kinds cells long) in
     let place : slice_get (loaded kinds cells ++ values) (length kinds + k) ≡ Some z
     = ap (λ n. slice_get (loaded kinds cells ++ values) (n + k)) count ∙ get_behind (loaded kinds cells) values k ∙ at in
-    ap told_at place ∙ told_fits z (all_at fits values k z small at)
+    ap decoded_at place ∙ decoded_fits z (all_at fits values k z small at)
 
 -- Registers that are loaded hold the slots and, behind them, the constants. That they are held does not say that they stand for values of 32 bits.
 pub loaded_holds : (kinds : List Kind) (table : Constants) (cells : Cells) → length cells ≡ length kinds
     → are_held (loaded kinds cells ++ table.values.items) ≡ true → values_fit kinds cells ≡ true → list_all fits table.values.items ≡ true
     → HoldsRegisters (plan_of kinds table) (loaded kinds cells ++ table.values.items) cells
 loaded_holds kinds table cells long all fit small = record {
-  slots = λ k below. slot_told kinds cells table.values.items long fit k below;
-  constants = λ k z at. constant_told kinds cells table.values.items long small k z at;
+  slots = λ k below. slot_decoded kinds cells table.values.items long fit k below;
+  constants = λ k z at. constant_decoded kinds cells table.values.items long small k z at;
   held = all;
   count = long;
   room =
@@ -142,7 +142,7 @@ pub shown_at : (kinds : List Kind) (registers : List ℤ) → length kinds ≤ l
     → held_in (shown_cells kinds registers) k ≡ shown_as kind (register registers k)
 shown_at [] registers room k kind at = absurd (cc (at))
 shown_at (x ∷ kinds) [] room k kind at = absurd (omega (arith, room))
-shown_at (x ∷ kinds) (z ∷ registers) room zero kind at = ap (λ kind. shown_as kind (told_by_register z)) (same_Some x kind at)
+shown_at (x ∷ kinds) (z ∷ registers) room zero kind at = ap (λ kind. shown_as kind (decoded z)) (same_Some x kind at)
 shown_at (x ∷ kinds) (z ∷ registers) room (suc k) kind at = shown_at kinds registers (omega (arith, room)) k kind at
 
 -- what is shown of what is read from a slot that holds a value of its kind is that value

@@ -7,7 +7,7 @@ use Rattle.f77_program.specs.Program.{LineFields}
 use Rattle.f77_tree.specs.declared.tree.Kind.{Kind}
 use Rattle.f77_legal.specs.Heading.{dummies}
 use Rattle.f77_legal.specs.Names.{Symbol, kind_of, bounds_of}
-use Rattle.f77_legal.specs.Presets.{element_count}
+use Rattle.f77_legal.specs.InitialValues.{element_count}
 use Rattle.f77_check.specs.Slots.{first_slot, slot_kinds}
 use Rattle.f77_code.specs.declared.constants.Constants.{Constants}
 use Rattle.f77_code.specs.Evaluation.{held_in}

@@ -10,13 +10,13 @@ use Rattle.f77_tree.specs.declared.tree.Kind.{Kind}
 use Rattle.f77_check.specs.Checked.{CheckedFields, IsChecked}
 use Rattle.f77_actions.specs.Number.{fits}
 use Rattle.f77_code.specs.declared.code.Code.{Code}
-use Rattle.f77_code.specs.declared.exchange.ChangedCode.{ChangedCode}
-use Rattle.f77_code.specs.declared.exchange.OwnInstruction.{OwnInstruction}
+use Rattle.f77_code.specs.declared.replacing.ChangedCode.{ChangedCode}
+use Rattle.f77_code.specs.declared.replacing.OwnInstruction.{OwnInstruction}
 use Rattle.f77_code.specs.declared.instruction.Instruction.{Instruction}
 use Rattle.f77_code.specs.declared.kept_step.KeptStep.{KeptStep}
 use Rattle.f77_code.specs.declared.noting.Passed.{Passed}
 use Rattle.f77_code.specs.Block.{code_after}
-use Rattle.f77_code.specs.Exchange.{own_instructions, put_back}
+use Rattle.f77_code.specs.Replacing.{own_instructions, put_back}
 use Rattle.f77_code.specs.Follow.{HasSizes, IsPassed, first_time}
 use Rattle.f77_code.specs.KeptStep.{kept_time}
 use Rattle.f77_code.specs.Instructions.{AreCode}
@@ -26,7 +26,7 @@ use Rattle.f77_code.specs.Registers.{are_held, is_held}
 use Rattle.f77_code.specs.Simulation.{IsAt}
 use Rattle.f77_code.specs.Together.{KeptTime}
 use Rattle.f77_code.specs.Twins.{AreTwins, HaveSlots, SameSlots, Twins}
-use Rattle.f77_code.proofs.Twins.{times_of_twins, twins_alike}
+use Rattle.f77_code.proofs.Twins.{times_of_twins, twins_equal}
 use Rattle.f77_meaning.specs.declared.argument.Arg.{Arg}
 use Rattle.f77_meaning.specs.Interpreter.{AreFitting}
 use Rattle.f77_meaning.proofs.InRun.{IsRunningIn}
@@ -39,7 +39,7 @@ use Rattle.f77_run.specs.Registers.{counters_of, loaded}
 use Rattle.f77_run.specs.code.Registers.{plan_of}
 use Rattle.f77_run.specs.Visits.{IsAtStart, IsFollowed, cells_at_start}
 use Rattle.f77_run.specs.code.Ends.{RunOf}
-use Rattle.f77_run.specs.code.Parting.{IsParting, parting_of}
+use Rattle.f77_run.specs.code.Diverging.{IsDivergence, divergence_of}
 use Rattle.f77_run.specs.code.Runs.{IsRun, site_in}
 use Rattle.f77_run.proofs.Alongside.{loaded_constants}
 use Rattle.f77_run.proofs.Ends as ends
@@ -53,32 +53,32 @@ all_there P xs k x all at = subst P (get_or_from_slice_get xs k x x at) (all k x
 -- The code of the program itself, with its own constants alone.
 own_length : (instructions : List Instruction) (o : Option OwnInstruction) → length (put_back instructions o) ≡ length instructions
 own_length instructions None = refl
-own_length instructions (Some exchanged) = length-set instructions exchanged.place exchanged.own
+own_length instructions (Some replaced) = length-set instructions replaced.place replaced.own
 
-abbrev own_code : (exchange : ChangedCode) → exchange.own ≤ length exchange.code.constants.values.items → Code
-own_code exchange few =
-    let list = exchange.code.instructions in
-    let values = exchange.code.constants.values in
+abbrev own_code : (changed : ChangedCode) → changed.own ≤ length changed.code.constants.values.items → Code
+own_code changed few =
+    let list = changed.code.instructions in
+    let values = changed.code.constants.values in
     record {
       instructions = record {
         ptr = list.ptr;
         len = list.len;
         cap = list.cap;
         alloc = list.alloc;
-        items = own_instructions exchange;
-        ok = (list.ok.0 ∙ sym (own_length list.items exchange.exchanged), list.ok.1);
+        items = own_instructions changed;
+        ok = (list.ok.0 ∙ sym (own_length list.items changed.replaced), list.ok.1);
         small = list.small;
       };
-      places = exchange.code.places;
+      places = changed.code.places;
       constants = record {
-        slots = exchange.code.constants.slots;
+        slots = changed.code.constants.slots;
         values = record {
           ptr = values.ptr;
-          len = exchange.own;
+          len = changed.own;
           cap = values.cap;
           alloc = values.alloc;
-          items = take exchange.own values.items;
-          ok = (sym (length-take-le exchange.own values.items few), omega (arith, few, values.ok.0, values.ok.1));
+          items = take changed.own values.items;
+          ok = (sym (length-take-le changed.own values.items few), omega (arith, few, values.ok.0, values.ok.1));
           small = values.small;
         };
       };
@@ -158,13 +158,13 @@ module _ (checked : CheckedFields) (is : IsChecked checked) (arguments : List Ar
     same_behind : (n : ℕ) → SameSlots (length kinds) (code_after code.instructions.items n start) (code_after other.instructions.items n start_of_other)
     same_behind n =
         let move = moves_by (site_in run) checked.statements n state running in
-        twins_alike twins n move.0 are_twins (all_nested (site_in run) checked.statements n state running) move.1
+        twins_equal twins n move.0 are_twins (all_nested (site_in run) checked.statements n state running) move.1
 
     -- what was noted in the run of one code is true of the other
-    pub passed_alike : (i n loops : ℕ) (passed : Passed) → IfSome passed.first (HasSizes checked.slots loops)
+    pub passed_of_other : (i n loops : ℕ) (passed : Passed) → IfSome passed.first (HasSizes checked.slots loops)
         → IsPassed code.instructions.items start (drop checked.slots start.registers) n i passed
         → IsPassed other.instructions.items start_of_other (drop checked.slots start_of_other.registers) n i passed
-    passed_alike i n loops passed sizes is_passed =
+    passed_of_other i n loops passed sizes is_passed =
         let slots_are = slots_counted checked is checked.slots refl in
         times_of_twins twins (drop checked.slots start.registers) (drop checked.slots start_of_other.registers) i n (first_time passed.first) passed.more are_twins
         (λ k few. same_behind k) (ap (λ n. drop n start_of_other.registers) (sym slots_are))
@@ -224,10 +224,10 @@ module _ (checked : CheckedFields) (change : Change) (code : ChangedCode) (image
     };
   }
 
-  -- the run of the changed program may begin where it parts from that of the program
-  pub is_parting : (passed : Passed) → slice_get visits.list.items change.place ≡ Some passed
-      → IsParting (parting_of checked change arguments steps passed) checked code.code image
-  is_parting passed at = record {
+  -- the run of the changed program may begin where it diverges from that of the program
+  pub is_divergence : (passed : Passed) → slice_get visits.list.items change.place ≡ Some passed
+      → IsDivergence (divergence_of checked change arguments steps passed) checked code.code image
+  is_divergence passed at = record {
     checked_is = refl;
     statements = slice_set checked.statements change.place made.statement;
     compiled = record {
@@ -249,7 +249,7 @@ module _ (checked : CheckedFields) (change : Change) (code : ChangedCode) (image
     extra = drop code.own values;
     constants = sym (take-append-drop code.own values);
     agree = made.others;
-    passed_is = passed_alike checked is.checked arguments follows.fitting follows.code follows.start follows.starts own start starts change.place steps
+    passed_is = passed_of_other checked is.checked arguments follows.fitting follows.code follows.start follows.starts own start starts change.place steps
         (length follows.start.turns) passed sizes (follows.passed change.place passed at);
     sizes = subst (λ n. IfSome passed.first (HasSizes checked.slots n)) (ap length follows.starts.begins.counters) sizes;
   }

@@ -10,8 +10,8 @@ use Rattle.f77_legal.specs.Legal.{IsLegal}
 use Rattle.f77_check.specs.Checked.{CheckedFields, IsChecked}
 use Rattle.f77_check.specs.Resolved.{AreResolved}
 use Rattle.f77_actions.specs.declared.resolved.Resolved.{Resolved}
-use Rattle.f77_code.specs.declared.exchange.ChangedCode.{ChangedCode}
-use Rattle.f77_code.specs.Exchange.{IsChangedCode, own_instructions}
+use Rattle.f77_code.specs.declared.replacing.ChangedCode.{ChangedCode}
+use Rattle.f77_code.specs.Replacing.{IsChangedCode, own_instructions}
 use Rattle.f77_code.specs.Program.{IsCode}
 use Rattle.f77_code.specs.Together.{AgreeButAt}
 use Rattle.f77_run.specs.declared.changed.Change.{Change}
@@ -39,7 +39,7 @@ changed_program changed =
 
 -- The changed program is legal and of the same frame. Its resolved statements are those of the
 -- program, apart from the changed one. The code is that of the changed program, with the
--- instruction of the changed statement exchanged.
+-- instruction of the changed statement replaced.
 pub record IsChangeMade (changed : ChangedFields) (code : ChangedCode) : Type 0 where
   pub within : changed.place < length changed.checked.program
   pub formed : IsProgram None (changed_program changed)

@@ -9,7 +9,7 @@ use Rattle.f77_actions.specs.declared.finish.Fault.{Fault}
 use Rattle.f77_actions.specs.declared.value.Value.{Value}
 use Rattle.f77_actions.specs.declared.value.Value.TheVariants as held
 use Rattle.f77_actions.specs.Number.{fits}
-use Rattle.f77_actions.specs.Told.{coded, is_fitting}
+use Rattle.f77_actions.specs.Encoded.{coded, is_fitting}
 use Rattle.f77_code.specs.declared.constants.Constants.{Constants}
 use Rattle.f77_code.specs.declared.control.Turn.{Turn}
 use Rattle.f77_code.specs.Holds.{read_as}

@@ -1,8 +1,8 @@
 pub mod Changing
+pub mod Diverging
 pub mod Ending
 pub mod Ends
 pub mod Holding
-pub mod Parting
 pub mod Registers
 pub mod Running
 pub mod Runs

@@ -7,7 +7,7 @@ ghost use Rattle.f77_program.specs.Program.{line_of};
 ghost use Rattle.f77_tree.specs.Statement.{statement_of};
 ghost use Rattle.f77_legal.specs.Alone.{StandsAlone};
 ghost use Rattle.f77_legal.specs.Legal.{IsLegal};
-ghost use Rattle.f77_code.specs.Exchange.{HaveOneOwn, IsAllOwn, IsChangedCode, own_instructions};
+ghost use Rattle.f77_code.specs.Replacing.{HaveOneOwn, IsAllOwn, IsChangedCode, own_instructions};
 ghost use Rattle.f77_code.specs.Program.{IsCode};
 ghost use Rattle.f77_code.specs.Together.{AgreeButAt};
 ghost use Rattle.f77_meaning.specs.Interpreter.{IsOutcomeOf};
@@ -18,7 +18,7 @@ ghost use Rattle.f77_run.specs.code.Changing.{BeginsImage, CanReplace};
 ghost use Rattle.f77_run.specs.Registers.{IsImage};
 ghost use Rattle.f77_run.specs.Visits.{IsFollowed};
 
-use crate::parting::comes_alike;
+use crate::diverging::keeps_outcome;
 use crate::registers::{Registers, add_constants};
 use crate::visits::Visits;
 use crate::workspace::{Workspace, code_of};
@@ -116,7 +116,7 @@ fn put(
     ensures memory { IfErr result (λ e. e ≡ fault.Memory) }
 {
     let own = code.code().constants().values().len();
-    code.exchange(alloc, checked.statements(), place, resolved)?;
+    code.replace(alloc, checked.statements(), place, resolved)?;
     let constants = &code.code().constants().values()[own..];
     if let Err(fault) = add_constants(&mut image.items, constants) {
         restore(checked, code, image);
@@ -181,8 +181,8 @@ impl<'a> ChangedRunner<'a> {
     }
 
     /// Whether the run of the changed program, with these values of the dummy arguments in order and this limit on
-    /// steps, has the outcome `outcome`, which is that of the program itself. The run begins where it may part from the
-    /// run of the program, at the first visit of the changed statement; it is not made if the two do not part.
+    /// steps, has the outcome `outcome`, which is that of the program itself. The run begins where it may diverge from
+    /// the run of the program, at the first visit of the changed statement; it is not made if the two do not diverge.
     ///
     /// Memory (N1) may be reported in place of any answer.
     pub fn comes_to(
@@ -202,7 +202,7 @@ impl<'a> ChangedRunner<'a> {
         let Some(change) = &self.change else {
             return Ok(true);
         };
-        comes_alike(
+        keeps_outcome(
             self.checked,
             self.code.code(),
             &mut self.space,

@@ -5,7 +5,7 @@ ghost use Rattle.std.specs.Bool.{Decides};
 ghost use Rattle.f77_program.specs.Program.{LineFields, line_of};
 ghost use Rattle.f77_code.specs.Registers.{are_held};
 ghost use Rattle.f77_meaning.specs.Interpreter as meaning;
-ghost use Rattle.f77_meaning.specs.Interpreter.{AreArguments, Tells};
+ghost use Rattle.f77_meaning.specs.Interpreter.{AreArguments, Reports};
 ghost use Rattle.f77_meaning.specs.Site.{held};
 ghost use Rattle.f77_meaning.specs.Value.{Store};
 ghost use Rattle.f77_meaning.specs.declared.outcome.RunFault.TheVariants as fault;
@@ -37,8 +37,8 @@ fn have_dummies(checked: &Checked, registers: &[i64], arguments: &[Arg]) -> bool
 }
 
 /// The values of the dummy arguments that the outcome has, if it has any.
-fn values_told(outcome: &Outcome) -> Option<&[Arg]>
-    ensures { option_map (λ arguments. arguments.now) result ≡ code.values_told outcome.now }
+fn outcome_values(outcome: &Outcome) -> Option<&[Arg]>
+    ensures { option_map (λ arguments. arguments.now) result ≡ code.outcome_values outcome.now }
 {
     match outcome {
         Outcome::Returned(arguments) | Outcome::Stopped(arguments) => Some(arguments.as_slice()),
@@ -55,7 +55,7 @@ fn values_told(outcome: &Outcome) -> Option<&[Arg]>
 
 /// Whether this is the outcome of a run that failed with this fault.
 fn is_fault(fault: Fault, outcome: &Outcome) -> bool
-    ensures { Decides result (outcome.now ≡ meaning.told_outcome fault) }
+    ensures { Decides result (outcome.now ≡ meaning.fault_outcome fault) }
 {
     match outcome {
         Outcome::Overflow => matches!(fault, Fault::Overflow),
@@ -71,10 +71,11 @@ fn is_fault(fault: Fault, outcome: &Outcome) -> bool
 
 /// Whether this is the outcome for an end. `held` says whether the dummy arguments have the values that the outcome
 /// has.
-fn is_told_where(held: bool, finish: Finish, outcome: &Outcome) -> bool
+fn is_outcome_where(held: bool, finish: Finish, outcome: &Outcome) -> bool
     ensures { (program : List LineFields) (store : Store)
-        → IfSome (code.values_told outcome.now) (λ arguments. Decides held (AreArguments program store arguments))
-        → Decides result (Tells program finish store outcome.now) }
+        → IfSome (code.outcome_values outcome.now)
+        (λ arguments. Decides held (AreArguments program store arguments))
+        → Decides result (Reports program finish store outcome.now) }
 {
     match (finish, outcome) {
         (Finish::Returned, Outcome::Returned(_)) | (Finish::Stopped, Outcome::Stopped(_)) => held,
@@ -85,7 +86,7 @@ fn is_told_where(held: bool, finish: Finish, outcome: &Outcome) -> bool
 }
 
 /// Whether this is the outcome for an end with these registers. It takes no memory.
-pub(crate) fn is_told_by(
+pub(crate) fn is_outcome_for(
     checked: &Checked,
     finish: Finish,
     registers: &[i64],
@@ -94,19 +95,19 @@ pub(crate) fn is_told_by(
     requires held { are_held registers.now ≡ true }
     requires room { length checked.now.start.kinds.items ≤ length registers.now }
     requires dummies { HoldDummies checked.now (shown_by checked.now registers.now) }
-    ensures { Decides result (Tells (map line_of checked.now.program) finish
+    ensures { Decides result (Reports (map line_of checked.now.program) finish
         (held checked.now (shown_by checked.now registers.now)) outcome.now) }
 {
-    let held = match values_told(outcome) {
+    let held = match outcome_values(outcome) {
         Some(arguments) => have_dummies(checked, registers, arguments),
         None => false,
     };
-    is_told_where(held, finish, outcome)
+    is_outcome_where(held, finish, outcome)
 }
 
 /// The outcome of a run that failed with this fault.
-fn told(fault: Fault) -> Outcome
-    ensures { result ≡ meaning.told_outcome fault }
+fn fault_outcome(fault: Fault) -> Outcome
+    ensures { result ≡ meaning.fault_outcome fault }
 {
     match fault {
         Fault::Overflow => Outcome::Overflow,
@@ -141,15 +142,15 @@ pub(crate) fn answer(
 ) -> Result<Outcome, RunFault>
     requires held { are_held registers.now ≡ true }
     requires dummies { HoldDummies checked.now (shown_by checked.now registers.now) }
-    ensures tells { IfOk result (λ outcome. Tells (map line_of checked.now.program) finish
+    ensures reports { IfOk result (λ outcome. Reports (map line_of checked.now.program) finish
         (held checked.now (shown_by checked.now registers.now)) outcome) }
     ensures memory { IfErr result (λ e. e ≡ fault.Memory) }
-    ensures told { IfErr result (λ _. (finish ≡ Finish.Returned) ⊎ (finish ≡ Finish.Stopped)) }
+    ensures only { IfErr result (λ _. (finish ≡ Finish.Returned) ⊎ (finish ≡ Finish.Stopped)) }
 {
     match finish {
         Finish::Returned => Ok(Outcome::Returned(dummies(alloc, checked, registers)?)),
         Finish::Stopped => Ok(Outcome::Stopped(dummies(alloc, checked, registers)?)),
-        Finish::Failed(fault) => Ok(told(fault)),
+        Finish::Failed(fault) => Ok(fault_outcome(fault)),
         Finish::StepLimit => Ok(Outcome::StepLimit),
     }
 }

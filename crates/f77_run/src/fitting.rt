@@ -59,7 +59,7 @@ pub fn fit(shapes: &[Shape], arguments: &[Arg]) -> Result<(), RunFault>
     ensures refused { IfSome (refusal shapes.now arguments.now) (λ e. result ≡ Err e) }
     ensures fault { IfErr result (λ e. refusal shapes.now arguments.now ≡ Some e) }
     ensures misfits { IfErr result (λ _. AreFitting shapes.now arguments.now → ⊥) }
-    ensures no_want { IfErr result (λ e. e ≢ fault.Memory) }
+    ensures never_out_of_memory { IfErr result (λ e. e ≢ fault.Memory) }
 {
     if arguments.len() != shapes.len() {
         return Err(RunFault::ArgumentCount);

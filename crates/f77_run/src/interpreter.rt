@@ -4,7 +4,7 @@ ghost use Rattle.std.specs.Prelude.{◌≡◌, ◌⊎◌, ◌≤◌, ◌<◌, �
 ghost use Rattle.f77_program.specs.Program.{line_of};
 ghost use Rattle.f77_meaning.specs.Interpreter.{IsOutcomeOf, refusal};
 ghost use Rattle.f77_meaning.specs.declared.outcome.Outcome.{Outcome};
-ghost use Rattle.f77_meaning.specs.declared.outcome.Outcome.TheVariants as told;
+ghost use Rattle.f77_meaning.specs.declared.outcome.Outcome.TheVariants as outcomes;
 ghost use Rattle.f77_meaning.specs.declared.outcome.RunFault.TheVariants as fault;
 
 use crate::fitting::fit;
@@ -28,7 +28,7 @@ pub fn counted_run(
     ensures made { IfOk result
         (λ ran. (ran.1 ≤ steps) × IsOutcomeOf (map line_of checked.now.program) arguments.now ran.1 ran.0) }
     ensures unended { IfOk result (λ ran. (n : ℕ) → n < ran.1
-        → IsOutcomeOf (map line_of checked.now.program) arguments.now n told.StepLimit) }
+        → IsOutcomeOf (map line_of checked.now.program) arguments.now n outcomes.StepLimit) }
     ensures refused { IfSome (refusal checked.now.arguments arguments.now) (λ e. result ≡ Err e) }
     ensures fault { IfErr result (λ e. (e ≡ fault.Memory) ⊎ (refusal checked.now.arguments arguments.now ≡ Some e)) }
 {

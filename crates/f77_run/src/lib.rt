@@ -7,11 +7,11 @@
 #![tactic(auto)]
 
 mod changed;
+mod diverging;
 mod ending;
 mod entering;
 mod fitting;
 mod interpreter;
-mod parting;
 mod passing;
 mod registers;
 mod runner;
@@ -24,5 +24,5 @@ pub use f77_actions::{Fault, Finish, Value};
 pub use f77_meaning::{Arg, Outcome, RunFault, Values};
 pub use fitting::fit;
 pub use interpreter::{counted_run, run};
-pub use runner::{Course, Runner};
+pub use runner::{Runner, Trace};
 pub use visits::Visits;

@@ -6,7 +6,7 @@ ghost use Rattle.std.specs.Bool.{Decides};
 ghost use Rattle.std.specs.List.{list_all};
 ghost use Rattle.f77_code.specs.Holds.{read_as};
 ghost use Rattle.f77_code.specs.Program.{IsCode};
-ghost use Rattle.f77_code.specs.Registers.{are_held, is_held, told_by_register};
+ghost use Rattle.f77_code.specs.Registers.{are_held, is_held, decoded};
 ghost use Rattle.f77_run.specs.code.Registers as meaning;
 ghost use Rattle.f77_run.specs.Registers.{IsImage, loaded, values_fit};
 ghost use Rattle.f77_run.specs.code.Registers.{shown_cells};
@@ -14,10 +14,10 @@ ghost use Rattle.f77_run.specs.code.Running.{stands_at};
 ghost use Rattle.f77_meaning.specs.Start.{constant_value};
 ghost use Rattle.f77_meaning.specs.declared.outcome.RunFault.TheVariants as fault;
 ghost use Rattle.f77_actions.specs.Number.{fits};
-ghost use Rattle.f77_actions.specs.Told.{coded, is_fitting};
+ghost use Rattle.f77_actions.specs.Encoded.{coded, is_fitting};
 
 use f77_actions::Value;
-use f77_actions::told::UNDEFINED;
+use f77_actions::encoded::UNDEFINED;
 use f77_check::Checked;
 use f77_code::{Code, Turn};
 use f77_meaning::RunFault;
@@ -48,7 +48,7 @@ pub(crate) fn number(kind: Kind, cell: Option<Value>) -> i64
 /// The value of a slot of this kind, from the number in its register.
 pub(crate) fn value(kind: Kind, register: i64) -> Option<Value>
     requires { is_held register ≡ true }
-    ensures { result ≡ meaning.shown_as kind (told_by_register register) }
+    ensures { result ≡ meaning.shown_as kind (decoded register) }
 {
     match kind {
         Kind::Integer => match i32::try_from(register) {
@@ -68,7 +68,7 @@ pub(crate) fn value(kind: Kind, register: i64) -> Option<Value>
 #[inline(always)]
 pub(crate) fn is_value(kind: Kind, register: i64, other: Value) -> bool
     requires { is_held register ≡ true }
-    ensures { Decides result (Some other ≡ meaning.shown_as kind (told_by_register register)) }
+    ensures { Decides result (Some other ≡ meaning.shown_as kind (decoded register)) }
 {
     match (kind, other) {
         (Kind::Integer, Value::Number(number)) => register == i64::from(number),

@@ -7,12 +7,12 @@ ghost use Rattle.f77_code.specs.Follow.{numbers_kept};
 ghost use Rattle.f77_code.specs.Program.{IsCode};
 ghost use Rattle.f77_meaning.specs.Interpreter.{AreFitting, IsOutcomeOf, refusal};
 ghost use Rattle.f77_meaning.specs.declared.outcome.Outcome.{Outcome};
-ghost use Rattle.f77_meaning.specs.declared.outcome.Outcome.TheVariants as told;
+ghost use Rattle.f77_meaning.specs.declared.outcome.Outcome.TheVariants as outcomes;
 ghost use Rattle.f77_meaning.specs.declared.outcome.RunFault.TheVariants as fault;
 ghost use Rattle.f77_run.specs.Registers.{IsImage};
 ghost use Rattle.f77_run.specs.Visits.{IsFollowed};
 
-use crate::ending::{answer, is_told_by};
+use crate::ending::{answer, is_outcome_for};
 use crate::fitting::fit;
 use crate::visits::Visits;
 use crate::workspace::{Workspace, code_of};
@@ -24,7 +24,7 @@ use std::marker::Model;
 
 /// What is kept of the trace of a run: its outcome, and the first visit of each statement.
 #[derive(Drop)]
-pub struct Course {
+pub struct Trace {
     /// The outcome of the run.
     pub outcome: Outcome,
     /// The states in which control first came to the statements. A run of a changed program may begin from these.
@@ -73,7 +73,7 @@ impl<'a> Model for Runner<'a> {
 }
 
 /// The trace of the run with arguments that fit.
-fn course_of(
+fn trace_of(
     alloc: Global,
     checked: &Checked,
     code: &Code,
@@ -81,15 +81,15 @@ fn course_of(
     arguments: &[Arg],
     steps: u32,
     room: &mut usize,
-) -> Result<Course, RunFault>
+) -> Result<Trace, RunFault>
     requires code { IsCode checked.now.statements code.now }
     requires slots { code.now.constants.slots ≡ checked.now.slots }
     requires image { IsImage checked.now code.now.constants.values.items space.old.image }
     requires fitting { AreFitting checked.now.arguments arguments.now }
     ensures outcome { IfOk result
-        (λ course. IsOutcomeOf (map line_of checked.now.program) arguments.now steps course.outcome) }
-    ensures visits { IfOk result (λ course. IsFollowed checked.now arguments.now steps course.visits) }
-    ensures room { IfOk result (λ course. room.new + numbers_kept course.visits.list.items ≡ room.old) }
+        (λ trace. IsOutcomeOf (map line_of checked.now.program) arguments.now steps trace.outcome) }
+    ensures visits { IfOk result (λ trace. IsFollowed checked.now arguments.now steps trace.visits) }
+    ensures room { IfOk result (λ trace. room.new + numbers_kept trace.visits.list.items ≡ room.old) }
     ensures image { space.new.image ≡ space.old.image }
     ensures memory { IfErr result (λ e. e ≡ fault.Memory) }
 {
@@ -109,7 +109,7 @@ fn course_of(
     visits.made = stand.made;
     let finish = finish_at(stand.place);
     let outcome = answer(alloc, checked, finish, &space.registers.items)?;
-    Ok(Course { outcome, visits })
+    Ok(Trace { outcome, visits })
 }
 
 impl<'a> Runner<'a> {
@@ -140,11 +140,11 @@ impl<'a> Runner<'a> {
     ) -> Result<(Outcome, u32), RunFault>
         ensures program { self.new ≡ self.old }
         ensures outcome { IfOk result
-            (λ told. IsOutcomeOf (map line_of self.old.program) arguments.now steps told.0) }
-        ensures made { IfOk result (λ told. (told.1 ≤ steps)
-            × IsOutcomeOf (map line_of self.old.program) arguments.now told.1 told.0) }
+            (λ found. IsOutcomeOf (map line_of self.old.program) arguments.now steps found.0) }
+        ensures made { IfOk result (λ found. (found.1 ≤ steps)
+            × IsOutcomeOf (map line_of self.old.program) arguments.now found.1 found.0) }
         ensures unended { IfOk result (λ ran. (n : ℕ) → n < ran.1
-            → IsOutcomeOf (map line_of self.old.program) arguments.now n told.StepLimit) }
+            → IsOutcomeOf (map line_of self.old.program) arguments.now n outcomes.StepLimit) }
         ensures refused { IfSome (refusal self.old.arguments arguments.now) (λ e. result ≡ Err e) }
         ensures fault { IfErr result (λ e. (e ≡ fault.Memory) ⊎ (refusal self.old.arguments arguments.now ≡ Some e)) }
     {
@@ -183,7 +183,7 @@ impl<'a> Runner<'a> {
                     .space
                     .end_of(self.checked, &self.code, arguments, 0, steps)?;
                 let registers = &self.space.registers.items;
-                Ok(is_told_by(self.checked, end.finish, registers, outcome))
+                Ok(is_outcome_for(self.checked, end.finish, registers, outcome))
             }
             Err(fault) => Err(fault),
         }
@@ -195,25 +195,25 @@ impl<'a> Runner<'a> {
     /// does not end makes all steps of the limit here, once.
     ///
     /// N2 and N3 are reported before any step. Memory (N1) may be reported in place of any answer.
-    pub fn course(
+    pub fn trace(
         &mut self,
         alloc: Global,
         arguments: &[Arg],
         steps: u32,
         room: &mut usize,
-    ) -> Result<Course, RunFault>
+    ) -> Result<Trace, RunFault>
         ensures program { self.new ≡ self.old }
         ensures outcome { IfOk result
-            (λ course. IsOutcomeOf (map line_of self.old.program) arguments.now steps course.outcome) }
-        ensures only { IfOk result (λ course. (other : Outcome)
-            → IsOutcomeOf (map line_of self.old.program) arguments.now steps other → other ≡ course.outcome) }
-        ensures visits { IfOk result (λ course. IsFollowed self.old arguments.now steps course.visits) }
-        ensures room { IfOk result (λ course. room.new + numbers_kept course.visits.list.items ≡ room.old) }
+            (λ trace. IsOutcomeOf (map line_of self.old.program) arguments.now steps trace.outcome) }
+        ensures only { IfOk result (λ trace. (other : Outcome)
+            → IsOutcomeOf (map line_of self.old.program) arguments.now steps other → other ≡ trace.outcome) }
+        ensures visits { IfOk result (λ trace. IsFollowed self.old arguments.now steps trace.visits) }
+        ensures room { IfOk result (λ trace. room.new + numbers_kept trace.visits.list.items ≡ room.old) }
         ensures refused { IfSome (refusal self.old.arguments arguments.now) (λ e. result ≡ Err e) }
         ensures fault { IfErr result (λ e. (e ≡ fault.Memory) ⊎ (refusal self.old.arguments arguments.now ≡ Some e)) }
     {
         match fit(self.checked.arguments(), arguments) {
-            Ok(()) => course_of(
+            Ok(()) => trace_of(
                 alloc,
                 self.checked,
                 &self.code,

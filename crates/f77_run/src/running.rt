@@ -160,7 +160,7 @@ pub(crate) fn advance(
     ensures memory { IfErr result (λ e. e ≡ fault.Memory) }
 {
     let mut at = steps_from(code, registers, start, first.max(FIRST).min(steps));
-    'marks: while at.place < code.len() && at.made < steps {
+    'rounds: while at.place < code.len() && at.made < steps {
         // As many again as were made.
         let most = at.made.min(steps - at.made);
         let more = steps_with_looks(code, registers, at.place, kept, most)?;

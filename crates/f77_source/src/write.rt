@@ -161,7 +161,7 @@ pub fn write_form(alloc: Global, cards: &[Card]) -> Result<String, FormFault>
     ensures refused { IfErr result
         (λ fault. (slice_get (card_faults cards.now) 0 ≡ Some fault) ⊎ (fault ≡ FormFault.Memory)) }
     // A fault is found before any memory is taken.
-    ensures told { (fault : FormFault)
+    ensures reported { (fault : FormFault)
         → slice_get (card_faults cards.now) 0 ≡ Some fault → IfErr result (λ found. found ≡ fault) }
 {
     if let Some(fault) = first_fault(cards) {

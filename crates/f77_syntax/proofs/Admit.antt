@@ -10,7 +10,7 @@ use Rattle.f77_tree.specs.Names.{statement_names}
 use Rattle.f77_tree.specs.Limits.{most_nodes, statement_constants, statement_nodes}
 use Rattle.f77_syntax.specs.Parsing.{IsAdmitted, IsCardRefused}
 use Rattle.f77_syntax.specs.code.Parsing.{IsOutside}
-use Rattle.f77_syntax.proofs.FormedClip.{short_told, long_told}
+use Rattle.f77_syntax.proofs.FormedClip.{formed_short, unformed_long}
 use Rattle.f77_syntax.proofs.StatementClip.{statement_constants_clip, statement_nodes_clip, statement_kept}
 
 -- a text within the limits on texts, and the statement that was kept of it
@@ -22,7 +22,7 @@ pub record Kept (text : List ℕ) (got : Statement) : Type 0 where
 pub bad_name : (line : ℕ) (text : List ℕ) (got : Statement) → Kept text got → ¬ (IsFormed got) → IsCardRefused line text (BadName line)
 bad_name line text got k unformed =
     let (s, p, same) = k.spells in
-    IsCardRefused.name k.characters k.flat p (long_told got s unformed p same)
+    IsCardRefused.name k.characters k.flat p (unformed_long got s unformed p same)
 
 -- a statement that is kept is outside the limits where the one that the text spells is
 pub outside : (line : ℕ) (text : List ℕ) (got : Statement) {fault : SyntaxFault} → Kept text got → IsFormed got
@@ -30,18 +30,18 @@ pub outside : (line : ℕ) (text : List ℕ) (got : Statement) {fault : SyntaxFa
 outside line text got k f IsOutside.memory = inl refl
 outside line text got k f (IsOutside.constant h) =
     let (s, p, same) = k.spells in
-    inr (IsCardRefused.constant k.characters k.flat p (short_told got s f same) (sym (statement_constants_clip s) ∙ ap statement_constants (sym same) ∙ h))
+    inr (IsCardRefused.constant k.characters k.flat p (formed_short got s f same) (sym (statement_constants_clip s) ∙ ap statement_constants (sym same) ∙ h))
 outside line text got k f (IsOutside.nodes h more) =
     let (s, p, same) = k.spells in
     let count : statement_nodes got ≡ statement_nodes s = ap statement_nodes same ∙ statement_nodes_clip s in
-    inr (IsCardRefused.nodes k.characters k.flat p (short_told got s f same)
+    inr (IsCardRefused.nodes k.characters k.flat p (formed_short got s f same)
     (sym (statement_constants_clip s) ∙ ap statement_constants (sym same) ∙ h) (subst (λ n. most_nodes < n) count more))
 
 pub all_well : (text : List ℕ) (got : Statement) → Kept text got → IsFormed got → statement_constants got ≡ true → statement_nodes got ≤ most_nodes → IsAdmitted text got
 all_well text got k f h few =
     let (s, p, same) = k.spells in
     let small : statement_constants s ≡ true = sym (statement_constants_clip s) ∙ ap statement_constants (sym same) ∙ h in
-    let short = short_told got s f same in
+    let short = formed_short got s f same in
     let is : s ≡ got = sym (statement_kept s short small) ∙ sym same in
     record {
       characters = k.characters;

@@ -133,6 +133,6 @@ refused_first before card line text fault h e f (inr r) = inr (λ cards. IsFirst
 pub out_first : (before : Option Group) (card : CardFields) (line : ℕ) (text : List ℕ) (s : Statement) (fault : SyntaxFault) (g : Group) (b : Bool)
     → before ≢ Some End → line ≡ card.line → text ≡ card.text → IsAdmitted text s → g ≡ group_of s → b ≡ may_stand before g → b ≡ false → fault ≡ misplaced_statement before line
     → (cards : List CardFields) → IsFirstSyntaxFault before (card ∷ cards) fault
-out_first before card line text s fault g b h e f p same is no_place told cards =
-    subst (λ z. IsFirstSyntaxFault before (card ∷ cards) z) (sym (told ∙ ap (λ z. misplaced_statement before z) e))
+out_first before card line text s fault g b h e f p same is no_place reported cards =
+    subst (λ z. IsFirstSyntaxFault before (card ∷ cards) z) (sym (reported ∙ ap (λ z. misplaced_statement before z) e))
     (IsFirstSyntaxFault.out_of_place h (subst (λ z. IsAdmitted z s) f p) (ap (λ z. may_stand before z) (sym same) ∙ sym is ∙ no_place))

@@ -116,12 +116,12 @@ statement_clip Statement.Trap = refl
 statement_clip Statement.End = refl
 
 -- what is kept of a statement that a text spells is formed exactly where its names have at most six characters
-pub short_told : (got s : Statement) → IsFormed got → got ≡ clip_statement s → statement_names s ≡ true
-short_told got s formed same =
+pub formed_short : (got s : Statement) → IsFormed got → got ≡ clip_statement s → statement_names s ≡ true
+formed_short got s formed same =
     let own = formed_spelled s (sym (statement_clip s) ∙ ap (statement_formed is_symbolic) (sym same) ∙ is_symbolic_formed got formed) in own.2
 
-pub long_told : {text : List ℕ} (got s : Statement) → ¬ (IsFormed got) → SpellsStatement text s → got ≡ clip_statement s → statement_names s ≡ false
-long_told got s unformed p same = by (statement_names s) refl
+pub unformed_long : {text : List ℕ} (got s : Statement) → ¬ (IsFormed got) → SpellsStatement text s → got ≡ clip_statement s → statement_names s ≡ false
+unformed_long got s unformed p same = by (statement_names s) refl
   where
     by : (b : Bool) → statement_names s ≡ b → statement_names s ≡ false
     by true n =

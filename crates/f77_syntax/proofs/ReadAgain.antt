@@ -13,13 +13,13 @@ use Rattle.f77_tree.specs.Grammar.{is_name}
 use Rattle.f77_tree.specs.StatementGrammar.{IsFormed}
 use Rattle.f77_program.specs.Canonical.{statement_text}
 use Rattle.f77_program.specs.code.Formed.{statement_formed}
-use Rattle.f77_program.specs.Printing.{card_of, printed, AreAlike, unnumbered}
+use Rattle.f77_program.specs.Printing.{card_of, printed, AreEqualUnnumbered, unnumbered}
 use Rattle.f77_program.specs.Program.{LineFields, IsProgram}
 use Rattle.f77_program.specs.declared.group.Group.{Group}
 use Rattle.f77_program.proofs.Plain.{squeezed_short}
 use Rattle.f77_program.proofs.StatementForming.{is_formed}
 use Rattle.f77_program.proofs.StatementPlain.{printable_statement, statement_starts, reads_back}
-use Rattle.f77_program.proofs.Told.{AreFormed, program_formed}
+use Rattle.f77_program.proofs.Reported.{AreFormed, program_formed}
 use Rattle.f77_syntax.specs.Parsing.{IsAdmitted, AreLines, line_with}
 use Rattle.f77_syntax.specs.Printing.{KeepsLimits, ReadsBack}
 use Rattle.f77_syntax.proofs.CharacterCounts.{characters_few}
@@ -65,7 +65,7 @@ admitted line f k e = record {
 
 -- lines that these cards are, and that are the same program apart from line numbers
 abbrev pub Found : Option Group → List CardFields → List LineFields → Type 0
-Found before read lines = (found : List LineFields) × AreLines before read found × AreAlike found lines
+Found before read lines = (found : List LineFields) × AreLines before read found × AreEqualUnnumbered found lines
 
 pub read_again : {before : Option Group} {lines : List LineFields} → IsProgram before lines → All (λ line. KeepsLimits line.stmt) lines
     → card_faults (map card_of lines) ≡ [] → (read : List CardFields) → map (λ card. card.label) read ≡ map (λ card. card.label) (map card_of lines)
@@ -79,15 +79,15 @@ read_again (IsProgram.next {line = line} {lines = lines} may rest) keeps none (c
     let text : card.text ≡ squeezed (statement_text line.stmt) = cc in
     let more_labels : map (λ card. card.label) read ≡ map (λ card. card.label) (map card_of lines) = cc in
     let more_texts : map (λ card. card.text) read ≡ map (λ card. squeezed card.text) (map card_of lines) = cc in
-    let (found, are, alike) = read_again rest (All-tail (λ line. KeepsLimits line.stmt) line lines keeps) others read more_labels more_texts in
+    let (found, are, equal) = read_again rest (All-tail (λ line. KeepsLimits line.stmt) line lines keeps) others read more_labels more_texts in
     let is : IsAdmitted card.text line.stmt =
     subst (λ z. IsAdmitted z line.stmt) (sym text) (admitted line may.1 (All-head (λ line. KeepsLimits line.stmt) line lines keeps) first) in
-    (line_with card line.stmt ∷ found, AreLines.next line.stmt is may.0 are, ap (λ z. (z, line.stmt) ∷ map unnumbered found) label ∙ ap (λ z. (line.label, line.stmt) ∷ z) alike)
+    (line_with card line.stmt ∷ found, AreLines.next line.stmt is may.0 are, ap (λ z. (z, line.stmt) ∷ map unnumbered found) label ∙ ap (λ z. (line.label, line.stmt) ∷ z) equal)
 
 pub prints_back : (source : List ℕ) (lines : List LineFields) → IsProgram None lines → card_faults (map card_of lines) ≡ [] → source ≡ printed lines
     → ((cards : List CardFields) → card_faults cards ≡ [] → All HasInitialLine cards → IsReadAs (written cards) cards)
     → All (λ line. KeepsLimits line.stmt) lines → ReadsBack source lines
 prints_back source lines program none is law keeps =
     let r = law (map card_of lines) none (have_lines lines (program_formed program)) in
-    let (found, are, alike) = read_again program keeps none r.read r.labels r.texts in
-    subst (λ z. ReadsBack z lines) (sym is) (record { cards = r.read; are_cards = r.are; found = found; are_lines = are; alike = alike })
+    let (found, are, equal) = read_again program keeps none r.read r.labels r.texts in
+    subst (λ z. ReadsBack z lines) (sym is) (record { cards = r.read; are_cards = r.are; found = found; are_lines = are; equal = equal })

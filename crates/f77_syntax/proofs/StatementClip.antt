@@ -11,7 +11,7 @@ use Rattle.f77_tree.specs.Limits.{is_label, statement_constants, statement_nodes
 use Rattle.f77_tree.specs.Names.{of_value, statement_names, short_names, all_short_names}
 use Rattle.f77_syntax.proofs.NodeCounts.{step_nodes, count_by_part, counted_by_part}
 use Rattle.f77_tree.specs.Name.{is_short, cut}
-use Rattle.f77_tree.proofs.Constants.{small_constants, all_small_constants, by_part, told_by_part}
+use Rattle.f77_tree.proofs.Constants.{small_constants, all_small_constants, by_part, decided_by_part}
 use Rattle.f77_tree.proofs.Tests.{and_true}
 use Rattle.f77_syntax.proofs.Clip.{constants_clip, all_constants_clip, nodes_clip, all_nodes_clip, short_cut, short_cuts, kept, all_kept}
 use Rattle.f77_syntax.proofs.DeclarationKept.{declaration_constants_clip, declaration_nodes_clip, declaration_kept}
@@ -110,10 +110,10 @@ kept_by_part Statement.End n h = refl
 
 -- asked of the nodes, the answers are the same
 pub statement_constants_clip : (s : Statement) → statement_constants (clip_statement s) ≡ statement_constants s
-statement_constants_clip s = told_by_part (clip_statement s) ∙ constants_by_part s ∙ sym (told_by_part s)
+statement_constants_clip s = decided_by_part (clip_statement s) ∙ constants_by_part s ∙ sym (decided_by_part s)
 
 pub statement_nodes_clip : (s : Statement) → statement_nodes (clip_statement s) ≡ statement_nodes s
 statement_nodes_clip s = counted_by_part (clip_statement s) ∙ nodes_by_part s ∙ sym (counted_by_part s)
 
 pub statement_kept : (s : Statement) → statement_names s ≡ true → statement_constants s ≡ true → clip_statement s ≡ s
-statement_kept s n h = kept_by_part s n (sym (told_by_part s) ∙ h)
+statement_kept s n h = kept_by_part s n (sym (decided_by_part s) ∙ h)

@@ -7,7 +7,7 @@ use Rattle.f77_tree.specs.StatementGrammar.{IsUnmutated}
 use Rattle.f77_tree.specs.Statement.{Statement}
 use Rattle.f77_tree.specs.Limits.{most_nodes, statement_constants, statement_nodes}
 use Rattle.f77_program.specs.Canonical.{statement_text}
-use Rattle.f77_program.specs.Printing.{AreAlike}
+use Rattle.f77_program.specs.Printing.{AreEqualUnnumbered}
 use Rattle.f77_program.specs.Program.{LineFields}
 use Rattle.f77_syntax.specs.Parsing.{AreLines}
 use Rattle.f77_syntax.specs.TextLimits.{IsTooDeep}
@@ -28,4 +28,4 @@ pub record ReadsBack (source : List ℕ) (program : List LineFields) : Type 0 wh
   pub are_cards : AreCards 1 (lines source) cards
   pub found : List LineFields
   pub are_lines : AreLines None cards found
-  pub alike : AreAlike found program
+  pub equal : AreEqualUnnumbered found program

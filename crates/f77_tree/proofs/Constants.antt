@@ -129,27 +129,27 @@ parameters_small a b c =
     both (tree_nodes a) (tree_nodes b ++ step_parts c) (small_constants a) (small_constants b && of_value small_constants c) (tree_small a)
     (both (tree_nodes b) (step_parts c) (small_constants b) (of_value small_constants c) (tree_small b) (step_small c))
 
-pub told_by_part : (s : Statement) → statement_constants s ≡ by_part s
-told_by_part (Statement.Subroutine name names) = names_pass names
-told_by_part (Statement.Declare kind ds) = declared_small ds
-told_by_part (Statement.Dimension ds) = declared_small ds
-told_by_part (Statement.Preset gs) = groups_small gs
-told_by_part (Statement.Assign name items t) =
+pub decided_by_part : (s : Statement) → statement_constants s ≡ by_part s
+decided_by_part (Statement.Subroutine name names) = names_pass names
+decided_by_part (Statement.Declare kind ds) = declared_small ds
+decided_by_part (Statement.Dimension ds) = declared_small ds
+decided_by_part (Statement.Preset gs) = groups_small gs
+decided_by_part (Statement.Assign name items t) =
     both (target_nodes name items) (tree_nodes t) (all_small_constants items) (small_constants t) (target_small name items) (tree_small t)
-told_by_part (Statement.Goto label) = and-true (is_label label)
-told_by_part (Statement.ComputedGoto labels t) =
+decided_by_part (Statement.Goto label) = and-true (is_label label)
+decided_by_part (Statement.ComputedGoto labels t) =
     both (map NodeOf.Labelled labels) (tree_nodes t) (list_all is_label labels) (small_constants t) (labels_small labels) (tree_small t)
-told_by_part (Statement.ArithIf t l m n) =
+decided_by_part (Statement.ArithIf t l m n) =
     both (tree_nodes t) (label_nodes l m n) (small_constants t) (is_label l && (is_label m && is_label n)) (tree_small t) (three_labels l m n)
-told_by_part (Statement.LogicalIf t s) =
-    both (tree_nodes t) (nodes_of s) (small_constants t) (by_part s) (tree_small t) (told_by_part s)
-told_by_part (Statement.BlockIf t) = tree_small t
-told_by_part (Statement.ElseIf t) = tree_small t
-told_by_part Statement.Else = refl
-told_by_part Statement.EndIf = refl
-told_by_part (Statement.Loop label name a b c) = ap (λ z. is_label label && z) (parameters_small a b c)
-told_by_part Statement.Continue = refl
-told_by_part Statement.Return = refl
-told_by_part Statement.Stop = refl
-told_by_part Statement.Trap = refl
-told_by_part Statement.End = refl
+decided_by_part (Statement.LogicalIf t s) =
+    both (tree_nodes t) (nodes_of s) (small_constants t) (by_part s) (tree_small t) (decided_by_part s)
+decided_by_part (Statement.BlockIf t) = tree_small t
+decided_by_part (Statement.ElseIf t) = tree_small t
+decided_by_part Statement.Else = refl
+decided_by_part Statement.EndIf = refl
+decided_by_part (Statement.Loop label name a b c) = ap (λ z. is_label label && z) (parameters_small a b c)
+decided_by_part Statement.Continue = refl
+decided_by_part Statement.Return = refl
+decided_by_part Statement.Stop = refl
+decided_by_part Statement.Trap = refl
+decided_by_part Statement.End = refl

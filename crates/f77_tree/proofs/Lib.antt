@@ -10,5 +10,5 @@ pub mod Walks
 pub mod Constants
 pub mod Numbering
 pub mod Passes
-pub mod ExchangedExpressions
-pub mod ExchangedStatements
+pub mod SwappedExpressions
+pub mod SwappedStatements

@@ -10,7 +10,7 @@ use Rattle.f77_tree.specs.declared.data.Value.{Value}
 use Rattle.f77_tree.specs.Tree.{Tree, Trees, GroupFields}
 use Rattle.f77_tree.specs.View.{trees}
 use Rattle.f77_tree.specs.Sites.{Site, site_within, fixed, put_node, list_sites, tree_sites, item_sites, value_sites, group_sites}
-use Rattle.f77_tree.specs.code.Exchanging.{put_number, Exchanged, PassedBy, Sought}
+use Rattle.f77_tree.specs.code.Swapping.{put_number, Swapped, PassedBy, Sought}
 
 -- one site replaced within something larger
 put_within : {X Y : Type 0} (f : X → Y) (o : Option (Site X)) (n : NodeOf) (x : X) → put_node (option_map (site_within f) o) n (f x) ≡ f (put_node o n x)
@@ -80,9 +80,9 @@ module _ {X Z : Type 0} (of : X → List (Site X)) (whole : Z → List (Site Z))
   length_inside : (x : X) → length (whole (f x)) ≡ length (of x)
   length_inside x = ap length (within x) ∙ length-map (of x) (site_within f)
 
-  pub sought_one : (told : Bool) (k j : ℕ) (a b : NodeOf) (x x' : X) → Sought of told k j a b x x' → Sought whole told k j a b (f x) (f x')
-  sought_one told k j a b x x' s = record {
-    found = λ is. let e : Exchanged of k a b x x' = s.found is in record {
+  pub sought_one : (answer : Bool) (k j : ℕ) (a b : NodeOf) (x x' : X) → Sought of answer k j a b x x' → Sought whole answer k j a b (f x) (f x')
+  sought_one answer k j a b x x' s = record {
+    found = λ is. let e : Swapped of k a b x x' = s.found is in record {
       counted = e.counted;
       within = omega (arith, e.within, length_inside x);
       within_new = omega (arith, e.within_new, length_inside x');
@@ -109,10 +109,10 @@ module _ {X Y Z : Type 0} (of : X → List (Site X)) (on : Y → List (Site Y)) 
   put_first : (k : ℕ) (n : NodeOf) (x : X) (y : Y) → k ≤ length (of x) → put_number (whole (h x y)) k n (h x y) ≡ h (put_number (of x) k n x) y
   put_first k n x y low = put_both k n x y ∙ ap (h (put_number (of x) k n x)) (put_none (on y) (k - length (of x)) n y (omega arith))
 
-  pub sought_first : (done told : Bool) (k i j : ℕ) (a b : NodeOf) (x x' : X) (y : Y) → done ≡ true → told ≡ true → Sought of done k i a b x x'
-      → Sought whole told k j a b (h x y) (h x' y)
-  sought_first done told k i j a b x x' y found is_told s =
-      let e : Exchanged of k a b x x' = s.found found in
+  pub sought_first : (done answer : Bool) (k i j : ℕ) (a b : NodeOf) (x x' : X) (y : Y) → done ≡ true → answer ≡ true → Sought of done k i a b x x'
+      → Sought whole answer k j a b (h x y) (h x' y)
+  sought_first done answer k i j a b x x' y found answer_true s =
+      let e : Swapped of k a b x x' = s.found found in
       record {
         found = λ is. record {
           counted = e.counted;
@@ -121,17 +121,17 @@ module _ {X Y Z : Type 0} (of : X → List (Site X)) (on : Y → List (Site Y)) 
           put = ap (λ u. h u y) e.put ∙ sym (put_first k a x y e.within);
           back = ap (λ u. h u y) e.back ∙ sym (put_first k b x' y e.within_new);
         };
-        passed = λ other. absurd (true≢false (sym is_told ∙ other));
+        passed = λ other. absurd (true≢false (sym answer_true ∙ other));
       }
 
   -- the first part was passed by
-  pub sought_second : (done told : Bool) (k i j : ℕ) (a b c : NodeOf) (x x' : X) (y y' : Y) → done ≡ false → Sought of done k i a b x x' → Sought on told i j b c y y'
-      → Sought whole told k j a c (h x y) (h x' y')
-  sought_second done told k i j a b c x x' y y' past s t =
+  pub sought_second : (done answer : Bool) (k i j : ℕ) (a b c : NodeOf) (x x' : X) (y y' : Y) → done ≡ false → Sought of done k i a b x x' → Sought on answer i j b c y y'
+      → Sought whole answer k j a c (h x y) (h x' y')
+  sought_second done answer k i j a b c x x' y y' past s t =
       let p : PassedBy of k i a b x x' = s.passed past in
       let n : length (of x') ≡ length (of x) = ap (λ z. length (of z)) p.same in
       record {
-        found = λ is. let e : Exchanged on i b c y y' = t.found is in record {
+        found = λ is. let e : Swapped on i b c y y' = t.found is in record {
           counted = omega (arith, e.counted, p.counted);
           within = omega (arith, e.within, e.counted, p.counted, length_both x y);
           within_new = omega (arith, e.within_new, e.counted, p.counted, n, length_both x' y');
@@ -166,9 +166,9 @@ module _ {X : Type 0} (site : X → Site X) (behind : X → List (Site X)) (whol
   length_next : (x : X) → length (whole x) ≡ 1 + length (behind x)
   length_next x = omega (arith, ap length (first x))
 
-  pub sought_behind : (told : Bool) (k i j : ℕ) (a b : NodeOf) (x x' : X) → k ≢ 1 → i ≡ k - 1 → Sought behind told i j a b x x' → Sought whole told k j a b x x'
-  sought_behind told k i j a b x x' other falls s = record {
-    found = λ is. let e : Exchanged behind i a b x x' = s.found is in record {
+  pub sought_behind : (answer : Bool) (k i j : ℕ) (a b : NodeOf) (x x' : X) → k ≢ 1 → i ≡ k - 1 → Sought behind answer i j a b x x' → Sought whole answer k j a b x x'
+  sought_behind answer k i j a b x x' other falls s = record {
+    found = λ is. let e : Swapped behind i a b x x' = s.found is in record {
       counted = omega (arith, e.counted, falls);
       within = omega (arith, e.within, e.counted, falls, length_next x);
       within_new = omega (arith, e.within_new, e.counted, falls, length_next x');
@@ -194,10 +194,10 @@ put_fixed f (a ∷ names) xs (suc (suc k)) n x =
     put_fixed f names xs (suc k) n x ∙ ap (λ j. put_number xs j n x) e
 
 -- nodes that stay are passed by
-pub passed_fixed : {A X : Type 0} (of : X → List (Site X)) (f : A → NodeOf) (names : List A) (told : Bool) (k j : ℕ) (a : NodeOf) (x : X)
-    → of x ≡ map (λ n. fixed x (f n)) names → told ≡ false → j ≡ k - length names → Sought of told k j a a x x
-passed_fixed of f names told k j a x all not_told falls = record {
-  found = λ is. absurd (true≢false (sym is ∙ not_told));
+pub passed_fixed : {A X : Type 0} (of : X → List (Site X)) (f : A → NodeOf) (names : List A) (answer : Bool) (k j : ℕ) (a : NodeOf) (x : X)
+    → of x ≡ map (λ n. fixed x (f n)) names → answer ≡ false → j ≡ k - length names → Sought of answer k j a a x x
+passed_fixed of f names answer k j a x all answer_false falls = record {
+  found = λ is. absurd (true≢false (sym is ∙ answer_false));
   passed = λ is. record {
     same = refl;
     kept = refl;
@@ -228,10 +228,10 @@ module _ (names : List (List ℕ)) where
     length-map (list_sites value_sites values) (site_within Group),
   )
 
-  pub sought_group : (told : Bool) (k i j : ℕ) (a b : NodeOf) (vs vs' : List Value) → i ≡ k - length names → Sought (list_sites value_sites) told i j a b vs vs'
-      → Sought group_sites told k j a b (Group vs) (Group vs')
-  sought_group told k i j a b vs vs' falls s = record {
-    found = λ is. let e : Exchanged (list_sites value_sites) i a b vs vs' = s.found is in record {
+  pub sought_group : (answer : Bool) (k i j : ℕ) (a b : NodeOf) (vs vs' : List Value) → i ≡ k - length names → Sought (list_sites value_sites) answer i j a b vs vs'
+      → Sought group_sites answer k j a b (Group vs) (Group vs')
+  sought_group answer k i j a b vs vs' falls s = record {
+    found = λ is. let e : Swapped (list_sites value_sites) i a b vs vs' = s.found is in record {
       counted = omega (arith, e.counted, falls);
       within = omega (arith, e.within, e.counted, falls, length_group vs);
       within_new = omega (arith, e.within_new, e.counted, falls, length_group vs');
@@ -259,24 +259,24 @@ passed_nothing of (suc k) a x none = record {
 -- a pass over a list as far as it has come: what is found in the rest is found in the whole
 abbrev pub Passing : {X : Type 0} → (X → List (Site X)) → List X → List X → List X → ℕ → ℕ → NodeOf → NodeOf → Type 0
 Passing {X = X} of before rest whole start k a b =
-    (told : Bool) (j : ℕ) (c : NodeOf) (final : List X) → Sought (list_sites of) told k j b c rest final → Sought (list_sites of) told start j a c whole (before ++ final)
+    (answer : Bool) (j : ℕ) (c : NodeOf) (final : List X) → Sought (list_sites of) answer k j b c rest final → Sought (list_sites of) answer start j a c whole (before ++ final)
 
 module _ {X : Type 0} (of : X → List (Site X)) where
   passing_on : (before rest whole grown left : List X) (x x' : X) (done : Bool) (start k i : ℕ) (a b c : NodeOf) → Passing of before rest whole start k a b
       → rest ≡ x ∷ left → grown ≡ before ++ x' ∷ [] → done ≡ false → Sought of done k i b c x x' → Passing of grown left whole start i a c
-  passing_on before rest whole grown left x x' done start k i a b c p split pushed past s told j d final t =
-      let q : Sought (list_sites of) told k j b d rest (x' ∷ final) =
-      subst (λ (l : List X). Sought (list_sites of) told k j b d l (x' ∷ final)) (sym split)
-      (sought_second of (list_sites of) (list_sites of) (λ u us. u ∷ us) (λ u us. refl) done told k i j b c d x x' left final past s t) in
-      subst (λ (l : List X). Sought (list_sites of) told start j a d whole l) (sym (ap (λ l. l ++ final) pushed ∙ append_assoc before (x' ∷ []) final)) (p told j d (x' ∷ final) q)
+  passing_on before rest whole grown left x x' done start k i a b c p split pushed past s answer j d final t =
+      let q : Sought (list_sites of) answer k j b d rest (x' ∷ final) =
+      subst (λ (l : List X). Sought (list_sites of) answer k j b d l (x' ∷ final)) (sym split)
+      (sought_second of (list_sites of) (list_sites of) (λ u us. u ∷ us) (λ u us. refl) done answer k i j b c d x x' left final past s t) in
+      subst (λ (l : List X). Sought (list_sites of) answer start j a d whole l) (sym (ap (λ l. l ++ final) pushed ∙ append_assoc before (x' ∷ []) final)) (p answer j d (x' ∷ final) q)
 
-  passing_finds : (before rest whole left final : List X) (x x' : X) (done told : Bool) (start k i j : ℕ) (a b c : NodeOf) → Passing of before rest whole start k a b
-      → rest ≡ x ∷ left → final ≡ before ++ x' ∷ left → done ≡ true → told ≡ true → Sought of done k i b c x x' → Sought (list_sites of) told start j a c whole final
-  passing_finds before rest whole left final x x' done told start k i j a b c p split is found is_told s =
-      let q : Sought (list_sites of) told k j b c rest (x' ∷ left) =
-      subst (λ (l : List X). Sought (list_sites of) told k j b c l (x' ∷ left)) (sym split)
-      (sought_first of (list_sites of) (list_sites of) (λ u us. u ∷ us) (λ u us. refl) done told k i j b c x x' left found is_told s) in
-      subst (λ (l : List X). Sought (list_sites of) told start j a c whole l) (sym is) (p told j c (x' ∷ left) q)
+  passing_finds : (before rest whole left final : List X) (x x' : X) (done answer : Bool) (start k i j : ℕ) (a b c : NodeOf) → Passing of before rest whole start k a b
+      → rest ≡ x ∷ left → final ≡ before ++ x' ∷ left → done ≡ true → answer ≡ true → Sought of done k i b c x x' → Sought (list_sites of) answer start j a c whole final
+  passing_finds before rest whole left final x x' done answer start k i j a b c p split is found answer_true s =
+      let q : Sought (list_sites of) answer k j b c rest (x' ∷ left) =
+      subst (λ (l : List X). Sought (list_sites of) answer k j b c l (x' ∷ left)) (sym split)
+      (sought_first of (list_sites of) (list_sites of) (λ u us. u ∷ us) (λ u us. refl) done answer k i j b c x x' left found answer_true s) in
+      subst (λ (l : List X). Sought (list_sites of) answer start j a c whole l) (sym is) (p answer j c (x' ∷ left) q)
 
   passing_ends : (before rest whole final : List X) (start k : ℕ) (a b : NodeOf) → Passing of before rest whole start k a b → rest ≡ [] → final ≡ before
       → Sought (list_sites of) false start k a b whole final
@@ -294,12 +294,12 @@ module _ {X : Type 0} (of : X → List (Site X)) where
         drop_more items i d here ∙ ap (λ y. y ∷ drop (i + 1) items) (sym is) ∙ ap (λ l. x ∷ l) (sym (drop-set-lt (i + 1) items i x' (omega arith))) in
         passing_on (take i items) (drop i items) whole _ _ x x' done start k m a b c p split (take_more_set items i x' here) past s
 
-    pub found_item : (d x x' : X) (done told : Bool) (m j : ℕ) (c : NodeOf) → i < length items → x ≡ get_or items i d → done ≡ true → told ≡ true
-        → Sought of done k m b c x x' → Sought (list_sites of) told start j a c whole (set items i x')
-    found_item d x x' done told m j c here is found is_told s =
+    pub found_item : (d x x' : X) (done answer : Bool) (m j : ℕ) (c : NodeOf) → i < length items → x ≡ get_or items i d → done ≡ true → answer ≡ true
+        → Sought of done k m b c x x' → Sought (list_sites of) answer start j a c whole (set items i x')
+    found_item d x x' done answer m j c here is found answer_true s =
         let next : suc i ≡ i + 1 = omega arith in
-        passing_finds (take i items) (drop i items) whole (drop (i + 1) items) (set items i x') x x' done told start k m j a b c p
-        (drop_more items i d here ∙ ap (λ y. y ∷ drop (i + 1) items) (sym is)) (set_split items i x' here ∙ ap (λ n. take i items ++ x' ∷ drop n items) next) found is_told s
+        passing_finds (take i items) (drop i items) whole (drop (i + 1) items) (set items i x') x x' done answer start k m j a b c p
+        (drop_more items i d here ∙ ap (λ y. y ∷ drop (i + 1) items) (sym is)) (set_split items i x' here ∙ ap (λ n. take i items ++ x' ∷ drop n items) next) found answer_true s
 
     pub last_item : length items ≤ i → Sought (list_sites of) false start k a b whole items
     last_item over = passing_ends (take i items) (drop i items) whole items start k a b p (drop_all i items over) (sym (take_all i items over))
@@ -315,13 +315,13 @@ module _ {X : Type 0} (of : X → List (Site X)) where
         passing_on (map view (take i items)) (map view (drop i items)) whole _ _ (view e) (view e') done start k m a b c p (ap (map view) split)
         (ap (map view) (take_more_set items i e' here) ∙ map_push view (take i items) e') past s
 
-    pub found_viewed : (e e' : E) (done told : Bool) (m j : ℕ) (c : NodeOf) → i < length items → e ≡ get_or items i e → done ≡ true → told ≡ true
-        → Sought of done k m b c (view e) (view e') → Sought (list_sites of) told start j a c whole (map view (set items i e'))
-    found_viewed e e' done told m j c here is found is_told s =
+    pub found_viewed : (e e' : E) (done answer : Bool) (m j : ℕ) (c : NodeOf) → i < length items → e ≡ get_or items i e → done ≡ true → answer ≡ true
+        → Sought of done k m b c (view e) (view e') → Sought (list_sites of) answer start j a c whole (map view (set items i e'))
+    found_viewed e e' done answer m j c here is found answer_true s =
         let next : suc i ≡ i + 1 = omega arith in
-        passing_finds (map view (take i items)) (map view (drop i items)) whole (map view (drop (i + 1) items)) (map view (set items i e')) (view e) (view e') done told start k m j a b c p
+        passing_finds (map view (take i items)) (map view (drop i items)) whole (map view (drop (i + 1) items)) (map view (set items i e')) (view e) (view e') done answer start k m j a b c p
         (ap (map view) (drop_more items i e here ∙ ap (λ y. y ∷ drop (i + 1) items) (sym is)))
-        (ap (map view) (set_split items i e' here ∙ ap (λ n. take i items ++ e' ∷ drop n items) next) ∙ map-append view (take i items) (e' ∷ drop (i + 1) items)) found is_told s
+        (ap (map view) (set_split items i e' here ∙ ap (λ n. take i items ++ e' ∷ drop n items) next) ∙ map-append view (take i items) (e' ∷ drop (i + 1) items)) found answer_true s
 
     pub last_viewed : length items ≤ i → Sought (list_sites of) false start k a b whole (map view items)
     last_viewed over =
@@ -337,12 +337,12 @@ abbrev pub pair_sites : {X Y : Type 0} → (X → List (Site X)) → (Y → List
 pair_sites of on p = side_by_side (λ u v. (u, v)) (of p.0) (on p.1) p.0 p.1
 
 module _ {X Y : Type 0} (of : X → List (Site X)) (on : Y → List (Site Y)) where
-  pub in_first : (done told : Bool) (k i j : ℕ) (a b : NodeOf) (x x' : X) (y : Y) → done ≡ true → told ≡ true → Sought of done k i a b x x'
-      → Sought (pair_sites of on) told k j a b (x, y) (x', y)
+  pub in_first : (done answer : Bool) (k i j : ℕ) (a b : NodeOf) (x x' : X) (y : Y) → done ≡ true → answer ≡ true → Sought of done k i a b x x'
+      → Sought (pair_sites of on) answer k j a b (x, y) (x', y)
   in_first = sought_first of on (pair_sites of on) (λ u v. (u, v)) (λ u v. refl)
 
-  pub in_second : (done told : Bool) (k i j : ℕ) (a b c : NodeOf) (x x' : X) (y y' : Y) → done ≡ false → Sought of done k i a b x x' → Sought on told i j b c y y'
-      → Sought (pair_sites of on) told k j a c (x, y) (x', y')
+  pub in_second : (done answer : Bool) (k i j : ℕ) (a b c : NodeOf) (x x' : X) (y y' : Y) → done ≡ false → Sought of done k i a b x x' → Sought on answer i j b c y y'
+      → Sought (pair_sites of on) answer k j a c (x, y) (x', y')
   in_second = sought_second of on (pair_sites of on) (λ u v. (u, v)) (λ u v. refl)
 
   pub within_pair : {Z : Type 0} (f : X × Y → Z) (x : X) (y : Y)
@@ -362,6 +362,6 @@ items_listed (t ∷ ts) =
     ∙ ap (λ l. l ++ map (site_within trees) (map (site_within (λ us. t ∷ us)) (list_sites tree_sites ts))) (within_within trees (λ u. u ∷ ts) (tree_sites t))
     ∙ ap (λ l. map (site_within (λ u. Trees.Then u (trees ts))) (tree_sites t) ++ l) (within_within trees (λ us. t ∷ us) (list_sites tree_sites ts)))
 
-pub sought_items : (told : Bool) (k j : ℕ) (a b : NodeOf) (ts ts' : List Tree) → Sought (list_sites tree_sites) told k j a b ts ts'
-    → Sought item_sites told k j a b (trees ts) (trees ts')
-sought_items told k j a b ts ts' s = sought_one (list_sites tree_sites) item_sites trees items_listed told k j a b ts ts' s
+pub sought_items : (answer : Bool) (k j : ℕ) (a b : NodeOf) (ts ts' : List Tree) → Sought (list_sites tree_sites) answer k j a b ts ts'
+    → Sought item_sites answer k j a b (trees ts) (trees ts')
+sought_items answer k j a b ts ts' s = sought_one (list_sites tree_sites) item_sites trees items_listed answer k j a b ts ts' s

@@ -1,5 +1,5 @@
 //! The statements of the FORTRAN 77 subset as trees; their nodes in order, the limits that are
-//! counted over them, and one node exchanged; and the grammar: which texts spell them.
+//! counted over them, and one node swapped; and the grammar: which texts spell them.
 #![tactic(auto)]
 
 pub mod characters;
@@ -7,10 +7,6 @@ mod comparing;
 mod copying;
 mod data;
 mod declaration;
-mod exchanging;
-mod exchanging_data;
-mod exchanging_expression;
-mod exchanging_node;
 mod form;
 mod intrinsic;
 pub mod law;
@@ -22,11 +18,14 @@ mod operator;
 mod replacement;
 mod shared;
 mod statement;
+mod swapping;
+mod swapping_data;
+mod swapping_expression;
+mod swapping_node;
 mod tree;
 
 pub use data::{Constant, DataGroup, Value};
 pub use declaration::{Decl, all_bounded};
-pub use exchanging::exchange;
 pub use form::Form;
 pub use intrinsic::Intrinsic;
 pub use limits::{LARGEST_INTEGER, are_small};
@@ -37,4 +36,5 @@ pub use operator::{Operator, Sign};
 pub use replacement::Replacement;
 pub use shared::Shared;
 pub use statement::Stmt;
+pub use swapping::swap_node;
 pub use tree::{Expr, Kind, Ref};

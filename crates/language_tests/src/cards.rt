@@ -20,9 +20,9 @@ fn cards_text(rt: &impl AllocGlobal, source: &str) -> Result<String, Fail> {
 }
 
 /// Compares what is read of `count` empty lines.
-fn assert_lines(rt: &impl AllocGlobal, count: usize, want: &str) -> Result<(), Fail> {
+fn assert_lines(rt: &impl AllocGlobal, count: usize, expected: &str) -> Result<(), Fail> {
     let source = repeated(rt, "", count, "\n", "")?;
-    expect(cards_text(rt, source.as_str()), want, want)
+    expect(cards_text(rt, source.as_str()), expected, expected)
 }
 
 #[test]
@@ -50,11 +50,11 @@ fn cards(rt: &impl AllocGlobal, text: &str) -> Result<Vec<Card>, Fail> {
 fn assert_text(
     rt: &(impl AllocGlobal + Abort),
     text: Result<String, Fail>,
-    want: SyntaxFault,
+    expected: SyntaxFault,
 ) -> Result<(), Fail> {
     let text = text?;
     let cards = cards(rt, text.as_str())?;
-    assert_eq!(rt; parse(rt.alloc(), &cards).err(), Some(want));
+    assert_eq!(rt; parse(rt.alloc(), &cards).err(), Some(expected));
     Ok(())
 }
 
@@ -91,10 +91,10 @@ fn assert_written(
     rt: &impl AllocGlobal,
     label: u32,
     text: Result<String, Fail>,
-    want: &str,
+    expected: &str,
 ) -> Result<(), Fail> {
     let card = Card::new(Some(label), text?, 7);
-    expect(written(rt, card), want, want)
+    expect(written(rt, card), expected, expected)
 }
 
 #[test]
@@ -123,11 +123,11 @@ fn assert_card(
     label: Option<u32>,
     text: &str,
     line: u32,
-    want: bool,
+    expected: bool,
 ) -> Result<(), Fail> {
     let other = card(rt, label, text, line)?;
     let same = is_stop(rt, &other)?;
-    assert_eq!(rt; same, want);
+    assert_eq!(rt; same, expected);
     Ok(())
 }
 

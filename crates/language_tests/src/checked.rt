@@ -23,7 +23,7 @@ fn shapes_text(rt: &impl AllocGlobal, shapes: &[Shape]) -> Result<String, Fail> 
 }
 
 #[test]
-fn tells_the_shapes(rt: HostRuntime) -> Result<(), Fail> {
+fn reports_the_shapes(rt: HostRuntime) -> Result<(), Fail> {
     let checked = checked(&rt, SHAPES)?;
     expect(
         shapes_text(&rt, checked.arguments()),
@@ -91,7 +91,7 @@ fn labels_text(rt: &impl AllocGlobal, statements: &str) -> Result<String, Fail> 
 }
 
 #[test]
-fn tells_the_labels(rt: HostRuntime) -> Result<(), Fail> {
+fn lists_the_labels(rt: HostRuntime) -> Result<(), Fail> {
     expect(
         labels_text(
             &rt,

@@ -56,8 +56,8 @@ fn copied_statement(rt: &impl AllocGlobal, stmt: Stmt) -> Result<String, Fail> {
 }
 
 /// Compares the unit with the copy of a statement.
-fn assert_copied(rt: &impl AllocGlobal, stmt: Stmt, want: &str) -> Result<(), Fail> {
-    expect(copied_statement(rt, stmt), want, "copy")
+fn assert_copied(rt: &impl AllocGlobal, stmt: Stmt, expected: &str) -> Result<(), Fail> {
+    expect(copied_statement(rt, stmt), expected, "copy")
 }
 
 #[test]

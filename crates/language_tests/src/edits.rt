@@ -43,8 +43,8 @@ fn list_text(rt: &impl AllocGlobal, original: &Checked, code: &str) -> Result<St
 fn assert_lists(rt: &impl AllocGlobal, statements: &str, rows: &str) -> Result<(), Fail> {
     let original = checked(rt, statements)?;
     for row in rows.trim_matches('\n').lines() {
-        let (code, want) = parts(row)?;
-        expect(list_text(rt, &original, code), want, row)?;
+        let (code, expected) = parts(row)?;
+        expect(list_text(rt, &original, code), expected, row)?;
     }
     Ok(())
 }
@@ -54,7 +54,7 @@ fn assert_lists(rt: &impl AllocGlobal, statements: &str, rows: &str) -> Result<(
 fn lists_edits(rt: HostRuntime) -> Result<(), Fail> {
     assert_lists(&rt, LOOP, LOOP_EDITS)?;
     assert_lists(&rt, ARRAYS, ARRAY_EDITS)?;
-    assert_lists(&rt, PRESET_ARRAY, PRESET_EDITS)
+    assert_lists(&rt, INITIAL_VALUES, INITIAL_VALUE_EDITS)
 }
 
 const LOOP_EDITS: &str = "
@@ -76,9 +76,9 @@ CNR => 3 1 1;3 3 1;
 UOI => 3 2 1;3 2 2;3 2 3;3 3 1;
 ";
 
-const PRESET_ARRAY: &str = "SUBROUTINE D(K); DATA I,J/2*3/; K=I; END";
+const INITIAL_VALUES: &str = "SUBROUTINE D(K); DATA I,J/2*3/; K=I; END";
 
-const PRESET_EDITS: &str = "
+const INITIAL_VALUE_EDITS: &str = "
 DSA => 2 3 1;2 3 2;
 ";
 
@@ -96,9 +96,9 @@ fn assigning(rt: &impl AllocGlobal, number: u32) -> Result<Checked, Fail> {
 #[test]
 fn keeps_the_largest_constant(rt: HostRuntime) -> Result<(), Fail> {
     for row in NEAR_THE_LARGEST.trim_matches('\n').lines() {
-        let (number, want) = parts(row)?;
+        let (number, expected) = parts(row)?;
         let original = assigning(&rt, number.parse()?)?;
-        expect(list_text(&rt, &original, "CRP"), want, row)?;
+        expect(list_text(&rt, &original, "CRP"), expected, row)?;
     }
     Ok(())
 }
@@ -141,8 +141,8 @@ fn made(rt: &impl AllocGlobal, original: &Checked, edit: &str) -> Result<String,
 /// Compares a row: an edit, and the statements of the program that it makes.
 fn assert_made(rt: &impl AllocGlobal, original: &Checked, row: &str) -> Result<(), Fail> {
     let (edit, statements) = parts(row)?;
-    let want = given(rt, statements)?;
-    expect(made(rt, original, edit), want.as_str(), row)
+    let expected = given(rt, statements)?;
+    expect(made(rt, original, edit), expected.as_str(), row)
 }
 
 #[test]

@@ -4,7 +4,7 @@ ghost use Rattle.std.specs.Prelude.{◌≡◌, ◌↔◌, true, map};
 ghost use Rattle.f77_program.specs.Program.{line_of};
 
 use f77_syntax::{Expr, Line, Program, Stmt};
-use samples::{holder, parts, program};
+use samples::{enclosing, parts, program};
 use std::process::Abort;
 use std::test::Fail;
 
@@ -18,23 +18,23 @@ fn is_same(program: &Program, other: &Program) -> bool
 
 /// Whether the programs of these two statements are equal.
 fn are_same(rt: &impl AllocGlobal, left: &str, right: &str) -> Result<bool, Fail> {
-    let program = holder(rt, left)?;
-    let other = holder(rt, right)?;
+    let program = enclosing(rt, left)?;
+    let other = enclosing(rt, right)?;
     Ok(is_same(&program, &other))
 }
 
 /// Compares the programs of the two statements of a row.
-fn assert_row(rt: &(impl AllocGlobal + Abort), row: &str, want: bool) -> Result<(), Fail> {
+fn assert_row(rt: &(impl AllocGlobal + Abort), row: &str, expected: bool) -> Result<(), Fail> {
     let (left, right) = parts(row)?;
     let same = are_same(rt, left, right)?;
-    assert_eq!(rt; same, want, "{row}");
+    assert_eq!(rt; same, expected, "{row}");
     Ok(())
 }
 
 /// Compares the programs of each row.
-fn assert_rows(rt: &(impl AllocGlobal + Abort), rows: &str, want: bool) -> Result<(), Fail> {
+fn assert_rows(rt: &(impl AllocGlobal + Abort), rows: &str, expected: bool) -> Result<(), Fail> {
     for row in rows.split("; ") {
-        assert_row(rt, row, want)?;
+        assert_row(rt, row, expected)?;
     }
     Ok(())
 }

@@ -12,8 +12,8 @@ fn text_of(rt: &impl AllocGlobal, fault: &impl Display) -> Result<String, Fail> 
 }
 
 /// Compares the text of a fault.
-fn assert_text(rt: &impl AllocGlobal, fault: &impl Display, want: &str) -> Result<(), Fail> {
-    expect(text_of(rt, fault), want, want)
+fn assert_text(rt: &impl AllocGlobal, fault: &impl Display, expected: &str) -> Result<(), Fail> {
+    expect(text_of(rt, fault), expected, expected)
 }
 
 const LINES: &[(FormFault, &str)] = &[
@@ -40,8 +40,8 @@ const LINES: &[(FormFault, &str)] = &[
 
 #[test]
 fn faults_of_lines_have_texts(rt: HostRuntime) -> Result<(), Fail> {
-    for (fault, want) in LINES {
-        assert_text(&rt, fault, want)?;
+    for (fault, expected) in LINES {
+        assert_text(&rt, fault, expected)?;
     }
     Ok(())
 }
@@ -72,10 +72,10 @@ fn cards_text(rt: &impl AllocGlobal, cards: &[Card]) -> Result<String, Fail> {
 
 /// Compares the text of the fault of the statements of a row.
 fn assert_row(rt: &impl AllocGlobal, row: &str) -> Result<(), Fail> {
-    let (statements, want) = parts(row)?;
+    let (statements, expected) = parts(row)?;
     let lines = source(rt, statements)?;
     let cards = read_form(rt.alloc(), lines.as_bytes())?;
-    expect(cards_text(rt, &cards), want, row)
+    expect(cards_text(rt, &cards), expected, row)
 }
 
 #[test]

@@ -37,7 +37,7 @@ fn filled(
 }
 
 /// How many mutants are kept of how many, or why there is no list.
-fn told(rt: &impl AllocGlobal, filled: Result<Listing, OpsFault>) -> Result<String, Fail> {
+fn summary(rt: &impl AllocGlobal, filled: Result<Listing, OpsFault>) -> Result<String, Fail> {
     match filled {
         Ok(listing) => {
             let kept = listing.mutants().len();
@@ -58,9 +58,9 @@ fn assert_filled(
     requires { 1 ≤ every }
 {
     for row in rows.split("; ") {
-        let (count, wanted) = parts(row)?;
-        let text = told(rt, filled(rt, every, limits, count.parse()?))?;
-        assert_eq!(rt; text.as_str(), wanted, "{count}");
+        let (count, expected) = parts(row)?;
+        let text = summary(rt, filled(rt, every, limits, count.parse()?))?;
+        assert_eq!(rt; text.as_str(), expected, "{count}");
     }
     Ok(())
 }

@@ -2,7 +2,7 @@
 
 use f77_syntax::{Constant, Expr, Name, Node, Stmt, Value, print_stmt};
 use f77_tree::nodes;
-use samples::{expect, held, holder, parts};
+use samples::{enclosed, enclosing, expect, parts};
 use std::test::Fail;
 
 /// Adds a constant, or the name of an operator, a sign or a function. For a reference it adds nothing.
@@ -89,13 +89,13 @@ fn node_texts(rt: &impl AllocGlobal, stmt: &Stmt) -> Result<String, Fail> {
 
 /// The nodes of the statement that this text spells.
 fn nodes_of(rt: &impl AllocGlobal, text: &str) -> Result<String, Fail> {
-    let holder = holder(rt, text)?;
-    node_texts(rt, held(&holder, text)?)
+    let enclosing = enclosing(rt, text)?;
+    node_texts(rt, enclosed(&enclosing, text)?)
 }
 
 fn assert_row(rt: &impl AllocGlobal, row: &str) -> Result<(), Fail> {
-    let (text, want) = parts(row)?;
-    expect(nodes_of(rt, text), want, row)
+    let (text, expected) = parts(row)?;
+    expect(nodes_of(rt, text), expected, row)
 }
 
 #[test]

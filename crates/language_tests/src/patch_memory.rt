@@ -1,10 +1,10 @@
-//! Changed programs where each allocation is refused in turn. The answer is then want of memory or the usual one, and
-//! the program that is changed stays as it was.
+//! Changed programs where each allocation is refused in turn. The answer is then `Memory` or the
+//! usual one, and the program that is changed stays as it was.
 
 use crate::patches::{judged_fault, patched_fault};
 use f77_check::{CheckFault, Checked};
 use f77_syntax::Stmt;
-use samples::{checked, held, holder, number_and_text, program};
+use samples::{checked, enclosed, enclosing, number_and_text, program};
 use std::process::Abort;
 use std::test::Fail;
 
@@ -22,10 +22,14 @@ const WHOLE: &str = "2 K=0";
 /// A change that is judged by the whole program, and has a fault.
 const WHOLE_FAULT: &str = "2 DO 20 I=1,3";
 
-/// The fault is want of memory, or the one that comes where there is enough memory.
-fn assert_answer(rt: &impl Abort, answer: Option<Option<CheckFault>>, want: &Option<CheckFault>) {
+/// The fault is `Memory`, or the one that comes where there is enough memory.
+fn assert_answer(
+    rt: &impl Abort,
+    answer: Option<Option<CheckFault>>,
+    expected: &Option<CheckFault>,
+) {
     match answer {
-        Some(fault) => assert!(rt; fault == Some(CheckFault::Memory) || fault == *want),
+        Some(fault) => assert!(rt; fault == Some(CheckFault::Memory) || fault == *expected),
         None => assert!(rt; false, "the statement does not fit"),
     }
 }
@@ -36,24 +40,25 @@ fn assert_answers(
     old: &Checked,
     number: usize,
     stmt: &Stmt,
-    want: &Option<CheckFault>,
+    expected: &Option<CheckFault>,
 ) {
-    assert_answer(rt, patched_fault(old, number, stmt), want);
-    assert_answer(rt, judged_fault(old, number, stmt), want);
+    assert_answer(rt, patched_fault(old, number, stmt), expected);
+    assert_answer(rt, judged_fault(old, number, stmt), expected);
 }
 
-/// Compares all answers twice. If the statement can not be made for want of memory, nothing is asked.
+/// Compares all answers twice. If the statement can not be made for lack of memory, nothing is
+/// asked.
 fn assert_asked(
     rt: &(impl AllocGlobal + Abort),
     old: &Checked,
     change: &str,
-    want: &Option<CheckFault>,
+    expected: &Option<CheckFault>,
 ) -> Result<(), Fail> {
     let (number, text) = number_and_text(change)?;
-    let holder = holder(rt, text)?;
-    let stmt = held(&holder, text)?;
-    assert_answers(rt, old, number, stmt, want);
-    assert_answers(rt, old, number, stmt, want);
+    let enclosing = enclosing(rt, text)?;
+    let stmt = enclosed(&enclosing, text)?;
+    assert_answers(rt, old, number, stmt, expected);
+    assert_answers(rt, old, number, stmt, expected);
     Ok(())
 }
 
@@ -67,10 +72,10 @@ fn assert_kept(rt: &(impl AllocGlobal + Abort), old: &Checked) -> Result<(), Fai
 fn assert_undisturbed(
     rt: &(impl AllocGlobal + Abort),
     change: &str,
-    want: Option<CheckFault>,
+    expected: Option<CheckFault>,
 ) -> Result<(), Fail> {
     let old = checked(rt, LOOP)?;
-    assert_asked(rt, &old, change, &want)?;
+    assert_asked(rt, &old, change, &expected)?;
     assert_kept(rt, &old)
 }
 

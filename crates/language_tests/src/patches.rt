@@ -3,7 +3,7 @@
 
 use f77_check::{CheckFault, Checked, check};
 use f77_syntax::{Program, Stmt, print};
-use samples::{ADD, changed, checked, held, holder, number_and_text, program};
+use samples::{ADD, changed, checked, enclosed, enclosing, number_and_text, program};
 use std::alloc::Global;
 use std::process::Abort;
 use std::test::Fail;
@@ -94,8 +94,8 @@ fn assert_agreed_anywhere(
     old: &Checked,
     text: &str,
 ) -> Result<(), Fail> {
-    let holder = holder(rt, text)?;
-    let stmt = held(&holder, text)?;
+    let enclosing = enclosing(rt, text)?;
+    let stmt = enclosed(&enclosing, text)?;
     for number in 1..=old.count() {
         assert_agreed(rt, old, number, stmt)?;
     }
@@ -128,20 +128,24 @@ fn assert_fits(
     rt: &(impl AllocGlobal + Abort),
     old: &Checked,
     change: &str,
-    want: bool,
+    expected: bool,
 ) -> Result<(), Fail> {
     let (number, text) = number_and_text(change)?;
-    let holder = holder(rt, text)?;
-    let fits = old.fits(number, held(&holder, text)?);
-    assert_eq!(rt; fits, want, "{change}");
+    let enclosing = enclosing(rt, text)?;
+    let fits = old.fits(number, enclosed(&enclosing, text)?);
+    assert_eq!(rt; fits, expected, "{change}");
     Ok(())
 }
 
 /// Compares for each of these changes whether its statement fits.
-fn assert_all_fit(rt: &(impl AllocGlobal + Abort), changes: &str, want: bool) -> Result<(), Fail> {
+fn assert_all_fit(
+    rt: &(impl AllocGlobal + Abort),
+    changes: &str,
+    expected: bool,
+) -> Result<(), Fail> {
     let old = checked(rt, "SUBROUTINE S(K); LOGICAL P; DATA P/.TRUE./; K=1; END")?;
     for change in changes.split("; ") {
-        assert_fits(rt, &old, change, want)?;
+        assert_fits(rt, &old, change, expected)?;
     }
     Ok(())
 }
@@ -167,8 +171,8 @@ fn assert_printed(
     statements: &str,
 ) -> Result<(), Fail> {
     let text = print(rt.alloc(), checked.program())?;
-    let want = print(rt.alloc(), &program(rt, statements)?)?;
-    assert_eq!(rt; text.as_str(), want.as_str());
+    let expected = print(rt.alloc(), &program(rt, statements)?)?;
+    assert_eq!(rt; text.as_str(), expected.as_str());
     Ok(())
 }
 

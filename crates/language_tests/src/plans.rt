@@ -17,15 +17,15 @@ fn plan(rt: &impl AllocGlobal, ops: &[Op], every: u32) -> Result<Plan, Fail> {
 /// Compares rows: an operator, whether it was asked for, how many mutants it has, and how long its whole list is.
 fn assert_lengths(rt: &(impl AllocGlobal + Abort), plan: &Plan, rows: &[&str]) -> Result<(), Fail> {
     for row in rows {
-        let (code, wanted) = parts(row)?;
+        let (code, expected) = parts(row)?;
         let op = operator(code)?;
-        let told = format!(in rt.alloc();
+        let found = format!(in rt.alloc();
             "{} {} {}",
             plan.asked(op),
             plan.count(op),
             plan.whole(op)
         )?;
-        assert_eq!(rt; told.as_str(), wanted, "{code}");
+        assert_eq!(rt; found.as_str(), expected, "{code}");
     }
     Ok(())
 }

@@ -25,9 +25,9 @@ fn reversed(rt: &impl AllocGlobal) -> Result<Vec<Line>, Fail> {
 fn assert_lines(
     rt: &impl AllocGlobal,
     lines: Result<Vec<Line>, Fail>,
-    want: &str,
+    expected: &str,
 ) -> Result<(), Fail> {
-    expect(printed(rt, lines?), want, want)
+    expect(printed(rt, lines?), expected, expected)
 }
 
 #[test]
@@ -59,9 +59,9 @@ fn with_long_heading(rt: &impl AllocGlobal) -> Result<Vec<Line>, Fail> {
 }
 
 /// Compares the unit with K = 1 under this label.
-fn assert_labelled(rt: &impl AllocGlobal, label: u32, want: &str) -> Result<(), Fail> {
+fn assert_labelled(rt: &impl AllocGlobal, label: u32, expected: &str) -> Result<(), Fail> {
     let one = assign(rt, Expr::Number(1))?;
-    expect(unit_text(rt, Some(label), one), want, want)
+    expect(unit_text(rt, Some(label), one), expected, expected)
 }
 
 #[test]
@@ -73,8 +73,8 @@ fn tests_labels_and_lengths(rt: HostRuntime) -> Result<(), Fail> {
 }
 
 /// Compares the unit with this statement.
-fn assert_stmt(rt: &impl AllocGlobal, stmt: Stmt, want: &str) -> Result<(), Fail> {
-    expect(unit_text(rt, None, stmt), want, want)
+fn assert_stmt(rt: &impl AllocGlobal, stmt: Stmt, expected: &str) -> Result<(), Fail> {
+    expect(unit_text(rt, None, stmt), expected, expected)
 }
 
 /// MOD(1) as a reference.
@@ -106,8 +106,8 @@ fn logical_if(rt: &impl AllocGlobal, truth: bool, inner: Stmt) -> Result<Stmt, F
 }
 
 /// Compares the unit with IF (.TRUE.) and this statement inside it.
-fn assert_conditional(rt: &impl AllocGlobal, inner: Stmt, want: &str) -> Result<(), Fail> {
-    assert_stmt(rt, logical_if(rt, true, inner)?, want)
+fn assert_conditional(rt: &impl AllocGlobal, inner: Stmt, expected: &str) -> Result<(), Fail> {
+    assert_stmt(rt, logical_if(rt, true, inner)?, expected)
 }
 
 /// A computed GO TO with these labels.

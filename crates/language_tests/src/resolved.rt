@@ -11,10 +11,10 @@ use std::test::Fail;
 fn assert_statements(
     rt: &impl AllocGlobal,
     statements: &[Shared<Resolved>],
-    wanted: &str,
+    expected: &str,
 ) -> Result<(), Fail> {
-    for (resolved, want) in statements.iter().zip(wanted.trim_matches('\n').lines()) {
-        expect(shown(rt, resolved), want, want)?;
+    for (resolved, line) in statements.iter().zip(expected.trim_matches('\n').lines()) {
+        expect(shown(rt, resolved), line, line)?;
     }
     Ok(())
 }
@@ -24,13 +24,13 @@ fn assert_resolved(
     rt: &(impl AllocGlobal + Abort),
     statements: &str,
     slots: usize,
-    wanted: &str,
+    expected: &str,
 ) -> Result<(), Fail> {
     let checked = checked(rt, statements)?;
-    let count = wanted.trim_matches('\n').lines().count();
+    let count = expected.trim_matches('\n').lines().count();
     assert_eq!(rt; checked.slots(), slots);
     assert_eq!(rt; checked.statements().len(), count);
-    assert_statements(rt, checked.statements(), wanted)
+    assert_statements(rt, checked.statements(), expected)
 }
 
 #[test]

@@ -1,7 +1,7 @@
 //! How each type is shown for debugging: its fields are shown as Rust shows them.
 
 use f77_source::Card;
-use samples::{expect, held, holder, parts, program};
+use samples::{enclosed, enclosing, expect, parts, program};
 use std::fmt::Debug;
 use std::test::Fail;
 
@@ -11,13 +11,13 @@ fn debug_text(rt: &impl AllocGlobal, value: &impl Debug) -> Result<String, Fail>
 
 /// How the statement of this text is shown.
 fn statement_text(rt: &impl AllocGlobal, text: &str) -> Result<String, Fail> {
-    let holder = holder(rt, text)?;
-    debug_text(rt, held(&holder, text)?)
+    let enclosing = enclosing(rt, text)?;
+    debug_text(rt, enclosed(&enclosing, text)?)
 }
 
 fn assert_row(rt: &impl AllocGlobal, row: &str) -> Result<(), Fail> {
-    let (text, want) = parts(row)?;
-    expect(statement_text(rt, text), want, row)
+    let (text, expected) = parts(row)?;
+    expect(statement_text(rt, text), expected, row)
 }
 
 #[test]
@@ -44,8 +44,8 @@ fn card_text(rt: &impl AllocGlobal) -> Result<String, Fail> {
 
 #[test]
 fn shows_a_card(rt: HostRuntime) -> Result<(), Fail> {
-    let want = "Card { label: Some(10), text: \"STOP\", line: 2 }";
-    expect(card_text(&rt), want, "STOP")
+    let expected = "Card { label: Some(10), text: \"STOP\", line: 2 }";
+    expect(card_text(&rt), expected, "STOP")
 }
 
 /// How the program of statements is shown.

@@ -16,10 +16,14 @@ pub(crate) fn name(letters: &str) -> Result<Name, Fail> {
     }
 }
 
-fn assert_names(rt: &(impl AllocGlobal + Abort), texts: &[&str], want: bool) -> Result<(), Fail> {
+fn assert_names(
+    rt: &(impl AllocGlobal + Abort),
+    texts: &[&str],
+    expected: bool,
+) -> Result<(), Fail> {
     for letters in texts {
         let made = Name::new(letters);
-        assert_eq!(rt; made.is_some(), want, "{letters:?}");
+        assert_eq!(rt; made.is_some(), expected, "{letters:?}");
     }
     Ok(())
 }

@@ -30,8 +30,8 @@ fn words_of(rt: &(impl Env + AllocGlobal)) -> io::Result<Vec<String>> {
     Ok(env::args(rt)?.collect(rt.alloc())?)
 }
 
-/// The answer where the words can not be read: want of memory, or words that are no UTF-8, which are refused without
-/// a text.
+/// The answer where the words can not be read: out of memory, or words that are no UTF-8, which are
+/// refused without a text.
 fn without_words(error: &io::Error) -> Result<Status, AppFault>
     ensures memory { error_kind error.now ≡ ErrorKind.OutOfMemory → result ≡ Err AppFault.Memory }
     ensures words { error_kind error.now ≢ ErrorKind.OutOfMemory → result ≡ Ok Status.Words }

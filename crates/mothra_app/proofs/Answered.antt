@@ -8,7 +8,7 @@ use Rattle.clap.specs.Kinds.{HasKind}
 use Rattle.clap.specs.Values.{kind_of}
 use Rattle.clap.specs.declared.error.Error.{Error}
 use Rattle.clap.specs.declared.error.kind.ErrorKind.TheVariants as kind
-use Rattle.mothra_app.specs.Answer.{IsToldAnswer, IsAnswer, IsRefusal}
+use Rattle.mothra_app.specs.Answer.{IsOutcomeAnswer, IsAnswer, IsRefusal}
 use Rattle.mothra_app.specs.code.Answer.{IsReadyAnswer, IsReportAnswer}
 use Rattle.mothra_cli.specs.Command.{mothra}
 use Rattle.mothra_cli.specs.Input.{limit, AreAll, IsRead, ReadsUpTo}
@@ -53,8 +53,8 @@ ready_by (Some xs) (Some rest) v request r reads is = record {
 -- a text that answers a request is a report or a fault
 read_for : (request : Request) (bytes : List ℕ) (left now : Option (List ℕ)) (s : Status) (t : List ℕ) → IsAnswer request (job_of bytes) s t
     → IsRead limit left now → IsReadFor s left now
-read_for request bytes left now s t (IsAnswer.told (IsToldAnswer.report is)) read = read
-read_for request bytes left now s t (IsAnswer.told (IsToldAnswer.fault f is)) read = read
+read_for request bytes left now s t (IsAnswer.of_outcome (IsOutcomeAnswer.report is)) read = read
+read_for request bytes left now s t (IsAnswer.of_outcome (IsOutcomeAnswer.fault f is)) read = read
 read_for request bytes left now s t (IsAnswer.broken_off f is) read = read
 
 answered : (words : List Text) (left now : Option (List ℕ)) (request : Request) (bytes : List ℕ) (s : Status) (t : List ℕ) → AsksFor words request
@@ -89,7 +89,7 @@ report_never bench s other t (IsReportAnswer.broken_off f is) e other_than unlik
 
 -- ---- words that are refused, or ask for help or the version
 
--- want of memory is no refusal and no help
+-- running out of memory is no refusal and no help
 pub never_memory : {A : Type 0} (s : Status) → IsRefusal kind.OutOfMemory s → A
 never_memory status.Report refusal = absurd refusal
 never_memory status.Fault refusal = absurd refusal

@@ -23,8 +23,8 @@ pub run_refused : (program : List LineFields) (arguments : List Arg) (steps : �
 run_refused program arguments steps fault (inl memory) = inr (subst (λ f. Contains of_runs (Run f)) (sym memory) run_in)
 run_refused program arguments steps fault (inr misfit) = inl (IsRunLine.misfit misfit)
 
-pub fits : (told : Option RunFault) (answer : Outcome) → (let ok : Result Outcome RunFault = Ok answer in IfSome told (λ fault. ok ≡ Err fault))
-    → told ≡ None
+pub fits : (reported : Option RunFault) (answer : Outcome) → (let ok : Result Outcome RunFault = Ok answer in IfSome reported (λ fault. ok ≡ Err fault))
+    → reported ≡ None
 fits None answer is = refl
 fits (Some fault) answer is = absurd (cc)
 

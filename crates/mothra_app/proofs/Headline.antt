@@ -3,28 +3,28 @@ use Rattle.std.proofs.Common.{ℕ, List, refl, Ok, Err}
 use Rattle.clap.specs.Words.{Text}
 use Rattle.mothra_codes.specs.declared.op.Op.{Op}
 use Rattle.mothra_cli.specs.declared.request.Request.TheVariants as command
-use Rattle.mothra_app.specs.Answer.{IsToldAnswer}
+use Rattle.mothra_app.specs.Answer.{IsOutcomeAnswer}
 use Rattle.mothra_job.specs.Job.{JobFields, JobRead, job_of}
 use Rattle.mothra_app.specs.Law.{ReportsJob}
 use Rattle.mothra_app.specs.Reporting.{IsReported}
 use Rattle.mothra_app.specs.Serving.{AsksFor, IsServed}
 use Rattle.mothra_app.specs.declared.fault.Fault.TheVariants.{Job}
 use Rattle.mothra_app.specs.declared.status.Status.TheVariants as status
-use Rattle.mothra_app.proofs.OneAnswer.{asked_told, not_both}
+use Rattle.mothra_app.proofs.OneAnswer.{asked_answer, not_both}
 
 of_job : (job : JobFields) (operators : List Op) (every steps : ℕ) (text : List ℕ) → IsReported job operators every steps (Ok text)
     → ReportsJob (Ok job) operators every steps text
 of_job job operators every steps text (IsReported.report {bench = bench} of is) =
     record { job = job; is_job = refl; bench = bench; of_job = of; report = is }
 
-told : (operators : List Op) (every steps workers : ℕ) (read : JobRead) (text : List ℕ)
-    → IsToldAnswer (command.Run operators every steps workers) read status.Report text → ReportsJob read operators every steps text
-told operators every steps workers (Ok job) text (IsToldAnswer.report is) = of_job job operators every steps text is
-told operators every steps workers (Err fault) text (IsToldAnswer.report is) = not_both text (Job fault) is
+of_read : (operators : List Op) (every steps workers : ℕ) (read : JobRead) (text : List ℕ)
+    → IsOutcomeAnswer (command.Run operators every steps workers) read status.Report text → ReportsJob read operators every steps text
+of_read operators every steps workers (Ok job) text (IsOutcomeAnswer.report is) = of_job job operators every steps text is
+of_read operators every steps workers (Err fault) text (IsOutcomeAnswer.report is) = not_both text (Job fault) is
 
 pub reported : (words : List Text) (operators : List Op) (every steps workers : ℕ) (bytes text : List ℕ)
     → AsksFor words (command.Run operators every steps workers) → IsServed words bytes status.Report text
     → ReportsJob (job_of bytes) operators every steps text
 reported words operators every steps workers bytes text asks served =
-    told operators every steps workers (job_of bytes) text
-    (asked_told words bytes (command.Run operators every steps workers) status.Report text asks served)
+    of_read operators every steps workers (job_of bytes) text
+    (asked_answer words bytes (command.Run operators every steps workers) status.Report text asks served)

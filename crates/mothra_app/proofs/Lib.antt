@@ -12,7 +12,7 @@ mod OneProgram
 mod OneExecution
 mod OneListing
 mod FirstBreaks
-mod AlikePlans
+mod EqualPlans
 mod OneBench
 mod OneReport
 mod OneAnswer

@@ -32,16 +32,16 @@ split : (edits : List Edit) (i : ℕ) (edit : Edit) → i < length edits → get
 split edits i edit within at = rw add-one (drop-cons edits i edit within ∙ ap (λ e. e ∷ drop (suc i) edits) at)
 
 -- the lines from a mutant on are its own line and the lines after it
-told : (plan : PlanFields) (op : Op) (i : ℕ) (edit : Edit) → slice_get (edits_of plan op) i ≡ Some edit → drop i (edits_of plan op) ≡ edit ∷ drop (i + 1) (edits_of plan op)
+own_line : (plan : PlanFields) (op : Op) (i : ℕ) (edit : Edit) → slice_get (edits_of plan op) i ≡ Some edit → drop i (edits_of plan op) ≡ edit ∷ drop (i + 1) (edits_of plan op)
     → lines_behind plan op i ≡ (mutant_text plan op (i + 1) ++ codes "\n") ++ lines_behind plan op (i + 1)
-told plan op i edit is front =
+own_line plan op i edit is front =
     let own : mutant_text plan op (i + 1) ≡ edit_text (program_of plan) plan.every op (i + 1) edit = rw (add-one, is) refl in
     rw (front, own) refl
 
 pub mutant_more : (plan : PlanFields) (op : Op) (i : ℕ) → i < length (edits_of plan op)
     → lines_behind plan op i ≡ (mutant_text plan op (i + 1) ++ codes "\n") ++ lines_behind plan op (i + 1)
 mutant_more plan op i within = elim (slice_get_cases (edits_of plan op) i).1 [
-  | inl some ↦ told plan op i some.0 some.2 (split (edits_of plan op) i some.0 some.1 some.3)
+  | inl some ↦ own_line plan op i some.0 some.2 (split (edits_of plan op) i some.0 some.1 some.3)
   | inr none ↦ absurd (omega (arith, within, none.0))
 ]
 

@@ -1,4 +1,4 @@
--- A legal job is answered with its report, or with a fault for want of memory or of a thread.
+-- A legal job is answered with its report, or with a fault for lack of memory or of a thread.
 use Rattle.std.proofs.Common.{◌≡◌, ◌∙◌, ℕ, List, [], ◌∷◌, All, Some, None, sym, ap, subst}
 use Rattle.std.specs.Prelude.{Contains}
 use Rattle.std.proofs.lemmas.List.Elements.{All-cons, All-contains, All-nil}
@@ -18,7 +18,7 @@ use Rattle.mothra_cli.specs.declared.request.Request.TheVariants as command
 use Rattle.mothra_app.specs.Answer.{IsAnswer}
 use Rattle.mothra_app.specs.Fault.{MayFailBy, MayFailRun, of_legal_programs, of_mutants, of_programs, of_runs}
 use Rattle.mothra_job.specs.Job.{job_of}
-use Rattle.mothra_app.specs.Law.{IsFairAnswer, IsLegalJob, IsWant}
+use Rattle.mothra_app.specs.Law.{IsFairAnswer, IsLegalJob, IsOutOfResources}
 use Rattle.mothra_app.specs.Serving.{AsksFor, IsServed, MayBeWritten}
 use Rattle.mothra_app.specs.declared.fault.Fault.{Fault}
 use Rattle.mothra_app.specs.declared.fault.Fault.TheVariants.{Job, Form, Syntax, Check, Run, Ops, Bench}
@@ -40,8 +40,8 @@ asks_nothing words request is bad = let none : Some request ≡ None = sym is �
 module _ (words : List Text) (bytes report : List ℕ) (law : OneAnswer) (legal : IsLegalJob words bytes report) where
   of_request : (request : Request) (s : Status) (text : List ℕ) → AsksFor words request → IsAnswer request (job_of bytes) s text
       → IsFairAnswer words report s text
-  of_request request s text asks (IsAnswer.told told) =
-      let same = law words bytes status.Report s report text legal.served (request, asks, told) in
+  of_request request s text asks (IsAnswer.of_outcome answered) =
+      let same = law words bytes status.Report s report text legal.served (request, asks, answered) in
       subst (λ v. IsFairAnswer words report v text) same.0 (subst (IsFairAnswer words report status.Report) same.1 IsFairAnswer.whole)
   of_request request s text asks (IsAnswer.broken_off fault may) = IsFairAnswer.broken_off fault asks may
 
@@ -52,26 +52,26 @@ module _ (words : List Text) (bytes report : List ℕ) (law : OneAnswer) (legal 
 
 -- ---- the faults for which it breaks off
 
-in_programs : All IsWant of_programs
+in_programs : All IsOutOfResources of_programs
 in_programs =
-    All-cons IsWant (Form form.Memory) (Syntax syntax.Memory ∷ []) tt (All-cons IsWant (Syntax syntax.Memory) [] tt (All-nil IsWant))
+    All-cons IsOutOfResources (Form form.Memory) (Syntax syntax.Memory ∷ []) tt (All-cons IsOutOfResources (Syntax syntax.Memory) [] tt (All-nil IsOutOfResources))
 
-in_legal_programs : All IsWant of_legal_programs
-in_legal_programs = All-cons IsWant (Check check.Memory) of_programs tt in_programs
+in_legal_programs : All IsOutOfResources of_legal_programs
+in_legal_programs = All-cons IsOutOfResources (Check check.Memory) of_programs tt in_programs
 
-in_runs : All IsWant of_runs
-in_runs = All-cons IsWant (Run run.Memory) of_legal_programs tt in_legal_programs
+in_runs : All IsOutOfResources of_runs
+in_runs = All-cons IsOutOfResources (Run run.Memory) of_legal_programs tt in_legal_programs
 
-in_mutants : All IsWant of_mutants
-in_mutants = All-cons IsWant (Ops ops.Memory) of_legal_programs tt in_legal_programs
+in_mutants : All IsOutOfResources of_mutants
+in_mutants = All-cons IsOutOfResources (Ops ops.Memory) of_legal_programs tt in_legal_programs
 
-with_job : (faults : List Fault) → All IsWant faults → All IsWant (Job job.Memory ∷ faults)
-with_job faults are = All-cons IsWant (Job job.Memory) faults tt are
+with_job : (faults : List Fault) → All IsOutOfResources faults → All IsOutOfResources (Job job.Memory ∷ faults)
+with_job faults are = All-cons IsOutOfResources (Job job.Memory) faults tt are
 
-in_job : (fault : Fault) → Contains (Job job.Memory ∷ of_mutants) fault → IsWant fault
-in_job fault may = All-contains IsWant (Job job.Memory ∷ of_mutants) fault (with_job of_mutants in_mutants) may
+in_job : (fault : Fault) → Contains (Job job.Memory ∷ of_mutants) fault → IsOutOfResources fault
+in_job fault may = All-contains IsOutOfResources (Job job.Memory ∷ of_mutants) fault (with_job of_mutants in_mutants) may
 
-of_bench : (fault : BenchFault) → IsNoReport fault → IsWant (Bench fault)
+of_bench : (fault : BenchFault) → IsNoReport fault → IsOutOfResources (Bench fault)
 of_bench bench.Memory none = tt
 of_bench bench.Thread none = tt
 of_bench (bench.TestShape n) none = absurd none
@@ -83,7 +83,7 @@ of_bench (bench.Stranger t) none = absurd none
 of_bench (bench.Missing t) none = absurd none
 of_bench bench.Stalled none = absurd none
 
-of_run : (fault : Fault) → MayFailRun fault → IsWant fault
+of_run : (fault : Fault) → MayFailRun fault → IsOutOfResources fault
 of_run (Bench fault) may = of_bench fault may
 of_run (Job fault) may = in_job (Job fault) may
 of_run (Form fault) may = in_job (Form fault) may
@@ -92,8 +92,8 @@ of_run (Check fault) may = in_job (Check fault) may
 of_run (Run fault) may = in_job (Run fault) may
 of_run (Ops fault) may = in_job (Ops fault) may
 
-pub wanted : (request : Request) (fault : Fault) → MayFailBy request fault → IsWant fault
-wanted command.Print fault may = All-contains IsWant (Job job.Memory ∷ of_programs) fault (with_job of_programs in_programs) may
-wanted (command.Exec test steps) fault may = All-contains IsWant (Job job.Memory ∷ of_runs) fault (with_job of_runs in_runs) may
-wanted (command.List operators every) fault may = in_job fault may
-wanted (command.Run operators every steps workers) fault may = of_run fault may
+pub out_of_resources : (request : Request) (fault : Fault) → MayFailBy request fault → IsOutOfResources fault
+out_of_resources command.Print fault may = All-contains IsOutOfResources (Job job.Memory ∷ of_programs) fault (with_job of_programs in_programs) may
+out_of_resources (command.Exec test steps) fault may = All-contains IsOutOfResources (Job job.Memory ∷ of_runs) fault (with_job of_runs in_runs) may
+out_of_resources (command.List operators every) fault may = in_job fault may
+out_of_resources (command.Run operators every steps workers) fault may = of_run fault may

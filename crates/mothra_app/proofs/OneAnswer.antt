@@ -3,7 +3,7 @@ use Rattle.std.proofs.Common.{◌≡◌, ◌∙◌, ℕ, List, sym, ap, refl, su
 use Rattle.std.specs.List.{slice_get}
 use Rattle.clap.specs.Words.{Text}
 use Rattle.f77_program.specs.Printing.{printed, print_faults}
-use Rattle.mothra_app.specs.Answer.{Outcome, IsRequestOutcome, IsToldAnswer}
+use Rattle.mothra_app.specs.Answer.{Outcome, IsRequestOutcome, IsOutcomeAnswer}
 use Rattle.mothra_job.specs.Job.{JobRead, job_of}
 use Rattle.mothra_app.specs.Line.{fault_line}
 use Rattle.mothra_app.specs.Printing.{IsPrinted}
@@ -56,15 +56,15 @@ same_line f g e = cc
 pub not_both : {A : Type 0} (text : List ℕ) (f : Fault) → (let one : Outcome = Ok text in let two : Outcome = Err f in one ≡ two) → A
 not_both text f e = absurd (cc)
 
-one_told : (request : Request) (read : JobRead) (status other : Status) (text also : List ℕ) → Laws → IsBounded request
-    → IsToldAnswer request read status text → IsToldAnswer request read other also → (status ≡ other) × (text ≡ also)
-one_told request read status other text also laws bounded (IsToldAnswer.report is) (IsToldAnswer.report as_well) =
+same_answers : (request : Request) (read : JobRead) (status other : Status) (text also : List ℕ) → Laws → IsBounded request
+    → IsOutcomeAnswer request read status text → IsOutcomeAnswer request read other also → (status ≡ other) × (text ≡ also)
+same_answers request read status other text also laws bounded (IsOutcomeAnswer.report is) (IsOutcomeAnswer.report as_well) =
     (refl, same_text _ _ (one_outcome request read _ _ laws bounded is as_well))
-one_told request read status other text also laws bounded (IsToldAnswer.report is) (IsToldAnswer.fault f as_well) =
+same_answers request read status other text also laws bounded (IsOutcomeAnswer.report is) (IsOutcomeAnswer.fault f as_well) =
     not_both _ f (one_outcome request read _ _ laws bounded is as_well)
-one_told request read status other text also laws bounded (IsToldAnswer.fault f is) (IsToldAnswer.report as_well) =
+same_answers request read status other text also laws bounded (IsOutcomeAnswer.fault f is) (IsOutcomeAnswer.report as_well) =
     not_both _ f (one_outcome request read _ _ laws bounded as_well is)
-one_told request read status other text also laws bounded (IsToldAnswer.fault f is) (IsToldAnswer.fault g as_well) =
+same_answers request read status other text also laws bounded (IsOutcomeAnswer.fault f is) (IsOutcomeAnswer.fault g as_well) =
     (refl, ap fault_line (same_line f g (one_outcome request read _ _ laws bounded is as_well)))
 
 same_request : (a b : Request) (asked : Option Request) → asked ≡ Some a → asked ≡ Some b → a ≡ b
@@ -74,7 +74,7 @@ pub one_answer : (words : List Text) (bytes : List ℕ) (status other : Status) 
     → IsServed words bytes status text → IsServed words bytes other also → (status ≡ other) × (text ≡ also)
 one_answer words bytes status other text also laws one two =
     let same = same_request one.0 two.0 (request_of words) one.1.is two.1.is in
-    one_told two.0 (job_of bytes) status other text also laws two.1.bounded (subst (λ request. IsToldAnswer request (job_of bytes) status text) same one.2) two.2
+    same_answers two.0 (job_of bytes) status other text also laws two.1.bounded (subst (λ request. IsOutcomeAnswer request (job_of bytes) status text) same one.2) two.2
 
 -- ---- the number of workers
 
@@ -84,21 +84,21 @@ module _ (operators : List Op) (every steps workers more : ℕ) where
   other_outcome (Ok job) outcome is = is
   other_outcome (Err fault) outcome is = is
 
-  other_told : {read : JobRead} {status : Status} {text : List ℕ} → IsToldAnswer (command.Run operators every steps workers) read status text
-      → IsToldAnswer (command.Run operators every steps more) read status text
-  other_told {read = read} (IsToldAnswer.report is) = IsToldAnswer.report (other_outcome read _ is)
-  other_told {read = read} (IsToldAnswer.fault f is) = IsToldAnswer.fault f (other_outcome read _ is)
+  other_answer : {read : JobRead} {status : Status} {text : List ℕ} → IsOutcomeAnswer (command.Run operators every steps workers) read status text
+      → IsOutcomeAnswer (command.Run operators every steps more) read status text
+  other_answer {read = read} (IsOutcomeAnswer.report is) = IsOutcomeAnswer.report (other_outcome read _ is)
+  other_answer {read = read} (IsOutcomeAnswer.fault f is) = IsOutcomeAnswer.fault f (other_outcome read _ is)
 
-pub asked_told : (words : List Text) (bytes : List ℕ) (request : Request) (status : Status) (text : List ℕ) → AsksFor words request → IsServed words bytes status text
-    → IsToldAnswer request (job_of bytes) status text
-asked_told words bytes request status text asks served =
-    subst (λ r. IsToldAnswer r (job_of bytes) status text) (same_request served.0 request (request_of words) served.1.is asks.is) served.2
+pub asked_answer : (words : List Text) (bytes : List ℕ) (request : Request) (status : Status) (text : List ℕ) → AsksFor words request → IsServed words bytes status text
+    → IsOutcomeAnswer request (job_of bytes) status text
+asked_answer words bytes request status text asks served =
+    subst (λ r. IsOutcomeAnswer r (job_of bytes) status text) (same_request served.0 request (request_of words) served.1.is asks.is) served.2
 
 pub any_workers : (words others : List Text) (operators : List Op) (every steps workers more : ℕ) (bytes : List ℕ) (status other : Status) (text also : List ℕ)
     → Laws → AsksFor words (command.Run operators every steps workers) → AsksFor others (command.Run operators every steps more)
     → IsServed words bytes status text → IsServed others bytes other also → (status ≡ other) × (text ≡ also)
 any_workers words others operators every steps workers more bytes status other text also laws asks asks_too one two =
     let request = command.Run operators every steps more in
-    let told = asked_told words bytes (command.Run operators every steps workers) status text asks one in
-    one_told request (job_of bytes) status other text also laws asks_too.bounded (other_told operators every steps workers more told)
-    (asked_told others bytes request other also asks_too two)
+    let answered = asked_answer words bytes (command.Run operators every steps workers) status text asks one in
+    same_answers request (job_of bytes) status other text also laws asks_too.bounded (other_answer operators every steps workers more answered)
+    (asked_answer others bytes request other also asks_too two)

@@ -12,10 +12,10 @@ use Rattle.mothra_verdicts.specs.declared.fault.BenchFault.TheVariants as bench
 use Rattle.mothra_codes.specs.declared.ticket.Ticket.{Ticket}
 use Rattle.mothra_ops.specs.Mutants.{program_of}
 use Rattle.mothra_ops.specs.Plan.{PlanFields, asked}
-use Rattle.mothra_app.proofs.AlikePlans.{AreAlike, turned}
+use Rattle.mothra_app.proofs.EqualPlans.{AreEqualPlans, turned}
 use Rattle.mothra_app.proofs.FirstBreaks.{all_hold, item_holds, one_cut, one_first_not}
 
--- The reasons why there is no bench, apart from want of memory.
+-- The reasons why there is no bench, apart from a lack of memory.
 pub data IsRefused (plan : PlanFields) (tests : List (List Arg)) (steps : ℕ) (declared : List Ticket) : BenchFault → Type 0 where
   misfit : {n : ℕ} → IsFirstNot (FitsProgram (program_of plan)) tests n → IsRefused plan tests steps declared (bench.TestShape n)
   failing : {n : ℕ} → All (FitsProgram (program_of plan)) tests → IsFirstNot (EndsOn (program_of plan) steps) tests n
@@ -132,49 +132,49 @@ ends_all program steps (test ∷ tests) (outcome ∷ outcomes) are end =
 
 -- ---- the same of a plan with the same lists
 
-known_moved : (one other : PlanFields) (entry : Ticket) → AreAlike one other → IsKnownEntry one entry → IsKnownEntry other entry
-known_moved one other entry alike known =
-    λ of. let number = known (alike.same_asked entry.op ∙ of) in (number.0, subst (λ (w : ℕ). entry.number ≤ w) (alike.same_whole entry.op) number.1)
+known_moved : (one other : PlanFields) (entry : Ticket) → AreEqualPlans one other → IsKnownEntry one entry → IsKnownEntry other entry
+known_moved one other entry equal known =
+    λ of. let number = known (equal.same_asked entry.op ∙ of) in (number.0, subst (λ (w : ℕ). entry.number ≤ w) (equal.same_whole entry.op) number.1)
 
-pub fine_moved : (one other : PlanFields) (entries : List Ticket) → AreAlike one other → AreFine one entries → AreFine other entries
-fine_moved one other entries alike fine = record {
-  known = λ k d low. known_moved one other (get_or entries k d) alike (fine.known k d low);
-  once = λ i j d less low of. fine.once i j d less low (alike.same_asked (get_or entries i d).op ∙ of);
+pub fine_moved : (one other : PlanFields) (entries : List Ticket) → AreEqualPlans one other → AreFine one entries → AreFine other entries
+fine_moved one other entries equal fine = record {
+  known = λ k d low. known_moved one other (get_or entries k d) equal (fine.known k d low);
+  once = λ i j d less low of. fine.once i j d less low (equal.same_asked (get_or entries i d).op ∙ of);
 }
 
-unknown_moved : (one other : PlanFields) (entries : List Ticket) (n : ℕ) → AreAlike one other → IsUnknownEntry one entries n → IsUnknownEntry other entries n
-unknown_moved one other entries n alike is = record {
+unknown_moved : (one other : PlanFields) (entries : List Ticket) (n : ℕ) → AreEqualPlans one other → IsUnknownEntry one entries n → IsUnknownEntry other entries n
+unknown_moved one other entries n equal is = record {
   before = is.before;
   entry = is.entry;
   after = is.after;
   cut = is.cut;
   number = is.number;
-  fine = fine_moved one other is.before alike is.fine;
-  unknown = λ known. is.unknown (known_moved other one is.entry (turned one other alike) known);
+  fine = fine_moved one other is.before equal is.fine;
+  unknown = λ known. is.unknown (known_moved other one is.entry (turned one other equal) known);
 }
 
-twice_moved : (one other : PlanFields) (entries : List Ticket) (n : ℕ) → AreAlike one other → IsEntryTwice one entries n → IsEntryTwice other entries n
-twice_moved one other entries n alike is = record {
+twice_moved : (one other : PlanFields) (entries : List Ticket) (n : ℕ) → AreEqualPlans one other → IsEntryTwice one entries n → IsEntryTwice other entries n
+twice_moved one other entries n equal is = record {
   before = is.before;
   entry = is.entry;
   after = is.after;
   cut = is.cut;
   number = is.number;
-  fine = fine_moved one other is.before alike is.fine;
-  asked = sym (alike.same_asked is.entry.op) ∙ is.asked;
-  known = known_moved one other is.entry alike is.known;
+  fine = fine_moved one other is.before equal is.fine;
+  asked = sym (equal.same_asked is.entry.op) ∙ is.asked;
+  known = known_moved one other is.entry equal is.known;
   twice = is.twice;
 }
 
-pub refused_moved : {tests : List (List Arg)} {steps : ℕ} {declared : List Ticket} {fault : BenchFault} (one other : PlanFields) → AreAlike one other
+pub refused_moved : {tests : List (List Arg)} {steps : ℕ} {declared : List Ticket} {fault : BenchFault} (one other : PlanFields) → AreEqualPlans one other
     → IsRefused one tests steps declared fault → IsRefused other tests steps declared fault
-refused_moved {tests} {steps} {declared} one other alike (IsRefused.misfit {n = n} is) =
-    IsRefused.misfit (subst (λ p. IsFirstNot (FitsProgram p) tests n) alike.program is)
-refused_moved {tests} {steps} {declared} one other alike (IsRefused.failing {n = n} fit is) =
-    IsRefused.failing (subst (λ p. All (FitsProgram p) tests) alike.program fit) (subst (λ p. IsFirstNot (EndsOn p steps) tests n) alike.program is)
-refused_moved {tests} {steps} {declared} one other alike (IsRefused.unknown {n = n} fit end is) =
-    IsRefused.unknown (subst (λ p. All (FitsProgram p) tests) alike.program fit) (subst (λ p. All (EndsOn p steps) tests) alike.program end)
-    (unknown_moved one other declared n alike is)
-refused_moved {tests} {steps} {declared} one other alike (IsRefused.twice {n = n} fit end is) =
-    IsRefused.twice (subst (λ p. All (FitsProgram p) tests) alike.program fit) (subst (λ p. All (EndsOn p steps) tests) alike.program end)
-    (twice_moved one other declared n alike is)
+refused_moved {tests} {steps} {declared} one other equal (IsRefused.misfit {n = n} is) =
+    IsRefused.misfit (subst (λ p. IsFirstNot (FitsProgram p) tests n) equal.program is)
+refused_moved {tests} {steps} {declared} one other equal (IsRefused.failing {n = n} fit is) =
+    IsRefused.failing (subst (λ p. All (FitsProgram p) tests) equal.program fit) (subst (λ p. IsFirstNot (EndsOn p steps) tests n) equal.program is)
+refused_moved {tests} {steps} {declared} one other equal (IsRefused.unknown {n = n} fit end is) =
+    IsRefused.unknown (subst (λ p. All (FitsProgram p) tests) equal.program fit) (subst (λ p. All (EndsOn p steps) tests) equal.program end)
+    (unknown_moved one other declared n equal is)
+refused_moved {tests} {steps} {declared} one other equal (IsRefused.twice {n = n} fit end is) =
+    IsRefused.twice (subst (λ p. All (FitsProgram p) tests) equal.program fit) (subst (λ p. All (EndsOn p steps) tests) equal.program end)
+    (twice_moved one other declared n equal is)

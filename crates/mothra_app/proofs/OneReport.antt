@@ -26,7 +26,7 @@ use Rattle.mothra_ops.specs.Mutants.{edit_text, mutant_made, mutant_name, mutant
 use Rattle.mothra_ops.specs.Plan.{IsFirstTooLong, PlanFields}
 use Rattle.mothra_ops.specs.declared.edit.Edit.{Edit}
 use Rattle.mothra_replacements.specs.declared.fault.OpsFault.TheVariants.{TooMany}
-use Rattle.mothra_app.proofs.AlikePlans.{AreAlike, alike, counted}
+use Rattle.mothra_app.proofs.EqualPlans.{AreEqualPlans, equal_plans, counted}
 use Rattle.mothra_app.proofs.OneBench.{ends_all, never_refused, one_refusal, refused, refused_moved}
 use Rattle.mothra_app.proofs.OneListing.{long_moved, never_long, one_first}
 use Rattle.mothra_app.proofs.OneProgram.{Laws, one_legal, same_fault, same_program, never_both}
@@ -36,7 +36,7 @@ Text = Result (List ℕ) Fault
 
 -- ---- a report depends on the program and the lists of a plan alone
 
-same_heading : (one other : BenchFields) → AreAlike one.plan other.plan → one.tests ≡ other.tests → one.steps ≡ other.steps
+same_heading : (one other : BenchFields) → AreEqualPlans one.plan other.plan → one.tests ≡ other.tests → one.steps ≡ other.steps
     → report.heading one ≡ report.heading other
 same_heading one other plans tests steps = λ i.
     line (codes "REPORT 2")
@@ -45,7 +45,7 @@ same_heading one other plans tests steps = λ i.
     ++ (line (named_number (codes "STEPS") (steps i))
     ++ line (named_number (codes "EVERY") (plans.every i)))))
 
-same_operators : (one other : PlanFields) → AreAlike one other → (entries : List Entry)
+same_operators : (one other : PlanFields) → AreEqualPlans one other → (entries : List Entry)
     → report.operator_lines one entries ≡ report.operator_lines other entries
 same_operators one other plans entries = λ i. flat_map (report.operator_line entries) (filter (λ op. plans.same_asked op i) all_ops)
 
@@ -63,12 +63,12 @@ survivor_by program every lists entry =
 abbrev wrong_by : ℕ → Entry → List ℕ
 wrong_by every entry = if is_wrong entry then line (codes "WRONG " ++ mutant_name every entry.ticket.op entry.ticket.number) else []
 
-same_entries : (one other : PlanFields) → AreAlike one other → (entries : List Entry) → report.entry_lines one entries ≡ report.entry_lines other entries
+same_entries : (one other : PlanFields) → AreEqualPlans one other → (entries : List Entry) → report.entry_lines one entries ≡ report.entry_lines other entries
 same_entries one other plans entries = λ i.
     flat_map (mutant_by (plans.every i)) entries
     ++ (flat_map (survivor_by (plans.program i) (plans.every i) (λ op. plans.same_edits op i)) entries ++ flat_map (wrong_by (plans.every i)) entries)
 
-same_text : (one other : BenchFields) → AreAlike one.plan other.plan → one.tests ≡ other.tests → one.steps ≡ other.steps → (entries : List Entry)
+same_text : (one other : BenchFields) → AreEqualPlans one.plan other.plan → one.tests ≡ other.tests → one.steps ≡ other.steps → (entries : List Entry)
     → report_text one entries ≡ report_text other entries
 same_text one other plans tests steps entries =
     let heading = same_heading one other plans tests steps in
@@ -78,13 +78,13 @@ same_text one other plans tests steps entries =
 
 -- ---- so do its entries
 
-same_tickets : (one other : PlanFields) → AreAlike one other → tickets_of one ≡ tickets_of other
+same_tickets : (one other : PlanFields) → AreEqualPlans one other → tickets_of one ≡ tickets_of other
 same_tickets one other plans = λ i. flat_map (λ op. tickets op (length (plans.same_edits op i))) all_ops
 
-same_mutant : (one other : PlanFields) → AreAlike one other → (op : Op) (number : ℕ) → mutant_of one op number ≡ mutant_of other op number
+same_mutant : (one other : PlanFields) → AreEqualPlans one other → (op : Op) (number : ℕ) → mutant_of one op number ≡ mutant_of other op number
 same_mutant one other plans op number = λ i. option_and_then (mutant_made (plans.program i)) (numbered (plans.same_edits op i) number)
 
-verdict_moved : (one other : BenchFields) → AreAlike one.plan other.plan → one.tests ≡ other.tests → one.steps ≡ other.steps → (t : Ticket) (kills : List Bool)
+verdict_moved : (one other : BenchFields) → AreEqualPlans one.plan other.plan → one.tests ≡ other.tests → one.steps ≡ other.steps → (t : Ticket) (kills : List Bool)
     → IsVerdict one t kills → IsVerdict other t kills
 verdict_moved one other plans tests steps t kills is = record {
   mutant = is.mutant;
@@ -94,14 +94,14 @@ verdict_moved one other plans tests steps t kills is = record {
       (subst (λ ts. IsAlone (program_of one.plan) (mutated (program_of one.plan) is.mutant) one.steps ts kills) tests is.alone));
 }
 
-declared_moved : (one other : BenchFields) → AreAlike one.plan other.plan → one.declared ≡ other.declared → (entry : Entry)
+declared_moved : (one other : BenchFields) → AreEqualPlans one.plan other.plan → one.declared ≡ other.declared → (entry : Entry)
     → IsTrue entry.declared ↔ IsDeclared one entry.ticket → IsTrue entry.declared ↔ IsDeclared other entry.ticket
 declared_moved one other plans same entry is =
     let own = λ (list : List Ticket) (every : ℕ). IsTrue entry.declared ↔ Contains list (ticket entry.ticket.op (original_number every entry.ticket.number)) in
     subst (λ q. own other.declared q) plans.every (subst (λ list. own list one.plan.every) same is)
 
 -- the report of a bench is that of another with the same lists, tests, limit and declared mutants
-report_moved : (one other : BenchFields) (text : List ℕ) → AreAlike one.plan other.plan → one.tests ≡ other.tests → one.steps ≡ other.steps
+report_moved : (one other : BenchFields) (text : List ℕ) → AreEqualPlans one.plan other.plan → one.tests ≡ other.tests → one.steps ≡ other.steps
     → one.declared ≡ other.declared → IsReport one text → IsReport other text
 report_moved one other text plans tests steps declared is = record {
   entries = is.entries;
@@ -129,7 +129,7 @@ one_fault : {ops : List Op} {every : ℕ} {program : List LineFields} (job : Job
     → IsPlanOf program ops every one → IsPlanOf program ops every other → f ≢ Memory → g ≢ Memory → IsNoBench one job.suite steps job.equivalent f
     → IsNoBench other job.suite steps job.equivalent g → f ≡ g
 one_fault job steps one other f g laws p q own its none also =
-    let reason = refused_moved one other (alike one other laws p q) (refused one job.suite steps job.equivalent f own none) in
+    let reason = refused_moved one other (equal_plans one other laws p q) (refused one job.suite steps job.equivalent f own none) in
     one_refusal reason (refused other job.suite steps job.equivalent g its also)
 
 -- where there is a fault there is no bench
@@ -138,7 +138,7 @@ not_both : {job : JobFields} {ops : List Op} {every steps : ℕ} {program : List
     → IsBenchOf job ops every steps bench → A
 not_both {job} {ops} {every} {steps} {program} plan f bench laws source is own none of =
     let same = same_program program of.program (one_legal laws source of.legal) in
-    let plans = alike plan bench.plan laws (moved program of.program plan same is) of.plan in
+    let plans = equal_plans plan bench.plan laws (moved program of.program plan same is) of.plan in
     let reason = refused_moved plan bench.plan plans (refused plan job.suite steps job.equivalent f own none) in
     let own_program = program_of bench.plan in
     let fit = subst (λ tests. All (FitsProgram own_program) tests) of.tests of.is.fit in
@@ -151,7 +151,7 @@ one_text : {job : JobFields} {ops : List Op} {every steps : ℕ} (one other : Be
     → IsBenchOf job ops every steps other → IsReport one text → IsReport other also → text ≡ also
 one_text one other text also laws p q is as_well =
     let same = same_program p.program q.program (one_legal laws p.legal q.legal) in
-    let plans = alike one.plan other.plan laws (moved p.program q.program one.plan same p.plan) q.plan in
+    let plans = equal_plans one.plan other.plan laws (moved p.program q.program one.plan same p.plan) q.plan in
     laws.one_report other text also
     (report_moved one other text plans (p.tests ∙ sym q.tests) (p.limit ∙ sym q.limit) (p.declared ∙ sym q.declared) is) as_well
 

@@ -2,7 +2,7 @@
 use Rattle.std.proofs.Common.{◌≡◌, ◌≤◌, ◌⊎◌, inl, inr, ℕ, List, sym, subst, Result, Ok, Err, MatchResult, String, Global, string_bytes}
 use Rattle.std.specs.Prelude.{Contains}
 use Rattle.mothra_app.specs.code.Answer.{IsReadyBench, IsReportAnswer}
-use Rattle.mothra_app.specs.Answer.{IsRequestOutcome, IsToldAnswer, IsAnswer}
+use Rattle.mothra_app.specs.Answer.{IsRequestOutcome, IsOutcomeAnswer, IsAnswer}
 use Rattle.mothra_app.specs.Executing.{IsExecuted}
 use Rattle.mothra_app.specs.Fault.{MayFailBy, of_programs, of_runs, of_mutants}
 use Rattle.mothra_job.specs.Job.{JobFields, JobRead}
@@ -93,7 +93,7 @@ as_report P a text is own holds = rw (is, own) holds
 
 pub text_ready : (request : Request) (read : JobRead) (text : String Global) (a : Answer) → a.status ≡ status.Report → a.text ≡ text
     → Comes request read (Ok text) → IsAnswer request read a.status (string_bytes a.text)
-text_ready request read text a is own comes = as_report (IsAnswer request read) a text is own (IsAnswer.told (IsToldAnswer.report comes))
+text_ready request read text a is own comes = as_report (IsAnswer request read) a text is own (IsAnswer.of_outcome (IsOutcomeAnswer.report comes))
 
 pub bench_ready : (request : Request) (job : JobFields) (read : JobRead) (named operators : List Op) (every steps workers : ℕ) (bench : BenchFields)
     → request ≡ command.Run operators every steps workers → (let ok : JobRead = Ok job in (ok ≡ read) ⊎ (ok ≡ Err Memory)) → named ≡ operators
@@ -107,13 +107,13 @@ bench_ready request job read named operators every steps workers bench is of_job
 
 fault_answered : (request : Request) (read : JobRead) (fault : Fault) (text : List ℕ) → text ≡ fault_line fault
     → IsRequestOutcome request read (Err fault) ⊎ MayFailBy request fault → IsAnswer request read status.Fault text
-fault_answered request read fault text line (inl is) = subst (IsAnswer request read status.Fault) (sym line) (IsAnswer.told (IsToldAnswer.fault fault is))
+fault_answered request read fault text line (inl is) = subst (IsAnswer request read status.Fault) (sym line) (IsAnswer.of_outcome (IsOutcomeAnswer.fault fault is))
 fault_answered request read fault text line (inr may) = subst (IsAnswer request read status.Fault) (sym line) (IsAnswer.broken_off fault may)
 
-pub fault_told : (request : Request) (read : JobRead) (fault : Fault) (s : Status) (text : List ℕ) → s ≡ status.Fault → text ≡ fault_line fault
+pub fault_reported : (request : Request) (read : JobRead) (fault : Fault) (s : Status) (text : List ℕ) → s ≡ status.Fault → text ≡ fault_line fault
     → IsRequestOutcome request read (Err fault) ⊎ MayFailBy request fault → IsAnswer request read s text
-fault_told request read fault s text is line told =
-    subst (λ v. IsAnswer request read v text) (sym is) (fault_answered request read fault text line told)
+fault_reported request read fault s text is line known =
+    subst (λ v. IsAnswer request read v text) (sym is) (fault_answered request read fault text line known)
 
 -- the number of workers that report on the bench is 1 to 32
 pub within : (request : Request) (read : JobRead) (bench : BenchFields) (workers : ℕ) → IsReadyBench read request bench workers
@@ -123,8 +123,8 @@ within request read bench workers (IsReadyBench.of_job is of few) = few
 pub report_answered : (request : Request) (read : JobRead) (bench : BenchFields) (workers : ℕ) (s : Status) (text : List ℕ)
     → IsReadyBench read request bench workers → IsReportAnswer bench s text → IsAnswer request read s text
 report_answered request read bench workers s text (IsReadyBench.of_job {operators = operators} {every = every} {steps = steps} is of few) (IsReportAnswer.report {text = report} reports) =
-    IsAnswer.told
-    (IsToldAnswer.report (subst (λ r. IsRequestOutcome (command.Run operators every steps workers) r (Ok report)) (sym is) (IsReported.report of reports)))
+    IsAnswer.of_outcome
+    (IsOutcomeAnswer.report (subst (λ r. IsRequestOutcome (command.Run operators every steps workers) r (Ok report)) (sym is) (IsReported.report of reports)))
 report_answered request read bench workers s text (IsReadyBench.of_job is of few) (IsReportAnswer.broken_off fault none) =
     IsAnswer.broken_off (Bench fault) none
 

@@ -20,10 +20,10 @@ use Rattle.mothra_app.specs.declared.fault.Fault.TheVariants.{Form, Syntax}
 use Rattle.mothra_app.proofs.Memory.{form_in, syntax_in}
 
 -- where the result is this fault, what holds of the fault holds of the result
-pub told : {A : Type 0} (r : Result A Fault) (P : A → Type 0) (Q : Fault → Type 0) (fault : Fault) → IsErrAnd r (λ e. e ≡ fault) → Q fault
+pub of_fault : {A : Type 0} (r : Result A Fault) (P : A → Type 0) (Q : Fault → Type 0) (fault : Fault) → IsErrAnd r (λ e. e ≡ fault) → Q fault
     → MatchResult r P Q
-told (Ok x) P Q fault is q = absurd is
-told (Err e) P Q fault is q = subst Q (sym is) q
+of_fault (Ok x) P Q fault is q = absurd is
+of_fault (Err e) P Q fault is q = subst Q (sym is) q
 
 pub form_refused : (source : List ℕ) (fault : FormFault) → forms.IsRefusedBy source fault
     → IsProgramOf source (Err (Form fault)) ⊎ Contains of_programs (Form fault)

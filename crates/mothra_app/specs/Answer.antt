@@ -32,17 +32,17 @@ IsRequestOutcome (command.Run operators every steps workers) (Ok job) outcome =
     IsReported job operators every steps outcome
 
 -- The status and the text of the outcome of a request: its report, or the line of the first fault.
-pub data IsToldAnswer (request : Request) (read : JobRead) : Status → List ℕ → Type 0 where
+pub data IsOutcomeAnswer (request : Request) (read : JobRead) : Status → List ℕ → Type 0 where
   report : {text : List ℕ}
-      → IsRequestOutcome request read (Ok text) → IsToldAnswer request read status.Report text
+      → IsRequestOutcome request read (Ok text) → IsOutcomeAnswer request read status.Report text
   fault : (fault : Fault) → IsRequestOutcome request read (Err fault)
-      → IsToldAnswer request read status.Fault (fault_line fault)
+      → IsOutcomeAnswer request read status.Fault (fault_line fault)
 
 -- The answer to a request: the text of its outcome, or the
 -- line of a fault that may come in the place of any outcome.
 pub data IsAnswer (request : Request) (read : JobRead) : Status → List ℕ → Type 0 where
-  told : {status : Status} {text : List ℕ}
-      → IsToldAnswer request read status text → IsAnswer request read status text
+  of_outcome : {status : Status} {text : List ℕ}
+      → IsOutcomeAnswer request read status text → IsAnswer request read status text
   broken_off : (fault : Fault)
       → MayFailBy request fault → IsAnswer request read status.Fault (fault_line fault)
 

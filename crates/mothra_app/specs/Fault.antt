@@ -12,7 +12,7 @@ use Rattle.mothra_cli.specs.declared.request.Request.{Request}
 use Rattle.mothra_cli.specs.declared.request.Request.TheVariants as command
 use Rattle.mothra_replacements.specs.declared.fault.OpsFault.TheVariants as ops
 
--- want of memory for a program is F1 or S1; for a legal program also
+-- no memory for a program is F1 or S1; for a legal program also
 -- C1; for a run also N1; for its mutants also O1
 abbrev pub of_programs : List Fault
 of_programs = Form form.Memory ∷ Syntax syntax.Memory ∷ []
@@ -26,7 +26,7 @@ of_runs = Run run.Memory ∷ of_legal_programs
 abbrev pub of_mutants : List Fault
 of_mutants = Ops ops.Memory ∷ of_legal_programs
 
--- want of memory, which may come in the place of any answer
+-- the faults of memory, which may come in the place of any answer
 -- to the request; for `run` there are more faults
 abbrev pub request_memory_faults : Request → List Fault
 request_memory_faults command.Print = Job job.Memory ∷ of_programs
@@ -34,14 +34,14 @@ request_memory_faults (command.Exec test steps) = Job job.Memory ∷ of_runs
 request_memory_faults (command.List operators every) = Job job.Memory ∷ of_mutants
 request_memory_faults (command.Run operators every steps workers) = Job job.Memory ∷ of_mutants
 
--- the faults that may come in the place of any answer of `run`: want of memory, or of a thread
+-- the faults that may come in the place of any answer of `run`: lack of memory, or of a thread
 abbrev pub MayFailRun : Fault → Type 0
 MayFailRun (Bench fault) = IsNoReport fault
 MayFailRun fault = Contains (Job job.Memory ∷ of_mutants) fault
 
 -- Rule: lines of faults, want of memory
 -- the faults that may come in the place of any answer to the
--- request: want of memory, and for `run` also of a thread
+-- request: lack of memory, and for `run` also of a thread
 abbrev pub MayFailBy : Request → Fault → Type 0
 MayFailBy (command.Run operators every steps workers) fault = MayFailRun fault
 MayFailBy request fault = Contains (request_memory_faults request) fault

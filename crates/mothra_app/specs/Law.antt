@@ -51,14 +51,14 @@ pub data IsFairAnswer (words : List Text) (report : List ℕ) : Status → List 
   broken_off : {request : Request} (fault : Fault) → AsksFor words request → MayFailBy request fault
       → IsFairAnswer words report status.Fault (fault_line fault)
 
--- the fault is want of memory (J1, F1, S1, C1, N1, O1 or B1) or of a thread (B2)
-abbrev pub IsWant : Fault → Type 0
-IsWant (Job job.Memory) = ⊤
-IsWant (Form form.Memory) = ⊤
-IsWant (Syntax syntax.Memory) = ⊤
-IsWant (Check check.Memory) = ⊤
-IsWant (Run run.Memory) = ⊤
-IsWant (Ops ops.Memory) = ⊤
-IsWant (Bench bench.Memory) = ⊤
-IsWant (Bench bench.Thread) = ⊤
-IsWant _ = ⊥
+-- the fault is lack of memory (J1, F1, S1, C1, N1, O1 or B1) or of a thread (B2)
+abbrev pub IsOutOfResources : Fault → Type 0
+IsOutOfResources (Job job.Memory) = ⊤
+IsOutOfResources (Form form.Memory) = ⊤
+IsOutOfResources (Syntax syntax.Memory) = ⊤
+IsOutOfResources (Check check.Memory) = ⊤
+IsOutOfResources (Run run.Memory) = ⊤
+IsOutOfResources (Ops ops.Memory) = ⊤
+IsOutOfResources (Bench bench.Memory) = ⊤
+IsOutOfResources (Bench bench.Thread) = ⊤
+IsOutOfResources _ = ⊥

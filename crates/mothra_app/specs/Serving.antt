@@ -4,7 +4,7 @@ use Rattle.std.specs.Io.KnownBytes.{Appends, Keeps}
 use Rattle.clap.specs.Words.{Text, fault_of}
 use Rattle.clap.specs.Kinds.{IsAmong}
 use Rattle.clap.specs.declared.error.kind.ErrorKind.{ErrorKind}
-use Rattle.mothra_app.specs.Answer.{IsToldAnswer, IsAnswer, IsRefusal}
+use Rattle.mothra_app.specs.Answer.{IsOutcomeAnswer, IsAnswer, IsRefusal}
 use Rattle.mothra_cli.specs.Command.{mothra}
 use Rattle.mothra_cli.specs.Input.{limit, AreAll, IsRead}
 use Rattle.mothra_job.specs.Job.{job_of}
@@ -23,7 +23,7 @@ pub record AsksFor (words : List Text) (request : Request) : Type 0 where
 -- the status and the text with which words that are a request are served, for these bytes
 abbrev pub IsServed : List Text → List ℕ → Status → List ℕ → Type 0
 IsServed words bytes status text =
-    (request : Request) × AsksFor words request × IsToldAnswer request (job_of bytes) status text
+    (request : Request) × AsksFor words request × IsOutcomeAnswer request (job_of bytes) status text
 
 -- the answer where the value of `--ops` is no list of operators' codes
 abbrev pub bad_operators : List ℕ

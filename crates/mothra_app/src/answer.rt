@@ -87,7 +87,7 @@ fn ready_or_fault(alloc: Global, request: &Request, bytes: &[u8]) -> Result<Read
 }
 
 /// The line of the fault as an answer.
-pub fn told(alloc: Global, fault: &Fault) -> Result<Answer, AllocError>
+pub fn fault_answer(alloc: Global, fault: &Fault) -> Result<Answer, AllocError>
     ensures status { IfOk result (λ a. a.status ≡ Status.Fault) }
     ensures text { IfOk result (λ a. string_bytes a.text ≡ Line.fault_line fault.now) }
 {
@@ -104,7 +104,7 @@ pub(crate) fn ready_for(alloc: Global, request: &Request, bytes: &[u8]) -> Resul
 {
     match ready_or_fault(alloc, request, bytes) {
         Ok(ready) => Ok(ready),
-        Err(fault) => Ok(Ready::Answer(told(alloc, &fault)?)),
+        Err(fault) => Ok(Ready::Answer(fault_answer(alloc, &fault)?)),
     }
 }
 
@@ -120,7 +120,7 @@ pub(crate) fn report_on<R: Threads + Wait + Sync>(
 {
     match analyse(rt, alloc, bench, workers) {
         Ok(text) => Ok(reported(text)),
-        Err(fault) => told(alloc, &Fault::Bench(fault)),
+        Err(fault) => fault_answer(alloc, &Fault::Bench(fault)),
     }
 }
 

@@ -1,5 +1,5 @@
-//! The faults of all calls that a command makes. Which want of memory a command may answer follows from its calls:
-//! `print` never answers C1, N1 or O1.
+//! The faults of all calls that a command makes. Which faults of memory a command may answer
+//! follows from its calls: `print` never answers C1, N1 or O1.
 
 ghost use Rattle.std.specs.Prelude.{◌≡◌};
 ghost use Rattle.mothra_app.specs.declared.fault.Fault.TheVariants as fault;

@@ -4,7 +4,7 @@ ghost use Rattle.std.specs.Prelude.{◌≡◌, ℕ, Bool, List};
 ghost use Rattle.clap.specs.Words.{Text};
 ghost use Rattle.mothra_app.specs.Fault.{MayFailBy};
 ghost use Rattle.mothra_job.specs.Job.{job_of};
-ghost use Rattle.mothra_app.specs.Law.{IsFairAnswer, IsLegalJob, IsWant, ReportsJob};
+ghost use Rattle.mothra_app.specs.Law.{IsFairAnswer, IsLegalJob, IsOutOfResources, ReportsJob};
 ghost use Rattle.mothra_app.specs.Serving.{AsksFor, IsServed, MayBeWritten};
 ghost use Rattle.mothra_app.specs.declared.fault.Fault.{Fault};
 ghost use Rattle.mothra_app.specs.declared.status.Status.{Status};
@@ -79,11 +79,12 @@ pub fn headline()
 }
 
 /// For a legal job only its report may be written, or the line of one of eight faults, which say that memory or a
-/// thread was wanting. The law does not say that it was wanting then.
+/// thread was lacking. The law does not say that it was lacking then.
 pub fn no_false_refusal()
     ensures answer { (words : List Text) (bytes report : List ℕ) (status : Status) (text : List ℕ)
         → IsLegalJob words bytes report → MayBeWritten words bytes status text → IsFairAnswer words report status text }
-    ensures want { (request : Request) (fault : Fault) → MayFailBy request fault → IsWant fault }
+    ensures out_of_resources { (request : Request) (fault : Fault)
+        → MayFailBy request fault → IsOutOfResources fault }
 {
     one_answer();
 }

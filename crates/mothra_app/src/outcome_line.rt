@@ -90,7 +90,7 @@ fn push_outcome(text: &mut String, outcome: &Outcome) -> Result<(), AllocError>
     }
 }
 
-/// The line of the outcome, ended by LF. Want of memory for it is N1, as it is in the run.
+/// The line of the outcome, ended by LF. No memory for it is N1, as it is in the run.
 pub(crate) fn outcome_line(alloc: Global, outcome: &Outcome) -> Result<String, RunFault>
     ensures line { IfOk result (λ line. string_bytes line ≡ definition.outcome_line outcome.now) }
     ensures memory { IfErr result (λ e. e ≡ fault.Memory) }

@@ -6,7 +6,7 @@
 ghost use Rattle.std.specs.Prelude.{◌≡◌, ◌≢◌, false, Ok, Err, IfOk, map, string_bytes};
 ghost use Rattle.mothra_cli.specs.Input.{limit, IsRead, TakesAtMost};
 ghost use Rattle.mothra_app.specs.Serving.{IsAnswered, WritesWhole, WritesFront};
-ghost use Rattle.mothra_app.specs.code.Serving.{IsReadyBy, IsReadyFor, IsTelling};
+ghost use Rattle.mothra_app.specs.code.Serving.{IsReadyBy, IsReadyFor, HasStatus};
 ghost use Rattle.mothra_app.specs.Status.{is_read_fault, is_write_fault};
 ghost use Rattle.mothra_cli.specs.Request.{IsBounded};
 ghost use Rattle.mothra_cli.specs.Watched.{inside, has_failed};
@@ -48,8 +48,8 @@ fn prepare<S: AsStr, R: Read>(
     requires { has_failed reader.old ≡ false }
     ensures ready { IfOk result (IsReadyFor (map S.text words.now)
         (R.remaining (inside reader.old)) (R.remaining (inside reader.new))) }
-    ensures words { IfOk result (λ r. IsTelling Status.Words r → reader.new ≡ reader.old) }
-    ensures help { IfOk result (λ r. IsTelling Status.Help r → reader.new ≡ reader.old) }
+    ensures words { IfOk result (λ r. HasStatus Status.Words r → reader.new ≡ reader.old) }
+    ensures help { IfOk result (λ r. HasStatus Status.Help r → reader.new ≡ reader.old) }
     ensures taken { TakesAtMost limit (R.remaining (inside reader.old)) (R.remaining (inside reader.new)) }
     ensures failed { has_failed reader.new ≡ is_read_fault result }
     ensures unwritten { result ≢ Err AppFault.Write }

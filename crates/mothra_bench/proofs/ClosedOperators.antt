@@ -33,5 +33,5 @@ closed_more old new ops i d lt closes all =
 
 -- a gate that never gives up closes
 pub never_gave_up : (closed may : Bool) (P : Type 0) → (closed ≡ false → may ≡ true) → (closed ≡ true → P) → may ≡ false → P
-never_gave_up true may P gives told never = told refl
-never_gave_up false may P gives told never = absurd (true≢false (sym (gives refl) ∙ never))
+never_gave_up true may P gives known never = known refl
+never_gave_up false may P gives known never = absurd (true≢false (sym (gives refl) ∙ never))

@@ -15,7 +15,7 @@ use Rattle.mothra_bench.specs.Analysis.{IsNoReport}
 use Rattle.mothra_verdicts.specs.Bench.{BenchFields}
 use Rattle.mothra_bench.specs.Collecting.{IsFirstDouble, IsFirstMissing, IsFirstStranger, IsNoMatrix, is_row_of, rows_of}
 use Rattle.mothra_bench.specs.Driving.{AreComplete}
-use Rattle.mothra_bench.specs.Gathered.{AreVerdicts, IsOwn, tickets_in}
+use Rattle.mothra_bench.specs.Results.{AreVerdicts, IsOwn, tickets_in}
 use Rattle.mothra_verdicts.specs.Verdict.{HasMutant, IsKill, mutated}
 use Rattle.mothra_verdicts.specs.declared.fault.BenchFault.{BenchFault}
 use Rattle.mothra_verdicts.specs.declared.fault.BenchFault.TheVariants as fault
@@ -88,21 +88,21 @@ no_double plan words rows t complete first =
     let once = complete.once t.op t.number in
     let most = once_up_to-most (length (edits_of plan t.op)) t.number in
     let one = first.there in
-    let told = rows_times t first.before in
+    let counted = rows_times t first.before in
     absurd (omega arith)
 
 -- no mutant is without a row
 no_missing : (plan : PlanFields) (words : List Word) (rows : List Row) (t : Ticket) → AreComplete plan words (tickets_in rows) → IsFirstMissing plan words rows t → ⊥
 no_missing plan words rows t complete first =
     let n = length (edits_of plan t.op) in
-    let told = rows_times t rows in
+    let counted = rows_times t rows in
     let once = complete.once t.op t.number in
     let one = once_of n t.number first.has.0 first.has.1 in
     let handed = ap (λ (w : Word). w.handed) (complete.ends t.op) in
     let below = first.has.1 in
     first.missing (record { row = omega arith; handed = omega arith })
 
--- where such rows give no matrix, the fault is want of memory
+-- where such rows give no matrix, the fault is `Memory`
 pub matrix_report : (bench : BenchFields) (words : List Word) (rows : List Row) (e : BenchFault) → AreComplete bench.plan words (tickets_in rows) → AreVerdicts bench rows
     → IsNoMatrix bench words rows e → IsNoReport e
 matrix_report bench words rows fault.Memory complete verdicts h = tt

@@ -8,7 +8,7 @@ use Rattle.mothra_verdicts.specs.Bench.{BenchFields}
 use Rattle.mothra_bench.specs.Driving.{IsNoDrive}
 use Rattle.mothra_bench.specs.code.Driving.{answer_of}
 use Rattle.mothra_bench.specs.Feeding.{IsStalled}
-use Rattle.mothra_bench.specs.Gathered.{AreVerdicts, IsOwn, tickets_in}
+use Rattle.mothra_bench.specs.Results.{AreVerdicts, IsOwn, tickets_in}
 use Rattle.mothra_verdicts.specs.declared.fault.BenchFault.{BenchFault}
 use Rattle.mothra_verdicts.specs.declared.fault.BenchFault.TheVariants as fault
 use Rattle.mothra_verdicts.specs.declared.verdict.Row.{Row}
@@ -42,41 +42,41 @@ any_none P None p = p
 any_none P (Some e) p = tt
 
 -- a fault that kept some workers from being started is one that a drive may answer
-pub start_told : (may keeps : Bool) (plan : PlanFields) (counts : List ℕ) (X : Type 0) (f : Option BenchFault)
+pub start_answered : (may keeps : Bool) (plan : PlanFields) (counts : List ℕ) (X : Type 0) (f : Option BenchFault)
     → IfSome f (λ e. ((e ≡ fault.Memory) × X) ⊎ (e ≡ fault.Thread)) → IfSome f (IsNoDrive may keeps plan counts)
-start_told may keeps plan counts X None why = tt
-start_told may keeps plan counts X (Some e) (inl why) = subst (IsNoDrive may keeps plan counts) (sym why.0) tt
-start_told may keeps plan counts X (Some e) (inr why) = subst (IsNoDrive may keeps plan counts) (sym why) tt
+start_answered may keeps plan counts X None why = tt
+start_answered may keeps plan counts X (Some e) (inl why) = subst (IsNoDrive may keeps plan counts) (sym why.0) tt
+start_answered may keeps plan counts X (Some e) (inr why) = subst (IsNoDrive may keeps plan counts) (sym why) tt
 
 -- a fault that kept a feeder from being started is one that a drive may answer
-pub feeder_told : {X : Type 0} (may keeps : Bool) (plan : PlanFields) (counts : List ℕ) (f g : Option BenchFault) (one : Option X)
+pub feeder_answered : {X : Type 0} (may keeps : Bool) (plan : PlanFields) (counts : List ℕ) (f g : Option BenchFault) (one : Option X)
     → IfSome f (IsNoDrive may keeps plan counts) → IfSome f (λ e. (g ≡ Some e) × (one ≡ None))
     → IfNone f (MatchOption one (g ≡ Some fault.Thread) (λ x. g ≡ None)) → IfSome g (IsNoDrive may keeps plan counts)
-feeder_told may keeps plan counts (Some e) g one told kept thread = subst (λ o. IfSome o (IsNoDrive may keeps plan counts)) (sym kept.0) told
-feeder_told may keeps plan counts None g None told kept thread = subst (λ o. IfSome o (IsNoDrive may keeps plan counts)) (sym thread) tt
-feeder_told may keeps plan counts None g (Some x) told kept thread = subst (λ o. IfSome o (IsNoDrive may keeps plan counts)) (sym thread) tt
+feeder_answered may keeps plan counts (Some e) g one answered kept thread = subst (λ o. IfSome o (IsNoDrive may keeps plan counts)) (sym kept.0) answered
+feeder_answered may keeps plan counts None g None answered kept thread = subst (λ o. IfSome o (IsNoDrive may keeps plan counts)) (sym thread) tt
+feeder_answered may keeps plan counts None g (Some x) answered kept thread = subst (λ o. IfSome o (IsNoDrive may keeps plan counts)) (sym thread) tt
 
--- want of memory for the list of all rows is a fault that a drive may answer
-pub rows_told : (may keeps : Bool) (plan : PlanFields) (counts : List ℕ) (f g : Option BenchFault) → IfSome f (IsNoDrive may keeps plan counts)
+-- no memory for the list of all rows is a fault that a drive may answer
+pub rows_answered : (may keeps : Bool) (plan : PlanFields) (counts : List ℕ) (f g : Option BenchFault) → IfSome f (IsNoDrive may keeps plan counts)
     → IfSome g (λ e. MatchOption f (e ≡ fault.Memory) (λ d. e ≡ d)) → IfSome g (IsNoDrive may keeps plan counts)
-rows_told may keeps plan counts f None told memory = tt
-rows_told may keeps plan counts None (Some e) told memory = subst (IsNoDrive may keeps plan counts) (sym memory) tt
-rows_told may keeps plan counts (Some d) (Some e) told memory = subst (IsNoDrive may keeps plan counts) (sym memory) told
+rows_answered may keeps plan counts f None answered memory = tt
+rows_answered may keeps plan counts None (Some e) answered memory = subst (IsNoDrive may keeps plan counts) (sym memory) tt
+rows_answered may keeps plan counts (Some d) (Some e) answered memory = subst (IsNoDrive may keeps plan counts) (sym memory) answered
 
 -- a feeder's fault is one that a drive may answer
-pub stalled_told : (may keeps : Bool) (plan : PlanFields) (counts : List ℕ) (outcome : Result (Unit {0}) BenchFault) → IfErr outcome (IsStalled may)
+pub stalled_answered : (may keeps : Bool) (plan : PlanFields) (counts : List ℕ) (outcome : Result (Unit {0}) BenchFault) → IfErr outcome (IsStalled may)
     → IfErr outcome (IsNoDrive may keeps plan counts)
-stalled_told may keeps plan counts (Ok x) stalled = tt
-stalled_told may keeps plan counts (Err fault.Stalled) stalled = stalled
-stalled_told may keeps plan counts (Err fault.Memory) stalled = tt
-stalled_told may keeps plan counts (Err fault.Thread) stalled = tt
-stalled_told may keeps plan counts (Err (fault.TestShape k)) stalled = absurd stalled
-stalled_told may keeps plan counts (Err (fault.OriginalFails k)) stalled = absurd stalled
-stalled_told may keeps plan counts (Err (fault.EquivalentUnknown k)) stalled = absurd stalled
-stalled_told may keeps plan counts (Err (fault.EquivalentTwice k)) stalled = absurd stalled
-stalled_told may keeps plan counts (Err (fault.Double t)) stalled = absurd stalled
-stalled_told may keeps plan counts (Err (fault.Stranger t)) stalled = absurd stalled
-stalled_told may keeps plan counts (Err (fault.Missing t)) stalled = absurd stalled
+stalled_answered may keeps plan counts (Ok x) stalled = tt
+stalled_answered may keeps plan counts (Err fault.Stalled) stalled = stalled
+stalled_answered may keeps plan counts (Err fault.Memory) stalled = tt
+stalled_answered may keeps plan counts (Err fault.Thread) stalled = tt
+stalled_answered may keeps plan counts (Err (fault.TestShape k)) stalled = absurd stalled
+stalled_answered may keeps plan counts (Err (fault.OriginalFails k)) stalled = absurd stalled
+stalled_answered may keeps plan counts (Err (fault.EquivalentUnknown k)) stalled = absurd stalled
+stalled_answered may keeps plan counts (Err (fault.EquivalentTwice k)) stalled = absurd stalled
+stalled_answered may keeps plan counts (Err (fault.Double t)) stalled = absurd stalled
+stalled_answered may keeps plan counts (Err (fault.Stranger t)) stalled = absurd stalled
+stalled_answered may keeps plan counts (Err (fault.Missing t)) stalled = absurd stalled
 
 pub where_none : (P : Type 0) (f : Option BenchFault) → IfNone f P → f ≡ None → P
 where_none P None p none = p

@@ -136,7 +136,7 @@ ends_complete C v op w ends whole fed over = same_word w (complete_word (count_o
     all (IsFed.others_offered last o m) = let e = last_is last o in let f = same in absurd (omega arith)
     all (IsFed.others_closed last o never c) =
         let one = closed_here w closed in
-        let told = (ends.whole whole).closings w.offered in
+        let counted = (ends.whole whole).closings w.offered in
         let none = never w.offered in
         absurd (omega arith)
 

@@ -9,7 +9,7 @@ use Rattle.mothra_exchange.specs.declared.word.Word.{Word}
 use Rattle.mothra_bench.specs.Analysis.{AreEntries, IsReport}
 use Rattle.mothra_verdicts.specs.Bench.{BenchFields, IsDeclared}
 use Rattle.mothra_bench.specs.Collecting.{AreCollected, is_row_of, row_of, rows_of}
-use Rattle.mothra_bench.specs.Gathered.{AreVerdicts, IsOwn}
+use Rattle.mothra_bench.specs.Results.{AreVerdicts, IsOwn}
 use Rattle.mothra_bench.specs.Report.{report_text}
 use Rattle.mothra_verdicts.specs.Verdict.{IsVerdict}
 use Rattle.mothra_bench.specs.declared.matrix.Entry.{Entry}

@@ -10,7 +10,7 @@ use Rattle.mothra_ops.specs.Edits.{numbered}
 use Rattle.mothra_ops.specs.Mutants.{MutantFields, mutant_made, mutant_of, program_of}
 use Rattle.mothra_ops.specs.Plan.{PlanFields, edits_of}
 use Rattle.mothra_verdicts.specs.Bench.{BenchFields}
-use Rattle.mothra_bench.specs.code.Gathered.{AddsRow}
+use Rattle.mothra_bench.specs.code.Results.{AddsRow}
 use Rattle.mothra_verdicts.specs.Verdict.{HasMutant, IsNoVerdict}
 use Rattle.mothra_bench.specs.Working.{NamesFirst, NamesTaken}
 use Rattle.mothra_bench.specs.code.Working.{Takes}
@@ -114,11 +114,11 @@ takes_none plan old new f e = record { tickets = []; taken = e ∙ sym (append-n
 -- a step in which the gate gave up
 pub takes_stalled : (plan : PlanFields) (old new : View) (f g : Option BenchFault) → new.taken ≡ old.taken
     → MatchOption f (g ≡ Some fault.Stalled) (λ first. g ≡ Some first) → Takes plan old new f g
-takes_stalled plan old new f g e is = record { tickets = []; taken = e ∙ sym (append-nil old.taken); known = none_known plan g; first = told f is }
+takes_stalled plan old new f g e is = record { tickets = []; taken = e ∙ sym (append-nil old.taken); known = none_known plan g; first = reported f is }
   where
-    told : (f : Option BenchFault) → MatchOption f (g ≡ Some fault.Stalled) (λ first. g ≡ Some first) → IfSome g (λ e. IfNone f (NamesFirst plan [] e))
-    told None is = subst (λ (o : Option BenchFault). IfSome o (NamesFirst plan [])) (sym is) tt
-    told (Some d) is = subst (λ (o : Option BenchFault). IfSome o (λ e. IfNone (Some d) (NamesFirst plan [] e))) (sym is) tt
+    reported : (f : Option BenchFault) → MatchOption f (g ≡ Some fault.Stalled) (λ first. g ≡ Some first) → IfSome g (λ e. IfNone f (NamesFirst plan [] e))
+    reported None is = subst (λ (o : Option BenchFault). IfSome o (NamesFirst plan [])) (sym is) tt
+    reported (Some d) is = subst (λ (o : Option BenchFault). IfSome o (λ e. IfNone (Some d) (NamesFirst plan [] e))) (sym is) tt
 
 names_one : (plan : PlanFields) (t : Ticket) (e : BenchFault) → IsNoVerdict plan t e → NamesFirst plan (t ∷ []) e
 names_one plan t (fault.Stranger u) fails = record {

@@ -1,4 +1,4 @@
--- The rows of the workers are gathered one worker after another.
+-- The rows of the workers are merged one worker after another.
 use Rattle.std.proofs.Common.{◌≡◌, ◌⊎◌, ℕ, suc, List, [], ◌∷◌, ◌++◌, All, Bool, true, Vec, Global, Option, None, Some, Result, Ok, Err, IfSome}
 use Rattle.std.proofs.Common.{IsSome, IfOk, IfErr, length, true≢false, refl, MatchOption, MatchResult, sym, ap, ◌∙◌, subst, append_assoc, arith, inr}
 use Rattle.std.specs.Prelude.{IfNone, IsOkAnd}
@@ -8,7 +8,7 @@ use Rattle.mothra_ops.specs.Plan.{PlanFields}
 use Rattle.mothra_verdicts.specs.Bench.{BenchFields}
 use Rattle.mothra_bench.specs.Driving.{IsNoDrive}
 use Rattle.mothra_bench.specs.Feeding.{AreCounts}
-use Rattle.mothra_bench.specs.Gathered.{AreVerdicts, IsOwn, tickets_in}
+use Rattle.mothra_bench.specs.Results.{AreVerdicts, IsOwn, tickets_in}
 use Rattle.mothra_bench.specs.Working.{IsNoWork}
 use Rattle.mothra_verdicts.specs.declared.fault.BenchFault.{BenchFault}
 use Rattle.mothra_verdicts.specs.declared.fault.BenchFault.TheVariants as fault
@@ -46,7 +46,7 @@ same_no_drive may keeps plan own counts (fault.EquivalentTwice n) same h = absur
 same_no_drive may keeps plan own counts (fault.Double t) same h = absurd h
 same_no_drive may keeps plan own counts (fault.Missing t) same h = absurd h
 
-pub gathers : (bench : BenchFields) (may keeps : Bool) (own counts : List ℕ) (start before after : List Ticket) (f : Option BenchFault) (rows : List Row)
+pub merges_rows : (bench : BenchFields) (may keeps : Bool) (own counts : List ℕ) (start before after : List Ticket) (f : Option BenchFault) (rows : List Row)
     (outcome : Result (Vec Row Global) BenchFault) (g : Option BenchFault) (more : List Row)
     → (keeps ≡ true → own ≡ counts) → IfNone g ((f ≡ None) × IsOkAnd outcome (λ v. more ≡ rows ++ v.items))
     → IfSome g (λ e. MatchOption f (MatchResult outcome (λ v. e ≡ fault.Memory) (λ d. e ≡ d)) (λ d. e ≡ d))
@@ -54,7 +54,7 @@ pub gathers : (bench : BenchFields) (may keeps : Bool) (own counts : List ℕ) (
     → IfOk outcome (λ v. AreVerdicts bench v.items) → IfErr outcome (IsNoWork may keeps bench.plan own)
     → (keeps ≡ true → IfOk outcome (λ v. after ≡ before ++ tickets_in v.items))
     → IfSome g (IsNoDrive may keeps bench.plan counts) × IfNone g (AreVerdicts bench more × (keeps ≡ true → after ≡ start ++ tickets_in more))
-gathers bench may keeps own counts start before after None rows (Ok v) None more same hn hs ws wn oc er rec = (
+merges_rows bench may keeps own counts start before after None rows (Ok v) None more same hn hs ws wn oc er rec = (
   tt,
   (
     subst (AreVerdicts bench) (sym hn.1) (All-append (IsOwn bench) rows v.items wn.0 oc),
@@ -62,21 +62,21 @@ gathers bench may keeps own counts start before after None rows (Ok v) None more
         ∙ ap (λ t. start ++ t) (sym (ap tickets_in hn.1 ∙ tickets-append rows v.items)))),
   ),
 )
-gathers bench may keeps own counts start before after None rows (Err e) None more same hn hs ws wn oc er rec = absurd hn.1
-gathers bench may keeps own counts start before after (Some e) rows o None more same hn hs ws wn oc er rec = let x = hn.0 in cc
-gathers bench may keeps own counts start before after None rows (Ok v) (Some e') more same hn hs ws wn oc er rec =
+merges_rows bench may keeps own counts start before after None rows (Err e) None more same hn hs ws wn oc er rec = absurd hn.1
+merges_rows bench may keeps own counts start before after (Some e) rows o None more same hn hs ws wn oc er rec = let x = hn.0 in cc
+merges_rows bench may keeps own counts start before after None rows (Ok v) (Some e') more same hn hs ws wn oc er rec =
     (subst (IsNoDrive may keeps bench.plan counts) (sym hs) tt, tt)
-gathers bench may keeps own counts start before after None rows (Err e) (Some e') more same hn hs ws wn oc er rec =
+merges_rows bench may keeps own counts start before after None rows (Err e) (Some e') more same hn hs ws wn oc er rec =
     (subst (IsNoDrive may keeps bench.plan counts) (sym hs) (work_drive may keeps bench.plan own counts e same er), tt)
-gathers bench may keeps own counts start before after (Some e) rows o (Some e') more same hn hs ws wn oc er rec =
+merges_rows bench may keeps own counts start before after (Some e) rows o (Some e') more same hn hs ws wn oc er rec =
     (subst (IsNoDrive may keeps bench.plan counts) (sym hs) ws, tt)
 
--- where the rows of a worker were gathered, its pass shows that all operators are over
-pub over_gathered : (X Y Z : Type 0) (Q : Vec Row Global → Type 0) (f : Option BenchFault) (outcome : Result (Vec Row Global) BenchFault)
+-- where the rows of a worker were merged, its pass shows that all operators are over
+pub over_merged : (X Y Z : Type 0) (Q : Vec Row Global → Type 0) (f : Option BenchFault) (outcome : Result (Vec Row Global) BenchFault)
     → IfNone f (X × IsOkAnd outcome Q) → IfOk outcome (λ rows. Y) → IfNone f (Z ⊎ Y)
-over_gathered X Y Z Q (Some e) outcome h over = tt
-over_gathered X Y Z Q None (Ok rows) h over = inr over
-over_gathered X Y Z Q None (Err e) h over = absurd h.1
+over_merged X Y Z Q (Some e) outcome h over = tt
+over_merged X Y Z Q None (Ok rows) h over = inr over
+over_merged X Y Z Q None (Err e) h over = absurd h.1
 
 -- a property of the rows where there is no fault holds of the rows that are answered
 pub answered_with : (X : Type 0) (f : Option BenchFault) (rows : Vec Row Global) (outcome : Result (Vec Row Global) BenchFault) → IfNone f X

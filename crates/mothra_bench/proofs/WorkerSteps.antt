@@ -26,14 +26,14 @@ use Rattle.mothra_exchange.proofs.Overs.{finished_over}
 use Rattle.mothra_ops.specs.Plan.{PlanFields}
 use Rattle.mothra_verdicts.specs.Bench.{BenchFields}
 use Rattle.mothra_bench.specs.Feeding.{AreCounts}
-use Rattle.mothra_bench.specs.code.Gathered.{AddsRow}
-use Rattle.mothra_bench.specs.Gathered.{AreVerdicts, IsOwn, tickets_in}
+use Rattle.mothra_bench.specs.code.Results.{AddsRow}
+use Rattle.mothra_bench.specs.Results.{AreVerdicts, IsOwn, tickets_in}
 use Rattle.mothra_verdicts.specs.Verdict.{HasMutant, IsNoVerdict}
 use Rattle.mothra_bench.specs.code.Working.{AddsRows, Went}
 use Rattle.mothra_bench.specs.Working.{AreFresh, IsNoWork, NamesTaken, OnlyTook, TookRows}
 use Rattle.mothra_verdicts.specs.declared.fault.BenchFault.{BenchFault}
 use Rattle.mothra_verdicts.specs.declared.fault.BenchFault.TheVariants as fault
-use Rattle.mothra_bench.specs.declared.gathered.Gathered.{Gathered}
+use Rattle.mothra_bench.specs.declared.results.Results.{Results}
 use Rattle.mothra_verdicts.specs.declared.verdict.Row.{Row}
 use Rattle.mothra_bench.proofs.PassSteps.{take_only}
 use Rattle.mothra_bench.proofs.TakenTickets.{named_taken, takes_none, takes_on, takes_one, takes_stalled}
@@ -106,7 +106,7 @@ rows_more bench keeps old between new rows more most f None None p q = (p.0, add
 rows_more bench keeps old between new rows more most f (Some d) None p q = let y = q.0 in cc
 
 -- two steps of a worker, one after the other
-pub went_on : (bench : BenchFields) (may keeps : Bool) (old between new : View) (h i j : Gathered) → Went bench may keeps old between h i
+pub went_on : (bench : BenchFields) (may keeps : Bool) (old between new : View) (h i j : Results) → Went bench may keeps old between h i
     → Went bench may keeps between new i j → Went bench may keeps old new h j
 went_on bench may keeps old between new h i j p q = record {
   fault = fault_more (IsNoWork may keeps bench.plan old.counts) (IsNoWork may keeps bench.plan between.counts) h.fault i.fault j.fault
@@ -136,7 +136,7 @@ same_rows bench keeps old new rows None e = (refl, adds_none bench keeps old new
 same_rows bench keeps old new rows (Some d) e = tt
 
 -- a step in which nothing was taken
-pub went_idle : (bench : BenchFields) (may keeps : Bool) (old new : View) (h : Gathered) → (keeps ≡ true → OnlyTook old new) → (keeps ≡ true → new.taken ≡ old.taken)
+pub went_idle : (bench : BenchFields) (may keeps : Bool) (old new : View) (h : Results) → (keeps ≡ true → OnlyTook old new) → (keeps ≡ true → new.taken ≡ old.taken)
     → Went bench may keeps old new h h
 went_idle bench may keeps old new h only e = record {
   fault = same_fault (IsNoWork may keeps bench.plan old.counts) h.fault;
@@ -146,7 +146,7 @@ went_idle bench may keeps old new h only e = record {
 }
 
 -- no step at all
-pub went_still : (bench : BenchFields) (may keeps : Bool) (view : View) (h : Gathered) → Went bench may keeps view view h h
+pub went_still : (bench : BenchFields) (may keeps : Bool) (view : View) (h : Results) → Went bench may keeps view view h h
 went_still bench may keeps view h = went_idle bench may keeps view view h (λ k. record { counts = refl; part = refl; offered = refl; closings = refl }) (λ k. refl)
 
 stalled_fault : (may keeps : Bool) (plan : PlanFields) (counts : List ℕ) (f g : Option BenchFault) → may ≡ true
@@ -159,7 +159,7 @@ stalled_rows X None g e = subst (λ o. IfNone o X) (sym e) tt
 stalled_rows X (Some d) g e = subst (λ o. IfNone o X) (sym e) tt
 
 -- a step in which the gate gave up
-pub went_stalled : (bench : BenchFields) (may keeps : Bool) (old new : View) (h i : Gathered) → may ≡ true
+pub went_stalled : (bench : BenchFields) (may keeps : Bool) (old new : View) (h i : Results) → may ≡ true
     → MatchOption h.fault (i.fault ≡ Some fault.Stalled) (λ first. i.fault ≡ Some first) → (keeps ≡ true → OnlyTook old new) → (keeps ≡ true → new.taken ≡ old.taken)
     → Went bench may keeps old new h i
 went_stalled bench may keeps old new h i m e only none = record {
@@ -255,7 +255,7 @@ ran_rows bench keeps C old new op t rows more f None kept h =
     )
 
 -- a step in which a ticket was taken and run
-pub went_one : (bench : BenchFields) (may keeps : Bool) (C : ℕ) (old new : View) (op : Op) (t : Ticket) (h i : Gathered)
+pub went_one : (bench : BenchFields) (may keeps : Bool) (C : ℕ) (old new : View) (op : Op) (t : Ticket) (h i : Results)
     → (keeps ≡ true → TakeKept C old op (Taken t) new)
     → IfNone i.fault ((h.fault ≡ None) × AddsRow bench t h.rows.items i.rows.items)
     → IfSome i.fault (λ e. MatchOption h.fault (IsNoVerdict bench.plan t e) (λ d. e ≡ d)) → Went bench may keeps old new h i
@@ -288,7 +288,7 @@ answered bench may keeps old new empty rows None outcome z s n names out =
 answered bench may keeps old new empty rows (Some e) outcome z s n names out =
     subst (Answers bench may keeps old new) (sym out) (record { verdicts = tt; refused = s; records = λ k. tt; stranger = names })
 
-pub answers : (bench : BenchFields) (may keeps : Bool) (old new : View) (empty : Gathered) (h : Gathered) (outcome : Result (Vec Row Global) BenchFault)
+pub answers : (bench : BenchFields) (may keeps : Bool) (old new : View) (empty : Results) (h : Results) (outcome : Result (Vec Row Global) BenchFault)
     → empty.rows.items ≡ [] → empty.fault ≡ None → Went bench may keeps old new empty h → MatchOption h.fault (outcome ≡ Ok h.rows) (λ e. outcome ≡ Err e)
     → Answers bench may keeps old new outcome
 answers bench may keeps old new empty h outcome z none went out =

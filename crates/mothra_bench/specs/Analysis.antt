@@ -23,7 +23,7 @@ pub record IsReport (bench : BenchFields) (text : List ℕ) : Type 0 where
   pub are : AreEntries bench entries
   pub is : text ≡ report_text bench entries
 
--- the faults for which there is no report: want of memory, or a thread that can not begin
+-- the faults for which there is no report: out of memory, or a thread that can not begin
 abbrev pub IsNoReport : BenchFault → Type 0
 IsNoReport fault.Memory = ⊤
 IsNoReport fault.Thread = ⊤

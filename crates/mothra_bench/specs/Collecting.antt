@@ -81,7 +81,7 @@ pub record AreCollected (bench : BenchFields) (words : List Word) (rows : List R
   pub declared : All (λ entry. IsTrue entry.declared ↔ IsDeclared bench entry.ticket) entries
 
 -- Rule: the score, the report, B7 to B9
--- The faults for which there is no matrix: want of memory; a row that is of no mutant of the
+-- The faults for which there is no matrix: out of memory; a row that is of no mutant of the
 -- plan; else a second row of a mutant; else a mutant that has no row or was not handed out.
 abbrev pub IsNoMatrix : BenchFields → List Word → List Row → BenchFault → Type 0
 IsNoMatrix bench words rows fault.Memory = ⊤

@@ -10,7 +10,7 @@ use Rattle.mothra_exchange.specs.declared.view.View.{View}
 use Rattle.mothra_exchange.specs.declared.word.Word.{Word}
 use Rattle.mothra_ops.specs.Plan.{PlanFields, edits_of}
 use Rattle.mothra_bench.specs.Feeding.{AreCounts}
-use Rattle.mothra_bench.specs.Gathered.{tickets_in}
+use Rattle.mothra_bench.specs.Results.{tickets_in}
 use Rattle.mothra_verdicts.specs.Verdict.{HasMutant}
 use Rattle.mothra_bench.specs.Working.{CountsPlan}
 use Rattle.mothra_verdicts.specs.declared.fault.BenchFault.{BenchFault}
@@ -42,7 +42,7 @@ pub record AreComplete (plan : PlanFields) (words : List Word)
   pub once : (op : Op) (k : ℕ)
       → ticket_times (index op) k tickets ≡ once_up_to (length (edits_of plan op)) k
 
--- The faults for which a drive has no rows: want of memory; a thread that can not begin; a ticket
+-- The faults for which a drive has no rows: out of memory; a thread that can not begin; a ticket
 -- of no mutant of the plan, which a gate that keeps records and has the counts of the plan never
 -- hands out; or that the gate gave up, if it may.
 abbrev pub IsNoDrive : Bool → Bool → PlanFields → List ℕ → BenchFault → Type 0

@@ -2,7 +2,7 @@ pub mod Closing
 pub mod Matrix
 pub mod Collecting
 pub mod Report
-pub mod Gathered
+pub mod Results
 pub mod Working
 pub mod Feeding
 pub mod Driving

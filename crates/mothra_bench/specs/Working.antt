@@ -8,7 +8,7 @@ use Rattle.mothra_exchange.specs.Sharing.{IsOver}
 use Rattle.mothra_codes.specs.Ticket.{ticket_times}
 use Rattle.mothra_ops.specs.Plan.{PlanFields}
 use Rattle.mothra_bench.specs.Feeding.{AreCounts}
-use Rattle.mothra_bench.specs.Gathered.{tickets_in}
+use Rattle.mothra_bench.specs.Results.{tickets_in}
 use Rattle.mothra_verdicts.specs.Verdict.{HasMutant}
 use Rattle.mothra_verdicts.specs.declared.fault.BenchFault.{BenchFault}
 use Rattle.mothra_verdicts.specs.declared.fault.BenchFault.TheVariants as fault
@@ -39,7 +39,7 @@ AreOver view = (op : Op) → IsOver view op
 abbrev pub CountsPlan : Bool → PlanFields → List ℕ → Type 0
 CountsPlan keeps plan counts = (keeps ≡ true) × AreCounts plan counts
 
--- The faults for which a worker has no rows: want of memory; a ticket of no mutant of the plan,
+-- The faults for which a worker has no rows: out of memory; a ticket of no mutant of the plan,
 -- which a gate that keeps records and has the counts of the plan never hands out; or that the gate
 -- gave up, if it may.
 abbrev pub IsNoWork : Bool → Bool → PlanFields → List ℕ → BenchFault → Type 0

@@ -1,7 +1,7 @@
 pub mod Closing
 pub mod RowMap
 pub mod Entries
-pub mod Gathered
+pub mod Results
 pub mod Working
 pub mod Feeding
 pub mod Driving

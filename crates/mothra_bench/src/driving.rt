@@ -13,11 +13,11 @@ ghost use Rattle.mothra_bench.specs.Driving.{AreComplete, AreHandedOnce, EndsWho
 ghost use Rattle.mothra_bench.specs.code.Driving.{Drives, HasShares, IsShare, JoinsPass, KeepsFed, OnlySplit};
 ghost use Rattle.mothra_bench.specs.code.Driving.{answer_of};
 ghost use Rattle.mothra_bench.specs.Feeding.{AreFed, IsReadyPass, IsStalled};
-ghost use Rattle.mothra_bench.specs.Gathered.{AreVerdicts, tickets_in};
+ghost use Rattle.mothra_bench.specs.Results.{AreVerdicts, tickets_in};
 ghost use Rattle.mothra_bench.specs.Working.{AreOver};
 
 use crate::closing::close_each;
-use crate::gathered::Gathered;
+use crate::results::Results;
 use crate::threads::{Feeder, Worker, join_feeder, join_worker, start_feeder, start_worker};
 use mothra_codes::Op;
 use mothra_exchange::{Gate, Tally};
@@ -146,8 +146,9 @@ fn join_started<G: Gate, R: Threads>(
     }
 }
 
-/// Waits for the workers and merges their passes. The result has all rows, or the fault of the first worker that has
-/// one. Want of memory for the list of all rows becomes the drive's own fault, unless it has one.
+/// Waits for the workers and merges their passes. The result has all rows, or the fault of the
+/// first worker that has one. If there is no memory for the list of all rows, that becomes the
+/// drive's own fault, unless it has one.
 fn join_workers<G: Gate, R: Threads>(
     crew: &Crew<'_, G, R>,
     pass: &mut G::Pass,
@@ -174,12 +175,12 @@ where
     ensures memory { IfSome fault.new
         (λ own. MatchOption fault.old (own ≡ BenchFault.Memory) (λ first. own ≡ first)) }
 {
-    let mut gathered = Gathered::new(crew.alloc);
+    let mut results = Results::new(crew.alloc);
     for worker in workers {
         let outcome = join_worker(crew.rt, crew.gate, crew.bench, pass, worker);
-        gathered.add(outcome, fault);
+        results.add(outcome, fault);
     }
-    gathered.outcome()
+    results.outcome()
 }
 
 /// The drive's own fault; else the fault of the first thread that has one, feeders before workers; else all rows.
@@ -217,8 +218,8 @@ where
     let other = start_or_close(scope, crew, &mut pass, crew.back, &mut fault);
     let first = join_started(crew, &mut pass, one);
     let second = join_started(crew, &mut pass, other);
-    let gathered = join_workers(crew, &mut pass, workers, &mut fault);
-    (pass, answer(fault, first, second, gathered))
+    let results = join_workers(crew, &mut pass, workers, &mut fault);
+    (pass, answer(fault, first, second, results))
 }
 
 /// Runs the threads in a scope, which ends after the last of them.

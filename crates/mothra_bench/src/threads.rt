@@ -8,7 +8,7 @@ ghost use Rattle.mothra_exchange.specs.declared.view.View.{View};
 ghost use Rattle.mothra_bench.specs.code.Driving.{IsNewPass, JoinsPass, KeepsFed};
 ghost use Rattle.mothra_bench.specs.Feeding.{AreFed, IsReadyPass, IsStalled};
 ghost use Rattle.mothra_bench.specs.code.Feeding.{Feeds};
-ghost use Rattle.mothra_bench.specs.Gathered.{AreVerdicts, tickets_in};
+ghost use Rattle.mothra_bench.specs.Results.{AreVerdicts, tickets_in};
 ghost use Rattle.mothra_bench.specs.Working.{AreOver, IsNoWork};
 ghost use Rattle.mothra_bench.specs.code.Working.{Works};
 

@@ -3,12 +3,12 @@
 ghost use Rattle.std.specs.Prelude.{◌≡◌, ◌⊎◌, true, false, IfOk, IfErr, IfSome, IsSome};
 ghost use Rattle.mothra_codes.specs.declared.op.Op.{Op as OpModel};
 ghost use Rattle.mothra_verdicts.specs.Bench.{BenchFields};
-ghost use Rattle.mothra_bench.specs.Gathered.{AreVerdicts};
+ghost use Rattle.mothra_bench.specs.Results.{AreVerdicts};
 ghost use Rattle.mothra_bench.specs.Working.{AreOver, IsNoWork, NamesTaken, OnlyTook, TookRows};
 ghost use Rattle.mothra_bench.specs.code.Working.{Went};
 ghost use Rattle.mothra_exchange.specs.Sharing.{IsOver};
 
-use crate::gathered::Gathered;
+use crate::results::Results;
 use crossbeam_utils::Backoff;
 use mothra_codes::Op;
 use mothra_exchange::{Gate, Take};
@@ -48,29 +48,30 @@ fn take_turn<G: Gate, R: Wait>(
     gate: &G,
     pass: &mut G::Pass,
     verdicts: &mut Option<Verdicts<'_>>,
-    gathered: &mut Gathered,
+    results: &mut Results,
     op: Op,
 ) -> Turn
     requires { G.is_pass gate.now pass.old }
     ensures own { G.is_pass gate.now pass.new }
     ensures part { G.needs_parts ≡ true → (G.view pass.new).part ≡ (G.view pass.old).part }
     ensures went { (bench : BenchFields) → IfSome verdicts.old (λ verdicts. verdicts ≡ bench)
-        → Went bench G.may_give_up G.keeps_records (G.view pass.old) (G.view pass.new) gathered.old gathered.new }
+        → Went bench G.may_give_up G.keeps_records
+        (G.view pass.old) (G.view pass.new) results.old results.new }
     ensures over { G.keeps_records ≡ true → result ≡ Turn.Finished
         → IsOver (G.view pass.new) op
         × ((other : OpModel) → IsOver (G.view pass.old) other → IsOver (G.view pass.new) other) }
-    ensures gave_up { result ≡ Turn.GaveUp → (G.may_give_up ≡ true) × IsSome gathered.new.fault }
+    ensures gave_up { result ≡ Turn.GaveUp → (G.may_give_up ≡ true) × IsSome results.new.fault }
     ensures verdicts { verdicts.new ≡ verdicts.old }
 {
     match gate.take(rt, pass, op) {
         Take::Finished => Turn::Finished,
         Take::Empty | Take::Busy => Turn::Idle,
         Take::Taken(ticket) => {
-            gathered.run(alloc, verdicts, ticket);
+            results.run(alloc, verdicts, ticket);
             Turn::Ran
         }
         Take::GaveUp => {
-            gathered.fail(BenchFault::Stalled);
+            results.fail(BenchFault::Stalled);
             Turn::GaveUp
         }
     }
@@ -83,20 +84,21 @@ fn take_round<G: Gate, R: Wait>(
     gate: &G,
     pass: &mut G::Pass,
     verdicts: &mut Option<Verdicts<'_>>,
-    gathered: &mut Gathered,
+    results: &mut Results,
 ) -> Turn
     requires { G.is_pass gate.now pass.old }
     ensures own { G.is_pass gate.now pass.new }
     ensures part { G.needs_parts ≡ true → (G.view pass.new).part ≡ (G.view pass.old).part }
     ensures went { (bench : BenchFields) → IfSome verdicts.old (λ verdicts. verdicts ≡ bench)
-        → Went bench G.may_give_up G.keeps_records (G.view pass.old) (G.view pass.new) gathered.old gathered.new }
+        → Went bench G.may_give_up G.keeps_records
+        (G.view pass.old) (G.view pass.new) results.old results.new }
     ensures over { G.keeps_records ≡ true → result ≡ Turn.Finished → AreOver (G.view pass.new) }
-    ensures gave_up { result ≡ Turn.GaveUp → (G.may_give_up ≡ true) × IsSome gathered.new.fault }
+    ensures gave_up { result ≡ Turn.GaveUp → (G.may_give_up ≡ true) × IsSome results.new.fault }
     ensures verdicts { verdicts.new ≡ verdicts.old }
 {
     let mut round = Turn::Finished;
     for op in Op::ALL {
-        let turn = take_turn(rt, alloc, gate, pass, verdicts, gathered, op);
+        let turn = take_turn(rt, alloc, gate, pass, verdicts, results, op);
         if turn == Turn::GaveUp {
             return Turn::GaveUp;
         }
@@ -129,11 +131,11 @@ pub fn work<G: Gate, R: Wait>(
     ensures stays { G.keeps_records ≡ true → G.may_give_up ≡ false → AreOver (G.view result.0) }
 {
     let mut verdicts = Verdicts::of(alloc, bench).ok();
-    let mut gathered = Gathered::new(alloc);
+    let mut results = Results::new(alloc);
     let backoff = Backoff::new();
     for _ in rt.forever() {
-        match take_round(rt, alloc, gate, &mut pass, &mut verdicts, &mut gathered) {
-            Turn::Finished | Turn::GaveUp => return (pass, gathered.outcome()),
+        match take_round(rt, alloc, gate, &mut pass, &mut verdicts, &mut results) {
+            Turn::Finished | Turn::GaveUp => return (pass, results.outcome()),
             Turn::Ran => backoff.reset(),
             Turn::Idle => backoff.snooze(),
         }

@@ -173,8 +173,8 @@ exchanges {S} c C counts slots id me op old first second part loaded may is beco
     let v = me.0 in
     let l = lives counts v part (h.lives id v at) in
     let n = slice_index s.words i in
-    let told : ℕ → Me S View → Type 0 = λ found new. Wins c (step slots i first second none) me op old found new ⊎ Loses (step slots i first second none) me found new in
-    exchanged n first second (λ x. (u : View) × (a : Act S) × Valid s.homes me.1 a × HoldsRule C counts (stepped s i x id me.1 u a) × told n (u, carried_after me.1 a))
+    let outcome : ℕ → Me S View → Type 0 = λ found new. Wins c (step slots i first second none) me op old found new ⊎ Loses (step slots i first second none) me found new in
+    exchanged n first second (λ x. (u : View) × (a : Act S) × Valid s.homes me.1 a × HoldsRule C counts (stepped s i x id me.1 u a) × outcome n (u, carried_after me.1 a))
     (λ hit.
     let same : w ≡ old = pack-injective w old (fits C w was.2.bounds) (fits C old loaded.bounds) (sym was.1 ∙ hit ∙ is) in
     let rule : OpRule C i (slice_index counts i) old s.views = subst (λ (x : Word). OpRule C i (slice_index counts i) x s.views) same was.2 in (

@@ -10,7 +10,7 @@ abbrev pub AllCountsFit : List ℕ → Type 0
 AllCountsFit counts = (i : ℕ) → i < 22 → slice_index counts i ≤ largest_count
 
 -- the fault for these counts: that of the first operator whose count
--- is too large; want of memory only where all counts fit
+-- is too large; out of memory only where all counts fit
 abbrev pub IsFaultOfCounts : List ℕ → ExchangeFault → Type 0
 IsFaultOfCounts counts Memory = AllCountsFit counts
 IsFaultOfCounts counts (CountTooLarge op) = (largest_count < slice_index counts (index op))

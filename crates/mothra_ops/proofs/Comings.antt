@@ -123,8 +123,8 @@ come_to_end l program s past come = record {
 
 -- a fault for which there is no list, where the operator and q are named by equal terms
 pub no_list_of : (op other : Op) (program : List LineFields) (q r : ℕ) (fault : OpsFault) → other ≡ op → r ≡ q → IsNoList other program r fault → IsNoList op program q fault
-no_list_of op other program q r fault same every told =
-    subst (λ (o : Op). IsNoList o program q fault) same (subst (λ (n : ℕ). IsNoList other program n fault) every told)
+no_list_of op other program q r fault same every none =
+    subst (λ (o : Op). IsNoList o program q fault) same (subst (λ (n : ℕ). IsNoList other program n fault) every none)
 
 pub no_list : (op : Op) (program : List LineFields) (q : ℕ) (fault : OpsFault) → (fault ≡ Memory) ⊎ ((fault ≡ TooMany op) × IsTooLong op program q) → IsNoList op program q fault
 no_list op program q fault (inl e) = subst (IsNoList op program q) (sym e) tt

@@ -1,4 +1,4 @@
--- What stands in copies of statements when nodes were exchanged.
+-- What stands in copies of statements when nodes were swapped.
 use Rattle.std.proofs.Common.{◌≡◌, ◌<◌, ◌≤◌, ◌-◌, ◌∙◌, ℕ, zero, suc, List, [], ◌∷◌, Some, Option, get_or, length, map, set, refl, sym, ap, arith}
 use Rattle.std.specs.Prelude.{◌⊎◌, slice_get, slice_set, option_map}
 use Rattle.std.specs.Option.{option_map_or}
@@ -40,7 +40,7 @@ put_there statements (suc k) position node s at =
     ∙ ap (λ (j : ℕ). slice_get (slice_set statements j (changed s position node)) k) e
     ∙ set_there statements k (changed s position node) s at
 
--- what was exchanged and is put back
+-- an item that was replaced and is put back
 set_back : {X : Type 0} (xs : List X) (k : ℕ) (x y : X) → slice_get xs k ≡ Some y → slice_set (slice_set xs k x) k y ≡ xs
 set_back [] k x y at = refl
 set_back (first ∷ rest) zero x y at = ap (λ y. y ∷ rest) (sym (same_Some first y at))

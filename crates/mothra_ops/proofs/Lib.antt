@@ -12,7 +12,7 @@ mod NodeLists
 mod Applied
 mod Plans
 mod Numbered
-mod GivenMakes
+mod CandidateMakes
 mod Shapes
 mod MadeFits
 mod MadeBy

@@ -56,28 +56,28 @@ line_has lines k line low is =
     ∙ ap (option_map (λ (l : LineFields). l.stmt)) (slice_get-map line_of lines k ∙ ap (option_map line_of) (slice_get_read lines (length lines) k line refl low is))
 
 -- what an operator gives, where it and the pools are named by equal terms
-module _ (op other : Op) (pools wanted : PoolFields) (s : Statement) (node : NodeOf) (replacements : List Replacement) (same : other ≡ op) (drawn : pools ≡ wanted)
-    (given : map replacement_of replacements ≡ gives op pools s node) where
-  pub the_given : gives other wanted s node ≡ map replacement_of replacements
-  the_given = ap (λ (o : Op). gives o wanted s node) same ∙ ap (λ (p : PoolFields). gives op p s node) (sym drawn) ∙ sym given
+module _ (op other : Op) (pools expected : PoolFields) (s : Statement) (node : NodeOf) (replacements : List Replacement) (same : other ≡ op) (drawn : pools ≡ expected)
+    (are_candidates : map replacement_of replacements ≡ gives op pools s node) where
+  pub the_candidates : gives other expected s node ≡ map replacement_of replacements
+  the_candidates = ap (λ (o : Op). gives o expected s node) same ∙ ap (λ (p : PoolFields). gives op p s node) (sym drawn) ∙ sym are_candidates
 
-  pub given_many : length (gives other wanted s node) ≡ length replacements
-  given_many = ap length the_given ∙ length-map replacements replacement_of
+  pub candidate_count : length (gives other expected s node) ≡ length replacements
+  candidate_count = ap length the_candidates ∙ length-map replacements replacement_of
 
 -- what an operator gives with a rank, where the replacements before that rank may have changed
-pub left_next : (op other : Op) (pools wanted : PoolFields) (s : Statement) (node : NodeOf) (replacements : List Replacement) (k : ℕ) (new : Replacement)
-    → other ≡ op → pools ≡ wanted → drop k (map replacement_of replacements) ≡ drop k (gives op pools s node) → k < length replacements → new ≡ get_or replacements k new
-    → numbered (gives other wanted s node) (k + 1) ≡ Some (replacement_of new)
-left_next op other pools wanted s node replacements k new same drawn left low is =
-    ap (λ (o : Op). numbered (gives o wanted s node) (k + 1)) same ∙ ap (λ (p : PoolFields). numbered (gives op p s node) (k + 1)) (sym drawn)
+pub left_next : (op other : Op) (pools expected : PoolFields) (s : Statement) (node : NodeOf) (replacements : List Replacement) (k : ℕ) (new : Replacement)
+    → other ≡ op → pools ≡ expected → drop k (map replacement_of replacements) ≡ drop k (gives op pools s node) → k < length replacements → new ≡ get_or replacements k new
+    → numbered (gives other expected s node) (k + 1) ≡ Some (replacement_of new)
+left_next op other pools expected s node replacements k new same drawn left low is =
+    ap (λ (o : Op). numbered (gives o expected s node) (k + 1)) same ∙ ap (λ (p : PoolFields). numbered (gives op p s node) (k + 1)) (sym drawn)
     ∙ sym (numbered_behind (map replacement_of replacements) (gives op pools s node) k left (k + 1) (omega arith)) ∙ next_numbered replacements k new low is
 
-pub left_more : (given : List NodeOf) (replacements : List Replacement) (k : ℕ) (new : Replacement) → drop k (map replacement_of replacements) ≡ drop k given
-    → drop (k + 1) (map replacement_of (set replacements k new)) ≡ drop (k + 1) given
-left_more given replacements k new left =
+pub left_more : (candidates : List NodeOf) (replacements : List Replacement) (k : ℕ) (new : Replacement) → drop k (map replacement_of replacements) ≡ drop k candidates
+    → drop (k + 1) (map replacement_of (set replacements k new)) ≡ drop (k + 1) candidates
+left_more candidates replacements k new left =
     let after : k < k + 1 = omega arith in
     ap (drop (k + 1)) (map-set replacement_of replacements k new) ∙ drop-set-lt (k + 1) (map replacement_of replacements) k (replacement_of new) after
-    ∙ sym (drop-drop 1 k (map replacement_of replacements)) ∙ ap (drop 1) left ∙ drop-drop 1 k given
+    ∙ sym (drop-drop 1 k (map replacement_of replacements)) ∙ ap (drop 1) left ∙ drop-drop 1 k candidates
 
 -- an edit makes nothing where the statement has no such node, or the operator gives nothing with the rank
 module _ (pools : PoolFields) (lines : List Line) (edit : Edit) (line : Line) (at : line_at lines edit.statement ≡ Some line) where

@@ -53,6 +53,6 @@ module _ (checked : CheckedFields) (edit : Edit) (node : NodeOf) (line : Line) (
             ap (λ (t : Statement). changed t edit.position (replacement_of kept)) (same_Some _ _ (sym there ∙ has)) ∙ by ∙ ap statement_of (sym same);
         counted = counted;
         mutant = subst (λ (x : Stmt). IsMutant (map line_of checked.program) edit.statement (statement_of x)) (sym same) mutant;
-        alone = λ told.
-            subst (λ (x : Stmt). StandsAlone checked.names (map line_of checked.program) (edit.statement - 1) (statement_of x)) (sym same) (alone told);
+        alone = λ yes.
+            subst (λ (x : Stmt). StandsAlone checked.names (map line_of checked.program) (edit.statement - 1) (statement_of x)) (sym same) (alone yes);
       }

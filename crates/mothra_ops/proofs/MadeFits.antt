@@ -24,7 +24,7 @@ use Rattle.mothra_ops.specs.Edits.{IsMember, MakesLegal, made, numbered}
 use Rattle.mothra_replacements.specs.Pools.{PoolFields, pools_of}
 use Rattle.mothra_replacements.specs.Replacements.{is_replaceable_action, acts_or_continues, gives, in_statements, replacements, stands_in}
 use Rattle.mothra_ops.specs.declared.edit.Edit.{Edit}
-use Rattle.mothra_replacements.proofs.FormedGiven.{IsFit, chosen, gives_fit}
+use Rattle.mothra_replacements.proofs.FormedCandidates.{IsFit, chosen, gives_fit}
 use Rattle.mothra_replacements.proofs.FormedNodes.{IsFormedLine, IsFormedNode, lines_formed, nodes_formed}
 use Rattle.mothra_replacements.proofs.FormedPools.{pools_formed}
 use Rattle.mothra_replacements.proofs.FormedSites.{behind_put}
@@ -84,10 +84,10 @@ MayReplace old new = (statement_formed is_symbolic new ≡ true) × (group_of ne
 
 may_replace : (pools : PoolFields) (op : Op) (s : Statement) (position rank : ℕ) (site : Site Statement) (new : NodeOf) → statement_formed is_symbolic s ≡ true
     → IsFit new → slice_get (sites s) position ≡ Some site → numbered (gives op pools s site.0) rank ≡ Some new → MayReplace s (site.1 new)
-may_replace pools op s zero rank site new f fit at given =
+may_replace pools op s zero rank site new f fit at candidate =
     subst (λ (x : Site Statement). numbered (gives op pools s x.0) rank ≡ Some new → MayReplace s (x.1 new)) (same_Some _ _ at)
-    (λ whole. (whole_formed s new fit f, at_number (IsOfGroup s) (gives op pools s (NodeOf.Itself s)) rank new (gives_of_group pools s op) whole)) given
-may_replace pools op s (suc p) rank site new f fit at given =
+    (λ whole. (whole_formed s new fit f, at_number (IsOfGroup s) (gives op pools s (NodeOf.Itself s)) rank new (gives_of_group pools s op) whole)) candidate
+may_replace pools op s (suc p) rank site new f fit at candidate =
     let kept = at_place (λ (x : Site Statement). (statement_formed is_symbolic (x.1 new) ≡ true) × (form_of (x.1 new) ≡ form_of s)) (sites_behind s) p site
     (behind_put new fit s f) at in
     (kept.0, ap form_group kept.1)
@@ -100,8 +100,8 @@ module _ (program : List LineFields) (is : IsProgram None program) (legal : IsLe
       let s = k.line.stmt in
       let formed = at_number IsFormedLine program edit.statement k.line (lines_formed program is) k.of_line in
       let node = at_place IsFormedNode (nodes_of s) edit.position k.site.0 (nodes_formed s formed) (node_there s edit.position k.site k.of_site) in
-      let given = gives_fit (pools_of program) (pools_formed program is legal) edit.op s k.site.0 node in
-      let fit = at_number IsFit (gives edit.op (pools_of program) s k.site.0) edit.rank k.new given k.of_new in
+      let all_fit = gives_fit (pools_of program) (pools_formed program is legal) edit.op s k.site.0 node in
+      let fit = at_number IsFit (gives edit.op (pools_of program) s k.site.0) edit.rank k.new all_fit k.of_new in
       let may : MayReplace s statement =
       subst (MayReplace s) k.is (may_replace (pools_of program) edit.op s edit.position edit.rank k.site k.new formed fit k.of_site k.of_new) in
       let place = counted program edit.statement k.line k.of_line in

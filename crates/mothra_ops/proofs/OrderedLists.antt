@@ -8,7 +8,7 @@ use Rattle.mothra_ops.specs.Edits.{BeforeEdit, Lists}
 not_before_itself : (e : Edit) → ¬ (BeforeEdit e e)
 not_before_itself e (inl less) = absurd (omega (arith, less))
 not_before_itself e (inr (same, inl less)) = absurd (omega (arith, less))
-not_before_itself e (inr (same, inr (alike, less))) = absurd (omega (arith, less))
+not_before_itself e (inr (same, inr (equal, less))) = absurd (omega (arith, less))
 
 not_both : (a b : Edit) → BeforeEdit a b → ¬ (BeforeEdit b a)
 not_both a b (inl h) (inl g) = absurd (omega (arith, h, g))

@@ -224,12 +224,12 @@ too_long_next ops program every count lists op other at has asked less =
 
 pub no_plan : (ops : List Op) (program : List LineFields) (every count : ℕ) (lists : List Listing) (op : Op) (fault : OpsFault) → index op ≡ count
     → HasLists ops program every count lists → Contains ops op → IsNoList op program every fault → IsNoPlan ops program every fault
-no_plan ops program every count lists op Memory at has asked told = tt
-no_plan ops program every count lists op NotASite at has asked told = told
-no_plan ops program every count lists op (TooMany other) at has asked told = record {
-  asked = subst (Contains ops) (sym told.0) asked;
-  long = subst (λ (o : Op). IsTooLong o program every) (sym told.0) told.1;
-  others = λ third third_asked less. too_long_next ops program every count lists other third (ap index told.0 ∙ at) has third_asked less;
+no_plan ops program every count lists op Memory at has asked refused = tt
+no_plan ops program every count lists op NotASite at has asked refused = refused
+no_plan ops program every count lists op (TooMany other) at has asked refused = record {
+  asked = subst (Contains ops) (sym refused.0) asked;
+  long = subst (λ (o : Op). IsTooLong o program every) (sym refused.0) refused.1;
+  others = λ third third_asked less. too_long_next ops program every count lists other third (ap index refused.0 ∙ at) has third_asked less;
 }
 
 -- the plan that is made of the lists
@@ -269,10 +269,10 @@ counted_list ops program every lists op has one =
     (sym (find_fields op lists) ∙ ap (option_map list_fields) one.1)
     (subst (λ (o : Op). IsCountedList o program every (edits_in one.0) one.0.whole) one.2.own one.2.holds.counted)
 
-alike : (a b : Bool) → (a ≡ true → b ≡ true) → (b ≡ true → a ≡ true) → a ≡ b
-alike true b forth back = sym (forth refl)
-alike false true forth back = absurd (true≢false (sym (back refl)))
-alike false false forth back = refl
+equivalent : (a b : Bool) → (a ≡ true → b ≡ true) → (b ≡ true → a ≡ true) → a ≡ b
+equivalent true b forth back = sym (forth refl)
+equivalent false true forth back = absurd (true≢false (sym (back refl)))
+equivalent false false forth back = refl
 
 operators_of : (ops : List Op) (checked : CheckedFields) (every : ℕ) (lists : List Listing)
     → HasLists ops (map line_of checked.program) every 22 lists
@@ -289,7 +289,7 @@ operators_of ops checked every lists has = ops_of lists ∙ has.operators ∙ ap
     ops_of (list ∷ some) = ap (λ (os : List Op). list.op ∷ os) (ops_of some)
 
     same : (op : Op) → is_named ops op ≡ asked (plan_fields checked every lists) op
-    same op = alike (is_named ops op) (asked (plan_fields checked every lists) op)
+    same op = equivalent (is_named ops op) (asked (plan_fields checked every lists) op)
         (λ e. is_asked ops program every lists has op (is_one ops op e)) (λ e. named ops op (was_asked ops program every lists has op e))
 
 pub is_plan : (ops : List Op) (checked : CheckedFields) (every : ℕ) (lists : List Listing) → 1 ≤ every

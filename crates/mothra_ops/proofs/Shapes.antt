@@ -16,8 +16,8 @@ use Rattle.f77_program.specs.declared.group.Group.{Group}
 use Rattle.f77_program.specs.declared.group.Group.TheVariants.{Subroutine, Declaration}
 use Rattle.f77_tree.specs.declared.tree.Kind.TheVariants.{Integer}
 use Rattle.f77_legal.specs.Heading.{dummies_of, dummies}
-use Rattle.f77_legal.specs.Names.{Symbol, Mention, Plain, name_in, mentions_of, mentions, kind_in, bounds_in, some_items, first_item_or}
-use Rattle.f77_legal.specs.Presets.{product}
+use Rattle.f77_legal.specs.Names.{Symbol, NameUse, Plain, name_in, uses_of, uses, kind_in, bounds_in, some_items, first_item_or}
+use Rattle.f77_legal.specs.InitialValues.{product}
 use Rattle.f77_check.specs.Checked.{CheckedFields, shapes}
 use Rattle.f77_tree.specs.Sites.{Site, sites}
 use Rattle.mothra_codes.specs.declared.op.Op.{Op}
@@ -37,11 +37,11 @@ is_quiet Subroutine = false
 is_quiet Declaration = false
 is_quiet _ = true
 
-quiet_mentions : (s : Statement) → is_quiet (group_of s) ≡ true → mentions_of s ≡ map Plain (names_of s)
-quiet_mentions (Statement.Subroutine name names) quiet = absurd (true≢false (sym quiet))
-quiet_mentions (Statement.Declare kind declarations) quiet = absurd (true≢false (sym quiet))
-quiet_mentions (Statement.Dimension declarations) quiet = absurd (true≢false (sym quiet))
-quiet_mentions _ quiet = refl
+quiet_uses : (s : Statement) → is_quiet (group_of s) ≡ true → uses_of s ≡ map Plain (names_of s)
+quiet_uses (Statement.Subroutine name names) quiet = absurd (true≢false (sym quiet))
+quiet_uses (Statement.Declare kind declarations) quiet = absurd (true≢false (sym quiet))
+quiet_uses (Statement.Dimension declarations) quiet = absurd (true≢false (sym quiet))
+quiet_uses _ quiet = refl
 
 quiet_dummies : (s : Statement) → is_quiet (group_of s) ≡ true → dummies_of s ≡ []
 quiet_dummies (Statement.Subroutine name names) quiet = absurd (true≢false (sym quiet))
@@ -54,15 +54,15 @@ dummies_replaced (first ∷ lines) zero line s at old new =
     quiet_dummies s new ∙ sym (quiet_dummies line.stmt old) ∙ ap (λ (l : LineFields). dummies_of l.stmt) (sym (same_Some first line at))
 dummies_replaced (first ∷ lines) (suc i) line s at old new = refl
 
--- what the mentions of a name give, where a name that is only used gives nothing
-module _ {Y : Type 0} (give : Mention → Option Y) (plain : (name : Symbol) → give (Plain name) ≡ None) (name : Symbol) where
-  abbrev given_in : List Mention → List Y
-  given_in all = filter_map give (filter (λ mention. bytes_eq name (name_in mention)) all)
+-- what the uses of a name give, where a plain use gives nothing
+module _ {Y : Type 0} (give : NameUse → Option Y) (plain : (name : Symbol) → give (Plain name) ≡ None) (name : Symbol) where
+  abbrev given_in : List NameUse → List Y
+  given_in all = filter_map give (filter (λ name_use. bytes_eq name (name_in name_use)) all)
 
-  given-append : (one other : List Mention) → given_in (one ++ other) ≡ given_in one ++ given_in other
+  given-append : (one other : List NameUse) → given_in (one ++ other) ≡ given_in one ++ given_in other
   given-append one other =
-      ap (filter_map give) (filter-append (λ mention. bytes_eq name (name_in mention)) one other)
-      ∙ filter_map-append give (filter (λ mention. bytes_eq name (name_in mention)) one) (filter (λ mention. bytes_eq name (name_in mention)) other)
+      ap (filter_map give) (filter-append (λ name_use. bytes_eq name (name_in name_use)) one other)
+      ∙ filter_map-append give (filter (λ name_use. bytes_eq name (name_in name_use)) one) (filter (λ name_use. bytes_eq name (name_in name_use)) other)
 
   none_given : (names : List Symbol) → given_in (map Plain names) ≡ []
   none_given [] = refl
@@ -72,21 +72,21 @@ module _ {Y : Type 0} (give : Mention → Option Y) (plain : (name : Symbol) →
       by true same rest = rw (same, plain other) rest
       by false same rest = rw same rest
 
-  quiet_gives : (s : Statement) → is_quiet (group_of s) ≡ true → given_in (mentions_of s) ≡ []
-  quiet_gives s quiet = ap given_in (quiet_mentions s quiet) ∙ none_given (names_of s)
+  quiet_gives : (s : Statement) → is_quiet (group_of s) ≡ true → given_in (uses_of s) ≡ []
+  quiet_gives s quiet = ap given_in (quiet_uses s quiet) ∙ none_given (names_of s)
 
   given_replaced : (p : List LineFields) (i : ℕ) (line : LineFields) (s : Statement) → slice_get p i ≡ Some line → is_quiet (group_of line.stmt) ≡ true
-      → is_quiet (group_of s) ≡ true → given_in (mentions (replaced p i s)) ≡ given_in (mentions p)
+      → is_quiet (group_of s) ≡ true → given_in (uses (replaced p i s)) ≡ given_in (uses p)
   given_replaced [] i line s at old new = refl
   given_replaced (first ∷ lines) zero line s at old new =
-      let before : given_in (mentions_of first.stmt) ≡ [] = ap (λ (l : LineFields). given_in (mentions_of l.stmt)) (same_Some first line at) ∙ quiet_gives line.stmt old in
-      given-append (mentions_of s) (mentions lines)
-      ∙ ap (λ ys. ys ++ given_in (mentions lines)) (quiet_gives s new ∙ sym before)
-      ∙ sym (given-append (mentions_of first.stmt) (mentions lines))
+      let before : given_in (uses_of first.stmt) ≡ [] = ap (λ (l : LineFields). given_in (uses_of l.stmt)) (same_Some first line at) ∙ quiet_gives line.stmt old in
+      given-append (uses_of s) (uses lines)
+      ∙ ap (λ ys. ys ++ given_in (uses lines)) (quiet_gives s new ∙ sym before)
+      ∙ sym (given-append (uses_of first.stmt) (uses lines))
   given_replaced (first ∷ lines) (suc i) line s at old new =
-      given-append (mentions_of first.stmt) (mentions (replaced lines i s))
-      ∙ ap (λ ys. given_in (mentions_of first.stmt) ++ ys) (given_replaced lines i line s at old new)
-      ∙ sym (given-append (mentions_of first.stmt) (mentions lines))
+      given-append (uses_of first.stmt) (uses (replaced lines i s))
+      ∙ ap (λ ys. given_in (uses_of first.stmt) ++ ys) (given_replaced lines i line s at old new)
+      ∙ sym (given-append (uses_of first.stmt) (uses lines))
 
 shapes_replaced : (p : List LineFields) (i : ℕ) (line : LineFields) (s : Statement) → slice_get p i ≡ Some line → is_quiet (group_of line.stmt) ≡ true
     → is_quiet (group_of s) ≡ true → shapes (replaced p i s) ≡ shapes p
@@ -130,15 +130,15 @@ site_quiet Glr s stands = jump_quiet s stands
 site_quiet _ s stands = executable_quiet s stands
 
 -- an operator that gives something has a site there
-sites_given : (op : Op) (pools : PoolFields) (s : Statement) (node new : NodeOf) (rank : ℕ) → numbered (gives op pools s node) rank ≡ Some new
+candidate_stands : (op : Op) (pools : PoolFields) (s : Statement) (node new : NodeOf) (rank : ℕ) → numbered (gives op pools s node) rank ≡ Some new
     → stands_in op s ≡ true
-sites_given op pools s node new rank given = by (stands_in op s) refl
+candidate_stands op pools s node new rank candidate = by (stands_in op s) refl
   where
     by : (b : Bool) → stands_in op s ≡ b → stands_in op s ≡ true
     by true stands = stands
     by false not_there =
         absurd (none-some new (sym (nothing_numbered rank)
-        ∙ ap (λ b. numbered (cond b (replacements op pools node) []) rank) (sym not_there) ∙ given))
+        ∙ ap (λ b. numbered (cond b (replacements op pools node) []) rank) (sym not_there) ∙ candidate))
 
 -- the statement that an edit changes is one in which its operator has sites
 module _ (program : List LineFields) (edit : Edit) (statement : Statement) (makes : made (pools_of program) program edit ≡ Some statement) where
@@ -148,7 +148,7 @@ module _ (program : List LineFields) (edit : Edit) (statement : Statement) (make
       (λ there of_there h. option_and_then_some (at_site there.stmt) (slice_get (sites there.stmt) edit.position) statement h
       (λ site of_site h. option_and_then_some (λ node. Some (site.1 node)) (numbered (gives edit.op (pools_of program) there.stmt site.0) edit.rank) statement h
       (λ new of_new h.
-      let quiet = site_quiet edit.op there.stmt (sites_given edit.op (pools_of program) there.stmt site.0 new edit.rank of_new) in
+      let quiet = site_quiet edit.op there.stmt (candidate_stands edit.op (pools_of program) there.stmt site.0 new edit.rank of_new) in
       subst (λ (l : LineFields). is_quiet (group_of l.stmt) ≡ true) (same_Some there line (sym of_there ∙ of_line)) quiet)))
     where
       at_site : Statement → Site Statement → Option Statement

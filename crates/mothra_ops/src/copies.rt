@@ -46,9 +46,9 @@ impl Copies {
         }
     }
 
-    /// Exchanges this node with the one at this position of the copy of the statement of this number, from 1, if both
-    /// are of one sort. It takes no memory.
-    pub fn exchange(&mut self, number: usize, position: usize, node: &mut Replacement)
+    /// Swaps this node with the one at this position of the copy of the statement of this number,
+    /// from 1, if both are of one sort. It takes no memory.
+    pub fn swap(&mut self, number: usize, position: usize, node: &mut Replacement)
         requires { position + 1 < 2 ^ 64 }
         ensures put { copied self.new ≡ changed_at (copied self.old) number position (replacement_of node.old) }
         ensures back { copied self.old ≡ changed_at (copied self.new) number position (replacement_of node.new) }
@@ -56,6 +56,6 @@ impl Copies {
         if number == 0 || number > self.stmts.len() {
             return;
         }
-        f77_tree::exchange(&mut self.stmts[number - 1], position, node);
+        f77_tree::swap_node(&mut self.stmts[number - 1], position, node);
     }
 }

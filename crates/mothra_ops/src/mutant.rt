@@ -13,7 +13,7 @@ use crate::edit::Edit;
 use crate::plan::Plan;
 use f77_check::Checked;
 use f77_program::{SyntaxFault, print_stmt};
-use f77_tree::{Replacement, Stmt, exchange};
+use f77_tree::{Replacement, Stmt, swap_node};
 use mothra_codes::Op;
 use mothra_replacements::OpsFault;
 use std::alloc::{AllocError, Global};
@@ -71,7 +71,7 @@ impl Mutant {
         };
         let mut stmt = line.stmt.clone()?;
         let mut node = self.node()?;
-        exchange(&mut stmt, self.edit.position, &mut node);
+        swap_node(&mut stmt, self.edit.position, &mut node);
         Ok(stmt)
     }
 }

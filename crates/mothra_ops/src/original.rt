@@ -36,7 +36,7 @@ impl<'a> Original<'a> {
     ghost use Rattle.mothra_ops.specs.Edits.{IsMutant, made};
     ghost use Rattle.mothra_ops.specs.Copies.{copied, statements_in};
     ghost use Rattle.mothra_ops.specs.Made.{IsMadeMutant};
-    ghost use Rattle.mothra_ops.specs.code.Original.{HasStatement, given_at};
+    ghost use Rattle.mothra_ops.specs.code.Original.{HasStatement, candidates_at};
     ghost use Rattle.mothra_ops.specs.code.Drawn.{IsOriginal, lines_of};
     ghost use Rattle.mothra_replacements.specs.Pools.{pools_of};
     ghost use Rattle.mothra_replacements.specs.Pools.{pool_fields};
@@ -74,11 +74,13 @@ impl<'a> Original<'a> {
         requires old { HasStatement (lines_of self.now) number (statement_of old.now) }
         requires fits { Fits (lines_of self.now) number (statement_of made.now) }
         ensures mutant { IfOk result
-            (λ told. IfSome told (λ _. IsMutant (lines_of self.now) number (statement_of made.now))) }
-        ensures alone { IfOk result (λ told. IfSome told (λ is_alone. is_alone ≡ true
+            (λ answer. IfSome answer
+            (λ _. IsMutant (lines_of self.now) number (statement_of made.now))) }
+        ensures alone { IfOk result (λ answer. IfSome answer (λ is_alone. is_alone ≡ true
             → StandsAlone self.now.checked.now.names (lines_of self.now) (number - 1) (statement_of made.now))) }
         ensures none { IfOk result
-            (λ told. IfNone told (¬ (IsMutant (lines_of self.now) number (statement_of made.now)))) }
+            (λ answer. IfNone answer
+            (¬ (IsMutant (lines_of self.now) number (statement_of made.now)))) }
         ensures memory { IfErr result (λ fault. fault ≡ Memory) }
     {
         if made == old {
@@ -115,14 +117,14 @@ impl<'a> Original<'a> {
         let Some(line) = self.checked.program().line(edit.statement) else {
             return Ok(None);
         };
-        copies.exchange(edit.statement, edit.position, node);
+        copies.swap(edit.statement, edit.position, node);
         let Some(made) = copies.get(edit.statement) else {
             unreachable!()
         };
         let stmt = Snapshot::of(made);
         // That what an operator makes may stand there is `law::legal_members`.
         let judged = self.judged(edit.statement, &line.stmt, made);
-        copies.exchange(edit.statement, edit.position, node);
+        copies.swap(edit.statement, edit.position, node);
         match judged? {
             Some(is_alone) => Ok(Some(Mutant {
                 edit,
@@ -136,10 +138,14 @@ impl<'a> Original<'a> {
 
     /// What the edit's operator puts in the place of the edit's node, in the order of the ranks. The list is empty if
     /// there is no such node.
-    pub(crate) fn given(&self, alloc: Global, edit: &Edit) -> Result<Vec<Replacement>, OpsFault>
+    pub(crate) fn candidates(
+        &self,
+        alloc: Global,
+        edit: &Edit,
+    ) -> Result<Vec<Replacement>, OpsFault>
         ensures list { IfOk result (λ list. map replacement_of list.items
-            ≡ given_at (pool_fields self.now.pools) (lines_of self.now) edit.now.op edit.now.statement
-            edit.now.position) }
+            ≡ candidates_at (pool_fields self.now.pools) (lines_of self.now) edit.now.op
+            edit.now.statement edit.now.position) }
         ensures counted { IfOk result (λ list. 0 < length list.items → edit.now.position + 1 < 2 ^ 64) }
         ensures memory { IfErr result (λ fault. fault ≡ Memory) }
     {
@@ -166,10 +172,10 @@ impl<'a> Original<'a> {
         ensures own { IfOk result (λ found. IfSome found (IsMadeMutant self.now.checked.now)) }
         ensures memory { IfErr result (λ fault. fault ≡ Memory) }
     {
-        let mut given = self.given(alloc, edit)?;
-        if edit.rank == 0 || edit.rank > given.len() {
+        let mut candidates = self.candidates(alloc, edit)?;
+        if edit.rank == 0 || edit.rank > candidates.len() {
             return Ok(None);
         }
-        self.mutant_by(*edit, &mut given[edit.rank - 1], copies)
+        self.mutant_by(*edit, &mut candidates[edit.rank - 1], copies)
     }
 }

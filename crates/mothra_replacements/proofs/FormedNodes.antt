@@ -21,7 +21,7 @@ use Rattle.f77_program.specs.declared.group.Group.{Group}
 use Rattle.f77_program.proofs.Back.{reference_formed}
 use Rattle.f77_program.proofs.StatementForming.{is_symbolic_formed}
 use Rattle.f77_legal.specs.Legal.{IsLegal}
-use Rattle.f77_legal.specs.Names.{Symbol, Mention, bounds_given, dummies_given, is_twice, kinds_given, mentions, mentions_of, name_in, names_unit, symbols}
+use Rattle.f77_legal.specs.Names.{Symbol, NameUse, bounds_given, dummies_given, is_twice, kinds_given, uses, uses_of, name_in, names_unit, symbols}
 use Rattle.f77_legal.proofs.Among.{all_once}
 use Rattle.f77_legal.proofs.Rules.{keeps_every_rule}
 use Rattle.f77_legal.proofs.Symbols.{or_false}
@@ -186,21 +186,21 @@ nodes_named (node ∷ nodes) all = by node (All-head IsFormedNode node nodes all
     by (NodeOf.Labelled label) f rest = rest
     by (NodeOf.Initial value) f rest = rest
 
--- what a statement mentions is named
-abbrev Mentions : Mention → Type 0
-Mentions mention = is_symbolic (name_in mention) ≡ true
+-- what a statement uses is named
+abbrev UsesName : NameUse → Type 0
+UsesName name_use = is_symbolic (name_in name_use) ≡ true
 
-plain_named : (s : Statement) → statement_formed is_symbolic s ≡ true → All Mentions (map Mention.Plain (names_of s))
-plain_named s f = All-map Mentions Mention.Plain (names_of s) (nodes_named (nodes_of s) (nodes_formed s f))
+plain_named : (s : Statement) → statement_formed is_symbolic s ≡ true → All UsesName (map NameUse.Plain (names_of s))
+plain_named s f = All-map UsesName NameUse.Plain (names_of s) (nodes_named (nodes_of s) (nodes_formed s f))
 
-mentions_named : (s : Statement) → statement_formed is_symbolic s ≡ true → All Mentions (mentions_of s)
-mentions_named (Statement.Subroutine name names) f =
-    All-map Mentions Mention.Dummy names (each_passes is_symbolic names (and_true (is_symbolic name) (list_all is_symbolic names) f).1)
-mentions_named (Statement.Declare kind ds) f = All-map Mentions (Mention.Typed kind) ds (each_passes (is_decl is_symbolic) ds (each_of_some (is_decl is_symbolic) ds f))
-mentions_named (Statement.Dimension ds) f =
-    All-map Mentions Mention.Dimensioned ds
+uses_named : (s : Statement) → statement_formed is_symbolic s ≡ true → All UsesName (uses_of s)
+uses_named (Statement.Subroutine name names) f =
+    All-map UsesName NameUse.Dummy names (each_passes is_symbolic names (and_true (is_symbolic name) (list_all is_symbolic names) f).1)
+uses_named (Statement.Declare kind ds) f = All-map UsesName (NameUse.Typed kind) ds (each_passes (is_decl is_symbolic) ds (each_of_some (is_decl is_symbolic) ds f))
+uses_named (Statement.Dimension ds) f =
+    All-map UsesName NameUse.Dimensioned ds
     (each_passes (is_decl is_symbolic) ds (each_of_some (is_decl is_symbolic) ds (and_true (declaration_formed is_symbolic ds) (all_bounded ds) f).0))
-mentions_named s f = plain_named s f
+uses_named s f = plain_named s f
 
 -- the lines of a program
 abbrev pub IsFormedLine : LineFields → Type 0
@@ -211,15 +211,15 @@ lines_formed _ IsProgram.finished = All-nil IsFormedLine
 lines_formed _ (IsProgram.next {line = line} {lines = lines} may rest) =
     All-cons IsFormedLine line lines (is_symbolic_formed line.stmt may.1) (lines_formed lines rest)
 
-all_mentions : (program : List LineFields) → All IsFormedLine program → All Mentions (mentions program)
-all_mentions [] all = All-nil Mentions
-all_mentions (line ∷ lines) all =
-    All-append Mentions (mentions_of line.stmt) (mentions lines) (mentions_named line.stmt (All-head IsFormedLine line lines all))
-    (all_mentions lines (All-tail IsFormedLine line lines all))
+all_uses : (program : List LineFields) → All IsFormedLine program → All UsesName (uses program)
+all_uses [] all = All-nil UsesName
+all_uses (line ∷ lines) all =
+    All-append UsesName (uses_of line.stmt) (uses lines) (uses_named line.stmt (All-head IsFormedLine line lines all))
+    (all_uses lines (All-tail IsFormedLine line lines all))
 
 pub symbols_named : (program : List LineFields) → All IsFormedLine program → All IsNamed (symbols program)
 symbols_named program all =
-    all_once IsNamed (map name_in (mentions program)) (All-map IsNamed name_in (mentions program) (all_mentions program all))
+    all_once IsNamed (map name_in (uses program)) (All-map IsNamed name_in (uses program) (all_uses program all))
 
 -- no name of a legal program is that of a function
 abbrev pub IsNoFunction : Symbol → Type 0
@@ -236,5 +236,5 @@ symbols_no_functions program legal = All-weaker (λ name. is_twice program name 
   where
     once : (name : Symbol) → is_twice program name ≡ false → IsNoFunction name
     once name e =
-        last_of_five (nat_le 2 (length (kinds_given (mentions program) name))) (nat_le 2 (length (bounds_given (mentions program) name)))
-        (nat_le 2 (length (dummies_given (mentions program) name))) (names_unit program name) (is_some (function_named name)) e
+        last_of_five (nat_le 2 (length (kinds_given (uses program) name))) (nat_le 2 (length (bounds_given (uses program) name)))
+        (nat_le 2 (length (dummies_given (uses program) name))) (names_unit program name) (is_some (function_named name)) e

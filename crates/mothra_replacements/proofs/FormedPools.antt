@@ -15,7 +15,7 @@ use Rattle.f77_program.specs.code.Formed.{all_formed, formed, statement_formed}
 use Rattle.f77_program.specs.Program.{IsProgram, LineFields}
 use Rattle.f77_program.proofs.Forming.{a_reference}
 use Rattle.f77_legal.specs.Legal.{IsLegal, is_array}
-use Rattle.f77_legal.specs.Names.{Symbol, Mention, mentions, mentions_of, name_in, symbols}
+use Rattle.f77_legal.specs.Names.{Symbol, NameUse, uses, uses_of, name_in, symbols}
 use Rattle.f77_legal.proofs.Among.{once_all}
 use Rattle.mothra_replacements.specs.Pools.{PoolFields, Reference, array_reference, as_tree, constant, each_once, executable_nodes, pools_of, same_reference, scalar}
 use Rattle.mothra_replacements.proofs.FormedNodes.{IsFormedLine, IsFormedNode, IsFormedTree, IsNamed, IsNoFunction, both_parts, lines_formed, nodes_formed, symbols_named, symbols_no_functions}
@@ -87,14 +87,14 @@ own_each (node ∷ nodes) formed names =
     All-cons IsOwn node nodes (All-head IsFormedNode node nodes formed, named.0)
     (own_each nodes (All-tail IsFormedNode node nodes formed) named.1)
 
-plain_names : (names : List Symbol) → map name_in (map Mention.Plain names) ≡ names
+plain_names : (names : List Symbol) → map name_in (map NameUse.Plain names) ≡ names
 plain_names [] = refl
 plain_names (name ∷ names) = ap (λ (ns : List Symbol). name ∷ ns) (plain_names names)
 
-own_executed : (s : Statement) → statement_formed is_symbolic s ≡ true → All IsNoFunction (map name_in (map Mention.Plain (names_of s))) → All IsOwn (nodes_of s)
+own_executed : (s : Statement) → statement_formed is_symbolic s ≡ true → All IsNoFunction (map name_in (map NameUse.Plain (names_of s))) → All IsOwn (nodes_of s)
 own_executed s f names = own_each (nodes_of s) (nodes_formed s f) (All-same IsNoFunction (names_of s) _ (sym (plain_names (names_of s))) names)
 
-own_of : (s : Statement) → statement_formed is_symbolic s ≡ true → All IsNoFunction (map name_in (mentions_of s))
+own_of : (s : Statement) → statement_formed is_symbolic s ≡ true → All IsNoFunction (map name_in (uses_of s))
     → All IsOwn (if is_executable_statement s then nodes_of s else [])
 own_of (Statement.Subroutine name arguments) f names = All-nil IsOwn
 own_of (Statement.Declare kind ds) f names = All-nil IsOwn
@@ -102,11 +102,11 @@ own_of (Statement.Dimension ds) f names = All-nil IsOwn
 own_of (Statement.Preset gs) f names = All-nil IsOwn
 own_of s f names = own_executed s f names
 
-own_nodes : (program : List LineFields) → All IsFormedLine program → All IsNoFunction (map name_in (mentions program)) → All IsOwn (executable_nodes program)
+own_nodes : (program : List LineFields) → All IsFormedLine program → All IsNoFunction (map name_in (uses program)) → All IsOwn (executable_nodes program)
 own_nodes [] formed names = All-nil IsOwn
 own_nodes (line ∷ lines) formed names =
-    let parts = both_parts IsNoFunction (map name_in (mentions_of line.stmt)) (map name_in (mentions lines))
-    (All-same IsNoFunction _ (map name_in (mentions (line ∷ lines))) (sym (map-append name_in (mentions_of line.stmt) (mentions lines))) names) in
+    let parts = both_parts IsNoFunction (map name_in (uses_of line.stmt)) (map name_in (uses lines))
+    (All-same IsNoFunction _ (map name_in (uses (line ∷ lines))) (sym (map-append name_in (uses_of line.stmt) (uses lines))) names) in
     All-append IsOwn (if is_executable_statement line.stmt then nodes_of line.stmt else []) (executable_nodes lines)
     (own_of line.stmt (All-head IsFormedLine line lines formed) parts.0)
     (own_nodes lines (All-tail IsFormedLine line lines formed) parts.1)
@@ -121,6 +121,6 @@ pools_formed program is legal =
       scalars = All-filter (λ name. not (is_array program name)) IsNamed (symbols program) named;
       arrays = All-filter (is_array program) (λ name. IsNamed name × IsNoFunction name) (symbols program) (λ k d low. (named k d low, others k d low));
       references = all_each_once IsFormedReference same_reference (filter_map array_reference nodes)
-          (references_formed nodes (own_nodes program lines (once_all IsNoFunction (map name_in (mentions program)) others)));
+          (references_formed nodes (own_nodes program lines (once_all IsNoFunction (map name_in (uses program)) others)));
       constants = all_each_once IsFormedTree same_tree (filter_map constant nodes) (constants_formed nodes);
     }

@@ -8,4 +8,4 @@ pub mod InPlaces
 pub mod FormedNodes
 pub mod FormedSites
 pub mod FormedPools
-pub mod FormedGiven
+pub mod FormedCandidates

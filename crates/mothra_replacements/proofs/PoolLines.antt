@@ -11,7 +11,7 @@ use Rattle.f77_tree.specs.Tree.{Tree}
 use Rattle.f77_tree.specs.declared.tree.Kind.{Kind}
 use Rattle.f77_legal.specs.Labels.{labels}
 use Rattle.f77_legal.specs.Legal.{is_array}
-use Rattle.f77_legal.specs.Names.{Symbol, mentions, symbols, some_items}
+use Rattle.f77_legal.specs.Names.{Symbol, uses, symbols, some_items}
 use Rattle.f77_legal.specs.NameTable.{FactsFields, IsNameTable, facts_fields, facts_of, kind_at, array_bounds}
 use Rattle.f77_legal.specs.declared.names.Names.{Names}
 use Rattle.f77_legal.proofs.Lookups.{same_kinds, same_bounds}
@@ -24,7 +24,7 @@ keys_rows f (name ∷ names) = ap (λ z. name ∷ z) (keys_rows f names)
 
 keys_are : (names : Names) (program : List LineFields) → IsNameTable names program → keys names.facts ≡ symbols program
 keys_are names program is =
-    sym (keys_of-map_values facts_fields names.facts.entries) ∙ (ap keys_of is ∙ keys_rows (facts_of (mentions program)) (symbols program))
+    sym (keys_of-map_values facts_fields names.facts.entries) ∙ (ap keys_of is ∙ keys_rows (facts_of (uses program)) (symbols program))
 
 abbrev drawn_from : (Symbol → Kind) → (Symbol → List ℕ) → List Symbol → List Symbol → List Reference → List Tree → List ℕ → PoolFields
 drawn_from kinds bounds scalars arrays references constants ordered = record {

@@ -11,7 +11,7 @@ use Rattle.mothra_replacements.specs.Pools.{each_once}
 module _ {X : Type 0} (same : X → X → Bool) (laws : IsEquivalence same) where
   -- an item that is the same as q differs from x where q does
   other_than : (q x k : X) → same q x ≡ false → same q k ≡ true → not (same x k) ≡ true
-  other_than q x k apart alike = ap not (laws.symm x k ∙ (sym (laws.congr q k x alike) ∙ apart))
+  other_than q x k apart equal = ap not (laws.symm x k ∙ (sym (laws.congr q k x equal) ∙ apart))
 
   abbrev without : X → List X → List X
   without x xs = filter (λ other. not (same x other)) xs

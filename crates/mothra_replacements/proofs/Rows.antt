@@ -124,7 +124,7 @@ rsr = refl
 sdl : replacements Sdl pools (NodeOf.Itself (Statement.Goto 10)) ≡ NodeOf.Itself Statement.Continue ∷ []
 sdl = refl
 
--- ROR exchanges the relational operators, and all of them
+-- ROR replaces the relational operators, and all of them
 relational : (op : Operator) → is_in relations op ≡ is_relation op
 relational operator.Less = refl
 relational _ = refl

@@ -122,14 +122,15 @@ abbrev pub is_in : List Operator → Operator → Bool
 is_in group op = list_any (λ o. same_operator o op) group
 
 -- the other operators of the same group, in the order of the group
-abbrev pub exchanged : List Operator → Operator → Tree → Tree → List Tree
-exchanged group op a b = map (λ o. Tree.Binary o a b) (filter (λ o. not (same_operator o op)) group)
+abbrev pub other_operations : List Operator → Operator → Tree → Tree → List Tree
+other_operations group op a b =
+    map (λ o. Tree.Binary o a b) (filter (λ o. not (same_operator o op)) group)
 
 -- AOR, LCR and ROR: the operation with each other operator of its group,
 -- then what `more` gives
 abbrev pub with_group : List Operator → (Tree → Tree → List Tree) → Tree → List Tree
 with_group group more (Tree.Binary op a b) =
-    if is_in group op then exchanged group op a b ++ more a b else []
+    if is_in group op then other_operations group op a b ++ more a b else []
 with_group group more _ = []
 
 -- each operand alone

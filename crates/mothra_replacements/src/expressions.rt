@@ -7,7 +7,7 @@ ghost use Rattle.f77_tree.specs.View.{tree_of};
 ghost use Rattle.f77_tree.specs.declared.operator.Sign.TheVariants.{Minus};
 ghost use Rattle.f77_legal.specs.NameTable.{kind_at};
 ghost use Rattle.mothra_replacements.specs.Replacements as model;
-ghost use Rattle.mothra_replacements.specs.Replacements.{exchanged, operands, truths};
+ghost use Rattle.mothra_replacements.specs.Replacements.{other_operations, operands, truths};
 ghost use Rattle.mothra_replacements.specs.declared.fault.OpsFault.TheVariants.{Memory};
 
 use crate::fault::OpsFault;
@@ -75,7 +75,7 @@ fn is_another(operator: Operator, other: Operator) -> bool
 }
 
 /// The operation with each other operator of the group, in the order of the group.
-fn exchanged(
+fn other_operations(
     alloc: Global,
     group: &[Operator],
     operator: Operator,
@@ -83,7 +83,8 @@ fn exchanged(
     right: &Expr,
 ) -> Result<Vec<Expr>, OpsFault>
     ensures list { IfOk result
-        (λ list. map tree_of list.items ≡ exchanged group.now operator (tree_of left.now) (tree_of right.now)) }
+        (λ list. map tree_of list.items
+        ≡ other_operations group.now operator (tree_of left.now) (tree_of right.now)) }
     ensures memory { IfErr result (λ fault. fault ≡ Memory) }
 {
     let mut list = Vec::new(alloc);
@@ -124,7 +125,7 @@ pub(crate) fn arithmetic(alloc: Global, expr: &Expr) -> Result<Vec<Expr>, OpsFau
 {
     match expr {
         Expr::Binary(operator, left, right) if ARITHMETIC.contains(operator) => {
-            let mut list = exchanged(alloc, ARITHMETIC, *operator, left, right)?;
+            let mut list = other_operations(alloc, ARITHMETIC, *operator, left, right)?;
             add_operands(&mut list, left, right)?;
             Ok(list)
         }
@@ -140,7 +141,7 @@ pub(crate) fn relational(alloc: Global, expr: &Expr) -> Result<Vec<Expr>, OpsFau
 {
     match expr {
         Expr::Binary(operator, left, right) if RELATIONS.contains(operator) => {
-            let mut list = exchanged(alloc, RELATIONS, *operator, left, right)?;
+            let mut list = other_operations(alloc, RELATIONS, *operator, left, right)?;
             add_truths(&mut list)?;
             Ok(list)
         }
@@ -156,7 +157,7 @@ pub(crate) fn logical(alloc: Global, expr: &Expr) -> Result<Vec<Expr>, OpsFault>
 {
     match expr {
         Expr::Binary(operator, left, right) if CONNECTORS.contains(operator) => {
-            let mut list = exchanged(alloc, CONNECTORS, *operator, left, right)?;
+            let mut list = other_operations(alloc, CONNECTORS, *operator, left, right)?;
             add_operands(&mut list, left, right)?;
             add_truths(&mut list)?;
             Ok(list)

@@ -1,4 +1,4 @@
-//! Why a list of edits, or the program that an edit makes, can not be given.
+//! Why a list of edits, or the program that an edit makes, can not be returned.
 
 ghost use Rattle.std.specs.Prelude.{◌≡◌};
 ghost use Rattle.f77_legal.specs.declared.fault.CheckFault.TheVariants as check;
@@ -39,8 +39,8 @@ impl<T: Drop> From<AllocFailed<T>> for OpsFault {
     }
 }
 
-/// Want of memory in a check, as a fault of the operators. A caller shows that no other fault of the check can come,
-/// so that none is reported as another.
+/// Out of memory in a check, as a fault of the operators. A caller shows that no other fault of the
+/// check can come, so that none is reported as another.
 pub fn memory_fault(found: CheckFault) -> OpsFault
     requires { found ≡ check.Memory }
     ensures { result ≡ fault.Memory }

@@ -47,7 +47,7 @@ fn stands_in(op: Op, stmt: &Stmt) -> bool
 }
 
 /// The new statement, or nothing where it equals the old one.
-fn exchanged(alloc: Global, new: Stmt, stmt: &Stmt) -> Result<Vec<Replacement>, OpsFault>
+fn replaced_by(alloc: Global, new: Stmt, stmt: &Stmt) -> Result<Vec<Replacement>, OpsFault>
     ensures list { IfOk result (λ list. map replacement_of list.items
         ≡ (if not (same_statement (statement_of new) (statement_of stmt.now))
         then NodeOf.Itself (statement_of new) ∷ [] else [])) }
@@ -68,9 +68,9 @@ fn in_statement(alloc: Global, op: Op, stmt: &Stmt) -> Result<Vec<Replacement>, 
 {
     let form = stmt.form();
     match op {
-        Op::Rsr if acts_or_continues(form) => exchanged(alloc, Stmt::Return, stmt),
-        Op::San if acts_or_continues(form) => exchanged(alloc, Stmt::Trap, stmt),
-        Op::Sdl if acts(form) => exchanged(alloc, Stmt::Continue, stmt),
+        Op::Rsr if acts_or_continues(form) => replaced_by(alloc, Stmt::Return, stmt),
+        Op::San if acts_or_continues(form) => replaced_by(alloc, Stmt::Trap, stmt),
+        Op::Sdl if acts(form) => replaced_by(alloc, Stmt::Continue, stmt),
         _ => Ok(Vec::new(alloc)),
     }
 }

@@ -68,8 +68,8 @@ at_place entries i d within = get_or_default entries i d (get_or entries i d) wi
 pub noted_more : (plan : PlanFields) (entries keys more : List Ticket) (i : ℕ) (d : Ticket) (noted : Noted) → i < length entries
     → AreNoted plan (take i entries) keys → IsNoted plan keys (get_or entries i d) noted → noted ≡ Fine → AddsTicket keys (get_or entries i d) more
     → (get_or entries i d).number < 2 ^ 32 → AreNoted plan (take (i + 1) entries) more
-noted_more plan entries keys more i d noted within are told is adds small =
-    let fine : IsNoted plan keys (get_or entries i d) Fine = subst (λ (n : Noted). IsNoted plan keys (get_or entries i d) n) is told in
+noted_more plan entries keys more i d noted within are found is adds small =
+    let fine : IsNoted plan keys (get_or entries i d) Fine = subst (λ (n : Noted). IsNoted plan keys (get_or entries i d) n) is found in
     subst (λ (taken : List Ticket). AreNoted plan taken more) (sym (next_taken entries i (get_or entries i d) within (at_place entries i d within)))
     (record {
       fine = fine_more plan (take i entries) (get_or entries i d) are.fine fine.0 (λ of has. fine.1 of ((are.named.same (get_or entries i d)).1 has));
@@ -82,20 +82,20 @@ noted_all plan entries keys i end are = subst (λ (taken : List Ticket). AreNote
 -- the first entry that is not fine
 pub unknown : (plan : PlanFields) (entries keys : List Ticket) (i : ℕ) (d : Ticket) (noted : Noted) → i < length entries
     → AreNoted plan (take i entries) keys → IsNoted plan keys (get_or entries i d) noted → noted ≡ Unknown → IsUnknownEntry plan entries (i + 1)
-unknown plan entries keys i d noted within are told is = record {
+unknown plan entries keys i d noted within are found is = record {
   before = take i entries;
   entry = get_or entries i d;
   after = drop (i + 1) entries;
   cut = cut_at entries i (get_or entries i d) within (at_place entries i d within);
   number = ap (λ n. n + 1) (sym (length-take-le i entries (omega (arith, within))));
   fine = are.fine;
-  unknown = subst (λ (n : Noted). IsNoted plan keys (get_or entries i d) n) is told;
+  unknown = subst (λ (n : Noted). IsNoted plan keys (get_or entries i d) n) is found;
 }
 
 pub twice : (plan : PlanFields) (entries keys : List Ticket) (i : ℕ) (d : Ticket) (noted : Noted) → i < length entries
     → AreNoted plan (take i entries) keys → IsNoted plan keys (get_or entries i d) noted → noted ≡ Twice → IsEntryTwice plan entries (i + 1)
-twice plan entries keys i d noted within are told is =
-    let again : IsNoted plan keys (get_or entries i d) Twice = subst (λ (n : Noted). IsNoted plan keys (get_or entries i d) n) is told in
+twice plan entries keys i d noted within are found is =
+    let again : IsNoted plan keys (get_or entries i d) Twice = subst (λ (n : Noted). IsNoted plan keys (get_or entries i d) n) is found in
     record {
       before = take i entries;
       entry = get_or entries i d;

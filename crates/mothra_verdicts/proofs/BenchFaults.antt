@@ -16,13 +16,13 @@ use Rattle.mothra_verdicts.proofs.BenchTests.{ends_all}
 pub entry_fault : (plan : PlanFields) (tests : List (List Arg)) (steps : ℕ) (declared : List Ticket) (outcomes : List Outcome) (why : BenchFault)
     → All (FitsProgram (program_of plan)) tests → AreOutcomes (program_of plan) steps tests outcomes → All IsProgramEnd outcomes → IsNoEntry plan declared why
     → IsNoBench plan tests steps declared why
-entry_fault plan tests steps declared outcomes fault.Memory fits are end told = tt
-entry_fault plan tests steps declared outcomes (fault.EquivalentUnknown n) fits are end told = (fits, ends_all (program_of plan) steps tests outcomes are end, told)
-entry_fault plan tests steps declared outcomes (fault.EquivalentTwice n) fits are end told = (fits, ends_all (program_of plan) steps tests outcomes are end, told)
-entry_fault plan tests steps declared outcomes fault.Thread fits are end told = absurd told
-entry_fault plan tests steps declared outcomes (fault.TestShape n) fits are end told = absurd told
-entry_fault plan tests steps declared outcomes (fault.OriginalFails n) fits are end told = absurd told
-entry_fault plan tests steps declared outcomes (fault.Double t) fits are end told = absurd told
-entry_fault plan tests steps declared outcomes (fault.Stranger t) fits are end told = absurd told
-entry_fault plan tests steps declared outcomes (fault.Missing t) fits are end told = absurd told
-entry_fault plan tests steps declared outcomes fault.Stalled fits are end told = absurd told
+entry_fault plan tests steps declared outcomes fault.Memory fits are end found = tt
+entry_fault plan tests steps declared outcomes (fault.EquivalentUnknown n) fits are end found = (fits, ends_all (program_of plan) steps tests outcomes are end, found)
+entry_fault plan tests steps declared outcomes (fault.EquivalentTwice n) fits are end found = (fits, ends_all (program_of plan) steps tests outcomes are end, found)
+entry_fault plan tests steps declared outcomes fault.Thread fits are end found = absurd found
+entry_fault plan tests steps declared outcomes (fault.TestShape n) fits are end found = absurd found
+entry_fault plan tests steps declared outcomes (fault.OriginalFails n) fits are end found = absurd found
+entry_fault plan tests steps declared outcomes (fault.Double t) fits are end found = absurd found
+entry_fault plan tests steps declared outcomes (fault.Stranger t) fits are end found = absurd found
+entry_fault plan tests steps declared outcomes (fault.Missing t) fits are end found = absurd found
+entry_fault plan tests steps declared outcomes fault.Stalled fits are end found = absurd found

@@ -13,7 +13,7 @@ use Rattle.f77_meaning.specs.declared.argument.Arg.{Arg}
 use Rattle.f77_meaning.specs.declared.outcome.Outcome.{Outcome}
 use Rattle.f77_run.specs.declared.visits.Visits.{Visits}
 use Rattle.mothra_verdicts.specs.Bench.{IsProgramEnd, AreOutcomes, EndsOn, IsFirstNot}
-use Rattle.mothra_verdicts.specs.code.Running.{AreCourses}
+use Rattle.mothra_verdicts.specs.code.Running.{AreTraces}
 
 -- a list, cut at an item
 pub cut_at : {X : Type 0} (xs : List X) (i : ℕ) (x : X) → i < length xs → x ≡ get_or xs i x → xs ≡ take i xs ++ x ∷ drop (i + 1) xs
@@ -47,12 +47,12 @@ pub none_left : {X : Type 0} (P : X → Type 0) (xs : List X) (i : ℕ) → leng
 none_left P xs i end hold = subst (All P) (take_all i xs end) hold
 
 -- the runs of a program on one test more
-pub course_more : (checked : CheckedFields) (steps : ℕ) (tests : List (List Arg)) (outcomes : List Outcome) (visits : List Visits) (i : ℕ) (test : List Arg)
-    (outcome : Outcome) (noted : Visits) → i < length tests → test ≡ get_or tests i test → AreCourses checked steps (take i tests) outcomes visits
+pub trace_more : (checked : CheckedFields) (steps : ℕ) (tests : List (List Arg)) (outcomes : List Outcome) (visits : List Visits) (i : ℕ) (test : List Arg)
+    (outcome : Outcome) (noted : Visits) → i < length tests → test ≡ get_or tests i test → AreTraces checked steps (take i tests) outcomes visits
     → IsOutcomeOf (map line_of checked.program) test steps outcome → IsProgramEnd outcome → IsFollowed checked test steps noted
-    → AreCourses checked steps (take (i + 1) tests) (outcomes ++ outcome ∷ []) (visits ++ noted ∷ [])
-course_more checked steps tests outcomes visits i test outcome noted within is are one end follows =
-    subst (λ (taken : List (List Arg)). AreCourses checked steps taken (outcomes ++ outcome ∷ []) (visits ++ noted ∷ []))
+    → AreTraces checked steps (take (i + 1) tests) (outcomes ++ outcome ∷ []) (visits ++ noted ∷ [])
+trace_more checked steps tests outcomes visits i test outcome noted within is are one end follows =
+    subst (λ (taken : List (List Arg)). AreTraces checked steps taken (outcomes ++ outcome ∷ []) (visits ++ noted ∷ []))
     (sym (next_taken tests i test within is))
     (record {
       outcomes = all_zipped_more (λ arguments outcome. IsOutcomeOf (map line_of checked.program) arguments steps outcome) (take i tests) outcomes test outcome are.outcomes one;
@@ -60,10 +60,10 @@ course_more checked steps tests outcomes visits i test outcome noted within is a
       visits = all_zipped_more (λ arguments visits. IsFollowed checked arguments steps visits) (take i tests) visits test noted are.visits follows;
     })
 
-pub courses_all : (checked : CheckedFields) (steps : ℕ) (tests : List (List Arg)) (outcomes : List Outcome) (visits : List Visits) (i : ℕ) → length tests ≤ i
-    → AreCourses checked steps (take i tests) outcomes visits → AreCourses checked steps tests outcomes visits
-courses_all checked steps tests outcomes visits i end are =
-    subst (λ (taken : List (List Arg)). AreCourses checked steps taken outcomes visits) (take_all i tests end) are
+pub traces_all : (checked : CheckedFields) (steps : ℕ) (tests : List (List Arg)) (outcomes : List Outcome) (visits : List Visits) (i : ℕ) → length tests ≤ i
+    → AreTraces checked steps (take i tests) outcomes visits → AreTraces checked steps tests outcomes visits
+traces_all checked steps tests outcomes visits i end are =
+    subst (λ (taken : List (List Arg)). AreTraces checked steps taken outcomes visits) (take_all i tests end) are
 
 -- the arguments of a test fit where those of all tests do
 pub test_fits : (shapes : List Shape) (tests : List (List Arg)) (i : ℕ) (test : List Arg) → i < length tests → test ≡ get_or tests i test

@@ -4,6 +4,6 @@ mod BenchSets
 mod BenchFaults
 pub mod Kills
 mod KillsInTurn
-mod Wants
+mod OutOfMemory
 mod Items
 pub mod Crossings

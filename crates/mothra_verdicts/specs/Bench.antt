@@ -104,7 +104,7 @@ pub record IsEntryTwice (plan : PlanFields) (entries : List Ticket) (n : ℕ) : 
   pub twice : Contains before entry
 
 -- Rule: a kill, a verdict, B3 to B6
--- The faults for which there is no bench: want of memory; the first test that does not fit; else
+-- The faults for which there is no bench: out of memory; the first test that does not fit; else
 -- the first test on which the program does not end; else the first entry that is not fine.
 abbrev pub IsNoBench : PlanFields → List (List Arg) → ℕ → List Ticket → BenchFault → Type 0
 IsNoBench plan tests steps declared fault.Memory = ⊤

@@ -1,5 +1,5 @@
 -- What is kept of the runs of the program on the tests, so that a
--- mutant is run from where it parts from the program.
+-- mutant is run from where it diverges from the program.
 use Rattle.std.specs.Prelude.{ℕ, List}
 use Rattle.std.specs.List.{AllZip}
 use Rattle.f77_check.specs.Checked.{CheckedFields}

@@ -64,7 +64,7 @@ pub record IsItemVerdict (bench : BenchFields) (ticket : Ticket) (kills : List B
   pub alone : IsAlone (program_of bench.plan) (mutated (program_of bench.plan) mutant)
       bench.steps bench.tests kills
 
--- the faults for which there is no verdict: want of memory, or B8 where the plan has no such mutant
+-- the faults for which there is no verdict: out of memory, or B8 where the plan has no such mutant
 abbrev pub IsNoVerdict : PlanFields → Ticket → BenchFault → Type 0
 IsNoVerdict plan ticket fault.Memory = ⊤
 IsNoVerdict plan ticket (fault.Stranger other) = (other ≡ ticket) × ¬ (HasMutant plan ticket)

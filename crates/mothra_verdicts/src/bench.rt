@@ -15,7 +15,7 @@ ghost use Rattle.mothra_ops.specs.Mutants as numbers;
 
 use crate::equivalents::named_by;
 use crate::fault::BenchFault;
-use crate::running::{courses_on, first_misfit};
+use crate::running::{first_misfit, traces_on};
 use f77_meaning::{Arg, Outcome, Values};
 use f77_run::Visits;
 use indexmap::IndexSet;
@@ -27,8 +27,8 @@ use std::marker::Model;
 /// A plan, the tests on which its mutants are run, the limit on
 /// steps of each run, and the mutants that are declared equivalent.
 ///
-/// It keeps the outcome of the program itself on each test, and where control came on the way:
-/// so a mutant is run from where it parts from the program, and not at all where it does not part.
+/// It keeps the outcome of the program itself on each test, and where control came on the way: so a
+/// mutant is run from where it diverges from the program, and not at all where it does not diverge.
 #[derive(Drop)]
 pub struct Bench {
     plan: Plan,
@@ -99,14 +99,14 @@ impl Bench {
         if let Some(test) = first_misfit(&plan, tests.as_slice()) {
             return Err(BenchFault::TestShape(test));
         }
-        let courses = courses_on(alloc, &plan, tests.as_slice(), steps)?;
+        let traces = traces_on(alloc, &plan, tests.as_slice(), steps)?;
         let named = named_by(alloc, &plan, declared.as_slice())?;
         Ok(Bench {
             plan,
             tests,
             steps,
-            outcomes: Values::new(courses.outcomes),
-            visits: courses.visits,
+            outcomes: Values::new(traces.outcomes),
+            visits: traces.visits,
             declared,
             named,
         })

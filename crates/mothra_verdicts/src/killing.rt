@@ -12,13 +12,14 @@ ghost use Rattle.mothra_verdicts.specs.declared.fault.BenchFault.TheVariants.{Me
 
 use crate::bench::Bench;
 use crate::fault::BenchFault;
-use crate::want;
+use crate::out_of_memory;
 use f77_check::Checked;
 use f77_meaning::Values;
 use f77_run::{ChangedRunner, Runner};
 use std::alloc::Global;
 
-/// Whether the test with this number, from 0, kills the mutant, which is run from where it parts from the program.
+/// Whether the test with this number, from 0, kills the mutant, which is run from where it diverges
+/// from the program.
 fn kill(bench: &Bench, mutant: &mut ChangedRunner<'_>, test: usize) -> Result<bool, BenchFault>
     requires within { test < length bench.now.tests }
     requires program { mutant.old.checked ≡ bench.now.plan.checked }
@@ -32,7 +33,7 @@ fn kill(bench: &Bench, mutant: &mut ChangedRunner<'_>, test: usize) -> Result<bo
     let outcome = &bench.outcomes()[test];
     match mutant.comes_to(visits, arguments, bench.steps(), outcome) {
         Ok(same) => Ok(!same),
-        Err(fault) => Err(want::of_run(fault)),
+        Err(fault) => Err(out_of_memory::of_run(fault)),
     }
 }
 
@@ -67,7 +68,7 @@ fn kill_from_start(bench: &Bench, mutant: &mut Runner<'_>, test: usize) -> Resul
     let arguments = bench.tests()[test].as_slice();
     match mutant.comes_to(arguments, bench.steps(), &bench.outcomes()[test]) {
         Ok(same) => Ok(!same),
-        Err(fault) => Err(want::of_run(fault)),
+        Err(fault) => Err(out_of_memory::of_run(fault)),
     }
 }
 
@@ -102,6 +103,6 @@ pub(crate) fn kills_from_start(
 {
     match Runner::of(alloc, mutant) {
         Ok(mut runner) => kills_in_turn(alloc, bench, &mut runner),
-        Err(fault) => Err(want::of_run(fault)),
+        Err(fault) => Err(out_of_memory::of_run(fault)),
     }
 }

@@ -7,9 +7,9 @@ mod equivalents;
 mod fault;
 mod killing;
 pub mod law;
+mod out_of_memory;
 mod running;
 mod verdict;
-mod want;
 
 pub use bench::Bench;
 pub use fault::BenchFault;

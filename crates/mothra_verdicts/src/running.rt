@@ -6,15 +6,15 @@ ghost use Rattle.f77_check.specs.Checked.{shapes};
 ghost use Rattle.f77_meaning.specs.Interpreter.{IsOutcomeOf, refusal};
 ghost use Rattle.f77_run.specs.Visits.{IsFollowed};
 ghost use Rattle.mothra_verdicts.specs.Bench.{FitsProgram, IsProgramEnd, EndsOn, IsFirstNot};
-ghost use Rattle.mothra_verdicts.specs.code.Running.{AreCourses, IsNoRun};
+ghost use Rattle.mothra_verdicts.specs.code.Running.{AreTraces, IsNoRun};
 ghost use Rattle.mothra_verdicts.specs.declared.fault.BenchFault.TheVariants.{Memory};
 ghost use Rattle.mothra_ops.specs.Mutants.{program_of};
 
 use crate::fault::BenchFault;
-use crate::want;
+use crate::out_of_memory;
 use f77_check::Shape;
 use f77_meaning::{Arg, Outcome, RunFault, Values};
-use f77_run::{Course, Runner, Visits, fit};
+use f77_run::{Runner, Trace, Visits, fit};
 use mothra_ops::Plan;
 use std::alloc::Global;
 
@@ -73,86 +73,88 @@ fn is_end(outcome: &Outcome) -> bool
 }
 
 /// The run of the program on a test: its outcome and where control came. None where it neither returns nor stops.
-fn course_on(
+fn trace_on(
     alloc: Global,
     original: &mut Runner<'_>,
     test: &Values<Arg>,
     steps: u32,
     room: &mut usize,
-) -> Result<Option<Course>, BenchFault>
+) -> Result<Option<Trace>, BenchFault>
     requires { refusal original.old.arguments test.now ≡ None }
     ensures program { original.new ≡ original.old }
-    ensures outcome { IfOk result (λ course. IfSome course
-        (λ course. IsOutcomeOf (map line_of original.old.program) test.now steps course.outcome)) }
-    ensures end { IfOk result (λ course. IfSome course (λ course. IsProgramEnd course.outcome)) }
+    ensures outcome { IfOk result (λ trace. IfSome trace
+        (λ trace. IsOutcomeOf (map line_of original.old.program) test.now steps trace.outcome)) }
+    ensures end { IfOk result (λ trace. IfSome trace (λ trace. IsProgramEnd trace.outcome)) }
     ensures visits { IfOk result
-        (λ course. IfSome course (λ course. IsFollowed original.old test.now steps course.visits)) }
+        (λ trace. IfSome trace (λ trace. IsFollowed original.old test.now steps trace.visits)) }
     ensures fails { IfOk result
-        (λ course. IfNone course (¬ (EndsOn (map line_of original.old.program) steps test.now))) }
+        (λ trace. IfNone trace (¬ (EndsOn (map line_of original.old.program) steps test.now))) }
     ensures memory { IfErr result (λ fault. fault ≡ Memory) }
 {
-    match original.course(alloc, test.as_slice(), steps, room) {
-        Ok(course) => {
-            if is_end(&course.outcome) {
-                Ok(Some(course))
+    match original.trace(alloc, test.as_slice(), steps, room) {
+        Ok(trace) => {
+            if is_end(&trace.outcome) {
+                Ok(Some(trace))
             } else {
                 Ok(None)
             }
         }
-        Err(fault) => Err(want::of_run(fault)),
+        Err(fault) => Err(out_of_memory::of_run(fault)),
     }
 }
 
 /// The outcomes of the program on tests, and where control came, test by test.
 #[derive(Drop)]
-pub(crate) struct Courses {
+pub(crate) struct Traces {
     pub(crate) outcomes: Vec<Outcome>,
     /// For each test, where control came.
     pub(crate) visits: Vec<Visits>,
 }
 
 /// Runs the program once on each test. B4 at the first test on which it neither returns nor stops.
-fn courses_in_turn(
+fn traces_in_turn(
     alloc: Global,
     original: &mut Runner<'_>,
     tests: &[Values<Arg>],
     steps: u32,
-) -> Result<Courses, BenchFault>
+) -> Result<Traces, BenchFault>
     requires { All (λ arguments. refusal original.old.arguments arguments ≡ None) tests.now }
-    ensures courses { IfOk result
-        (λ courses. AreCourses original.old steps tests.now courses.outcomes.items courses.visits.items) }
+    ensures traces { IfOk result
+        (λ traces. AreTraces original.old steps tests.now
+        traces.outcomes.items traces.visits.items) }
     ensures refused { IfErr result (λ fault. IsNoRun (map line_of original.old.program) steps tests.now fault) }
 {
     let mut outcomes = Vec::with_capacity(alloc, tests.len())?;
     let mut visits = Vec::with_capacity(alloc, tests.len())?;
     let mut room = ROOM;
     for (index, test) in tests.iter().enumerate() {
-        let Some(course) = course_on(alloc, original, test, steps, &mut room)? else {
+        let Some(trace) = trace_on(alloc, original, test, steps, &mut room)? else {
             return Err(BenchFault::OriginalFails(index + 1));
         };
-        outcomes.push(course.outcome)?;
-        visits.push(course.visits)?;
+        outcomes.push(trace.outcome)?;
+        visits.push(trace.visits)?;
     }
-    Ok(Courses { outcomes, visits })
+    Ok(Traces { outcomes, visits })
 }
 
 /// Runs the program of the plan once on each test. B4 at the first test on which it neither returns nor stops.
-pub(crate) fn courses_on(
+pub(crate) fn traces_on(
     alloc: Global,
     plan: &Plan,
     tests: &[Values<Arg>],
     steps: u32,
-) -> Result<Courses, BenchFault>
+) -> Result<Traces, BenchFault>
     requires { All (FitsProgram (program_of plan.now)) tests.now }
-    ensures courses { IfOk result
-        (λ courses. AreCourses plan.now.checked steps tests.now courses.outcomes.items courses.visits.items) }
+    ensures traces { IfOk result
+        (λ traces. AreTraces plan.now.checked steps tests.now
+        traces.outcomes.items traces.visits.items) }
     ensures refused { IfErr result (λ fault. IsNoRun (program_of plan.now) steps tests.now fault) }
 {
     let checked = plan.program();
     // This call is for the proof: its contract says that the shapes are those of the program.
     let _ = checked.program();
     match Runner::of(alloc, checked) {
-        Ok(mut original) => courses_in_turn(alloc, &mut original, tests, steps),
-        Err(fault) => Err(want::of_run(fault)),
+        Ok(mut original) => traces_in_turn(alloc, &mut original, tests, steps),
+        Err(fault) => Err(out_of_memory::of_run(fault)),
     }
 }

@@ -1,7 +1,7 @@
 //! The verdict of running a mutant alone.
 //!
 //! Nothing of tests or outcomes is copied for a mutant: its outcome is compared in place with the program's, and one
-//! `ChangedRunner` has one statement exchanged after another.
+//! `ChangedRunner` has one statement replaced after another.
 
 ghost use Rattle.std.specs.Prelude.{◌≡◌, true, map, IfOk, IfErr, OnOk};
 ghost use Rattle.f77_program.specs.Program.{line_of};
@@ -18,7 +18,7 @@ ghost use Rattle.mothra_verdicts.specs.declared.fault.BenchFault.TheVariants.{Me
 use crate::bench::Bench;
 use crate::fault::BenchFault;
 use crate::killing::{kills_from_start, kills_of};
-use crate::want;
+use crate::out_of_memory;
 use f77_meaning::Values;
 use f77_run::ChangedRunner;
 use f77_tree::Replacement;
@@ -95,7 +95,7 @@ fn kills_of_whole_runs(
     };
     match checked.patched(mutant.number(), &stmt) {
         Ok(changed) => kills_from_start(alloc, bench, &changed),
-        Err(fault) => Err(want::of_check(&fault)),
+        Err(fault) => Err(out_of_memory::of_check(&fault)),
     }
 }
 
@@ -118,15 +118,15 @@ fn change_by(
     ensures memory { IfErr result (λ fault. fault ≡ Memory) }
 {
     let number = mutant.number();
-    copies.exchange(number, mutant.edit.position, node);
+    copies.swap(number, mutant.edit.position, node);
     let Some(stmt) = copies.get(number) else {
         unreachable!()
     };
     let changed = runner.change(number, stmt);
-    copies.exchange(number, mutant.edit.position, node);
+    copies.swap(number, mutant.edit.position, node);
     match changed {
         Ok(()) => Ok(()),
-        Err(fault) => Err(want::of_run(fault)),
+        Err(fault) => Err(out_of_memory::of_run(fault)),
     }
 }
 
@@ -149,8 +149,8 @@ fn change(
     change_by(runner, copies, mutant, &mut node)
 }
 
-/// Which tests kill the mutant. If its changed statement alone shows that it is legal, it runs from where it may part
-/// from the program, else from the start.
+/// Which tests kill the mutant. If its changed statement alone shows that it is legal, it runs from
+/// where it may diverge from the program, else from the start.
 fn kills(
     alloc: Global,
     bench: &Bench,
@@ -192,7 +192,7 @@ impl<'a> Verdicts<'a> {
                 runner,
                 copies,
             }),
-            Err(fault) => Err(want::of_run(fault)),
+            Err(fault) => Err(out_of_memory::of_run(fault)),
         }
     }
 

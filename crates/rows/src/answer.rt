@@ -1,7 +1,7 @@
 //! The answer to a row: the exit status, and what the program writes.
 
 use anyhow::Result;
-use equivalents_app::tell;
+use equivalents_app::answer_inquiry;
 use mothra_app::{AppFault, Status, Watched, serve};
 use std::alloc::AllocError;
 use std::str::from_utf8;
@@ -29,7 +29,7 @@ fn call(
     let mut reader = Watched::new(job.as_bytes());
     let mut writer = Watched::new(written);
     match words.first() {
-        Some(&"equivalents") => tell(rt.alloc(), &words, &mut reader, &mut writer),
+        Some(&"equivalents") => answer_inquiry(rt.alloc(), &words, &mut reader, &mut writer),
         _ => serve(rt, &words, &mut reader, &mut writer),
     }
 }

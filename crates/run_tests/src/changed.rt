@@ -7,7 +7,7 @@ use f77_check::Checked;
 use f77_meaning::Outcome;
 use f77_run::{ChangedRunner, Runner, run};
 use f77_tree::Stmt;
-use samples::{changed, checked, held, holder, number_and_text};
+use samples::{changed, checked, enclosed, enclosing, number_and_text};
 use std::process::Abort;
 use std::test::Fail;
 
@@ -29,10 +29,10 @@ fn is_noticed(
     }
     let mut room = room;
     let mut own = Runner::of(rt.alloc(), old)?;
-    let course = own.course(rt.alloc(), &row.arguments, row.steps, &mut room)?;
+    let trace = own.trace(rt.alloc(), &row.arguments, row.steps, &mut room)?;
     let mut runner = ChangedRunner::of(rt.alloc(), old)?;
     runner.change(number, stmt)?;
-    let same = runner.comes_to(&course.visits, &row.arguments, row.steps, &course.outcome)?;
+    let same = runner.comes_to(&trace.visits, &row.arguments, row.steps, &trace.outcome)?;
     Ok(Some(!same))
 }
 
@@ -53,8 +53,8 @@ fn answer(
     room: usize,
 ) -> Result<&'static str, Fail> {
     let (number, text) = number_and_text(change)?;
-    let holder = holder(rt, text)?;
-    let stmt = held(&holder, text)?;
+    let enclosing = enclosing(rt, text)?;
+    let stmt = enclosed(&enclosing, text)?;
     Ok(word_of(is_noticed(rt, old, number, stmt, row, room)?))
 }
 

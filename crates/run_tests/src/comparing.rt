@@ -14,13 +14,15 @@ fn assert_run(
     checked: &Checked,
     arguments: &[Arg],
     steps: u32,
-    want: &Outcome,
+    expected: &Outcome,
 ) -> Result<(), Fail> {
     let outcome = run(rt.alloc(), checked, arguments, steps)?;
-    if outcome == *want {
+    if outcome == *expected {
         return Ok(());
     }
-    Err(Fail::new(format_args!("{name}: within {steps} steps {outcome:?} in place of {want:?}")))
+    Err(Fail::new(format_args!(
+        "{name}: within {steps} steps {outcome:?} in place of {expected:?}"
+    )))
 }
 
 /// `run` has this outcome within the limit, and within the steps that the model makes, but not within one step less.
@@ -30,14 +32,14 @@ fn assert_runs(
     checked: &Checked,
     arguments: &[Arg],
     steps: u32,
-    want: &Outcome,
+    expected: &Outcome,
     made: u32,
 ) -> Result<(), Fail> {
-    assert_run(rt, name, checked, arguments, steps, want)?;
-    if *want == Outcome::StepLimit {
+    assert_run(rt, name, checked, arguments, steps, expected)?;
+    if *expected == Outcome::StepLimit {
         return Ok(());
     }
-    assert_run(rt, name, checked, arguments, made, want)?;
+    assert_run(rt, name, checked, arguments, made, expected)?;
     let fewer = made.saturating_sub(1);
     assert_run(rt, name, checked, arguments, fewer, &Outcome::StepLimit)
 }
@@ -54,7 +56,7 @@ pub(crate) fn agreed(
         alloc: rt.alloc(),
         lines: checked.program().lines(),
     };
-    let (want, made) = outcome(&unit, arguments, steps)?;
-    assert_runs(rt, name, checked, arguments, steps, &want, made)?;
-    Ok(want)
+    let (expected, made) = outcome(&unit, arguments, steps)?;
+    assert_runs(rt, name, checked, arguments, steps, &expected, made)?;
+    Ok(expected)
 }

@@ -10,7 +10,7 @@ use f77_run::{Runner, run};
 use samples::{checked, parts};
 use std::test::Fail;
 
-/// The longest run of the model and of `course`, neither of which finds that a run never ends.
+/// The longest run of the model and of `trace`, neither of which finds that a run never ends.
 const MOST: u32 = 1_000;
 
 fn outcome(rt: &impl AllocGlobal, checked: &Checked, row: &Run<'_>) -> Result<Outcome, Fail> {
@@ -26,18 +26,14 @@ fn assert_run(rt: &impl AllocGlobal, checked: &Checked, row: &Run<'_>) -> Result
     assert_outcome(rt, row, &outcome)
 }
 
-/// Compares the outcome that `course` gives. No state is kept.
-fn assert_course(
-    rt: &impl AllocGlobal,
-    runner: &mut Runner<'_>,
-    row: &Run<'_>,
-) -> Result<(), Fail> {
+/// Compares the outcome that `trace` gives. No state is kept.
+fn assert_trace(rt: &impl AllocGlobal, runner: &mut Runner<'_>, row: &Run<'_>) -> Result<(), Fail> {
     if row.steps > MOST {
         return Ok(());
     }
     let mut room = 0;
-    let course = runner.course(rt.alloc(), &row.arguments, row.steps, &mut room)?;
-    assert_outcome(rt, row, &course.outcome)
+    let trace = runner.trace(rt.alloc(), &row.arguments, row.steps, &mut room)?;
+    assert_outcome(rt, row, &trace.outcome)
 }
 
 fn comes_to(
@@ -51,7 +47,7 @@ fn comes_to(
 }
 
 /// `comes_to` says no for the outcome of another row, unless the two outcomes are equal.
-fn assert_told(
+fn assert_comes_to(
     rt: &impl AllocGlobal,
     runner: &mut Runner<'_>,
     row: &Run<'_>,
@@ -73,9 +69,9 @@ fn assert_row(
     rows: &str,
 ) -> Result<(), Fail> {
     assert_run(rt, checked, row)?;
-    assert_course(rt, runner, row)?;
+    assert_trace(rt, runner, row)?;
     for other in rows.lines() {
-        assert_told(rt, runner, row, other)?;
+        assert_comes_to(rt, runner, row, other)?;
     }
     Ok(())
 }

@@ -63,7 +63,7 @@ fn constant(group: &DataGroup, n: usize) -> Option<Value> {
 }
 
 /// Gives the elements of a name of a group the constants from this one on.
-fn preset_name(unit: &Unit<'_>, s: &mut Store, group: &DataGroup, name: &Name, first: usize) {
+fn initialize_name(unit: &Unit<'_>, s: &mut Store, group: &DataGroup, name: &Name, first: usize) {
     for k in 0..unit.elements(name) {
         if let Some(value) = constant(group, first.saturating_add(k)) {
             s.put(name, k, value);
@@ -71,21 +71,21 @@ fn preset_name(unit: &Unit<'_>, s: &mut Store, group: &DataGroup, name: &Name, f
     }
 }
 
-/// `presets_of` (f77_check/specs/Start.antt; section 9): the elements of all names of a group get its constants, in
-/// order.
-fn preset(unit: &Unit<'_>, s: &mut Store, group: &DataGroup) {
+/// `initial_values_of` (f77_check/specs/Start.antt; section 9): the elements of all names of a group get its constants,
+/// in order.
+fn initialize_group(unit: &Unit<'_>, s: &mut Store, group: &DataGroup) {
     let mut first: usize = 0;
     for name in &group.names {
-        preset_name(unit, s, group, name, first);
+        initialize_name(unit, s, group, name, first);
         first = first.saturating_add(unit.elements(name));
     }
 }
 
-/// `presets` (f77_check/specs/Start.antt) of a statement.
-fn preset_all(unit: &Unit<'_>, s: &mut Store, stmt: &Stmt) {
+/// `initial_values` (f77_check/specs/Start.antt) of a statement.
+fn initialize(unit: &Unit<'_>, s: &mut Store, stmt: &Stmt) {
     if let Stmt::Preset { groups } = stmt {
         for group in groups {
-            preset(unit, s, group);
+            initialize_group(unit, s, group);
         }
     }
 }
@@ -96,7 +96,7 @@ fn start_values(unit: &Unit<'_>, arguments: &[Arg]) -> Result<Store, Halt> {
     add_dummies(unit, &mut s, arguments)?;
     for line in unit.lines {
         add_names(unit, &mut s, &line.stmt)?;
-        preset_all(unit, &mut s, &line.stmt);
+        initialize(unit, &mut s, &line.stmt);
     }
     Ok(s)
 }
@@ -151,8 +151,8 @@ fn arguments(unit: &Unit<'_>, s: &Store) -> Result<Values<Arg>, Halt> {
     Ok(Values::new(arguments))
 }
 
-/// `told_outcome`: the outcome of a run that failed.
-fn told(fault: Fault) -> Outcome {
+/// `fault_outcome`: the outcome of a run that failed.
+fn fault_outcome(fault: Fault) -> Outcome {
     match fault {
         Fault::Overflow => Outcome::Overflow,
         Fault::DivideByZero => Outcome::DivideByZero,
@@ -164,12 +164,12 @@ fn told(fault: Fault) -> Outcome {
     }
 }
 
-/// `Tells`: the outcome for an end.
-fn tells(unit: &Unit<'_>, finish: Finish, s: &Store) -> Result<Outcome, Halt> {
+/// `Reports`: the outcome for an end.
+fn end_outcome(unit: &Unit<'_>, finish: Finish, s: &Store) -> Result<Outcome, Halt> {
     match finish {
         Finish::Returned => Ok(Outcome::Returned(arguments(unit, s)?)),
         Finish::Stopped => Ok(Outcome::Stopped(arguments(unit, s)?)),
-        Finish::Failed(fault) => Ok(told(fault)),
+        Finish::Failed(fault) => Ok(fault_outcome(fault)),
         Finish::StepLimit => Ok(Outcome::StepLimit),
     }
 }
@@ -194,5 +194,5 @@ pub(crate) fn outcome(
 ) -> Result<(Outcome, u32), Halt> {
     let mut c = starts(unit, arguments)?;
     let (finish, made) = ends(unit, &mut c, steps)?;
-    Ok((tells(unit, finish, &c.values)?, made))
+    Ok((end_outcome(unit, finish, &c.values)?, made))
 }

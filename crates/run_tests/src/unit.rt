@@ -95,7 +95,7 @@ impl<'a> Unit<'a> {
         &[]
     }
 
-    /// `element_count` (f77_legal/specs/Presets.antt; 5.2.3): the product of the bounds, 1 for a variable.
+    /// `element_count` (f77_legal/specs/InitialValues.antt; 5.2.3): the product of the bounds, 1 for a variable.
     pub(crate) fn elements(&self, name: &Name) -> usize {
         let mut product: usize = 1;
         for bound in self.bounds_of(name) {

@@ -12,7 +12,7 @@ mod texts;
 mod words;
 
 pub use originals::{ADD, LOOP};
-pub use patches::{changed, held, holder, number_and_text, patched};
+pub use patches::{changed, enclosed, enclosing, number_and_text, patched};
 pub use programs::checked;
 pub use rows::parts;
 pub use sources::{program, read, repeated, source};

@@ -6,7 +6,7 @@ use f77_syntax::{Program, Stmt};
 use std::test::Fail;
 
 /// A program that has the statement of this text.
-pub fn holder(rt: &impl AllocGlobal, text: &str) -> Result<Program, Fail> {
+pub fn enclosing(rt: &impl AllocGlobal, text: &str) -> Result<Program, Fail> {
     if text == "END" {
         return program(rt, "SUBROUTINE Z; END");
     }
@@ -18,10 +18,10 @@ pub fn holder(rt: &impl AllocGlobal, text: &str) -> Result<Program, Fail> {
     program(rt, statements.as_str())
 }
 
-/// The statement of this text, in the program that `holder` made for it.
-pub fn held<'a>(holder: &'a Program, text: &str) -> Result<&'a Stmt, Fail> {
+/// The statement of this text, in the program that `enclosing` made for it.
+pub fn enclosed<'a>(enclosing: &'a Program, text: &str) -> Result<&'a Stmt, Fail> {
     let number = if text.starts_with("SUBROUTINE") { 1 } else { 2 };
-    match holder.line(number) {
+    match enclosing.line(number) {
         Some(line) => Ok(&line.stmt),
         None => Err(Fail::new("no statement")),
     }
@@ -50,8 +50,8 @@ fn answer(
     change: &str,
 ) -> Result<Option<Result<Checked, CheckFault>>, Fail> {
     let (number, text) = number_and_text(change)?;
-    let holder = holder(rt, text)?;
-    let stmt = held(&holder, text)?;
+    let enclosing = enclosing(rt, text)?;
+    let stmt = enclosed(&enclosing, text)?;
     Ok(patched(old, number, stmt))
 }
 

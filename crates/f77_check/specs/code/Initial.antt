@@ -11,7 +11,7 @@ use Rattle.f77_legal.specs.Blocks.{first_numbers}
 use Rattle.f77_check.specs.code.Kept.{is_kept}
 use Rattle.f77_legal.specs.NameTable.{array_bounds}
 use Rattle.f77_legal.specs.Names.{Symbol}
-use Rattle.f77_legal.specs.Presets.{product}
+use Rattle.f77_legal.specs.InitialValues.{product}
 use Rattle.f77_check.specs.Slots.{slot_count, first_slot}
 use Rattle.f77_check.specs.SlotTable.{IsSlotTable}
 use Rattle.f77_legal.specs.declared.names.Names.{Names}

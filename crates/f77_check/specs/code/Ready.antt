@@ -41,7 +41,7 @@ AreFound program (label ∷ labels) = IsSome (label_place program label) × AreF
 -- the branch that i begins has an end
 pub record HasBranch (program : List LineFields) (i : ℕ) : Type 0 where
   pub place : ℕ
-  pub told : branch_end_at program i ≡ Some place
+  pub found : branch_end_at program i ≡ Some place
   pub ends : branch_end program i ≡ Some place
 
 -- what statement i needs besides: the end of its DO or branch, or an action inside of it

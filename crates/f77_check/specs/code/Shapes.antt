@@ -4,7 +4,7 @@ use Rattle.f77_check.specs.declared.checked.Shape.{Shape}
 use Rattle.f77_legal.specs.declared.names.Names.{Names}
 use Rattle.f77_legal.specs.Names.{Symbol}
 use Rattle.f77_legal.specs.NameTable.{kind_at, array_bounds}
-use Rattle.f77_legal.specs.Presets.{product}
+use Rattle.f77_legal.specs.InitialValues.{product}
 
 -- the number of elements of an array with these bounds, or 4294967295 if there are more
 abbrev pub elements_in : List ℕ → Option ℕ

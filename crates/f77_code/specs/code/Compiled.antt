@@ -55,7 +55,7 @@ pub record HaveSameFrames (before after : List Resolved) : Type 0 where
   pub each : (j : ℕ) (r s : Resolved) → slice_get before j ≡ Some r → slice_get after j ≡ Some s → HasOneFrame r s
 
 -- the lists differ in statement i alone, which has the same frame in both
-pub record IsExchanged (before : List Resolved) (i : ℕ) (after : List Resolved) : Type 0 where
+pub record IsReplaced (before : List Resolved) (i : ℕ) (after : List Resolved) : Type 0 where
   pub count : length after ≡ length before
   pub others : (j : ℕ) → j ≢ i → slice_get after j ≡ slice_get before j
   pub changed : (r s : Resolved)

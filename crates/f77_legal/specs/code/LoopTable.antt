@@ -5,13 +5,13 @@ use Rattle.std.specs.List.{list_any}
 use Rattle.std.specs.Option.{option_and_then, option_map_or}
 use Rattle.std.specs.Str.{bytes_eq}
 use Rattle.f77_program.specs.Program.{LineFields}
-use Rattle.f77_legal.specs.Holders.{end_or_parent, is_in_do_range, in_branch, holds}
-use Rattle.f77_legal.specs.code.Holders.{ancestors, precedes}
+use Rattle.f77_legal.specs.Enclosing.{end_or_parent, is_in_do_range, in_branch, holds}
+use Rattle.f77_legal.specs.code.Enclosing.{ancestors, precedes}
 use Rattle.f77_legal.specs.Labels.{nth_statement}
 use Rattle.f77_legal.specs.Loops.{do_variable_of}
 use Rattle.f77_legal.specs.Names.{Symbol}
-use Rattle.f77_legal.specs.declared.holders.Ancestors.{Ancestors}
-use Rattle.f77_legal.specs.declared.holders.Ranges.{Ranges}
+use Rattle.f77_legal.specs.declared.enclosing.Ancestors.{Ancestors}
+use Rattle.f77_legal.specs.declared.enclosing.Ranges.{Ranges}
 
 -- the statements that a walk has still to give
 unfoldable pub ancestors_left : Ancestors → List ℕ

@@ -11,11 +11,11 @@ use Rattle.f77_tree.specs.declared.tree.Kind.TheVariants.{Integer}
 use Rattle.f77_legal.specs.declared.names.Names.{Names}
 use Rattle.f77_legal.specs.declared.names.Times.{Times}
 use Rattle.f77_legal.specs.declared.names.Times.TheVariants.{Never, Once, More}
-use Rattle.f77_legal.specs.declared.mentions.Said.{Said}
-use Rattle.f77_legal.specs.declared.mentions.Said.TheVariants as said
-use Rattle.f77_legal.specs.Names.{Symbol, Mention, name_in}
+use Rattle.f77_legal.specs.declared.uses.Said.{Said}
+use Rattle.f77_legal.specs.declared.uses.Said.TheVariants as said
+use Rattle.f77_legal.specs.Names.{Symbol, NameUse, name_in}
 use Rattle.f77_legal.specs.Names.{some_items, is_integer_name}
-use Rattle.f77_legal.specs.Presets.{product}
+use Rattle.f77_legal.specs.InitialValues.{product}
 use Rattle.f77_legal.specs.NameTable.{FactsFields, Entries}
 
 -- how often something was said, after it is said once more
@@ -43,31 +43,31 @@ abbrev pub facts_with_bounds : FactsFields → List ℕ → FactsFields
 facts_with_bounds facts [] = facts
 facts_with_bounds facts (bound ∷ bounds) = with_shape facts (bound ∷ bounds)
 
-abbrev pub with_fact : FactsFields → Mention → FactsFields
-with_fact facts (Mention.Dummy name) = record facts { dummy = once_more facts.dummy }
-with_fact facts (Mention.Typed kind declaration) = facts_with_bounds (with_kind facts kind) declaration.bounds
-with_fact facts (Mention.Dimensioned declaration) = facts_with_bounds facts declaration.bounds
-with_fact facts (Mention.Plain name) = facts
+abbrev pub with_fact : FactsFields → NameUse → FactsFields
+with_fact facts (NameUse.Dummy name) = record facts { dummy = once_more facts.dummy }
+with_fact facts (NameUse.Typed kind declaration) = facts_with_bounds (with_kind facts kind) declaration.bounds
+with_fact facts (NameUse.Dimensioned declaration) = facts_with_bounds facts declaration.bounds
+with_fact facts (NameUse.Plain name) = facts
 
 abbrev pub no_facts : FactsFields
 no_facts = record { dummy = Never; typed = Never; kind = Integer; dimensioned = Never; bounds = [] }
 
--- the table after one more mention: a name that is there keeps its place, and a new one goes last
-abbrev pub with_mention : Entries → Mention → Entries
-with_mention [] mention = (name_in mention, with_fact no_facts mention) ∷ []
-with_mention (entry ∷ entries) mention =
-    if bytes_eq (name_in mention) entry.0
-    then (entry.0, with_fact entry.1 mention) ∷ entries else entry ∷ with_mention entries mention
+-- the table after one more use of a name: a name that is there keeps its place, and a new one goes last
+abbrev pub with_use : Entries → NameUse → Entries
+with_use [] name_use = (name_in name_use, with_fact no_facts name_use) ∷ []
+with_use (entry ∷ entries) name_use =
+    if bytes_eq (name_in name_use) entry.0
+    then (entry.0, with_fact entry.1 name_use) ∷ entries else entry ∷ with_use entries name_use
 
-abbrev pub with_mentions : Entries → List Mention → Entries
-with_mentions = fold with_mention
+abbrev pub with_uses : Entries → List NameUse → Entries
+with_uses = fold with_use
 
--- the mention of a name, from what is said of it
-abbrev pub mention_of : Symbol → Said → Mention
-mention_of name said.Dummy = Mention.Dummy name
-mention_of name (said.Typed kind bounds) = Mention.Typed kind (record { name = name; bounds = bounds.now })
-mention_of name (said.Dimensioned bounds) = Mention.Dimensioned (record { name = name; bounds = bounds.now })
-mention_of name said.Plain = Mention.Plain name
+-- the use of a name, from what is said of it
+abbrev pub use_of : Symbol → Said → NameUse
+use_of name said.Dummy = NameUse.Dummy name
+use_of name (said.Typed kind bounds) = NameUse.Typed kind (record { name = name; bounds = bounds.now })
+use_of name (said.Dimensioned bounds) = NameUse.Dimensioned (record { name = name; bounds = bounds.now })
+use_of name said.Plain = NameUse.Plain name
 
 -- What is read off the entries: how often something was said; whether a name is REAL by its first letter, or is
 -- declared twice where the unit has this name; the number of elements of an array.
@@ -84,11 +84,11 @@ is_more More = true
 abbrev pub dummy_at : Names → Symbol → Bool
 dummy_at names name = option_map_or (λ facts. not (is_never facts.dummy)) (get bytes_eq names.facts name) false
 
-abbrev pub tells_real : Symbol × FactsFields → Bool
-tells_real entry = is_never entry.1.typed && not (is_integer_name entry.0)
+abbrev pub is_real_entry : Symbol × FactsFields → Bool
+is_real_entry entry = is_never entry.1.typed && not (is_integer_name entry.0)
 
-abbrev pub tells_twice : Option Symbol → Symbol × FactsFields → Bool
-tells_twice unit entry =
+abbrev pub is_twice_entry : Option Symbol → Symbol × FactsFields → Bool
+is_twice_entry unit entry =
     is_more entry.1.typed
     || (is_more entry.1.dimensioned
     || (is_more entry.1.dummy

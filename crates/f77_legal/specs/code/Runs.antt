@@ -9,10 +9,10 @@ use Rattle.f77_tree.specs.declared.data.Value.{Value}
 use Rattle.f77_tree.specs.declared.tree.Kind.{Kind}
 use Rattle.f77_tree.specs.Tree.{GroupFields}
 use Rattle.f77_tree.specs.Statement.{Statement}
-use Rattle.f77_legal.specs.declared.presets.Remaining.{Remaining}
+use Rattle.f77_legal.specs.declared.initial_values.Remaining.{Remaining}
 use Rattle.f77_tree.specs.Comparing.{same_kind}
 use Rattle.f77_legal.specs.Names.{Symbol}
-use Rattle.f77_legal.specs.Presets.{product, constant_kind, given_kinds, groups_of}
+use Rattle.f77_legal.specs.InitialValues.{product, constant_kind, given_kinds, groups_of}
 
 -- the kinds of values, repeats counted
 abbrev pub kinds_in : List Value → List Kind
@@ -28,11 +28,11 @@ behind_kinds (suc count) kind [] = None
 behind_kinds (suc count) kind (other ∷ given) = if same_kind kind other then behind_kinds count kind given else None
 
 -- the kinds that the names need, where they have these bounds and kinds
-abbrev pub kinds_wanted : (Symbol → List ℕ) → (Symbol → Kind) → List Symbol → List Kind
-kinds_wanted bounds kinds names = flat_map (λ name. replicate (product (bounds name)) (kinds name)) names
+abbrev pub kinds_needed : (Symbol → List ℕ) → (Symbol → Kind) → List Symbol → List Kind
+kinds_needed bounds kinds names = flat_map (λ name. replicate (product (bounds name)) (kinds name)) names
 
 abbrev pub fills : (Symbol → List ℕ) → (Symbol → Kind) → GroupFields → Bool
-fills bounds kinds group = pointwise same_kind (kinds_wanted bounds kinds group.names) (given_kinds group)
+fills bounds kinds group = pointwise same_kind (kinds_needed bounds kinds group.names) (given_kinds group)
 
 abbrev pub names_of_groups : List GroupFields → List Symbol
 names_of_groups groups = flat_map (λ group. group.names) groups

@@ -7,7 +7,7 @@ use Rattle.f77_tree.specs.declared.tree.Kind.{Kind}
 use Rattle.f77_tree.specs.declared.tree.Kind.TheVariants.{Integer, Logical}
 use Rattle.f77_legal.specs.Heading.{dummies}
 use Rattle.f77_legal.specs.Names.{Symbol, kind_of}
-use Rattle.f77_legal.specs.Presets.{element_count}
+use Rattle.f77_legal.specs.InitialValues.{element_count}
 use Rattle.f77_actions.specs.declared.value.Value.{Value}
 use Rattle.f77_actions.specs.declared.value.Value.TheVariants as held
 use Rattle.f77_meaning.specs.Value.{Store}

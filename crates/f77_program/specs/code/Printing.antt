@@ -8,11 +8,11 @@ use Rattle.f77_program.specs.declared.fault.SyntaxFault.{SyntaxFault}
 use Rattle.f77_program.specs.declared.fault.SyntaxFault.TheVariants.{Memory, BadConstant, TooLong}
 
 -- the fault of a program for a fault of a card; faults that no card with a printable text has give none
-abbrev pub told_fault : FormFault → Option SyntaxFault
-told_fault (BadLabel line) = Some (BadConstant line)
-told_fault (TooManyContinuations line) = Some (TooLong line)
-told_fault FormMemory = Some Memory
-told_fault TooLarge = None
-told_fault (NotAscii line) = None
-told_fault (Tab line) = None
-told_fault (LooseContinuation line) = None
+abbrev pub reported_fault : FormFault → Option SyntaxFault
+reported_fault (BadLabel line) = Some (BadConstant line)
+reported_fault (TooManyContinuations line) = Some (TooLong line)
+reported_fault FormMemory = Some Memory
+reported_fault TooLarge = None
+reported_fault (NotAscii line) = None
+reported_fault (Tab line) = None
+reported_fault (LooseContinuation line) = None

@@ -3,9 +3,9 @@
 use Rattle.std.specs.Prelude.{◌≡◌, ◌+◌, ℕ, true, length, map, None, IfSome, option_map, replicate, slice_get, take}
 use Rattle.f77_actions.specs.declared.resolved.Resolved.{Resolved}
 use Rattle.f77_check.specs.Checked.{CheckedFields}
-use Rattle.f77_code.specs.declared.exchange.ChangedCode.{ChangedCode}
+use Rattle.f77_code.specs.declared.replacing.ChangedCode.{ChangedCode}
 use Rattle.f77_code.specs.Compiled.{is_ready}
-use Rattle.f77_code.specs.Exchange.{MayReplace}
+use Rattle.f77_code.specs.Replacing.{MayReplace}
 use Rattle.f77_code.specs.Places.{has_places}
 use Rattle.f77_meaning.specs.Start.{constant_value}
 use Rattle.f77_run.specs.declared.registers.Registers.{Registers}

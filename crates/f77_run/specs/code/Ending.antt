@@ -5,7 +5,7 @@ use Rattle.f77_meaning.specs.declared.outcome.Outcome.{Outcome}
 use Rattle.f77_meaning.specs.declared.outcome.Outcome.TheVariants.{Returned, Stopped}
 
 -- the values of an outcome Returned or Stopped; other outcomes have none
-abbrev pub values_told : Outcome → Option (List Arg)
-values_told (Returned arguments) = Some arguments
-values_told (Stopped arguments) = Some arguments
-values_told _ = None
+abbrev pub outcome_values : Outcome → Option (List Arg)
+outcome_values (Returned arguments) = Some arguments
+outcome_values (Stopped arguments) = Some arguments
+outcome_values _ = None

@@ -9,7 +9,7 @@ use Rattle.f77_code.specs.Registers.{are_held}
 use Rattle.f77_meaning.specs.declared.argument.Arg.{Arg}
 use Rattle.f77_meaning.specs.declared.outcome.Outcome.{Outcome}
 use Rattle.f77_meaning.specs.declared.outcome.Outcome.TheVariants as outcome
-use Rattle.f77_meaning.specs.Interpreter.{IsOutcomeOf, Tells}
+use Rattle.f77_meaning.specs.Interpreter.{IsOutcomeOf, Reports}
 use Rattle.f77_meaning.specs.Site.{held}
 use Rattle.f77_run.specs.code.Site.{HoldDummies, shown_by}
 
@@ -20,9 +20,9 @@ pub record RunOf : Type 0 where
   pub arguments : List Arg
 
 -- the outcome reports this end, with the values that the registers have for the dummy arguments
-abbrev pub TellsOf : RunOf → Finish → List ℤ → Outcome → Type 0
-TellsOf run finish registers answer =
-    Tells (map line_of run.checked.program) finish (held run.checked (shown_by run.checked registers)) answer
+abbrev pub ReportsOf : RunOf → Finish → List ℤ → Outcome → Type 0
+ReportsOf run finish registers answer =
+    Reports (map line_of run.checked.program) finish (held run.checked (shown_by run.checked registers)) answer
 
 -- The run has ended so within the limit on steps, after some of them: the outcome that reports this end is that of the
 -- run.
@@ -31,10 +31,10 @@ pub record HasEnded (run : RunOf) (steps made : ℕ) (finish : Finish) (register
   pub room : length run.checked.start.kinds.items ≤ length registers
   pub dummies : HoldDummies run.checked (shown_by run.checked registers)
   pub within : made ≤ steps
-  pub decides : (answer : Outcome) (same : Bool) → Decides same (TellsOf run finish registers answer)
+  pub decides : (answer : Outcome) (same : Bool) → Decides same (ReportsOf run finish registers answer)
       → (other : Outcome) × IsOutcomeOf run.program run.arguments steps other × Decides same (answer ≡ other)
-  pub tells : (answer : Outcome)
-      → TellsOf run finish registers answer → IsOutcomeOf run.program run.arguments steps answer
+  pub reports : (answer : Outcome)
+      → ReportsOf run finish registers answer → IsOutcomeOf run.program run.arguments steps answer
   pub sooner : (answer : Outcome)
-      → TellsOf run finish registers answer → IsOutcomeOf run.program run.arguments made answer
+      → ReportsOf run finish registers answer → IsOutcomeOf run.program run.arguments made answer
   pub unended : (n : ℕ) → n < made → IsOutcomeOf run.program run.arguments n outcome.StepLimit

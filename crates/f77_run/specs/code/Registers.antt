@@ -11,7 +11,7 @@ use Rattle.f77_actions.specs.Number.{is_same}
 use Rattle.f77_code.specs.declared.constants.Constants.{Constants}
 use Rattle.f77_code.specs.Holds.{Plan}
 use Rattle.f77_code.specs.Moves.{Cells}
-use Rattle.f77_code.specs.Registers.{told_by_register}
+use Rattle.f77_code.specs.Registers.{decoded}
 
 -- slots of these kinds, and behind them the constants of a table
 abbrev pub plan_of : List Kind → Constants → Plan
@@ -25,4 +25,4 @@ shown_as Logical (Ok z) = Some (held.Truth (not (is_same z (pos 0))))
 shown_as kind (Err fault) = None
 
 abbrev pub shown_cells : List Kind → List ℤ → Cells
-shown_cells kinds registers = map (λ pair. shown_as pair.0 (told_by_register pair.1)) (zip kinds registers)
+shown_cells kinds registers = map (λ pair. shown_as pair.0 (decoded pair.1)) (zip kinds registers)

@@ -12,9 +12,9 @@ use Rattle.mothra_app.specs.declared.status.Status.{Status}
 use Rattle.mothra_app.specs.Serving.{AsksFor, IsAnswered}
 
 -- what is ready is an answer with this status
-abbrev pub IsTelling : Status → Ready → Type 0
-IsTelling status (ready.Answer reply) = reply.status ≡ status
-IsTelling status (ready.Bench bench workers) = ⊥
+abbrev pub HasStatus : Status → Ready → Type 0
+HasStatus status (ready.Answer reply) = reply.status ≡ status
+HasStatus status (ready.Bench bench workers) = ⊥
 
 -- what is ready is the answer to the request for the bytes that the reader had
 pub record IsReadyBy (request : Request) (left : Option (List ℕ)) (ready : Ready) : Type 0 where

@@ -11,7 +11,7 @@ use Rattle.mothra_ops.specs.Plan.{PlanFields}
 use Rattle.mothra_verdicts.specs.Bench.{BenchFields}
 use Rattle.mothra_bench.specs.Driving.{IsWhole, IsNoDrive}
 use Rattle.mothra_bench.specs.Feeding.{AreCounts, IsFed}
-use Rattle.mothra_bench.specs.Gathered.{AreVerdicts, tickets_in}
+use Rattle.mothra_bench.specs.Results.{AreVerdicts, tickets_in}
 use Rattle.mothra_bench.specs.Working.{AreOver}
 use Rattle.mothra_verdicts.specs.declared.fault.BenchFault.{BenchFault}
 use Rattle.mothra_verdicts.specs.declared.verdict.Row.{Row}

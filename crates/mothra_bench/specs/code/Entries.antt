@@ -32,7 +32,7 @@ pub record IsFirstAbsent (words : List Word) (map : RowMap) (tickets : List Tick
   pub here : All (IsHere words map) before
   pub absent : ¬ (IsHere words map ticket)
 
--- the faults for which there are no entries: want of memory, or a ticket without a row or not handed out
+-- the faults for which there are no entries: out of memory, or a ticket without a row or not handed out
 abbrev pub AreNoEntries : List Word → RowMap → List Ticket → BenchFault → Type 0
 AreNoEntries words map tickets fault.Memory = ⊤
 AreNoEntries words map tickets (fault.Missing ticket) = IsFirstAbsent words map tickets ticket

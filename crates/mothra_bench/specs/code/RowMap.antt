@@ -18,7 +18,7 @@ ticket_row map ticket = get (λ x y. nat_eq x.0 y.0 && nat_eq x.1 y.1) map.rows 
 abbrev pub HasRows : RowMap → List Row → Type 0
 HasRows map rows = (ticket : Ticket) → option_to_list (ticket_row map ticket) ≡ rows_of ticket rows
 
--- the faults for which there is no map: want of memory, or a ticket with two rows
+-- the faults for which there is no map: out of memory, or a ticket with two rows
 abbrev pub IsNoRowMap : List Row → BenchFault → Type 0
 IsNoRowMap rows fault.Memory = ⊤
 IsNoRowMap rows (fault.Double ticket) = (plan : PlanFields) → IsFirstDouble plan rows ticket

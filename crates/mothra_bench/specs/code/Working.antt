@@ -7,10 +7,10 @@ use Rattle.mothra_codes.specs.declared.ticket.Ticket.{Ticket}
 use Rattle.mothra_exchange.specs.declared.view.View.{View}
 use Rattle.mothra_ops.specs.Plan.{PlanFields}
 use Rattle.mothra_verdicts.specs.Bench.{BenchFields}
-use Rattle.mothra_bench.specs.Gathered.{AreVerdicts}
+use Rattle.mothra_bench.specs.Results.{AreVerdicts}
 use Rattle.mothra_verdicts.specs.Verdict.{HasMutant}
 use Rattle.mothra_verdicts.specs.declared.fault.BenchFault.{BenchFault}
-use Rattle.mothra_bench.specs.declared.gathered.Gathered.{Gathered}
+use Rattle.mothra_bench.specs.declared.results.Results.{Results}
 use Rattle.mothra_verdicts.specs.declared.verdict.Row.{Row}
 use Rattle.mothra_bench.specs.Working.{AreOver, IsNoWork, NamesFirst, NamesTaken, OnlyTook, TookRows}
 
@@ -30,7 +30,7 @@ pub record AddsRows (bench : BenchFields) (keeps : Bool) (old new : View) (rows 
   pub took : keeps ≡ true → TookRows old new extra
 
 -- a step of a worker, from `old` to `new` and from `before` to `after`; the first fault stays
-pub record Went (bench : BenchFields) (may keeps : Bool) (old new : View) (before after : Gathered) : Type 0 where
+pub record Went (bench : BenchFields) (may keeps : Bool) (old new : View) (before after : Results) : Type 0 where
   pub fault : IfSome after.fault
       (λ fault. MatchOption before.fault (IsNoWork may keeps bench.plan old.counts fault) (λ first. fault ≡ first))
   pub rows : IfNone after.fault

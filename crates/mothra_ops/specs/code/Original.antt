@@ -38,7 +38,7 @@ AreNodesOf program lists =
 
 -- what the operator gives for the node at this position of the statement
 -- with this number; nothing where there is no such node
-abbrev pub given_at : PoolFields → List LineFields → Op → ℕ → ℕ → List NodeOf
-given_at pools program op statement position =
+abbrev pub candidates_at : PoolFields → List LineFields → Op → ℕ → ℕ → List NodeOf
+candidates_at pools program op statement position =
     option_map_or (λ line. option_map_or (gives op pools line.stmt) (slice_get (nodes_of line.stmt) position) [])
     (numbered program statement) []

@@ -19,7 +19,7 @@ IsNoted plan keys entry noted.Fine = IsKnownEntry plan entry × (asked plan entr
 IsNoted plan keys entry noted.Unknown = ¬ (IsKnownEntry plan entry)
 IsNoted plan keys entry noted.Twice = (asked plan entry.op ≡ true) × IsKnownEntry plan entry × Contains keys entry
 
--- the faults of declared entries: want of memory, or the first entry that is not fine
+-- the faults of declared entries: out of memory, or the first entry that is not fine
 abbrev pub IsNoEntry : PlanFields → List Ticket → BenchFault → Type 0
 IsNoEntry plan entries fault.Memory = ⊤
 IsNoEntry plan entries (fault.EquivalentUnknown entry) = IsUnknownEntry plan entries entry

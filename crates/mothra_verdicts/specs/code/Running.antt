@@ -11,13 +11,13 @@ use Rattle.mothra_verdicts.specs.declared.fault.BenchFault.{BenchFault}
 use Rattle.mothra_verdicts.specs.declared.fault.BenchFault.TheVariants as fault
 
 -- the program ends on each test with these outcomes, and these visits say where control came
-pub record AreCourses (checked : CheckedFields) (steps : ℕ) (tests : List (List Arg)) (told : List Outcome)
+pub record AreTraces (checked : CheckedFields) (steps : ℕ) (tests : List (List Arg)) (computed : List Outcome)
     (noted : List Visits) : Type 0 where
-  pub outcomes : AreOutcomes (map line_of checked.program) steps tests told
-  pub end : All IsProgramEnd told
+  pub outcomes : AreOutcomes (map line_of checked.program) steps tests computed
+  pub end : All IsProgramEnd computed
   pub visits : AreFollowedOn checked steps tests noted
 
--- the faults: want of memory, or the first test on which the program does not end
+-- the faults: out of memory, or the first test on which the program does not end
 abbrev pub IsNoRun : List LineFields → ℕ → List (List Arg) → BenchFault → Type 0
 IsNoRun program steps tests fault.Memory = ⊤
 IsNoRun program steps tests (fault.OriginalFails test) = IsFirstNot (EndsOn program steps) tests test

@@ -10,6 +10,6 @@ returns-in-Ok c = IsInquiryAnswer.report c.in-Ok.ensures
 
 pub returns-in-Err : goal.returns-in-Err
 returns-in-Err c =
-    IfOk-both c.told.result _ _ _
+    IfOk-both c.fault_answer.result _ _ _
     (λ a is line. fault_answered c.args.inquiry.now (job_of c.args.bytes.now) c.in-Err.fault a.status (string_bytes a.text) is line c.in-Err.ensures)
-    c.told.ensures.status c.told.ensures.text
+    c.fault_answer.ensures.status c.fault_answer.ensures.text

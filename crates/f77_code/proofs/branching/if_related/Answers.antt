@@ -9,6 +9,6 @@ branch-compared-requires c =
     let fy : FitsSigned w64 c.operand-y.result = search rules in
     let fz : FitsSigned w64 c.compared.result = search rules in
     let registers = c.args.registers.now in
-    let tells = c.compared.ensures (term_value registers c.args.pair.now.left) (term_value registers c.args.pair.now.right)
+    let encodes = c.compared.ensures (term_value registers c.args.pair.now.left) (term_value registers c.args.pair.now.right)
     (simp to_z-of_z c.operand-x.ensures) (simp to_z-of_z c.operand-y.ensures) in
-    simp to_z-of_z tells.told
+    simp to_z-of_z encodes.valid

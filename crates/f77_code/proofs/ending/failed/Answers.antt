@@ -1,6 +1,6 @@
 use Rattle.std.proofs.Common.{arith, ◌≡◌, ◌+◌, pos}
 use Rattle.std.proofs.lemmas.Int.{ints}
-use Rattle.f77_actions.specs.Told.{fault_number}
+use Rattle.f77_actions.specs.Encoded.{fault_number}
 use Rattle.f77_code.proofs.ending.failed.Goals as goal
 
 pub returns : goal.returns

@@ -17,19 +17,19 @@ block-next-requires-clause-held c =
     ∙ and_from (are_held slots) (are_held rest) c.requires.slots_held (held_behind (length slots) c.args.registers.now c.requires.held))
 
 pub returns-then-is_met-clause-same : goal.returns-then-is_met-clause-same
-returns-then-is_met-clause-same c = λ parted steps own at is.
+returns-then-is_met-clause-same c = λ diverging steps own at is.
     let q = point c.block-next.result.place c.block-next.new.registers c.block-next.new.turns in
-    let leads = leads_to parted c.args.kept.now c.args.more steps c.args.registers.now is c.args.code.now c.args.place c.load.new.registers
+    let leads = leads_to diverging c.args.kept.now c.args.more steps c.args.registers.now is c.args.code.now c.args.place c.load.new.registers
     c.load.new.turns q own at c.load.ensures.registers c.load.ensures.turns c.block-next.ensures.after in
-    subst (λ code. code_after code steps (with_more parted.runs.start parted.runs.extra) ≡ with_more (code_after parted.runs.code steps parted.runs.start) parted.runs.extra)
+    subst (λ code. code_after code steps (with_more diverging.runs.start diverging.runs.extra) ≡ with_more (code_after diverging.runs.code steps diverging.runs.start) diverging.runs.extra)
     (sym own)
-    (same_run parted c.args.kept.now c.args.more steps c.args.registers.now is q leads c.if-not-more.true c.requires.after
+    (same_run diverging c.args.kept.now c.args.more steps c.args.registers.now is q leads c.if-not-more.true c.requires.after
     (c.is_met.ensures.place c.if-is_met.true) (c.is_met.ensures.slots c.if-is_met.true) (c.is_met.ensures.turns c.if-is_met.true))
 
 pub returns-clause-other : goal.returns-clause-other
-returns-clause-other c = λ parted steps own at is m.
+returns-clause-other c = λ diverging steps own at is m.
     let q = point c.block-next.result.place c.block-next.new.registers c.block-next.new.turns in
-    let leads = leads_to parted c.args.kept.now c.args.more steps c.args.registers.now is c.args.code.now c.args.place c.load.new.registers
+    let leads = leads_to diverging c.args.kept.now c.args.more steps c.args.registers.now is c.args.code.now c.args.place c.load.new.registers
     c.load.new.turns q own at c.load.ensures.registers c.load.ensures.turns c.block-next.ensures.after in
-    subst (λ code. code_after code m q ≡ code_after code (c.args.kept.now.made + 1 + m) (with_more parted.runs.start parted.runs.extra)) (sym own)
-    (goes_on parted c.args.kept.now c.args.more steps c.args.registers.now is q leads m)
+    subst (λ code. code_after code m q ≡ code_after code (c.args.kept.now.made + 1 + m) (with_more diverging.runs.start diverging.runs.extra)) (sym own)
+    (goes_on diverging c.args.kept.now c.args.more steps c.args.registers.now is q leads m)

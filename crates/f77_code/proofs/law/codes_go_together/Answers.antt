@@ -5,10 +5,10 @@ pub returns-clause-alongside : goal.returns-clause-alongside
 returns-clause-alongside c = together.alongside
 
 pub returns-clause-never : goal.returns-clause-never
-returns-clause-never c = together.never_part
+returns-clause-never c = together.never_diverge
 
 pub returns-clause-at : goal.returns-clause-at
-returns-clause-at c = together.part_at
+returns-clause-at c = together.diverge_at
 
 pub returns-clause-step : goal.returns-clause-step
 returns-clause-step c = together.makes_step

@@ -1,6 +1,6 @@
 use Rattle.std.proofs.Common.{rules, w64, FitsSigned}
 use Rattle.std.proofs.lemmas.Int.{to_z-of_z}
-use Rattle.f77_code.proofs.Incremented.{next_told}
+use Rattle.f77_code.proofs.Incremented.{next_encodes}
 use Rattle.f77_code.proofs.looping.advanced.Goals as goal
 
 pub returns : goal.returns
@@ -11,4 +11,4 @@ returns c = λ r a.
     let fx : FitsSigned w64 c.sum.result = search rules in
     let from = simp to_z-of_z at c.from.ensures in
     simp to_z-of_z
-    (next_told c.args.step c.from.result c.args.value c.sum.result narrow from r a (λ r q a b. c.sum.ensures r q (simp to_z-of_z a) (simp to_z-of_z b)))
+    (next_encodes c.args.step c.from.result c.args.value c.sum.result narrow from r a (λ r q a b. c.sum.ensures r q (simp to_z-of_z a) (simp to_z-of_z b)))

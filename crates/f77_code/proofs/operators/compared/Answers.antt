@@ -2,7 +2,7 @@ use Rattle.std.proofs.Common.{rules, w64, FitsSigned}
 use Rattle.std.proofs.lemmas.Int.{to_z-of_z}
 use Rattle.f77_code.specs.Evaluation as meaning
 use Rattle.f77_code.specs.Term.{related_number}
-use Rattle.f77_code.proofs.Connecting.{truth_told}
+use Rattle.f77_code.proofs.Connecting.{truth_encodes}
 use Rattle.f77_code.proofs.operators.compared.Goals as goal
 
 pub returns : goal.returns
@@ -14,5 +14,5 @@ returns c = λ r q a b.
     let is = c.truth.ensures in
     let holds = simp to_z-of_z at c.holds.ensures in
     simp to_z-of_z (c.settled.ensures (related_number c.args.relation) r q
-    (λ m n. simp to_z-of_z (truth_told (meaning.compared c.args.relation c.args.x c.args.y) c.holds.result c.truth.result is holds))
+    (λ m n. simp to_z-of_z (truth_encodes (meaning.compared c.args.relation c.args.x c.args.y) c.holds.result c.truth.result is holds))
     (simp to_z-of_z a) (simp to_z-of_z b))

@@ -1,7 +1,7 @@
 use Rattle.std.proofs.Common.{rules, w64, FitsSigned}
 use Rattle.std.proofs.lemmas.Int.{to_z-of_z}
 use Rattle.f77_code.specs.Term.{connected_number}
-use Rattle.f77_code.proofs.Connecting.{connected_told}
+use Rattle.f77_code.proofs.Connecting.{connected_encodes}
 use Rattle.f77_code.proofs.operators.connected.Goals as goal
 
 pub returns : goal.returns
@@ -12,6 +12,6 @@ returns c = λ r q a b.
     let t : FitsSigned w64 c.joined.result = search rules in
     let is = simp to_z-of_z at c.joined.ensures in
     simp to_z-of_z (c.settled.ensures (connected_number c.args.connective) r q
-    (λ m n. simp to_z-of_z (connected_told c.args.connective c.args.x c.args.y c.joined.result c.requires.x c.requires.y is
+    (λ m n. simp to_z-of_z (connected_encodes c.args.connective c.args.x c.args.y c.joined.result c.requires.x c.requires.y is
     (simp to_z-of_z at m) (simp to_z-of_z at n)))
     (simp to_z-of_z a) (simp to_z-of_z b))

@@ -2,7 +2,7 @@ use Rattle.std.proofs.Common.{map, ap, ◌∙◌, sym}
 use Rattle.std.specs.Prelude.{option_map}
 use Rattle.f77_program.specs.Program.{line_of}
 use Rattle.f77_legal.specs.declared.fault.CheckFault.TheVariants.{RealName, Twice}
-use Rattle.f77_legal.proofs.First.{first_of, second_told, nothing_told}
+use Rattle.f77_legal.proofs.First.{first_of, first_of_second, none_of_both}
 use Rattle.f77_legal.proofs.legal.check_names.Goals as goal
 
 pub returns-in-Some : goal.returns-in-Some
@@ -14,13 +14,13 @@ returns-in-Some c = λ table.
 pub returns-in-Some-first_twice : goal.returns-in-Some-first_twice
 returns-in-Some-first_twice c = λ table.
     let program = map line_of c.args.lines.now in
-    second_told RealName Twice _ _ c.in-Some-first_twice.name.now
+    first_of_second RealName Twice _ _ c.in-Some-first_twice.name.now
     (sym (c.first_real.ensures program table) ∙ ap (option_map (λ name. name.now)) c.in_default.is)
     (sym (c.first_twice.ensures program table c.unit.ensures) ∙ ap (option_map (λ name. name.now)) c.in-Some-first_twice.is)
 
 pub returns : goal.returns
 returns c = λ table.
     let program = map line_of c.args.lines.now in
-    nothing_told RealName Twice _ _
+    none_of_both RealName Twice _ _
     (sym (c.first_real.ensures program table) ∙ ap (option_map (λ name. name.now)) c.in_default.is)
     (sym (c.first_twice.ensures program table c.unit.ensures) ∙ ap (option_map (λ name. name.now)) c.in_default-first_twice.is)

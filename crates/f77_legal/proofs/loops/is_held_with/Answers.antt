@@ -3,7 +3,7 @@ use Rattle.std.specs.Prelude.{◌&&◌}
 use Rattle.std.specs.Option.{option_and_then, option_map_or}
 use Rattle.std.specs.Str.{bytes_eq}
 use Rattle.f77_program.specs.Program.{line_of}
-use Rattle.f77_legal.specs.Holders.{is_in_do_range}
+use Rattle.f77_legal.specs.Enclosing.{is_in_do_range}
 use Rattle.f77_legal.specs.Labels.{nth_statement}
 use Rattle.f77_legal.specs.Loops.{do_variable_of}
 use Rattle.std.proofs.lemmas.Iterator.Consumers.{YieldsList-from_first}

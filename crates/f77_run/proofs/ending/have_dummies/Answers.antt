@@ -7,7 +7,7 @@ use Rattle.f77_run.specs.code.Site.{shown_by}
 use Rattle.f77_meaning.specs.code.Spans.{HaveRoom}
 use Rattle.f77_meaning.specs.Interpreter.{AreFitting}
 use Rattle.f77_run.proofs.Loaded.{shown_count}
-use Rattle.f77_run.proofs.Telling.{dummies_room, dummies_decided, dummies_misfit}
+use Rattle.f77_run.proofs.Reporting.{dummies_room, dummies_decided, dummies_misfit}
 use Rattle.f77_run.proofs.ending.have_dummies.Goals as goal
 
 pub have_arguments-requires : goal.have_arguments-requires

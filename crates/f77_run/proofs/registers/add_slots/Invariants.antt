@@ -1,7 +1,7 @@
 use Rattle.std.proofs.Common.{◌≡◌, ◌++◌, length, map}
 use Rattle.std.specs.List.{list_all}
 use Rattle.std.specs.Prelude.{option_map}
-use Rattle.f77_actions.specs.Told.{coded, is_fitting}
+use Rattle.f77_actions.specs.Encoded.{coded, is_fitting}
 use Rattle.f77_code.specs.Holds.{read_as}
 use Rattle.f77_code.specs.Registers.{are_held}
 use Rattle.f77_meaning.specs.Start.{constant_value}

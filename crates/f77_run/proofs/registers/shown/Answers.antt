@@ -2,7 +2,7 @@ use Rattle.std.proofs.Common.{◌≡◌, ◌∷◌, ◌++◌, ◌∙◌, [], Som
 use Rattle.std.proofs.lemmas.Int.{to_z-of_z}
 use Rattle.std.proofs.lemmas.Option.{slice_get-get_or}
 use Rattle.std.proofs.lemmas.Slice.Zip.{zip_turn, zip_end}
-use Rattle.f77_code.specs.Registers.{is_held, told_by_register}
+use Rattle.f77_code.specs.Registers.{is_held, decoded}
 use Rattle.f77_code.proofs.Listed.{all_at}
 use Rattle.f77_run.proofs.Pairs.{pair_left}
 use Rattle.f77_run.proofs.Pushed.{mapped_all, mapped_more}
@@ -36,9 +36,9 @@ loop-kind-preserved c =
     let step = pair_left kinds registers i kind.now register.now turn.0 turn.1 (turn.2 kind.now) (turn.3 register.now) in
     let fits : FitsSigned w64 (get_or registers i (pos 0)) = search rules in
     let wide : FitsSigned w64 register.now = subst (FitsSigned w64) (sym (turn.3 (pos 0))) fits in
-    let value : c.value.result ≡ shown_as kind.now (told_by_register register.now) = simp to_z-of_z at c.value.ensures in
+    let value : c.value.result ≡ shown_as kind.now (decoded register.now) = simp to_z-of_z at c.value.ensures in
     rw (length-append c.loop-kind.yielded ((kind, register) ∷ []))
-    (mapped_more kinds registers (λ pair. shown_as pair.0 (told_by_register pair.1)) i (kind.now, register.now) c.loop-kind.cells.items c.push.new.self.items
+    (mapped_more kinds registers (λ pair. shown_as pair.0 (decoded pair.1)) i (kind.now, register.now) c.loop-kind.cells.items c.push.new.self.items
     (shown_cells kinds registers) step (c.in_ok-push.ensures.items ∙ ap (λ x. c.loop-kind.cells.items ++ (x ∷ [])) value) c.loop-kind.invariant)
 
 pub returns-clause-cells : goal.returns-clause-cells
@@ -46,5 +46,5 @@ returns-clause-cells c =
     let kinds = c.args.kinds.now in
     let registers = c.args.registers.now in
     let end = zip_end kinds registers c.loop-kind.yielded _ c.loop-kind.kind-iterator c.next.new.self c.next.result (cc) (cc) c.loop-kind.yielded_by c.in-None.is c.next.ensures.steps in
-    mapped_all kinds registers (λ pair. shown_as pair.0 (told_by_register pair.1)) (length c.loop-kind.yielded) c.loop-kind.cells.items (shown_cells kinds registers) end
+    mapped_all kinds registers (λ pair. shown_as pair.0 (decoded pair.1)) (length c.loop-kind.yielded) c.loop-kind.cells.items (shown_cells kinds registers) end
     c.loop-kind.invariant

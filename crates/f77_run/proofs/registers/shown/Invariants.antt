@@ -1,5 +1,5 @@
 use Rattle.std.proofs.Common.{◌≡◌, ◌++◌, length, map}
-use Rattle.f77_code.specs.Registers.{told_by_register}
+use Rattle.f77_code.specs.Registers.{decoded}
 use Rattle.f77_run.proofs.Pushed.{pairs_left}
 use Rattle.f77_run.specs.code.Registers.{shown_as, shown_cells}
 use Rattle.f77_run.proofs.registers.shown.Given as goal
@@ -7,5 +7,5 @@ use Rattle.f77_run.proofs.registers.shown.Given as goal
 -- what is shown so far, with the other slots
 abbrev pub invariant-loop-kind : goal.invariant-loop-kind
 invariant-loop-kind l =
-    l.cells.items ++ map (λ pair. shown_as pair.0 (told_by_register pair.1)) (pairs_left l.kinds l.registers (length l.yielded))
+    l.cells.items ++ map (λ pair. shown_as pair.0 (decoded pair.1)) (pairs_left l.kinds l.registers (length l.yielded))
     ≡ shown_cells l.kinds l.registers

@@ -3,8 +3,8 @@ use Rattle.f77_code.specs.Registers.{are_held}
 use Rattle.f77_run.specs.code.Running.{Leads, stands_at, within_registers}
 use Rattle.f77_run.proofs.running.advance.Given as goal
 
-abbrev pub invariant-marks : goal.invariant-marks
-invariant-marks l = record {
+abbrev pub invariant-rounds : goal.invariant-rounds
+invariant-rounds l = record {
   leads : Leads l.code (stands_at l.start l.fn.registers) l.at.made (stands_at l.at.place l.registers);
   held : are_held l.registers.items.items ≡ true;
   within : within_registers l.code l.registers ≡ true;
@@ -12,5 +12,5 @@ invariant-marks l = record {
   some : l.at.place < length l.code → l.at.made < l.steps → 0 < l.at.made;
 }
 
-abbrev pub decreases-marks : goal.decreases-marks
-decreases-marks l = l.steps - l.at.made
+abbrev pub decreases-rounds : goal.decreases-rounds
+decreases-rounds l = l.steps - l.at.made

@@ -9,10 +9,10 @@ use Rattle.f77_syntax.proofs.parsing.parse.Goals as goal
 in_err : (c : goal.After-drop-lines) → Exactly c.args.cards.now c.from_residual.result
 in_err c =
     let p = err_from_is_err_and c.from_residual.result c.from_residual.ensures.1 in
-    let told = refused_so c.args.cards.now _ _ c.card-item.result c.loop-card.last c.in_err-stmt.field-0.0
+    let answered = refused_so c.args.cards.now _ _ c.card-item.result c.loop-card.last c.in_err-stmt.field-0.0
     (drop_more c.args.cards.now c.loop-card.card-index c.card-item.result c.loop-card-test.true
     ∙ ap (λ z. z ∷ drop (c.loop-card.card-index + 1) c.args.cards.now) (sym c.card-item.is)) c.in_err-stmt.ensures c.loop-card.invariant.fault in
-    subst (λ r. Exactly c.args.cards.now r) (sym (p.1 ∙ ap Err p.2)) told
+    subst (λ r. Exactly c.args.cards.now r) (sym (p.1 ∙ ap Err p.2)) answered
 
 pub returns-in_err-stmt-clause-accepts : goal.returns-in_err-stmt-clause-accepts
 returns-in_err-stmt-clause-accepts c = exactly_accepts c.args.cards.now c.from_residual.result (in_err c)

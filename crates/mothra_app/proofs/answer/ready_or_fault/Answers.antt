@@ -9,7 +9,7 @@ use Rattle.mothra_cli.specs.declared.request.Request.{Request}
 use Rattle.mothra_job.proofs.FewTests.{few_tests}
 use Rattle.mothra_app.proofs.Memory.{job_in}
 use Rattle.mothra_app.proofs.Outcomes.{bench_ready, executed, listed, printed, read_so, text_ready}
-use Rattle.mothra_app.proofs.Sources.{told}
+use Rattle.mothra_app.proofs.Sources.{of_fault}
 use Rattle.mothra_app.proofs.answer.ready_or_fault.Goals as goal
 
 job_refused : (request : Request) (read answer : JobRead) (fault : JobFault) → answer ≡ Err fault → (answer ≡ read) ⊎ (answer ≡ Err Memory)
@@ -21,20 +21,20 @@ job_refused request read answer fault gives (inr is) =
 
 pub returns-in_err-job : goal.returns-in_err-job
 returns-in_err-job c =
-    told c.from_residual.result _ _ (Job c.in_err-job.field-0.0) c.from_residual.ensures.1
+    of_fault c.from_residual.result _ _ (Job c.in_err-job.field-0.0) c.from_residual.ensures.1
     (job_refused c.args.request.now (job_of c.args.bytes.now) _ c.in_err-job.field-0.0 refl c.in_err-job.ensures.job)
 
 pub returns-in_err-execute-in-Exec : goal.returns-in_err-execute-in-Exec
 returns-in_err-execute-in-Exec c =
     let fault = c.in_err-execute-in-Exec.field-0.0 in
-    told c.from_residual-in_err-execute-in-Exec.result _ _ fault c.from_residual-in_err-execute-in-Exec.ensures.1
+    of_fault c.from_residual-in_err-execute-in-Exec.result _ _ fault c.from_residual-in_err-execute-in-Exec.ensures.1
     (executed c.args.request.now c.in_ok-job.job (job_of c.args.bytes.now) c.in-Exec.test c.in-Exec.steps (Err fault) c.in-Exec.is c.in_ok-job.ensures.job
     c.in_err-execute-in-Exec.ensures)
 
 pub returns-in_err-list_mutants-in-List : goal.returns-in_err-list_mutants-in-List
 returns-in_err-list_mutants-in-List c =
     let fault = c.in_err-list_mutants-in-List.field-0.0 in
-    told c.from_residual-in_err-list_mutants-in-List.result _ _ fault c.from_residual-in_err-list_mutants-in-List.ensures.1
+    of_fault c.from_residual-in_err-list_mutants-in-List.result _ _ fault c.from_residual-in_err-list_mutants-in-List.ensures.1
     (listed c.args.request.now c.in_ok-job.job (job_of c.args.bytes.now) c.source-in-List.result.now c.as_slice.result.now c.in-List.operators c.in-List.every
     (Err fault) c.in-List.is c.in_ok-job.ensures.job c.source-in-List.ensures c.as_slice.ensures c.in_err-list_mutants-in-List.ensures)
 

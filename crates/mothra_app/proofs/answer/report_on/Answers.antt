@@ -11,6 +11,6 @@ returns-in-Ok g c =
 
 pub returns-in-Err : goal.returns-in-Err
 returns-in-Err g c =
-    IfOk-both c.told.result _ _ _
-    (λ a is line. report_refused c.args.bench.now c.in-Err.fault a.status (string_bytes a.text) c.in-Err.ensures.refused is line) c.told.ensures.status
-    c.told.ensures.text
+    IfOk-both c.fault_answer.result _ _ _
+    (λ a is line. report_refused c.args.bench.now c.in-Err.fault a.status (string_bytes a.text) c.in-Err.ensures.refused is line) c.fault_answer.ensures.status
+    c.fault_answer.ensures.text

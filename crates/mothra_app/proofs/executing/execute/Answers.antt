@@ -4,13 +4,13 @@ use Rattle.f77_program.specs.Program.{line_of}
 use Rattle.mothra_app.specs.Program.{IsLegalProgramOf}
 use Rattle.mothra_app.specs.Fault.{of_legal_programs}
 use Rattle.mothra_app.proofs.Executions.{executed_refused}
-use Rattle.mothra_app.proofs.Sources.{told}
+use Rattle.mothra_app.proofs.Sources.{of_fault}
 use Rattle.mothra_app.proofs.executing.execute.Goals as goal
 
 pub returns-in_err-checked : goal.returns-in_err-checked
 returns-in_err-checked c =
     let fault = c.in_err-checked.field-0.0 in
-    told c.from_residual.result _ _ fault c.from_residual.ensures.1
+    of_fault c.from_residual.result _ _ fault c.from_residual.ensures.1
     (executed_refused c.args.job.now c.args.test c.args.steps fault
     (subst (λ source. IsLegalProgramOf source (Err fault) ⊎ Contains of_legal_programs fault) c.source.ensures c.in_err-checked.ensures.program))
 

@@ -6,24 +6,24 @@ use Rattle.mothra_app.specs.Fault.{of_mutants}
 use Rattle.mothra_app.specs.declared.fault.Fault.TheVariants.{Ops}
 use Rattle.mothra_app.proofs.Listings.{program_refused, plan_refused, plan_listed}
 use Rattle.mothra_app.proofs.Memory.{ops_in}
-use Rattle.mothra_app.proofs.Sources.{told}
+use Rattle.mothra_app.proofs.Sources.{of_fault}
 use Rattle.mothra_app.proofs.listing.list_mutants.Goals as goal
 
 pub returns-in_err-checked : goal.returns-in_err-checked
 returns-in_err-checked c =
     let fault = c.in_err-checked.field-0.0 in
-    told c.from_residual.result _ _ fault c.from_residual.ensures.1
+    of_fault c.from_residual.result _ _ fault c.from_residual.ensures.1
     (program_refused c.args.source.now c.args.ops.now c.args.every fault c.in_err-checked.ensures.program)
 
 pub returns-in_err-plan : goal.returns-in_err-plan
 returns-in_err-plan c =
     let fault = c.in_err-plan.field-0.0 in
-    told c.from_residual-in_err-plan.result _ _ (Ops fault) c.from_residual-in_err-plan.ensures.1
+    of_fault c.from_residual-in_err-plan.result _ _ (Ops fault) c.from_residual-in_err-plan.ensures.1
     (plan_refused c.args.source.now c.args.ops.now c.args.every (map line_of c.in_ok-checked.checked.program) fault c.in_ok-checked.ensures.program c.in_err-plan.ensures.refused)
 
 pub returns-in_err-text_of : goal.returns-in_err-text_of
 returns-in_err-text_of c =
-    told c.from_residual-in_err-text_of.result _ _ (Ops c.in_err-text_of.field-0.0) c.from_residual-in_err-text_of.ensures.1
+    of_fault c.from_residual-in_err-text_of.result _ _ (Ops c.in_err-text_of.field-0.0) c.from_residual-in_err-text_of.ensures.1
     (inr (subst (λ f. Contains of_mutants (Ops f)) (sym c.in_err-text_of.ensures.memory) ops_in))
 
 pub returns : goal.returns

@@ -3,18 +3,18 @@ use Rattle.f77_source.specs.Read as forms
 use Rattle.f77_source.specs.Read.{AreCards, lines}
 use Rattle.mothra_app.specs.Program.{IsProgramOf}
 use Rattle.mothra_app.specs.declared.fault.Fault.TheVariants.{Form, Syntax}
-use Rattle.mothra_app.proofs.Sources.{told, form_refused, syntax_refused}
+use Rattle.mothra_app.proofs.Sources.{of_fault, form_refused, syntax_refused}
 use Rattle.mothra_app.proofs.program.program_of.Goals as goal
 
 pub returns-in_err-cards : goal.returns-in_err-cards
 returns-in_err-cards c =
-    told c.from_residual.result _ _ (Form c.in_err-cards.field-0.0) c.from_residual.ensures.1
+    of_fault c.from_residual.result _ _ (Form c.in_err-cards.field-0.0) c.from_residual.ensures.1
     (form_refused c.args.source.now c.in_err-cards.field-0.0
     (subst (λ bytes. forms.IsRefusedBy bytes c.in_err-cards.field-0.0) c.as_bytes.ensures.value c.in_err-cards.ensures.refused))
 
 pub returns-in_err-parse : goal.returns-in_err-parse
 returns-in_err-parse c =
-    told c.from_residual-in_err-parse.result _ _ (Syntax c.in_err-parse.field-0.0) c.from_residual-in_err-parse.ensures.1
+    of_fault c.from_residual-in_err-parse.result _ _ (Syntax c.in_err-parse.field-0.0) c.from_residual-in_err-parse.ensures.1
     (syntax_refused c.args.source.now c.deref.result.now c.in_err-parse.field-0.0
     (subst (λ (bytes : List ℕ). length bytes ≤ 65536) c.as_bytes.ensures.value c.in_ok-cards.ensures.within)
     (subst (λ shown. AreCards 1 (lines c.args.source.now) shown) (sym c.deref.ensures.value)

@@ -8,13 +8,13 @@ use Rattle.mothra_app.specs.Reporting.{IsPlanOf}
 use Rattle.mothra_app.specs.declared.fault.Fault.TheVariants.{Bench, Ops}
 use Rattle.mothra_verdicts.specs.Bench.{IsNoBench}
 use Rattle.mothra_app.proofs.Reports.{bench_refused, plan_refused, program_refused}
-use Rattle.mothra_app.proofs.Sources.{told}
+use Rattle.mothra_app.proofs.Sources.{of_fault}
 use Rattle.mothra_app.proofs.reporting.bench_of.Goals as goal
 
 pub returns-in_err-checked : goal.returns-in_err-checked
 returns-in_err-checked c =
     let fault = c.in_err-checked.field-0.0 in
-    told c.from_residual.result _ _ fault c.from_residual.ensures.1
+    of_fault c.from_residual.result _ _ fault c.from_residual.ensures.1
     (program_refused c.args.job c.args.ops.now c.args.every c.args.steps fault
     (subst (λ source. IsLegalProgramOf source (Err fault) ⊎ Contains of_legal_programs fault) c.source.ensures c.in_err-checked.ensures.program))
 
@@ -23,7 +23,7 @@ returns-in_err-plan c =
     let fault = c.in_err-plan.field-0.0 in
     let program = map line_of c.in_ok-checked.checked.program in
     let legal = subst (λ source. IsLegalProgramOf source (Ok program)) c.source.ensures c.in_ok-checked.ensures.program in
-    told c.from_residual-in_err-plan.result _ _ (Ops fault) c.from_residual-in_err-plan.ensures.1
+    of_fault c.from_residual-in_err-plan.result _ _ (Ops fault) c.from_residual-in_err-plan.ensures.1
     (plan_refused c.args.job c.args.ops.now c.args.every c.args.steps program fault legal c.in_err-plan.ensures.refused)
 
 pub returns-in_err-new : goal.returns-in_err-new
@@ -38,7 +38,7 @@ returns-in_err-new c =
       asked = c.in_ok-plan.ensures.asked;
       is = c.in_ok-plan.ensures.lists;
     } in
-    told c.from_residual-in_err-new.result _ _ (Bench fault) c.from_residual-in_err-new.ensures.1
+    of_fault c.from_residual-in_err-new.result _ _ (Bench fault) c.from_residual-in_err-new.ensures.1
     (bench_refused c.args.job c.args.ops.now c.args.every c.args.steps program plan fault legal planned
     (subst (λ tests. IsNoBench plan tests c.args.steps c.args.job.equivalent fault) c.into_lists-suite.ensures.suite
     (subst (λ declared. IsNoBench plan c.into_lists-suite.result.0 c.args.steps declared fault) c.into_lists-suite.ensures.equivalent c.in_err-new.ensures.refused)))

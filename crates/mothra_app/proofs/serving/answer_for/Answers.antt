@@ -10,7 +10,7 @@ use Rattle.mothra_cli.specs.Watched.{inside}
 use Rattle.mothra_app.proofs.Answered.{few_workers, report_never, reported}
 use Rattle.mothra_app.proofs.serving.answer_for.Goals as goal
 
--- want of memory is no failed read
+-- running out of memory is no failed read
 no_read : (result : Result Answer AppFault) → IsErrAnd result (λ e. e ≡ Memory) → is_read_fault result ≡ false
 no_read (Ok a) is = absurd is
 no_read (Err e) is = subst (λ f. is_read_fault {A = Answer} (Err f) ≡ false) (sym is) refl

@@ -4,7 +4,7 @@ use Rattle.mothra_codes.specs.declared.op.Op.{Op}
 use Rattle.mothra_codes.specs.Ticket.{ticket_times}
 use Rattle.mothra_exchange.proofs.Counting.{times-append}
 use Rattle.mothra_bench.specs.code.Driving.{AreShared, IsDone}
-use Rattle.mothra_bench.specs.Gathered.{tickets_in}
+use Rattle.mothra_bench.specs.Results.{tickets_in}
 use Rattle.mothra_bench.proofs.JoinedPasses.{all_complete}
 use Rattle.mothra_bench.proofs.SharedOperators.{all_shared}
 use Rattle.mothra_bench.proofs.driving.drive.Goals as goal

@@ -4,7 +4,7 @@ use Rattle.mothra_bench.specs.code.Driving.{IsShare}
 use Rattle.mothra_bench.specs.Working.{AreOver}
 use Rattle.mothra_bench.proofs.DriveEnds.{any_none, memory_on, none_on, rows_none}
 use Rattle.mothra_bench.proofs.JoinedPasses.{keeps_on, keeps_self, new_same}
-use Rattle.mothra_bench.proofs.WorkerRows.{answered_with, first_of_all, gathers, none_left, over_gathered, still_some}
+use Rattle.mothra_bench.proofs.WorkerRows.{answered_with, first_of_all, merges_rows, none_left, over_merged, still_some}
 use Rattle.mothra_bench.proofs.driving.join_workers.Goals as goal
 
 pub join_worker-outcome-requires-clause-own : goal.join_worker-outcome-requires-clause-own
@@ -32,10 +32,10 @@ loop-worker-init g c =
       c.requires.own,
       search rules,
       search rules,
-      rows_none c.args.crew.now.bench.now g.G.Gate.keeps_records old.taken c.new-gathered.result.fault c.new-gathered.result.rows.items c.new-gathered.ensures.rows,
+      rows_none c.args.crew.now.bench.now g.G.Gate.keeps_records old.taken c.new-results.result.fault c.new-results.result.rows.items c.new-results.ensures.rows,
       search rules,
       λ keeps. keeps_self old,
-      λ keeps. any_none ((into_iter_items c.into_iter-worker-iterator.result ≡ c.args.workers.items) ⊎ AreOver old) c.new-gathered.result.fault
+      λ keeps. any_none ((into_iter_items c.into_iter-worker-iterator.result ≡ c.args.workers.items) ⊎ AreOver old) c.new-results.result.fault
           (inl c.into_iter-worker-iterator.ensures.into_iter_gives.0),
       search rules,
       search rules,
@@ -53,8 +53,8 @@ loop-worker-preserved g c =
     (λ worker. (worker.promise.gate.now ≡ c.args.crew.now.gate.now) × (worker.promise.bench.now ≡ c.args.crew.now.bench.now)
     × IsShare g.G.Gate.needs_parts g.G.Gate.keeps_records (g.G.Gate.view c.args.pass.now).counts (g.G.Gate.view worker.promise.pass.value))
     steps.0 inv.3 in
-    let more = gathers c.args.crew.now.bench.now g.G.Gate.may_give_up g.G.Gate.keeps_records (g.G.Gate.view c.in-Some.worker.promise.pass.value).counts old.counts old.taken
-    between.taken new.taken c.loop-worker.gathered.fault c.loop-worker.gathered.rows.items c.join_worker-outcome.result c.add.new.self.fault c.add.new.self.rows.items
+    let more = merges_rows c.args.crew.now.bench.now g.G.Gate.may_give_up g.G.Gate.keeps_records (g.G.Gate.view c.in-Some.worker.promise.pass.value).counts old.counts old.taken
+    between.taken new.taken c.loop-worker.results.fault c.loop-worker.results.rows.items c.join_worker-outcome.result c.add.new.self.fault c.add.new.self.rows.items
     (λ keeps. (here.0.2.fresh keeps).same) c.add.ensures.rows c.add.ensures.fault inv.4 inv.5 c.join_worker-outcome.ensures.verdicts c.join_worker-outcome.ensures.refused
     c.join_worker-outcome.ensures.records in (
       tt,
@@ -70,8 +70,8 @@ loop-worker-preserved g c =
           let long = ap (λ l. length l) steps.0 in
           omega arith),
       (λ keeps. keeps_on old between new (inv.7 keeps) (c.join_worker-outcome.ensures.fed keeps)),
-      (λ keeps. over_gathered (c.loop-worker.gathered.fault ≡ None) (AreOver new) (into_iter_items c.next.new.self ≡ c.args.workers.items)
-          (λ rows. c.add.new.self.rows.items ≡ c.loop-worker.gathered.rows.items ++ rows.items) c.add.new.self.fault c.join_worker-outcome.result c.add.ensures.rows
+      (λ keeps. over_merged (c.loop-worker.results.fault ≡ None) (AreOver new) (into_iter_items c.next.new.self ≡ c.args.workers.items)
+          (λ rows. c.add.new.self.rows.items ≡ c.loop-worker.results.rows.items ++ rows.items) c.add.new.self.fault c.join_worker-outcome.result c.add.ensures.rows
           (c.join_worker-outcome.ensures.over keeps)),
       (let long = ap (λ l. length l) steps.0 in let len = steps.1 in let was = inv.9 in omega arith),
       none_on c.args.fault.now c.loop-worker.fault c.add.new.own inv.10 c.add.ensures.own,
@@ -88,7 +88,7 @@ returns-clause-part g c parts =
 pub returns-clause-over : goal.returns-clause-over
 returns-clause-over g c keeps =
     let none = none_left (into_iter_items c.loop-worker.worker-iterator) (sym c.loop-worker.invariant.9 ∙ c.in-None.ensures.steps.0) in
-    answered_with ((c.args.workers.items ≡ []) ⊎ AreOver (g.G.Gate.view c.loop-worker.pass)) c.loop-worker.gathered.fault c.loop-worker.gathered.rows c.outcome.result
+    answered_with ((c.args.workers.items ≡ []) ⊎ AreOver (g.G.Gate.view c.loop-worker.pass)) c.loop-worker.results.fault c.loop-worker.results.rows c.outcome.result
     (still_some ((into_iter_items c.loop-worker.worker-iterator ≡ c.args.workers.items) ⊎ AreOver (g.G.Gate.view c.loop-worker.pass))
-    ((c.args.workers.items ≡ []) ⊎ AreOver (g.G.Gate.view c.loop-worker.pass)) c.loop-worker.gathered.fault
+    ((c.args.workers.items ≡ []) ⊎ AreOver (g.G.Gate.view c.loop-worker.pass)) c.loop-worker.results.fault
     (λ way. ⊎_elim (λ e. inl (sym e ∙ none)) (λ over. inr over) way) (c.loop-worker.invariant.8 keeps)) c.outcome.ensures

@@ -12,17 +12,17 @@ loop-preserved g c =
     let new = g.G.Gate.view c.split-own.new.pass in
     let inv = c.loop.invariant in
     let split = c.split-own.ensures in
-    let told = c.in-Ok-start_worker.ensures.started in
+    let known = c.in-Ok-start_worker.ensures.started in
     let more = c.in-Ok-push.ensures.items in (
       split.own.0,
       all_push c.push.new.self.items c.loop.started.items c.in-Ok-start_worker.worker
           (λ worker. (worker.promise.gate.now ≡ c.args.crew.now.gate.now) × (worker.promise.bench.now ≡ c.args.crew.now.bench.now)
           × IsShare g.G.Gate.needs_parts g.G.Gate.keeps_records old.counts (g.G.Gate.view worker.promise.pass.value)) more inv.1 (
-            told.0,
-            told.1,
+            known.0,
+            known.1,
             record {
-              part = λ parts. ap (λ p. (g.G.Gate.view p).part) told.2 ∙ (split.part parts).1;
-              fresh = λ keeps. subst (λ p. IsNewPass old.counts (g.G.Gate.view p)) (sym told.2)
+              part = λ parts. ap (λ p. (g.G.Gate.view p).part) known.2 ∙ (split.part parts).1;
+              fresh = λ keeps. subst (λ p. IsNewPass old.counts (g.G.Gate.view p)) (sym known.2)
                   (split_new old.counts between (g.G.Gate.view c.split-own.result) (inv.3 keeps).counts (split.records keeps).1);
             },
           ),

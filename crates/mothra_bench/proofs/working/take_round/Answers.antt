@@ -8,7 +8,7 @@ pub loop-op-init : goal.loop-op-init
 loop-op-init g c = (
   c.requires,
   λ parts. refl,
-  λ bench of. went_still bench g.G.Gate.may_give_up g.G.Gate.keeps_records (g.G.Gate.view c.args.pass.now) c.args.gathered.now,
+  λ bench of. went_still bench g.G.Gate.may_give_up g.G.Gate.keeps_records (g.G.Gate.view c.args.pass.now) c.args.results.now,
   λ keeps is op below. absurd (omega arith),
   λ is. cc,
   refl,

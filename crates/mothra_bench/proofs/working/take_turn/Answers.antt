@@ -9,7 +9,7 @@ pub returns-in-Finished-clause-went : goal.returns-in-Finished-clause-went
 returns-in-Finished-clause-went g c bench of =
     let old = g.G.Gate.view c.args.pass.now in
     let new = g.G.Gate.view c.take.new.pass in
-    went_idle bench g.G.Gate.may_give_up g.G.Gate.keeps_records old new c.args.gathered.now
+    went_idle bench g.G.Gate.may_give_up g.G.Gate.keeps_records old new c.args.results.now
     (λ keeps. take_only g.G.Gate.bound old c.args.op c.take.result new (c.take.ensures.records keeps))
     (λ keeps. take_none g.G.Gate.bound old c.args.op c.take.result new (λ ticket e. let is = c.in-Finished.is in cc) (c.take.ensures.records keeps))
 
@@ -17,14 +17,14 @@ pub returns-in-Empty-clause-went : goal.returns-in-Empty-clause-went
 returns-in-Empty-clause-went g c bench of =
     let old = g.G.Gate.view c.args.pass.now in
     let new = g.G.Gate.view c.take.new.pass in
-    went_idle bench g.G.Gate.may_give_up g.G.Gate.keeps_records old new c.args.gathered.now
+    went_idle bench g.G.Gate.may_give_up g.G.Gate.keeps_records old new c.args.results.now
     (λ keeps. take_only g.G.Gate.bound old c.args.op c.take.result new (c.take.ensures.records keeps))
     (λ keeps. take_none g.G.Gate.bound old c.args.op c.take.result new (λ ticket e. elim c.in-Empty.is [ inl is ↦ cc | inr is ↦ cc ]) (c.take.ensures.records keeps))
 
 pub returns-in-Taken-clause-went : goal.returns-in-Taken-clause-went
 returns-in-Taken-clause-went g c bench of =
     went_one bench g.G.Gate.may_give_up g.G.Gate.keeps_records g.G.Gate.bound (g.G.Gate.view c.args.pass.now) (g.G.Gate.view c.take.new.pass) c.args.op c.in-Taken.ticket
-    c.args.gathered.now c.run.new.self c.in-Taken.ensures.records (c.run.ensures.row bench of) (c.run.ensures.fault bench of)
+    c.args.results.now c.run.new.self c.in-Taken.ensures.records (c.run.ensures.row bench of) (c.run.ensures.fault bench of)
 
 pub returns-in-Finished-clause-over : goal.returns-in-Finished-clause-over
 returns-in-Finished-clause-over g c keeps is =
@@ -35,6 +35,6 @@ pub returns-in-GaveUp-clause-went : goal.returns-in-GaveUp-clause-went
 returns-in-GaveUp-clause-went g c bench of =
     let old = g.G.Gate.view c.args.pass.now in
     let new = g.G.Gate.view c.take.new.pass in
-    went_stalled bench g.G.Gate.may_give_up g.G.Gate.keeps_records old new c.args.gathered.now c.fail.new.self c.in-GaveUp.ensures.gives_up c.fail.ensures
+    went_stalled bench g.G.Gate.may_give_up g.G.Gate.keeps_records old new c.args.results.now c.fail.new.self c.in-GaveUp.ensures.gives_up c.fail.ensures
     (λ keeps. take_only g.G.Gate.bound old c.args.op take.GaveUp new (c.in-GaveUp.ensures.records keeps))
     (λ keeps. (c.in-GaveUp.ensures.records keeps).taken)

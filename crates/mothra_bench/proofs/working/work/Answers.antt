@@ -11,7 +11,7 @@ loop-init g c = (
   c.requires,
   λ parts. refl,
   own_verdicts c.of.result c.ok-verdicts.result c.args.bench.now c.of.ensures.verdicts c.ok-verdicts.ensures.value,
-  went_still c.args.bench.now g.G.Gate.may_give_up g.G.Gate.keeps_records (g.G.Gate.view c.args.pass) c.new-gathered.result,
+  went_still c.args.bench.now g.G.Gate.may_give_up g.G.Gate.keeps_records (g.G.Gate.view c.args.pass) c.new-results.result,
 )
 
 pub loop-preserved-in-Ran : goal.loop-preserved-in-Ran
@@ -39,10 +39,10 @@ returns-in-Finished g c =
     let bench = c.args.bench.now in
     let old = g.G.Gate.view c.args.pass in
     let new = g.G.Gate.view c.take_round.new.pass in
-    let went = went_on bench g.G.Gate.may_give_up g.G.Gate.keeps_records old (g.G.Gate.view c.loop.pass) new c.new-gathered.result c.loop.gathered
-    c.take_round.new.gathered c.loop.invariant.5 (c.take_round.ensures.went bench c.loop.invariant.4) in
-    let answer = answers bench g.G.Gate.may_give_up g.G.Gate.keeps_records old new c.new-gathered.result c.take_round.new.gathered c.outcome.result
-    c.new-gathered.ensures.rows c.new-gathered.ensures.fault went c.outcome.ensures in
+    let went = went_on bench g.G.Gate.may_give_up g.G.Gate.keeps_records old (g.G.Gate.view c.loop.pass) new c.new-results.result c.loop.results
+    c.take_round.new.results c.loop.invariant.5 (c.take_round.ensures.went bench c.loop.invariant.4) in
+    let answer = answers bench g.G.Gate.may_give_up g.G.Gate.keeps_records old new c.new-results.result c.take_round.new.results c.outcome.result
+    c.new-results.ensures.rows c.new-results.ensures.fault went c.outcome.ensures in
     record {
       own = c.take_round.ensures.own;
       verdicts = answer.verdicts;
@@ -54,7 +54,7 @@ returns-in-Finished g c =
       over = λ keeps.
           let all = (λ (rows : Vec Row Global). AreOver new) in
           ⊎_elim (λ is. any_rows (AreOver new) c.outcome.result (c.take_round.ensures.over keeps is))
-          (λ is. faulty_answer all c.take_round.new.gathered.fault c.take_round.new.gathered.rows c.outcome.result (c.take_round.ensures.gave_up is).1 c.outcome.ensures)
+          (λ is. faulty_answer all c.take_round.new.results.fault c.take_round.new.results.rows c.outcome.result (c.take_round.ensures.gave_up is).1 c.outcome.ensures)
           c.in-Finished.is;
       stays = λ keeps never. ⊎_elim (c.take_round.ensures.over keeps) (λ is. absurd (true≢false (sym (c.take_round.ensures.gave_up is).0 ∙ never))) c.in-Finished.is;
     }

@@ -10,4 +10,4 @@ invariant-loop g l =
     × g.G.Gate.is_pass l.gate l.pass
     × (g.G.Gate.needs_parts ≡ true → (g.G.Gate.view l.pass).part ≡ (g.G.Gate.view l.fn.pass).part)
     × IfSome l.verdicts (λ verdicts. verdicts ≡ l.bench)
-    × Went l.bench g.G.Gate.may_give_up g.G.Gate.keeps_records (g.G.Gate.view l.fn.pass) (g.G.Gate.view l.pass) l.initial.gathered l.gathered
+    × Went l.bench g.G.Gate.may_give_up g.G.Gate.keeps_records (g.G.Gate.view l.fn.pass) (g.G.Gate.view l.pass) l.initial.results l.results

@@ -31,7 +31,7 @@ module _ (source : List ℕ) (tests declared : List Data) (r : Tests) (answer : 
   of_tests : (suite : List (List Arg)) → r ≡ Ok suite → (r ≡ fault_or (suite_faults tests) (tests_of tests)) ⊎ (r ≡ Err Memory)
       → (answer ≡ fault_or (entry_faults 1 declared) (record { source = source; suite = suite; equivalent = tickets_named declared })) ⊎ (answer ≡ Err Memory)
       → IsAnswer
-  of_tests suite is (inr memory) told = let none : Ok suite ≡ Err Memory = sym is ∙ memory in cc
+  of_tests suite is (inr memory) answered = let none : Ok suite ≡ Err Memory = sym is ∙ memory in cc
   of_tests suite is (inl good) (inr memory) = inr memory
   of_tests suite is (inl good) (inl same) =
       let parts = without_fault (suite_faults tests) (tests_of tests) suite (sym is ∙ good) in

@@ -17,19 +17,19 @@ abbrev unknown_in : Entries → Option (List ℕ)
 unknown_in es = option_map string_bytes (find (λ k. not (is_known (string_bytes k))) (keys_of es))
 
 -- the answer of a job: J3 at the unknown key, if there is one, else the rest
-abbrev told : Option (List ℕ) → JobRead → JobRead
-told None rest = rest
-told (Some key) rest = Err (Key key)
+abbrev key_or : Option (List ℕ) → JobRead → JobRead
+key_or None rest = rest
+key_or (Some key) rest = Err (Key key)
 
 first_step : (rest : List JobFault) (job : JobFields) (e : String Global × Value) (es : Entries) (b : Bool) → is_known (string_bytes e.0) ≡ b
-    → fault_or (map Key (unknown_keys (members_view es)) ++ rest) job ≡ told (unknown_in es) (fault_or rest job)
-    → fault_or (map Key (unknown_keys (members_view (e ∷ es))) ++ rest) job ≡ told (unknown_in (e ∷ es)) (fault_or rest job)
+    → fault_or (map Key (unknown_keys (members_view es)) ++ rest) job ≡ key_or (unknown_in es) (fault_or rest job)
+    → fault_or (map Key (unknown_keys (members_view (e ∷ es))) ++ rest) job ≡ key_or (unknown_in (e ∷ es)) (fault_or rest job)
 first_step rest job e es true is later = rw is later
 first_step rest job e es false is later = rw is refl
 
 -- the code looks in the keys, and the definition in the members
 by_keys : (rest : List JobFault) (job : JobFields) (es : Entries)
-    → fault_or (map Key (unknown_keys (members_view es)) ++ rest) job ≡ told (unknown_in es) (fault_or rest job)
+    → fault_or (map Key (unknown_keys (members_view es)) ++ rest) job ≡ key_or (unknown_in es) (fault_or rest job)
 by_keys rest job [] = refl
 by_keys rest job (e ∷ es) = first_step rest job e es (is_known (string_bytes e.0)) refl (by_keys rest job es)
 
@@ -37,7 +37,7 @@ by_keys rest job (e ∷ es) = first_step rest job e es (is_known (string_bytes e
 met : (source : Option (List ℕ)) (suite entries : Option (List Data)) (es : Entries) (text : List ℕ) (tests declared : List Data)
     → source ≡ Some text → suite ≡ Some tests → entries ≡ Some declared
     → fault_or (member_faults source suite entries (unknown_keys (members_view es))) (job_with source suite entries)
-    ≡ told (unknown_in es) (fault_or (list_faults tests declared) (job_with (Some text) (Some tests) (Some declared)))
+    ≡ key_or (unknown_in es) (fault_or (list_faults tests declared) (job_with (Some text) (Some tests) (Some declared)))
 met source suite entries es text tests declared is are too =
     rw (is, are, too) (by_keys (list_faults tests declared) (job_with (Some text) (Some tests) (Some declared)) es)
 
@@ -57,7 +57,7 @@ returns-in-Some-unknown_key c =
     let declared = map view c.in-Some-entries.entries.now in
     let rest : JobRead = fault_or (list_faults tests declared) (job_with (Some c.in-Some.source.now) (Some tests) (Some declared)) in
     of_key _ c.as_str.result.now _ _ refl c.key_fault-in-Some-unknown_key.ensures
-    (met _ _ _ es c.in-Some.source.now tests declared text values entries ∙ ap (λ o. told o rest) unknown)
+    (met _ _ _ es c.in-Some.source.now tests declared text values entries ∙ ap (λ o. key_or o rest) unknown)
 
 pub returns-in-None : goal.returns-in-None
 returns-in-None c =
@@ -69,5 +69,5 @@ returns-in-None c =
     let tests = map view c.in-Some-suite.values.now in
     let declared = map view c.in-Some-entries.entries.now in
     let rest : JobRead = fault_or (list_faults tests declared) (job_with (Some c.in-Some.source.now) (Some tests) (Some declared)) in
-    let same = met _ _ _ es c.in-Some.source.now tests declared text values entries ∙ ap (λ o. told o rest) none in
+    let same = met _ _ _ es c.in-Some.source.now tests declared text values entries ∙ ap (λ o. key_or o rest) none in
     subst (λ (r : JobRead). (c.with_lists.result ≡ r) ⊎ (c.with_lists.result ≡ Err Memory)) (sym same) c.with_lists.ensures

@@ -33,7 +33,7 @@ patched-requires c =
     let made = made_of c.in_ok-original.original c.args.checked.now edit _ (Some c.in-Some.mutant) c.in_ok-original.ensures.program c.in-Some.is c.in_ok-mutant.ensures.made in
     subst (Fits (map line_of c.args.checked.now.program) edit.statement) (made.1 ∙ sym c.in_ok-stmt.ensures.statement) made.0.mutant.fits
 
--- the changed program has no fault, so what is told is want of memory
+-- the changed program has no fault, so the fault reported is that memory ran out
 pub memory_fault-requires : goal.memory_fault-requires
 memory_fault-requires c =
     let program = map line_of c.args.checked.now.program in

@@ -10,7 +10,7 @@ use Rattle.mothra_ops.proofs.editing.edits.Goals as goal
 
 pub returns-in_err-listing-clause-refused : goal.returns-in_err-listing-clause-refused
 returns-in_err-listing-clause-refused c =
-    let told : IsNoList c.args.op (map line_of c.args.checked.now.program) c.args.every c.in_err-listing.field-0.0 =
+    let none : IsNoList c.args.op (map line_of c.args.checked.now.program) c.args.every c.in_err-listing.field-0.0 =
     subst (λ (x : CheckedFields). IsNoList c.args.op (map line_of x.program) c.args.every c.in_err-listing.field-0.0) c.in_ok-original.ensures.program c.in_err-listing.ensures.refused in
     search rules
 

@@ -48,7 +48,7 @@ pub returns-in_err-listing-clause-refused : goal.returns-in_err-listing-clause-r
 returns-in_err-listing-clause-refused c =
     let decided = Decides-contains c.args.ops.now (op_at c.loop-op.op-index) c.contains.result
     (contains_decides ghosts.eq (λ a b. one_op a b (ghosts.eq a b) (same_answer a b)) c.args.ops.now (op_at c.loop-op.op-index) c.contains.result c.contains.ensures.cases) in
-    let told : IsNoPlan c.args.ops.now (map line_of c.args.checked.now.program) c.args.every c.in_err-listing.field-0.0 =
+    let none : IsNoPlan c.args.ops.now (map line_of c.args.checked.now.program) c.args.every c.in_err-listing.field-0.0 =
     no_plan c.args.ops.now (map line_of c.args.checked.now.program) c.args.every c.loop-op.op-index c.loop-op.lists.items (op_at c.loop-op.op-index) c.in_err-listing.field-0.0
     (index-op_at c.loop-op.op-index c.loop-op-test.true) c.loop-op.invariant.lists (decided.0 c.if-contains.true)
     (no_list c.in_ok-original.original c.args.checked.now (op_at c.loop-op.op-index) c.args.every c.in_err-listing.field-0.0

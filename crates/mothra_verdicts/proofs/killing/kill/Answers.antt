@@ -88,8 +88,8 @@ returns-in-Ok-clause-kill c = λ arguments at.
     = c.as_slice-arguments.ensures ∙ same_Some _ _ (sym read ∙ ap (λ tests. slice_get tests c.args.test) c.tests.ensures.tests ∙ at) in
     let here : own.0 ≡ c.index-outcomes-test.result
     = same_Some _ _ (sym own.1 ∙ ap (λ outcomes. slice_get outcomes c.args.test) (sym c.outcomes.ensures.outcomes) ∙ found) in
-    let told = c.in-Ok.ensures.outcome in
-    is_kill program mutant arguments bench.steps c.index-outcomes-test.result told.0 c.in-Ok.same told.2
+    let computed = c.in-Ok.ensures.outcome in
+    is_kill program mutant arguments bench.steps c.index-outcomes-test.result computed.0 c.in-Ok.same computed.2
     (subst (IsOutcomeOf program arguments bench.steps) here own.2)
-    (subst (λ arguments. IsOutcomeOf mutant arguments bench.steps told.0) given
-    (subst (λ steps. IsOutcomeOf mutant c.as_slice-arguments.result.now steps told.0) c.steps.ensures told.1))
+    (subst (λ arguments. IsOutcomeOf mutant arguments bench.steps computed.0) given
+    (subst (λ steps. IsOutcomeOf mutant c.as_slice-arguments.result.now steps computed.0) c.steps.ensures computed.1))

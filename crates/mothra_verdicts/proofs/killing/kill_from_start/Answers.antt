@@ -9,7 +9,7 @@ use Rattle.mothra_ops.specs.Mutants.{program_of}
 use Rattle.mothra_verdicts.proofs.BenchTests.{test_fits}
 use Rattle.mothra_verdicts.proofs.Kills.{is_kill}
 use Rattle.mothra_verdicts.proofs.KillsInTurn.{paired}
-use Rattle.mothra_verdicts.proofs.Wants.{run_wants}
+use Rattle.mothra_verdicts.proofs.OutOfMemory.{run_out_of_memory}
 use Rattle.mothra_verdicts.proofs.killing.kill_from_start.Goals as goal
 
 pub bounds-outcomes-test : goal.bounds-outcomes-test
@@ -36,11 +36,11 @@ returns-in-Ok-clause-kill c = λ arguments at.
     = c.as_slice-arguments.ensures ∙ same_Some _ _ (sym read ∙ ap (λ tests. slice_get tests c.args.test) c.tests.ensures.tests ∙ at) in
     let here : own.0 ≡ c.index-outcomes-test.result
     = same_Some _ _ (sym own.1 ∙ ap (λ outcomes. slice_get outcomes c.args.test) (sym c.outcomes.ensures.outcomes) ∙ found) in
-    let told = c.in-Ok.ensures.outcome in
-    is_kill program mutant arguments bench.steps c.index-outcomes-test.result told.0 c.in-Ok.same told.2
+    let computed = c.in-Ok.ensures.outcome in
+    is_kill program mutant arguments bench.steps c.index-outcomes-test.result computed.0 c.in-Ok.same computed.2
     (subst (IsOutcomeOf program arguments bench.steps) here own.2)
-    (subst (λ arguments. IsOutcomeOf mutant arguments bench.steps told.0) given
-    (subst (λ steps. IsOutcomeOf mutant c.as_slice-arguments.result.now steps told.0) c.steps.ensures told.1))
+    (subst (λ arguments. IsOutcomeOf mutant arguments bench.steps computed.0) given
+    (subst (λ steps. IsOutcomeOf mutant c.as_slice-arguments.result.now steps computed.0) c.steps.ensures computed.1))
 
 pub of_run-requires : goal.of_run-requires
 of_run-requires c =
@@ -48,4 +48,4 @@ of_run-requires c =
     let long = ap length tests in
     let fit = subst (λ (tests : List (List Arg)). All (λ arguments. refusal c.args.mutant.now.arguments arguments ≡ None) tests) (sym tests) c.requires.fit in
     let fits = test_fits c.args.mutant.now.arguments c.tests.result.now c.args.test c.index-tests-test.result (omega (arith, c.requires.within, long)) c.index-tests-test.is fit in
-    run_wants c.in-Err.fault _ (rw c.as_slice-arguments.ensures fits) c.in-Err.ensures.fault
+    run_out_of_memory c.in-Err.fault _ (rw c.as_slice-arguments.ensures fits) c.in-Err.ensures.fault

@@ -23,7 +23,7 @@ is_mutants c =
     same_Some _ _
     (c.in-Some.ensures
     ∙ ap (λ (xs : List Statement). numbered xs number)
-    (c.exchange.ensures.put ∙ ap (λ (xs : List Statement). changed_at xs number position (replacement_of c.args.node.now)) c.requires.copies
+    (c.swap.ensures.put ∙ ap (λ (xs : List Statement). changed_at xs number position (replacement_of c.args.node.now)) c.requires.copies
     ∙ ap (λ (node : NodeOf). changed_at (statements_in program) number position node) c.requires.node)
     ∙ ap (λ (k : ℕ). numbered (changed_at (statements_in program) k position (replacement_of own.node)) k) c.number-number.ensures
     ∙ mutant_in_copy c.args.runner.now.checked own c.requires.made)

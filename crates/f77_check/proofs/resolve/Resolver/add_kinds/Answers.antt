@@ -2,7 +2,7 @@ use Rattle.std.proofs.Common.{◌≡◌, ◌++◌, [], ◌∷◌, replicate, ari
 use Rattle.std.proofs.lemmas.List.{replicate_more}
 use Rattle.indexmap.specs.IndexMap.{keys}
 use Rattle.f77_legal.specs.NameTable.{array_bounds}
-use Rattle.f77_legal.specs.Presets.{product}
+use Rattle.f77_legal.specs.InitialValues.{product}
 use Rattle.f77_check.proofs.Cells.{slots_within}
 use Rattle.f77_check.proofs.DataNames.{kept_among}
 use Rattle.f77_check.proofs.resolve.Resolver.add_kinds.Goals as goal

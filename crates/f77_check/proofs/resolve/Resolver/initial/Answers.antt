@@ -6,9 +6,9 @@ use Rattle.f77_program.specs.Program.{line_of}
 use Rattle.f77_tree.specs.Statement.{statement_of}
 use Rattle.f77_check.specs.code.Initial.{give_groups, groups_kept}
 use Rattle.f77_legal.specs.NameTable.{array_bounds}
-use Rattle.f77_legal.specs.Presets.{groups_of}
+use Rattle.f77_legal.specs.InitialValues.{groups_of}
 use Rattle.f77_check.proofs.DataNames.{has_slots}
-use Rattle.f77_check.proofs.Presetting.{preset_by, none_preset, line_kept, line_given}
+use Rattle.f77_check.proofs.InitialValues.{initial_by, none_initial, line_kept, line_given}
 use Rattle.f77_check.proofs.resolve.Resolver.initial.Goals as goal
 
 pub give_groups-requires-clause-slots : goal.give_groups-requires-clause-slots
@@ -21,7 +21,7 @@ give_groups-requires-clause-kept c =
     ∙ line_kept c.args.self.now c.args.lines.now c.requires c.loop-line.line-index c.line-item.result c.loop-line-test.true c.line-item.is
 
 pub loop-line-init : goal.loop-line-init
-loop-line-init c = c.in_ok-held.ensures.items_if_clones_equal (λ y same. search rules) ∙ none_preset c.args.self.now c.args.lines.now c.requires
+loop-line-init c = c.in_ok-held.ensures.items_if_clones_equal (λ y same. search rules) ∙ none_initial c.args.self.now c.args.lines.now c.requires
 
 pub loop-line-preserved : goal.loop-line-preserved
 loop-line-preserved c =
@@ -36,4 +36,4 @@ loop-line-preserved c =
 pub returns-clause-initial : goal.returns-clause-initial
 returns-clause-initial c =
     c.loop-line.invariant
-    ∙ ap (λ lines. preset_by c.args.self.now (map line_of c.args.lines.now) (map line_of lines)) (take_all c.loop-line.line-index c.args.lines.now c.loop-line-test.false)
+    ∙ ap (λ lines. initial_by c.args.self.now (map line_of c.args.lines.now) (map line_of lines)) (take_all c.loop-line.line-index c.args.lines.now c.loop-line-test.false)

@@ -1,5 +1,5 @@
 use Rattle.std.proofs.Common.{◌≡◌, ◌∙◌, ap, refl}
-use Rattle.f77_code.proofs.Exchanged.{left_same, places_same}
+use Rattle.f77_code.proofs.OneReplaced.{left_same, places_same}
 use Rattle.f77_code.specs.Instructions.{onward}
 use Rattle.f77_code.proofs.Instructed.{branch_stands, do_stands, other_stands}
 use Rattle.f77_code.proofs.constants.Constants.instruction.Goals as goal

@@ -1,6 +1,6 @@
 use Rattle.std.proofs.Common.{ap, ◌∙◌, map}
 use Rattle.f77_legal.specs.NameTable.{entry_of}
-use Rattle.f77_legal.specs.code.NameTable.{with_fact, mention_of}
+use Rattle.f77_legal.specs.code.NameTable.{with_fact, use_of}
 use Rattle.f77_legal.proofs.Noting.{said_new}
 use Rattle.f77_legal.proofs.names.Names.add.Goals as goal
 
@@ -11,4 +11,4 @@ returns-clause-noted c =
     λ absent.
     ap (map entry_of) c.in_ok-insert.ensures.entries
     ∙ said_new name c.note.new.self entries c.args.said absent
-    (c.in_ok-note.ensures.noted name ∙ ap (λ f. with_fact f (mention_of name c.args.said)) c.none-facts.ensures)
+    (c.in_ok-note.ensures.noted name ∙ ap (λ f. with_fact f (use_of name c.args.said)) c.none-facts.ensures)

@@ -1,15 +1,15 @@
 use Rattle.std.proofs.Common.{arith, ◌≡◌, take, ap, sym, ◌∙◌}
 use Rattle.std.proofs.lemmas.Grind.{common_steps}
 use Rattle.f77_tree.specs.Statement.{statement_of}
-use Rattle.f77_legal.specs.Names.{mentions_of}
-use Rattle.f77_legal.specs.code.NameTable.{with_mentions}
+use Rattle.f77_legal.specs.Names.{uses_of}
+use Rattle.f77_legal.specs.code.NameTable.{with_uses}
 use Rattle.f77_legal.proofs.NameTables.{noted, noted_all, noted_more}
 use Rattle.f77_legal.proofs.names.Names.of.Goals as goal
 
 pub loop-line-preserved : goal.loop-line-preserved
 loop-line-preserved c =
     c.in_ok-note_statement.ensures.noted
-    ∙ (λ i. with_mentions (c.loop-line.invariant i) (mentions_of (statement_of (c.deref.ensures i).stmt)))
+    ∙ (λ i. with_uses (c.loop-line.invariant i) (uses_of (statement_of (c.deref.ensures i).stmt)))
     ∙ sym (noted_more c.args.lines.now c.loop-line.line-index c.line-item.result c.loop-line-test.true c.line-item.is)
 
 pub returns-clause-table : goal.returns-clause-table

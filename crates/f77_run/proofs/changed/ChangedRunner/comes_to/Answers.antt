@@ -8,12 +8,12 @@ use Rattle.f77_meaning.specs.Interpreter.{IsOutcomeOf}
 use Rattle.f77_run.specs.declared.changed.Change.{Change}
 use Rattle.f77_run.specs.Changed.{ChangedFields, IsChanged, changed_fields, changed_program}
 use Rattle.f77_run.specs.Visits.{IsFollowed}
-use Rattle.f77_run.specs.code.Parting.{IsParting, parting_of}
-use Rattle.f77_run.proofs.Visited.{is_parting, place_within}
+use Rattle.f77_run.specs.code.Diverging.{IsDivergence, divergence_of}
+use Rattle.f77_run.proofs.Visited.{is_divergence, place_within}
 use Rattle.f77_run.proofs.changed.ChangedRunner.comes_to.Goals as goal
 
-pub comes_alike-requires : goal.comes_alike-requires
-comes_alike-requires c =
+pub keeps_outcome-requires : goal.keeps_outcome-requires
+keeps_outcome-requires c =
     let checked = c.self.inside.checked.now in
     let code = c.self.inside.code in
     let image = c.self.inside.space.image in
@@ -30,8 +30,8 @@ comes_alike-requires c =
     let at : slice_get visits.list.items change.place ≡ Some passed
     = slice_get_read visits.list.items (length visits.list.items) change.place passed refl
     (place_within checked change code image is arguments c.args.steps visits follows) c.index.ensures in (
-      subst (λ (own : Code). IsParting (parting_of checked change arguments c.args.steps passed) checked own image) (sym c.code.ensures)
-          (is_parting checked change code image is arguments c.args.steps visits follows passed at),
+      subst (λ (own : Code). IsDivergence (divergence_of checked change arguments c.args.steps passed) checked own image) (sym c.code.ensures)
+          (is_divergence checked change code image is arguments c.args.steps visits follows passed at),
       (
         refl,
         (

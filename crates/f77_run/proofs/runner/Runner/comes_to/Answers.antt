@@ -6,7 +6,7 @@ use Rattle.f77_check.specs.declared.checked.Shape.{Shape}
 use Rattle.f77_code.specs.Registers.{are_held}
 use Rattle.f77_meaning.specs.Interpreter.{AreFitting, IsOutcomeOf}
 use Rattle.f77_meaning.specs.declared.outcome.Outcome.{Outcome}
-use Rattle.f77_run.specs.code.Ends.{TellsOf}
+use Rattle.f77_run.specs.code.Ends.{ReportsOf}
 use Rattle.f77_run.specs.code.Site.{HoldDummies, shown_by}
 use Rattle.f77_run.proofs.Starting.{own_run, own_compiled}
 use Rattle.f77_run.proofs.runner.Runner.comes_to.Goals as goal
@@ -27,8 +27,8 @@ end_of-requires c =
       );
     }
 
-pub is_told_by-requires : goal.is_told_by-requires
-is_told_by-requires c =
+pub is_outcome_for-requires : goal.is_outcome_for-requires
+is_outcome_for-requires c =
     let checked = c.self.inside.checked.now in
     let is = c.self.invariant in
     let fits = subst (λ (list : List Shape). AreFitting list c.args.arguments.now) c.arguments.ensures c.in-Ok.ensures.fitting in
@@ -48,9 +48,9 @@ returns-in_ok-end-in-Ok-clause-outcome c =
     let fits = subst (λ (list : List Shape). AreFitting list c.args.arguments.now) c.arguments.ensures c.in-Ok.ensures.fitting in
     let run = own_run checked is.0 c.args.arguments.now fits in
     let end = c.in_ok-end-in-Ok.ensures.ends run checked.statements (own_compiled checked is.0 c.args.arguments.now fits c.self.inside.code is.1 is.2) refl refl in
-    let told
-    = subst (λ (list : List ℤ). Decides c.is_told_by.result (TellsOf run c.in_ok-end-in-Ok.end.finish list c.args.outcome.now)) c.deref.ensures.value c.is_told_by.ensures in
+    let decided
+    = subst (λ (list : List ℤ). Decides c.is_outcome_for.result (ReportsOf run c.in_ok-end-in-Ok.end.finish list c.args.outcome.now)) c.deref.ensures.value c.is_outcome_for.ensures in
     subst
     (λ (checked : CheckedFields). (other : Outcome)
-    × IsOutcomeOf (map line_of checked.program) c.args.arguments.now c.args.steps other × Decides c.is_told_by.result (c.args.outcome.now ≡ other))
-    c.self.view_is (end.decides c.args.outcome.now c.is_told_by.result told)
+    × IsOutcomeOf (map line_of checked.program) c.args.arguments.now c.args.steps other × Decides c.is_outcome_for.result (c.args.outcome.now ≡ other))
+    c.self.view_is (end.decides c.args.outcome.now c.is_outcome_for.result decided)

@@ -5,7 +5,7 @@ use Rattle.f77_check.specs.declared.checked.Shape.{Shape}
 use Rattle.f77_code.specs.Registers.{are_held}
 use Rattle.f77_meaning.specs.Interpreter.{AreFitting, IsOutcomeOf}
 use Rattle.f77_meaning.specs.declared.outcome.Outcome.TheVariants.{StepLimit}
-use Rattle.f77_run.specs.code.Ends.{TellsOf}
+use Rattle.f77_run.specs.code.Ends.{ReportsOf}
 use Rattle.f77_run.specs.code.Site.{HoldDummies, shown_by}
 use Rattle.f77_run.proofs.Starting.{own_run, own_compiled}
 use Rattle.f77_run.proofs.runner.Runner.run.Goals as goal
@@ -47,9 +47,9 @@ returns-in_ok-outcome-in-Ok-clause-outcome c =
     let run = own_run checked is.0 c.args.arguments.now fits in
     let end = c.in_ok-end-in-Ok.ensures.ends run checked.statements (own_compiled checked is.0 c.args.arguments.now fits c.self.inside.code is.1 is.2) refl refl in
     let outcome = c.in_ok-outcome-in-Ok.outcome in
-    let tells
-    = subst (λ (list : List ℤ). TellsOf run c.in_ok-end-in-Ok.end.finish list outcome) c.deref.ensures.value c.in_ok-outcome-in-Ok.ensures.tells in
-    subst (λ (checked : CheckedFields). IsOutcomeOf (map line_of checked.program) c.args.arguments.now c.args.steps outcome) c.self.view_is (end.tells outcome tells)
+    let reports
+    = subst (λ (list : List ℤ). ReportsOf run c.in_ok-end-in-Ok.end.finish list outcome) c.deref.ensures.value c.in_ok-outcome-in-Ok.ensures.reports in
+    subst (λ (checked : CheckedFields). IsOutcomeOf (map line_of checked.program) c.args.arguments.now c.args.steps outcome) c.self.view_is (end.reports outcome reports)
 
 pub returns-in_ok-outcome-in-Ok-clause-made : goal.returns-in_ok-outcome-in-Ok-clause-made
 returns-in_ok-outcome-in-Ok-clause-made c =
@@ -59,11 +59,11 @@ returns-in_ok-outcome-in-Ok-clause-made c =
     let run = own_run checked is.0 c.args.arguments.now fits in
     let end = c.in_ok-end-in-Ok.ensures.ends run checked.statements (own_compiled checked is.0 c.args.arguments.now fits c.self.inside.code is.1 is.2) refl refl in
     let outcome = c.in_ok-outcome-in-Ok.outcome in
-    let tells
-    = subst (λ (list : List ℤ). TellsOf run c.in_ok-end-in-Ok.end.finish list outcome) c.deref.ensures.value c.in_ok-outcome-in-Ok.ensures.tells in (
+    let reports
+    = subst (λ (list : List ℤ). ReportsOf run c.in_ok-end-in-Ok.end.finish list outcome) c.deref.ensures.value c.in_ok-outcome-in-Ok.ensures.reports in (
       end.within,
       subst (λ (checked : CheckedFields). IsOutcomeOf (map line_of checked.program) c.args.arguments.now c.in_ok-end-in-Ok.end.made outcome) c.self.view_is
-          (end.sooner outcome tells),
+          (end.sooner outcome reports),
     )
 
 pub returns-in_ok-outcome-in-Ok-clause-unended : goal.returns-in_ok-outcome-in-Ok-clause-unended

@@ -29,8 +29,8 @@ returns-clause-ends c = λ run statements is checked_is arguments_is.
     let begun = c.in_ok-restart.ensures.starts c.args.code.now.constants.values.items c.requires.image in
     let registers = c.restart.new.self.registers in
     let stand = c.in_ok-stand.stand in
-    let told = c.in_ok-stand.ensures in
+    let advanced = c.in_ok-stand.ensures in
     ends_there c.args.checked.now c.args.arguments.now c.args.code.now registers.items.items registers.counters.items begun
     run statements is checked_is arguments_is c.instructions.result.now c.instructions.ensures c.start.result.now.entry (ap (λ s. s.entry) c.start.ensures.start)
     c.args.steps stand.made stand.place c.advance.new.registers.items.items c.advance.new.registers.counters.items
-    told.stands told.made told.there told.ends told.held c.finish_at.result c.finish_at.ensures.ended c.finish_at.ensures.limit
+    advanced.stands advanced.made advanced.there advanced.ends advanced.held c.finish_at.result c.finish_at.ensures.ended c.finish_at.ensures.limit

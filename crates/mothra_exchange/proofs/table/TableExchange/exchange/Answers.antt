@@ -25,10 +25,10 @@ returns-clause-lost g c = λ miss. lost g.P.Changes.change c.args.op _ 0 _ 0 _ _
 
 pub invariant_of-pass : goal.invariant_of-pass
 invariant_of-pass g c =
-    let told = stays g.P.Changes.change c.index.result 0 _ 0 _ c.args.pass.now.seat.me c.compare_exchange-found.new.seat.me c.compare_exchange-found.ensures.2 in
-    let slots : c.compare_exchange-found.new.seat.me.1 ≡ [] = told.0 ∙ c.args.pass.now.holds_no_slot in
-    let kept : c.compare_exchange-found.new.seat.me.0.part ≡ c.args.pass.now.seat.me.0.part = told.1 in
+    let unchanged = stays g.P.Changes.change c.index.result 0 _ 0 _ c.args.pass.now.seat.me c.compare_exchange-found.new.seat.me c.compare_exchange-found.ensures.2 in
+    let slots : c.compare_exchange-found.new.seat.me.1 ≡ [] = unchanged.0 ∙ c.args.pass.now.holds_no_slot in
+    let kept : c.compare_exchange-found.new.seat.me.0.part ≡ c.args.pass.now.seat.me.0.part = unchanged.1 in
     let had = c.args.pass.now.has_a_part in
     let part : 0 < c.compare_exchange-found.new.seat.me.0.part = omega arith in
-    let looks : length c.compare_exchange-found.new.seat.me.0.looks ≡ 22 = told.2 ∙ c.args.pass.now.looks_at_each in
+    let looks : length c.compare_exchange-found.new.seat.me.0.looks ≡ 22 = unchanged.2 ∙ c.args.pass.now.looks_at_each in
     search rules

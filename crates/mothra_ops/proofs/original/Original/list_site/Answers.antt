@@ -24,7 +24,7 @@ use Rattle.mothra_replacements.specs.declared.fault.OpsFault.TheVariants.{Memory
 use Rattle.mothra_ops.specs.declared.mutant.Mutant.{Mutant}
 use Rattle.mothra_ops.proofs.Comings.{Adds, Overflows, come_first, come_kept, come_passed, come_too_long, node_done, no_list, no_list_of}
 use Rattle.mothra_ops.proofs.Cursor.{edit_at}
-use Rattle.mothra_ops.proofs.Made.{given_many, left_more, left_next}
+use Rattle.mothra_ops.proofs.Made.{candidate_count, left_more, left_next}
 use Rattle.mothra_ops.proofs.Members.{made_there}
 use Rattle.mothra_ops.proofs.original.Original.list_site.Goals.{After-index_mut, in-Some+in_ok-add, in_default}
 use Rattle.mothra_ops.proofs.original.Original.list_site.Goals as goal
@@ -62,10 +62,10 @@ all_with : (P : Mutant → Type 0) (mutant : Mutant) (old new : List Mutant) →
 all_with P mutant old new (inl same) own all = subst (All P) (sym same) all
 all_with P mutant old new (inr more) own all = subst (All P) (sym more) (All-push P old mutant all own)
 
--- what is given with the rank of this turn
-given_next : (c : After-index_mut) → numbered (gives c.loop-k.listing.op (pools_of (lines_of c.args.self.now)) (statement_of c.args.site.stmt.now) (node_of c.args.site.node)) (c.loop-k.k + 1)
+-- the candidate with the rank of this turn
+next_candidate : (c : After-index_mut) → numbered (gives c.loop-k.listing.op (pools_of (lines_of c.args.self.now)) (statement_of c.args.site.stmt.now) (node_of c.args.site.node)) (c.loop-k.k + 1)
     ≡ Some (replacement_of c.index_mut.result.now)
-given_next c =
+next_candidate c =
     let low : c.loop-k.k < length c.loop-k.replacements.items = omega (arith, c.loop-k.invariant.count, c.loop-k-test.true) in
     left_next c.args.listing.now.op c.loop-k.listing.op (pool_fields c.args.self.now.pools) (pools_of (lines_of c.args.self.now)) (statement_of c.args.site.stmt.now)
     (node_of c.args.site.node) c.loop-k.replacements.items c.loop-k.k c.index_mut.result.now c.loop-k.invariant.same_op c.requires.original c.loop-k.invariant.left low
@@ -87,7 +87,7 @@ mutant_by-requires-clause-made c =
     let after = (goal.at.mutant_by-requires-clause-made c).After-index_mut in
     let site = c.args.site in
     makes_there (lines_of c.args.self.now) c.loop-k.listing.op site.number site.position (c.loop-k.k + 1) (statement_of site.stmt.now) (node_of site.node)
-    (replacement_of c.index_mut.result.now) c.requires.site (given_next after)
+    (replacement_of c.index_mut.result.now) c.requires.site (next_candidate after)
 
 pub returns-in_err-add-clause-refused : goal.returns-in_err-add-clause-refused
 returns-in_err-add-clause-refused c = let p = err_from_is_err_and c.from_residual-in_err-add.result c.from_residual-in_err-add.ensures.1 in rw (p.1, p.2) (λ come.
@@ -100,12 +100,12 @@ returns-in_err-add-clause-refused c = let p = err_from_is_err_and c.from_residua
     let new = replacement_of c.index_mut.result.now in
     let old = c.loop-k.listing in
     let own = own_mutant checked (edit_at old.op site.number site.position (c.loop-k.k + 1)) c.in_ok-mutant.field-0 c.in-Some.mutant c.in-Some.is c.in_ok-mutant.ensures.mutant in
-    let mutant = mutant_there checked old.op site.number site.position (c.loop-k.k + 1) s node new c.in-Some.mutant c.requires.site (given_next after) own.0 own.1 in
+    let mutant = mutant_there checked old.op site.number site.position (c.loop-k.k + 1) s node new c.in-Some.mutant c.requires.site (next_candidate after) own.0 own.1 in
     let why : (c.in_err-add.field-0.0 ≡ Memory) ⊎ ((c.in_err-add.field-0.0 ≡ TooMany old.op) × IsTooLong old.op program old.every) = elim c.in_err-add.ensures.refused [
       | inl e ↦ inl e
       | inr (e, over) ↦ inr (
         e,
-        come_too_long program site.number site.position (c.loop-k.k + 1) s node new c.requires.site old (given_next after) mutant (subst (Overflows old) own.0 over)
+        come_too_long program site.number site.position (c.loop-k.k + 1) s node new c.requires.site old (next_candidate after) mutant (subst (Overflows old) own.0 over)
             (c.loop-k.invariant.come come),
       )
     ] in
@@ -137,8 +137,8 @@ loop-k-preserved c =
             made = λ all. all_with (IsMadeMutant checked) w.in-Some.mutant old.mutants.items w.add.new.self.mutants.items w.in_ok-add.ensures.mutants own.1
                 (c.loop-k.invariant.made all);
             come = λ come. come_kept program site.number site.position (c.loop-k.k + 1) s node new c.requires.site old w.add.new.self
-                w.in_ok-add.ensures.same_op w.in_ok-add.ensures.same_limits (given_next after)
-                (mutant_there checked old.op site.number site.position (c.loop-k.k + 1) s node new w.in-Some.mutant c.requires.site (given_next after) own.0 own.1)
+                w.in_ok-add.ensures.same_op w.in_ok-add.ensures.same_limits (next_candidate after)
+                (mutant_there checked old.op site.number site.position (c.loop-k.k + 1) s node new w.in-Some.mutant c.requires.site (next_candidate after) own.0 own.1)
                 (subst (Adds old w.add.new.self) own.0 w.in_ok-add.ensures.added) (c.loop-k.invariant.come come);
           })
       | in_default w ↦
@@ -150,7 +150,7 @@ loop-k-preserved c =
             count = count;
             left = left;
             made = c.loop-k.invariant.made;
-            come = λ come. come_passed program site.number site.position (c.loop-k.k + 1) s node new c.requires.site old (given_next after)
+            come = λ come. come_passed program site.number site.position (c.loop-k.k + 1) s node new c.requires.site old (next_candidate after)
                 (none s c.requires.site.statement_at) (c.loop-k.invariant.come come);
           })
     ]
@@ -162,7 +162,7 @@ returns-clause-come c = λ come.
     let s = statement_of site.stmt.now in
     let node = node_of site.node in
     let old = c.loop-k.listing in
-    let many = given_many c.args.listing.now.op old.op (pool_fields c.args.self.now.pools) (pools_of program) s node
+    let many = candidate_count c.args.listing.now.op old.op (pool_fields c.args.self.now.pools) (pools_of program) s node
     c.in_ok-replacements.replacements.items c.loop-k.invariant.same_op c.requires.original c.in_ok-replacements.ensures.list in
     let past : length (gives old.op (pools_of program) s node) < c.loop-k.k + 1 = omega (arith, many, c.len-k-end.ensures, c.loop-k-test.false) in
     node_done old program site.number site.position (c.loop-k.k + 1) s node c.requires.site past (c.loop-k.invariant.come come)

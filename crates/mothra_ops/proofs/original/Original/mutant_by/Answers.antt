@@ -28,7 +28,7 @@ copy_is c =
 
 made_is : (c : In-Some-get) → statement_of c.in-Some-get.made.now ≡ changed (statement_of c.in-Some.line.now.stmt) c.args.edit.position (replacement_of c.args.node.now)
 made_is c = same_Some _ _
-    (c.in-Some-get.ensures ∙ ap (λ (xs : List Statement). numbered xs c.args.edit.statement) c.exchange.ensures.put
+    (c.in-Some-get.ensures ∙ ap (λ (xs : List Statement). numbered xs c.args.edit.statement) c.swap.ensures.put
     ∙ put_there (copied c.args.copies.now) c.args.edit.statement c.args.edit.position (replacement_of c.args.node.now) (statement_of c.in-Some.line.now.stmt) (copy_is c))
 
 pub returns-in_default-clause-none : goal.returns-in_default-clause-none
@@ -52,12 +52,12 @@ returns-in-Some-2-clause-mutant c =
     let mutant = subst (λ (o : Option Bool). IfSome o (λ _. IsMutant (map line_of checked.program) edit.statement s)) c.in-Some-2.is c.in_ok-is_alone.ensures.mutant in
     let alone = subst (λ (o : Option Bool). IfSome o
     (λ is_alone. is_alone ≡ true → StandsAlone checked.names (map line_of checked.program) (edit.statement - 1) s)) c.in-Some-2.is c.in_ok-is_alone.ensures.alone in
-    let again : copied c.exchange-2.new.self ≡ copied c.args.copies.now = c.exchange-2.ensures.put ∙ sym c.exchange.ensures.back in
-    let node = replacement_of c.exchange-2.new.node in
+    let again : copied c.swap-2.new.self ≡ copied c.args.copies.now = c.swap-2.ensures.put ∙ sym c.swap.ensures.back in
+    let node = replacement_of c.swap-2.new.node in
     let by : changed (statement_of c.in-Some.line.now.stmt) edit.position node ≡ s =
-    same_Some _ _ (sym (put_there (copied c.exchange-2.new.self) edit.statement edit.position node (statement_of c.in-Some.line.now.stmt)
+    same_Some _ _ (sym (put_there (copied c.swap-2.new.self) edit.statement edit.position node (statement_of c.in-Some.line.now.stmt)
     (ap (λ (xs : List Statement). numbered xs edit.statement) again ∙ copy_is got))
-    ∙ sym (ap (λ (xs : List Statement). numbered xs edit.statement) c.exchange-2.ensures.back) ∙ sym c.in-Some-get.ensures) in (
+    ∙ sym (ap (λ (xs : List Statement). numbered xs edit.statement) c.swap-2.ensures.back) ∙ sym c.in-Some-get.ensures) in (
       refl,
       mutant_there checked edit (replacement_of c.args.node.now) c.in-Some.line.now c.in-Some-get.made.now c.requires.made (at_line got) (made_is got)
           c.replace.result c.of-stmt.result c.of-stmt.ensures

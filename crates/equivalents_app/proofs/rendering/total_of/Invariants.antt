@@ -1,0 +1,11 @@
+use Rattle.std.proofs.Common.{◌≡◌, ◌≤◌, ◌+◌, ◌*◌}
+use Rattle.mothra_app.specs.Listing.{asked_total}
+use Rattle.equivalents_app.proofs.Totals.{count_behind}
+use Rattle.equivalents_app.proofs.rendering.total_of.Given as goal
+
+-- what is counted and the mutants of the other operators are all mutants
+abbrev pub invariant-loop-op : goal.invariant-loop-op
+invariant-loop-op l = record {
+  total : l.total + count_behind l.plan l.op-index ≡ asked_total l.plan;
+  below : l.total ≤ 4294967295 * l.op-index;
+}

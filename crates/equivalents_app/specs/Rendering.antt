@@ -1,0 +1,73 @@
+-- The text that names the mutants of a plan that are proved equivalent.
+use Rattle.std.specs.Prelude.{ℕ, Bool, List, [], ◌++◌, Option, Some, None, codes}
+use Rattle.std.specs.Prelude.{filter_map, flat_map, if◌then◌else◌, length, nat_le}
+use Rattle.std.specs.Fmt.{decimal}
+use Rattle.std.specs.Option.{option_map_or}
+use Rattle.f77_tree.specs.Joined.{separated}
+use Rattle.mothra_app.specs.Listing.{asked_total}
+use Rattle.mothra_codes.specs.Ticket.{ticket}
+use Rattle.mothra_codes.specs.declared.ticket.Ticket.{Ticket}
+use Rattle.mothra_equivalents.specs.declared.equivalents.Equivalent.{Equivalent}
+use Rattle.mothra_equivalents.specs.declared.why.Why.{Why}
+use Rattle.mothra_equivalents.specs.declared.why.Why.TheVariants as why
+use Rattle.mothra_job.specs.Equivalent.{ticket_text}
+use Rattle.mothra_ops.specs.Mutants.{MutantFields, change_text, mutant_name, mutant_of, original_number, program_of}
+use Rattle.mothra_ops.specs.Plan.{PlanFields}
+
+-- ---- in lines
+
+abbrev pub why_text : Why → List ℕ
+why_text why.Same = codes "SAME"
+why_text why.Unread = codes "UNREAD"
+why_text why.Continues = codes "CONTINUES"
+why_text (why.Spare spare) = codes "SPARE-" ++ decimal spare
+why_text why.Unreached = codes "UNREACHED"
+
+-- the name of a mutant, and the rule of its proof
+abbrev pub reason_text : ℕ → Equivalent → List ℕ
+reason_text every e =
+    codes "EQUIVALENT " ++ (mutant_name every e.ticket.op e.ticket.number
+    ++ (codes " " ++ (why_text e.why ++ codes " ")))
+
+-- the line of a mutant: its name, the rule, and the change that it makes
+abbrev pub rule_line : PlanFields → Equivalent → MutantFields → List ℕ
+rule_line plan e mutant =
+    reason_text plan.every e ++ (change_text (program_of plan) mutant ++ codes "\n")
+
+abbrev pub equivalent_line : PlanFields → Equivalent → List ℕ
+equivalent_line plan e =
+    option_map_or (rule_line plan e) (mutant_of plan e.ticket.op e.ticket.number) []
+
+-- how many of the plan's mutants are proved equivalent, and how many it has
+abbrev pub proved_line : ℕ → ℕ → List ℕ
+proved_line count total =
+    codes "PROVED " ++ (decimal count ++ (codes " OF " ++ (decimal total ++ codes "\n")))
+
+abbrev pub lines_text : PlanFields → List Equivalent → List ℕ
+lines_text plan list =
+    flat_map (equivalent_line plan) list ++ proved_line (length list) (asked_total plan)
+
+-- ---- as the list that the key `equivalent` of a job takes
+
+-- the mutant by its number in the whole list
+abbrev pub in_whole_list : ℕ → Equivalent → Ticket
+in_whole_list every e = ticket e.ticket.op (original_number every e.ticket.number)
+
+-- the mutant, where the key `equivalent` may have its number
+abbrev pub if_declarable : Ticket → Option Ticket
+if_declarable t = if nat_le t.number 1048575 then Some t else None
+
+abbrev pub declarable : ℕ → List Equivalent → List Ticket
+declarable every list = filter_map (λ e. if_declarable (in_whole_list every e)) list
+
+abbrev pub entry_text : Ticket → List ℕ
+entry_text t = codes "\"" ++ (ticket_text t ++ codes "\"")
+
+abbrev pub json_line : ℕ → List Equivalent → List ℕ
+json_line every list = codes "[" ++ (separated entry_text [] (declarable every list) ++ codes "]\n")
+
+-- ---- lines or JSON, as asked for
+
+-- Rule: what `equivalents` writes
+abbrev pub written_text : PlanFields → List Equivalent → Bool → List ℕ
+written_text plan list json = if json then json_line plan.every list else lines_text plan list

@@ -1,0 +1,185 @@
+//! The text that names mutants of a plan.
+
+ghost use Rattle.std.specs.Prelude.{◌≡◌, ◌++◌, IfErr, IfOk, OnOk, [], flat_map, string_bytes};
+ghost use Rattle.f77_tree.specs.Joined.{separated};
+ghost use Rattle.mothra_app.specs.Listing.{asked_total};
+ghost use Rattle.mothra_ops.specs.Made.{IsMadeMutant};
+ghost use Rattle.mothra_ops.specs.Mutants.{mutant_fields, original_number};
+ghost use Rattle.mothra_replacements.specs.declared.fault.OpsFault.TheVariants.{Memory};
+ghost use Rattle.equivalents_app.specs.Rendering.{declarable, entry_text, equivalent_line};
+ghost use Rattle.equivalents_app.specs.Rendering.{json_line, lines_text, rule_line};
+ghost use Rattle.equivalents_app.specs.Rendering as definition;
+
+use mothra_codes::Ticket;
+use mothra_equivalents::{Equivalent, Why};
+use mothra_ops::{Mutant, Op, OpsFault, Plan, push_name};
+use std::alloc::{AllocError, Global};
+
+/// The greatest number that the key `equivalent` of a job takes.
+const MOST: u64 = 1_048_575;
+
+/// Adds the word of a rule.
+fn push_why(text: &mut String, why: Why) -> Result<(), AllocError>
+    ensures { OnOk result (string_bytes text.new ≡ string_bytes text.old ++ definition.why_text why) }
+{
+    match why {
+        Why::Same => text.push_str("SAME"),
+        Why::Unread => text.push_str("UNREAD"),
+        Why::Continues => text.push_str("CONTINUES"),
+        Why::Spare(spare) => write!(text, "SPARE-{spare}"),
+        Why::Unreached => text.push_str("UNREACHED"),
+    }
+}
+
+/// Adds the front of a mutant's line: its name and the rule of its proof.
+fn push_reason(text: &mut String, every: u32, equivalent: Equivalent) -> Result<(), AllocError>
+    ensures { OnOk result (string_bytes text.new ≡ string_bytes text.old ++ definition.reason_text every equivalent) }
+{
+    text.push_str("EQUIVALENT ")?;
+    push_name(text, every, equivalent.ticket.op, equivalent.ticket.number)?;
+    text.push_str(" ")?;
+    push_why(text, equivalent.why)?;
+    text.push_str(" ")
+}
+
+/// Adds the line of a mutant that is proved equivalent; `mutant` is that mutant.
+fn push_mutant(
+    text: &mut String,
+    plan: &Plan,
+    equivalent: Equivalent,
+    mutant: &Mutant,
+) -> Result<(), OpsFault>
+    requires { IsMadeMutant plan.now.checked mutant.now }
+    ensures line { OnOk result
+        (string_bytes text.new ≡ string_bytes text.old ++ rule_line plan.now equivalent (mutant_fields mutant.now)) }
+    ensures memory { IfErr result (λ fault. fault ≡ Memory) }
+{
+    push_reason(text, plan.every(), equivalent)?;
+    plan.push_change(text, mutant)?;
+    text.push_str("\n")?;
+    Ok(())
+}
+
+/// Finds a mutant that is proved equivalent, and adds its line.
+fn push_equivalent(text: &mut String, plan: &Plan, equivalent: Equivalent) -> Result<(), OpsFault>
+    ensures line { OnOk result (string_bytes text.new ≡ string_bytes text.old ++ equivalent_line plan.now equivalent) }
+    ensures memory { IfErr result (λ fault. fault ≡ Memory) }
+{
+    let ticket = equivalent.ticket;
+    match plan.mutant(ticket.op, ticket.number) {
+        Some(mutant) => push_mutant(text, plan, equivalent, mutant),
+        None => Ok(()),
+    }
+}
+
+/// Adds a line for each mutant that is proved equivalent.
+fn push_equivalents(text: &mut String, plan: &Plan, list: &[Equivalent]) -> Result<(), OpsFault>
+    ensures lines { OnOk result
+        (string_bytes text.new ≡ string_bytes text.old ++ flat_map (equivalent_line plan.now) list.now) }
+    ensures memory { IfErr result (λ fault. fault ≡ Memory) }
+{
+    for equivalent in list {
+        push_equivalent(text, plan, *equivalent)?;
+    }
+    Ok(())
+}
+
+/// How many mutants the plan has.
+fn total_of(plan: &Plan) -> u64
+    ensures { result ≡ asked_total plan.now }
+{
+    let mut total = 0;
+    for op in Op::ALL {
+        if plan.asked(op) {
+            total += u64::from(plan.count(op));
+        }
+    }
+    total
+}
+
+/// The lines of mutants of the plan.
+fn lines_of(alloc: Global, plan: &Plan, list: &[Equivalent]) -> Result<String, OpsFault>
+    ensures text { IfOk result (λ text. string_bytes text ≡ lines_text plan.now list.now) }
+    ensures memory { IfErr result (λ fault. fault ≡ Memory) }
+{
+    let mut text = String::new(alloc);
+    push_equivalents(&mut text, plan, list)?;
+    let count = list.len();
+    let total = total_of(plan);
+    write!(text, "PROVED {count} OF {total}\n")?;
+    Ok(text)
+}
+
+/// The number in the whole list of the item of this number in the thinned one.
+fn original_of(every: u32, number: u32) -> u64
+    ensures { result ≡ original_number every number }
+{
+    u64::from(number.saturating_sub(1)) * u64::from(every) + 1
+}
+
+/// The name of a mutant by its number in the whole list, if a job may declare this number.
+fn declared(every: u32, equivalent: Equivalent) -> Option<Ticket>
+    ensures { result ≡ definition.if_declarable (definition.in_whole_list every equivalent) }
+{
+    let number = original_of(every, equivalent.ticket.number);
+    if number > MOST {
+        return None;
+    }
+    Some(Ticket {
+        op: equivalent.ticket.op,
+        number: number as u32,
+    })
+}
+
+/// Adds an entry of the JSON list, behind `before`.
+fn push_entry(text: &mut String, before: &str, ticket: Ticket) -> Result<(), AllocError>
+    ensures { OnOk result (string_bytes text.new ≡ string_bytes text.old ++ (before.now ++ entry_text ticket)) }
+{
+    let code = ticket.op.code();
+    let number = ticket.number;
+    write!(text, "{before}\"{code} {number}\"")
+}
+
+/// Adds the entries of the JSON list.
+fn push_entries(text: &mut String, every: u32, list: &[Equivalent]) -> Result<(), AllocError>
+    ensures { OnOk result
+        (string_bytes text.new ≡ string_bytes text.old ++ separated entry_text [] (declarable every list.now)) }
+{
+    let mut before = "";
+    for equivalent in list {
+        if let Some(ticket) = declared(every, *equivalent) {
+            push_entry(text, before, ticket)?;
+            before = ",";
+        }
+    }
+    Ok(())
+}
+
+/// The line that has the JSON list of the mutants.
+fn json_of(alloc: Global, every: u32, list: &[Equivalent]) -> Result<String, AllocError>
+    ensures { IfOk result (λ text. string_bytes text ≡ json_line every list.now) }
+{
+    let mut text = String::new(alloc);
+    text.push_str("[")?;
+    push_entries(&mut text, every, list)?;
+    text.push_str("]\n")?;
+    Ok(text)
+}
+
+/// The text that names mutants of the plan: lines, or a JSON list.
+pub fn text_of(
+    alloc: Global,
+    plan: &Plan,
+    list: &[Equivalent],
+    json: bool,
+) -> Result<String, OpsFault>
+    ensures text { IfOk result
+        (λ text. string_bytes text ≡ definition.written_text plan.now list.now json) }
+    ensures memory { IfErr result (λ fault. fault ≡ Memory) }
+{
+    if json {
+        Ok(json_of(alloc, plan.every(), list)?)
+    } else {
+        lines_of(alloc, plan, list)
+    }
+}

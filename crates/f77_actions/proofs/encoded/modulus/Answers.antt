@@ -1,0 +1,22 @@
+use Rattle.std.proofs.Common.{rules, w32, w64, FitsSigned}
+use Rattle.std.proofs.lemmas.Int.{to_z-of_z}
+use Rattle.f77_actions.specs.Number as exact
+use Rattle.f77_actions.proofs.Operations.{narrowed}
+use Rattle.f77_actions.proofs.encoded.modulus.Goals as goal
+
+pub returns : goal.returns
+returns c = λ r q a b.
+    let fx = c.ranges.x in
+    let fy = c.ranges.y in
+    let s : FitsSigned w64 c.settled.result = search rules in
+    let t : FitsSigned w64 c.coded.result = search rules in
+    let left : FitsSigned w32 c.narrow.result = search rules in
+    let right : FitsSigned w32 c.narrow-2.result = search rules in
+    let coded = c.coded.ensures in
+    let is = simp to_z-of_z at c.modulus.ensures in
+    let first = simp to_z-of_z at c.narrow.ensures in
+    let second = simp to_z-of_z at c.narrow-2.ensures in
+    simp to_z-of_z (c.settled.ensures exact.modulus r q
+    (λ m n. simp to_z-of_z (narrowed exact.modulus c.coded.result c.args.x c.args.y c.narrow.result c.narrow-2.result c.modulus.result coded is first second
+    (simp to_z-of_z at m) (simp to_z-of_z at n)))
+    (simp to_z-of_z a) (simp to_z-of_z b))

@@ -1,6 +1,0 @@
-use Rattle.std.proofs.Common.{length, ap}
-use Rattle.f77_code.proofs.Replaced.{begins_own}
-use Rattle.f77_code.proofs.exchange.ChangedCode.of.Goals as goal
-
-pub returns-clause-is : goal.returns-clause-is
-returns-clause-is c = begins_own c.args.code (length c.values-own.result.now) (ap length c.values-own.ensures)

@@ -1,0 +1,11 @@
+use Rattle.std.proofs.Common.{rules, tests}
+use Rattle.f77_legal.specs.code.LoopTable as table
+use Rattle.std.proofs.lemmas.Iterator.Consumers.{YieldsList-from_first}
+use Rattle.std.proofs.lemmas.Iterator.Search.{any_from_yields_List}
+use Rattle.f77_legal.specs.code.LoopTable.{ancestors_left}
+use Rattle.f77_legal.proofs.enclosing.Ranges.leaves_range.Goals as goal
+
+pub returns : goal.returns
+returns c =
+    any_from_yields_List (table.is_left_by_table c.args.self.now c.args.i c.args.k) _ _ _ c.any.ensures.ran
+    (YieldsList-from_first (λ x. x) ancestors_left _ c.ancestors.ensures) (λ x b q k. search (rules, tests))

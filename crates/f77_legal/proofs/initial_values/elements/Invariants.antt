@@ -1,0 +1,8 @@
+use Rattle.std.proofs.Common.{◌≡◌, ◌*◌, drop}
+use Rattle.std.specs.Prelude.{min}
+use Rattle.f77_legal.specs.InitialValues.{product}
+use Rattle.f77_legal.proofs.initial_values.elements.Given as goal
+
+-- the product so far, with the other bounds
+abbrev pub invariant-loop-bound : goal.invariant-loop-bound
+invariant-loop-bound l = min (product l.bounds) l.most ≡ min (l.product * product (drop l.bound-index l.bounds)) l.most

@@ -1,8 +1,0 @@
-use Rattle.std.proofs.Common.{◌≡◌, ◌*◌, drop}
-use Rattle.std.specs.Prelude.{min}
-use Rattle.f77_legal.specs.Presets.{product}
-use Rattle.f77_legal.proofs.presets.elements.Given as goal
-
--- the product so far, with the other bounds
-abbrev pub invariant-loop-bound : goal.invariant-loop-bound
-invariant-loop-bound l = min (product l.bounds) l.most ≡ min (l.product * product (drop l.bound-index l.bounds)) l.most

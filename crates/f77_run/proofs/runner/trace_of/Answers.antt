@@ -1,0 +1,101 @@
+use Rattle.std.proofs.Common.{rules, ◌≡◌, ◌∙◌, true, List, ℤ, length, map, sym, ap, subst}
+use Rattle.std.proofs.lemmas.List.{with_items_is}
+use Rattle.f77_program.specs.Program.{line_of}
+use Rattle.f77_code.specs.declared.control.Turn.{Turn}
+use Rattle.f77_code.specs.Registers.{are_held}
+use Rattle.f77_meaning.specs.Interpreter.{Reports}
+use Rattle.f77_meaning.specs.Site.{held}
+use Rattle.f77_run.specs.Visits.{AreAtStart}
+use Rattle.f77_run.specs.code.Site.{HoldDummies, shown_by}
+use Rattle.f77_run.proofs.Followed.{dummies_there, followed, names_within, outcome_there, slots_within, statements_within, writes_below}
+use Rattle.f77_run.proofs.runner.trace_of.Goals as goal
+
+pub follow-requires : goal.follow-requires
+follow-requires c =
+    let checked = c.args.checked.now in
+    let is = c.slots.ensures.checked in
+    let given = c.args.arguments.now in
+    let code = c.args.code.now in
+    let registers = c.deref_mut.result.now in
+    let turns = c.deref_mut-2.result.now in
+    let begun
+    = subst (λ (pair : List ℤ × List Turn). AreAtStart checked given code.constants.values.items pair.0 pair.1)
+    (λ i. (sym c.deref_mut.ensures.value i, sym c.deref_mut-2.ensures.value i))
+    (c.in_ok-restart.ensures.starts code.constants.values.items c.requires.image) in
+    record {
+      held = begun.loaded.held;
+      within = names_within checked is given c.requires.fitting code c.requires.code c.requires.slots registers turns begun c.instructions.result.now c.instructions.ensures;
+      slots = slots_within checked is given c.requires.fitting code c.requires.code c.requires.slots registers turns begun
+          c.instructions.result.now c.instructions.ensures c.slots.result c.slots.ensures.slots;
+      writes = writes_below checked is given c.requires.fitting code c.requires.code c.requires.slots registers turns begun
+          c.instructions.result.now c.instructions.ensures c.slots.result c.slots.ensures.slots;
+      none = c.in_ok-visits.ensures.none;
+      list = statements_within checked is given c.requires.fitting code c.requires.code c.requires.slots registers turns begun
+          c.instructions.result.now c.instructions.ensures _ (c.in_ok-visits.ensures.count ∙ c.count.ensures);
+    }
+
+pub answer-requires : goal.answer-requires
+answer-requires c =
+    let checked = c.args.checked.now in
+    let is = c.slots.ensures.checked in
+    let given = c.args.arguments.now in
+    let code = c.args.code.now in
+    let registers = c.deref_mut.result.now in
+    let turns = c.deref_mut-2.result.now in
+    let begun
+    = subst (λ (pair : List ℤ × List Turn). AreAtStart checked given code.constants.values.items pair.0 pair.1)
+    (λ i. (sym c.deref_mut.ensures.value i, sym c.deref_mut-2.ensures.value i))
+    (c.in_ok-restart.ensures.starts code.constants.values.items c.requires.image) in
+    let old = c.restart.new.self.registers.items in
+    let full : length old.items ≡ old.len = search rules in
+    let same : length c.follow.new.registers ≡ length old.items = c.follow.auto.registers ∙ ap length c.deref_mut.ensures.value in
+    let back : c.deref.result.now ≡ c.follow.new.registers = c.deref.ensures.value ∙ with_items_is old c.follow.new.registers (same ∙ full) in
+    record {
+      held = subst (λ (list : List ℤ). are_held list ≡ true) (sym back) c.in_ok-stand.ensures.held;
+      dummies = subst (λ (list : List ℤ). HoldDummies checked (shown_by checked list)) (sym back)
+          (dummies_there checked is given c.requires.fitting code c.requires.code c.requires.slots registers turns begun c.instructions.result.now c.instructions.ensures
+          c.start.result.now.entry (ap (λ s. s.entry) c.start.ensures.start) c.args.steps c.in_ok-stand.stand.place c.follow.new.registers c.follow.new.turns
+          c.in_ok-stand.ensures.after c.finish_at-finish.result c.finish_at-finish.ensures.ended c.finish_at-finish.ensures.limit);
+    }
+
+pub returns-clause-outcome : goal.returns-clause-outcome
+returns-clause-outcome c =
+    let checked = c.args.checked.now in
+    let is = c.slots.ensures.checked in
+    let given = c.args.arguments.now in
+    let code = c.args.code.now in
+    let registers = c.deref_mut.result.now in
+    let turns = c.deref_mut-2.result.now in
+    let begun
+    = subst (λ (pair : List ℤ × List Turn). AreAtStart checked given code.constants.values.items pair.0 pair.1)
+    (λ i. (sym c.deref_mut.ensures.value i, sym c.deref_mut-2.ensures.value i))
+    (c.in_ok-restart.ensures.starts code.constants.values.items c.requires.image) in
+    let old = c.restart.new.self.registers.items in
+    let full : length old.items ≡ old.len = search rules in
+    let same : length c.follow.new.registers ≡ length old.items = c.follow.auto.registers ∙ ap length c.deref_mut.ensures.value in
+    let back : c.deref.result.now ≡ c.follow.new.registers = c.deref.ensures.value ∙ with_items_is old c.follow.new.registers (same ∙ full) in
+    let outcome = c.in_ok-outcome.outcome in
+    outcome_there checked is given c.requires.fitting code c.requires.code c.requires.slots registers turns begun c.instructions.result.now c.instructions.ensures
+    c.start.result.now.entry (ap (λ s. s.entry) c.start.ensures.start) c.args.steps c.in_ok-stand.stand.place c.follow.new.registers c.follow.new.turns
+    c.in_ok-stand.ensures.after c.finish_at-finish.result c.finish_at-finish.ensures.ended c.finish_at-finish.ensures.limit outcome
+    (subst (λ (list : List ℤ). Reports (map line_of checked.program) c.finish_at-finish.result (held checked (shown_by checked list)) outcome) back
+    c.in_ok-outcome.ensures.reports)
+
+pub returns-clause-visits : goal.returns-clause-visits
+returns-clause-visits c =
+    let checked = c.args.checked.now in
+    let is = c.slots.ensures.checked in
+    let given = c.args.arguments.now in
+    let code = c.args.code.now in
+    let registers = c.deref_mut.result.now in
+    let turns = c.deref_mut-2.result.now in
+    let begun
+    = subst (λ (pair : List ℤ × List Turn). AreAtStart checked given code.constants.values.items pair.0 pair.1)
+    (λ i. (sym c.deref_mut.ensures.value i, sym c.deref_mut-2.ensures.value i))
+    (c.in_ok-restart.ensures.starts code.constants.values.items c.requires.image) in
+    followed checked is given c.requires.fitting code c.requires.code c.requires.slots registers turns begun c.instructions.result.now c.instructions.ensures
+    c.start.result.now.entry (ap (λ s. s.entry) c.start.ensures.start) c.args.steps c.slots.result c.slots.ensures.slots _
+    (c.in_ok-stand.ensures.count ∙ c.in_ok-visits.ensures.count ∙ c.count.ensures) c.in_ok-stand.ensures.passed c.in_ok-stand.ensures.kept
+
+pub returns-clause-room : goal.returns-clause-room
+returns-clause-room c = c.in_ok-stand.ensures.room

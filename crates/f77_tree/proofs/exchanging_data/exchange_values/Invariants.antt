@@ -1,9 +1,0 @@
-use Rattle.std.proofs.Common.{drop, take}
-use Rattle.f77_tree.specs.Replacement.{replacement_of}
-use Rattle.f77_tree.specs.Sites.{value_sites}
-use Rattle.f77_tree.proofs.Passes.{Passing}
-use Rattle.f77_tree.proofs.exchanging_data.exchange_values.Given as goal
-
-abbrev pub invariant-loop-value : goal.invariant-loop-value
-invariant-loop-value l =
-    Passing value_sites (take l.value-index l.values) (drop l.value-index l.values) l.fn.values l.fn.number l.number (replacement_of l.fn.node) (replacement_of l.node)
