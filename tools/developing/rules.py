@@ -1,7 +1,7 @@
 """The table of the rules: where each is defined, whose contracts cite it, and how many rows try it.
 
-A comment `-- Rule: NAME (SECTIONS)` stands above each definition of a rule, below `specs/` of its crate; the sections are
-those of the standard, where the rule is from it.
+A comment `-- Rule: NAME (SECTIONS)` stands above each definition of a rule, below `specs/` of its crate; the sections
+are those of the standard, where the rule is from it.
 """
 
 import re

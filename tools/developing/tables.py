@@ -16,7 +16,7 @@ from collections.abc import Callable, Iterator, Mapping, Sequence
 from pathlib import Path
 
 from developing.antt.crates import Crates, read_crates, with_those_below
-from developing.rules import rules_of
+from developing.rules import Rows, rules_of
 from mutants.files import written
 from mutants.program.roots import ROOT
 from mutants.statuses import FAULT, SUCCESS
@@ -25,7 +25,6 @@ from mutants.statuses import FAULT, SUCCESS
 OF_TEXTS = "thiserror"
 # The types of which the table says which functions have a case for each of their variants.
 TYPES = ("Expr", "Stmt", "Action", "CheckFault", "Why")
-Rows = Iterator[Sequence[str]]
 
 
 def first_sentence(text: str) -> str:
