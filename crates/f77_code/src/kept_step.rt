@@ -60,7 +60,7 @@ impl KeptStep {
 /// Makes the first step that changed code may make otherwise than the code of the program, from the first time at which
 /// control was at the changed instruction. `more` says whether control was there again. Gives the place to which the
 /// step leads. None if the changed code is known to come to what the program comes to: the step leads to the same
-/// state, and control was there no other time.
+/// state, and control was there no other time. Of the registers before, only those behind the slots make a difference.
 pub fn first_step(
     code: &[Instruction],
     place: usize,
@@ -69,7 +69,7 @@ pub fn first_step(
     registers: &mut [i64],
     turns: &mut [Turn],
 ) -> Option<usize>
-    requires held { are_held registers.old ≡ true }
+    requires behind { are_held (drop (length kept.now.slots.items) registers.old) ≡ true }
     requires slots_held { are_held kept.now.slots.items ≡ true }
     requires within { code_within (length registers.old) (length turns.old) code.now ≡ true }
     requires slots { length kept.now.slots.items ≤ length registers.old }

@@ -1,6 +1,6 @@
 //! Instructions executed one after another, up to a place.
 
-ghost use Rattle.std.specs.Prelude.{◌≡◌, ◌≤◌, ◌<◌, true, length, ℕ};
+ghost use Rattle.std.specs.Prelude.{◌≡◌, ◌⊎◌, ◌≤◌, ◌<◌, true, length, ℕ};
 ghost use Rattle.f77_code.specs.Block.{code_after, code_within};
 ghost use Rattle.f77_code.specs.Operation.{point};
 ghost use Rattle.f77_code.specs.Registers.{are_held};
@@ -26,6 +26,7 @@ pub fn block_to(
         ≡ code_after code.now result.made (point start registers.old turns.old) }
     ensures made { result.made ≤ steps }
     ensures some { start < length code.now → 0 < steps → 0 < result.made }
+    ensures ends { result.made < steps → (length code.now ≤ result.place) ⊎ (result.place ≡ watched) }
     ensures there { (k : ℕ)
         → k < result.made → (code_after code.now k (point start registers.old turns.old)).place < length code.now }
     ensures held { are_held registers.new ≡ true }

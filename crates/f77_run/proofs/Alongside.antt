@@ -285,9 +285,12 @@ module _ (divergence : Divergence) (code : Code) (image : Registers) (is : IsDiv
 
   -- a step was made from the first time that is kept, and the changed code went on from there
   module _ (kept : KeptStep) (more : Bool) (first : divergence.passed.first ≡ Some kept) (once : divergence.passed.more ≡ more) (place : ℕ) (place_is : place ≡ divergence.place)
-      (registers : List ℤ) (loads : registers ≡ image.items.items) (list : List Instruction) (listed : list ≡ changed) where
+      (registers : List ℤ) (loads : drop (length kept.slots.items) registers ≡ drop (length kept.slots.items) image.items.items)
+      (list : List Instruction) (listed : list ≡ changed) where
     kept_there : IsKept diverging kept more divergence.steps registers
-    kept_there = subst (IsKept diverging kept more divergence.steps) (sym loads) (is_kept kept first more once)
+    kept_there =
+        let own = is_kept kept first more once in
+        record { may = own.may; times = own.times; behind = loads ∙ own.behind; writes = own.writes }
 
     pub same_run : ((diverging : DivergingRuns) (steps : ℕ) → list ≡ diverging.runs.other → place ≡ diverging.runs.i → IsKept diverging kept more steps registers
         → code_after list steps (with_more diverging.runs.start diverging.runs.extra) ≡ with_more (code_after diverging.runs.code steps diverging.runs.start) diverging.runs.extra)

@@ -1,6 +1,7 @@
 -- Every end of a run has an outcome that reports it; whether a given outcome reports it says whether that is the outcome of the run.
 use Rattle.std.proofs.Common.{arith, ◌≡◌, ◌||◌, ℕ, Bool, true, false, true≢false, List, [], ◌∷◌, length, map, Option, Some, None, refl, sym, ap, subst, ◌∙◌, ℤ}
 use Rattle.std.specs.Bool.{Decides}
+use Rattle.std.specs.Prelude.{IfSome}
 use Rattle.std.specs.List.{list_all, list_any, zip}
 use Rattle.std.specs.Str.{bytes_eq}
 use Rattle.std.proofs.lemmas.Bool.{eq-eqb}
@@ -9,19 +10,23 @@ use Rattle.std.proofs.lemmas.List.{length-map}
 use Rattle.f77_program.specs.Program.{LineFields, line_of}
 use Rattle.f77_tree.specs.declared.tree.Kind.{Kind}
 use Rattle.f77_tree.specs.declared.tree.Kind.TheVariants.{Integer, Logical}
-use Rattle.f77_check.specs.Checked.{CheckedFields, IsChecked, shape_of}
+use Rattle.f77_check.specs.Checked.{CheckedFields, IsChecked, shape_of, shapes}
+use Rattle.f77_check.specs.declared.checked.Shape.{Shape}
 use Rattle.f77_check.specs.Slots.{slot_count}
 use Rattle.f77_legal.specs.Heading.{dummies}
 use Rattle.f77_legal.specs.Names.{Symbol, kind_of, bounds_of}
 use Rattle.f77_legal.specs.InitialValues.{element_count}
 use Rattle.f77_meaning.specs.declared.argument.Arg.{Arg}
 use Rattle.f77_meaning.specs.declared.argument.Arg.TheVariants.{Int, Truth, Ints, Truths}
+use Rattle.f77_actions.specs.declared.finish.Fault.{Fault}
+use Rattle.f77_actions.specs.declared.finish.Fault.TheVariants as faults
 use Rattle.f77_actions.specs.declared.finish.Finish.{Finish}
 use Rattle.f77_actions.specs.declared.finish.Finish.TheVariants as finish
 use Rattle.f77_meaning.specs.declared.outcome.Outcome.{Outcome}
 use Rattle.f77_meaning.specs.declared.outcome.Outcome.TheVariants as outcome
 use Rattle.f77_actions.specs.declared.value.Value.{Value}
 use Rattle.f77_actions.specs.declared.value.Value.TheVariants as held_value
+use Rattle.f77_run.specs.code.Ending.{outcome_values}
 use Rattle.f77_run.specs.code.Holding.{AreHeld}
 use Rattle.f77_meaning.specs.Interpreter.{values_in, has_shape, fault_outcome, AreFitting, AreArguments, IsOutcomeOf, Reports}
 use Rattle.f77_code.specs.Moves.{Cells}
@@ -128,6 +133,33 @@ outcome_decided p arguments steps start made end s given same starts is typed de
       },
       decided_of same decides (λ reports. outcome_once p end s given other.0 reports other.1) (λ e. subst (Reports p end s) (sym e) other.1),
     )
+
+-- the values of an outcome, if it has any, fit these shapes
+abbrev HasFitting : List Shape → Outcome → Type 0
+HasFitting list answer = IfSome (outcome_values answer) (λ arguments. Decides true (AreFitting list arguments))
+
+no_values : (list : List Shape) (fault : Fault) → HasFitting list (fault_outcome fault)
+no_values list faults.Overflow = tt
+no_values list faults.DivideByZero = tt
+no_values list faults.ZeroPower = tt
+no_values list faults.BadSubscript = tt
+no_values list faults.ZeroStep = tt
+no_values list faults.Undefined = tt
+no_values list faults.Trapped = tt
+
+reported_fit : (p : List LineFields) (end : Finish) (s : Store) (answer : Outcome) → Reports p end s answer → HasFitting (shapes p) answer
+reported_fit p finish.Returned s (outcome.Returned arguments) are = (λ e. are.fitting, λ fits. refl)
+reported_fit p finish.Returned s _ none = absurd none
+reported_fit p finish.Stopped s (outcome.Stopped arguments) are = (λ e. are.fitting, λ fits. refl)
+reported_fit p finish.Stopped s _ none = absurd none
+reported_fit p (finish.Failed fault) s answer is = subst (HasFitting (shapes p)) (sym is) (no_values (shapes p) fault)
+reported_fit p finish.StepLimit s answer is = subst (HasFitting (shapes p)) (sym is) tt
+
+-- the values of an outcome of the program fit its dummy arguments
+pub outcome_fits : (checked : CheckedFields) → IsChecked checked → (arguments : List Arg) (steps : ℕ) (answer : Outcome)
+    → IsOutcomeOf (map line_of checked.program) arguments steps answer → HasFitting checked.arguments answer
+outcome_fits checked is arguments steps answer given =
+    subst (λ list. HasFitting list answer) (sym is.arguments) (reported_fit (map line_of checked.program) given.finish given.values answer given.reports)
 
 -- whether the names hold these arguments
 module _ (checked : CheckedFields) (is : IsChecked checked) (cells : Cells) (size : length cells ≡ slot_count (bounds_of (map line_of checked.program)) checked.names)

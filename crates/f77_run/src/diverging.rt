@@ -33,6 +33,7 @@ fn comes_from_start(
     ghost divergence: { Divergence }
     requires divergence { IsDivergence divergence checked.now code.now space.old.image }
     requires arguments { divergence.run.arguments ≡ arguments.now }
+    requires outcome { IsOutcomeOf (map line_of checked.now.program) divergence.run.arguments steps outcome.now }
     ensures outcome { IfOk result (λ same. (other : Outcome)
         × IsOutcomeOf divergence.run.program divergence.run.arguments steps other
         × Decides same (outcome.now ≡ other)) }
@@ -40,7 +41,8 @@ fn comes_from_start(
     ensures memory { IfErr result (λ e. e ≡ fault.Memory) }
 {
     let end = space.end_of(checked, code, arguments, patience, steps)?;
-    Ok(is_outcome_for(checked, end.finish, &space.registers.items, outcome))
+    let registers = &space.registers.items;
+    Ok(is_outcome_for(checked, end.finish, registers, outcome, true))
 }
 
 /// Whether the run of the changed program has this outcome. It begins at the kept step of the changed statement, and
@@ -68,7 +70,7 @@ fn comes_from(
     ensures image { space.new.image ≡ space.old.image }
     ensures memory { IfErr result (λ e. e ≡ fault.Memory) }
 {
-    space.registers.copy_from(&space.image)?;
+    space.registers.copy_behind(kept.slots.len(), &space.image)?;
     let registers = &mut space.registers;
     let Some(next) = first_step(
         code.instructions(),
@@ -90,7 +92,8 @@ fn comes_from(
         left,
     )?;
     let finish = finish_at(stand.place);
-    Ok(is_outcome_for(checked, finish, &space.registers.items, outcome))
+    let registers = &space.registers.items;
+    Ok(is_outcome_for(checked, finish, registers, outcome, true))
 }
 
 /// Whether the run of the changed program has the outcome of the program. `passed` has the first time at which control

@@ -5,7 +5,7 @@ ghost use Rattle.std.specs.Bool.{Decides};
 ghost use Rattle.f77_program.specs.Program.{LineFields, line_of};
 ghost use Rattle.f77_code.specs.Registers.{are_held};
 ghost use Rattle.f77_meaning.specs.Interpreter as meaning;
-ghost use Rattle.f77_meaning.specs.Interpreter.{AreArguments, Reports};
+ghost use Rattle.f77_meaning.specs.Interpreter.{AreArguments, AreFitting, Reports};
 ghost use Rattle.f77_meaning.specs.Site.{held};
 ghost use Rattle.f77_meaning.specs.Value.{Store};
 ghost use Rattle.f77_meaning.specs.declared.outcome.RunFault.TheVariants as fault;
@@ -21,8 +21,9 @@ use f77_check::Checked;
 use f77_meaning::{Arg, Outcome, RunFault, Values};
 use std::alloc::Global;
 
-/// Whether the registers of the dummy arguments have these values.
-fn have_dummies(checked: &Checked, registers: &[i64], arguments: &[Arg]) -> bool
+/// Whether the registers of the dummy arguments have these values. `fit` says whether the values fit these.
+fn have_dummies(checked: &Checked, registers: &[i64], arguments: &[Arg], fit: bool) -> bool
+    requires fit { Decides fit (AreFitting checked.now.arguments arguments.now) }
     requires held { are_held registers.now ≡ true }
     requires room { length checked.now.start.kinds.items ≤ length registers.now }
     requires dummies { HoldDummies checked.now (shown_by checked.now registers.now) }
@@ -30,7 +31,7 @@ fn have_dummies(checked: &Checked, registers: &[i64], arguments: &[Arg]) -> bool
         (held checked.now (shown_by checked.now registers.now)) arguments.now) }
 {
     let start = checked.start();
-    if !are_fitting(checked.arguments(), arguments) {
+    if !fit {
         return false;
     }
     have_arguments(registers, &start.kinds, &start.dummies, arguments)
@@ -50,6 +51,17 @@ fn outcome_values(outcome: &Outcome) -> Option<&[Arg]>
         | Outcome::Undefined
         | Outcome::Trapped
         | Outcome::StepLimit => None,
+    }
+}
+
+/// Whether the values that the outcome has fit the dummy arguments. True where it has none. It takes no memory.
+pub(crate) fn has_fitting_values(checked: &Checked, outcome: &Outcome) -> bool
+    ensures { IfSome (code.outcome_values outcome.now)
+        (λ arguments. Decides result (AreFitting checked.now.arguments arguments)) }
+{
+    match outcome_values(outcome) {
+        Some(arguments) => are_fitting(checked.arguments(), arguments),
+        None => true,
     }
 }
 
@@ -85,13 +97,17 @@ fn is_outcome_where(held: bool, finish: Finish, outcome: &Outcome) -> bool
     }
 }
 
-/// Whether this is the outcome for an end with these registers. It takes no memory.
+/// Whether this is the outcome for an end with these registers. `fit` says whether its values fit the dummy arguments:
+/// those of an outcome of the program do. It takes no memory.
 pub(crate) fn is_outcome_for(
     checked: &Checked,
     finish: Finish,
     registers: &[i64],
     outcome: &Outcome,
+    fit: bool,
 ) -> bool
+    requires fit { IfSome (code.outcome_values outcome.now)
+        (λ arguments. Decides fit (AreFitting checked.now.arguments arguments)) }
     requires held { are_held registers.now ≡ true }
     requires room { length checked.now.start.kinds.items ≤ length registers.now }
     requires dummies { HoldDummies checked.now (shown_by checked.now registers.now) }
@@ -99,7 +115,7 @@ pub(crate) fn is_outcome_for(
         (held checked.now (shown_by checked.now registers.now)) outcome.now) }
 {
     let held = match outcome_values(outcome) {
-        Some(arguments) => have_dummies(checked, registers, arguments),
+        Some(arguments) => have_dummies(checked, registers, arguments, fit),
         None => false,
     };
     is_outcome_where(held, finish, outcome)

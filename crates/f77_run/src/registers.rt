@@ -1,6 +1,6 @@
 //! The registers and counters of a run.
 
-ghost use Rattle.std.specs.Prelude.{◌≡◌, ◌≢◌, ◌++◌, length, map, option_map, take, true, Some};
+ghost use Rattle.std.specs.Prelude.{◌≡◌, ◌≢◌, ◌≤◌, ◌++◌, drop, length, map, option_map, take, true, Some};
 ghost use Rattle.std.specs.Prelude.{IfOk, IfErr, OnOk, IfNone, IfSome};
 ghost use Rattle.std.specs.Bool.{Decides};
 ghost use Rattle.std.specs.List.{list_all};
@@ -209,6 +209,22 @@ impl Registers {
     {
         copy_items(&mut self.items, &other.items)?;
         copy_items(&mut self.counters, &other.counters)
+    }
+
+    /// Makes the registers behind the first `slots` equal to others. It does not say what is in the slots and counters;
+    /// there are as many as in the others.
+    pub(crate) fn copy_behind(&mut self, slots: usize, other: &Registers) -> Result<(), RunFault>
+        requires { slots ≤ length other.now.items.items }
+        ensures behind { OnOk result (drop slots self.new.items.items ≡ drop slots other.now.items.items) }
+        ensures many { OnOk result (length self.new.items.items ≡ length other.now.items.items) }
+        ensures counters { OnOk result (length self.new.counters.items ≡ length other.now.counters.items) }
+        ensures memory { IfErr result (λ e. e ≡ fault.Memory) }
+    {
+        if self.items.len() != other.items.len() || self.counters.len() != other.counters.len() {
+            return self.copy_from(other);
+        }
+        self.items[slots..].copy_from_slice(&other.items[slots..]);
+        Ok(())
     }
 
     /// Whether two sets of registers are equal. The place where they differed the last time is compared first: in a

@@ -12,7 +12,7 @@ ghost use Rattle.f77_meaning.specs.declared.outcome.RunFault.TheVariants as faul
 ghost use Rattle.f77_run.specs.Registers.{IsImage};
 ghost use Rattle.f77_run.specs.Visits.{IsFollowed};
 
-use crate::ending::{answer, is_outcome_for};
+use crate::ending::{answer, has_fitting_values, is_outcome_for};
 use crate::fitting::fit;
 use crate::visits::Visits;
 use crate::workspace::{Workspace, code_of};
@@ -183,7 +183,8 @@ impl<'a> Runner<'a> {
                     .space
                     .end_of(self.checked, &self.code, arguments, 0, steps)?;
                 let registers = &self.space.registers.items;
-                Ok(is_outcome_for(self.checked, end.finish, registers, outcome))
+                let fit = has_fitting_values(self.checked, outcome);
+                Ok(is_outcome_for(self.checked, end.finish, registers, outcome, fit))
             }
             Err(fault) => Err(fault),
         }

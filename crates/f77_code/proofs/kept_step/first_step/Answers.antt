@@ -5,7 +5,7 @@ use Rattle.f77_code.specs.Block.{code_after}
 use Rattle.f77_code.specs.Frame.{with_more}
 use Rattle.f77_code.specs.Operation.{point}
 use Rattle.f77_code.specs.Registers.{are_held, is_held}
-use Rattle.f77_code.proofs.KeptSteps.{held_behind, leads_to, goes_on, same_run}
+use Rattle.f77_code.proofs.KeptSteps.{leads_to, goes_on, same_run}
 use Rattle.f77_code.proofs.kept_step.first_step.Goals as goal
 
 pub block-next-requires-clause-held : goal.block-next-requires-clause-held
@@ -14,7 +14,7 @@ block-next-requires-clause-held c =
     let rest = drop (length slots) c.args.registers.now in
     ap are_held c.load.ensures.registers
     ∙ (list_all-append is_held slots rest
-    ∙ and_from (are_held slots) (are_held rest) c.requires.slots_held (held_behind (length slots) c.args.registers.now c.requires.held))
+    ∙ and_from (are_held slots) (are_held rest) c.requires.slots_held c.requires.behind)
 
 pub returns-then-is_met-clause-same : goal.returns-then-is_met-clause-same
 returns-then-is_met-clause-same c = λ diverging steps own at is.

@@ -1,4 +1,4 @@
-use Rattle.std.proofs.Common.{arith, ◌≡◌, ◌<◌, ◌∙◌, sym, ap, length, refl}
+use Rattle.std.proofs.Common.{arith, ◌≡◌, ◌<◌, ◌∙◌, sym, ap, length, refl, inl}
 use Rattle.std.specs.Prelude.{slice_get, Some}
 use Rattle.std.proofs.lemmas.Bool.{ltb-false}
 use Rattle.std.proofs.lemmas.Option.{slice_get_read}
@@ -14,6 +14,9 @@ pub returns-in_default-clause-some : goal.returns-in_default-clause-some
 returns-in_default-clause-some c = λ below more.
     made_some c.args.code.now (point c.args.start c.args.registers.now c.args.turns.now) (point c.instructions.place c.instructions.registers c.instructions.turns)
     c.instructions.made below (ltb-false c.instructions.place (length c.args.code.now) (sym c.in_default.ensures.lookup.0)) c.instructions.invariant.stands
+
+pub returns-in_default-clause-ends : goal.returns-in_default-clause-ends
+returns-in_default-clause-ends c = λ below. inl (ltb-false c.instructions.place (length c.args.code.now) (sym c.in_default.ensures.lookup.0))
 
 pub instructions-preserved : goal.instructions-preserved
 instructions-preserved c =

@@ -5,7 +5,6 @@ use Rattle.f77_run.specs.code.Holding.{AreHeld}
 use Rattle.f77_run.specs.code.Registers.{shown_cells}
 use Rattle.f77_run.specs.code.Site.{shown_by}
 use Rattle.f77_meaning.specs.code.Spans.{HaveRoom}
-use Rattle.f77_meaning.specs.Interpreter.{AreFitting}
 use Rattle.f77_run.proofs.Loaded.{shown_count}
 use Rattle.f77_run.proofs.Reporting.{dummies_room, dummies_decided, dummies_misfit}
 use Rattle.f77_run.proofs.ending.have_dummies.Goals as goal
@@ -17,7 +16,7 @@ have_arguments-requires c =
     let slots = c.deref-2.ensures.value ∙ ap (λ s. s.dummies.items) c.start-start.ensures.start in
     let count = shown_count checked.start.kinds.items c.args.registers.now c.requires.room in
     let room = dummies_room checked c.start-start.ensures.checked (shown_by checked c.args.registers.now) c.requires.dummies.count c.requires.dummies.typed c.args.arguments.now
-    (subst (λ list. AreFitting list c.args.arguments.now) c.arguments.ensures (c.are_fitting.ensures.0 c.if-not-are_fitting.false)) in
+    (c.requires.fit.0 c.if-not-fit.false) in
     rw (kinds, slots) (record {
       held = c.requires.held;
       room = c.requires.room;
@@ -31,11 +30,11 @@ returns c =
     let kinds = c.deref.ensures.value ∙ ap (λ s. s.kinds.items) c.start-start.ensures.start in
     let slots = c.deref-2.ensures.value ∙ ap (λ s. s.dummies.items) c.start-start.ensures.start in
     dummies_decided checked c.start-start.ensures.checked cells c.requires.dummies.count c.requires.dummies.typed c.args.arguments.now c.have_arguments.result
-    (subst (λ list. AreFitting list c.args.arguments.now) c.arguments.ensures (c.are_fitting.ensures.0 c.if-not-are_fitting.false))
+    (c.requires.fit.0 c.if-not-fit.false)
     (subst (λ slots. Decides c.have_arguments.result (AreHeld cells (zip slots c.args.arguments.now))) slots
     (subst (λ kinds. Decides c.have_arguments.result (AreHeld (shown_cells kinds c.args.registers.now) (zip c.deref-2.result.now c.args.arguments.now))) kinds c.have_arguments.ensures))
 
-pub returns-then-not-are_fitting : goal.returns-then-not-are_fitting
-returns-then-not-are_fitting c =
+pub returns-then-not-fit : goal.returns-then-not-fit
+returns-then-not-fit c =
     dummies_misfit c.args.checked.now c.start-start.ensures.checked (shown_by c.args.checked.now c.args.registers.now) c.requires.dummies.count c.requires.dummies.typed c.args.arguments.now
-    (λ fits. true≢false (sym (c.are_fitting.ensures.1 (subst (λ list. AreFitting list c.args.arguments.now) (sym c.arguments.ensures) fits)) ∙ c.if-not-are_fitting.true))
+    (λ fits. true≢false (sym (c.requires.fit.1 fits) ∙ c.if-not-fit.true))

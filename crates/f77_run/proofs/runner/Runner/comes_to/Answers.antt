@@ -36,6 +36,7 @@ is_outcome_for-requires c =
     (own_compiled checked is.0 c.args.arguments.now fits c.self.inside.code is.1 is.2) refl refl in
     let registers = sym c.deref.ensures.value in
     record {
+      fit = c.has_fitting_values-fit.ensures;
       held = subst (λ (list : List ℤ). are_held list ≡ true) registers end.held;
       room = subst (λ (list : List ℤ). length checked.start.kinds.items ≤ length list) registers end.room;
       dummies = subst (λ (list : List ℤ). HoldDummies checked (shown_by checked list)) registers end.dummies;
