@@ -1,8 +1,5 @@
 -- Terms stand for expressions when their operands do.
-use Rattle.std.proofs.Common.{◌≡◌, ◌+◌, sym, ◌∙◌, subst}
-use Rattle.std.specs.declared.alloc.Global.{Global}
-use Rattle.f77_tree.specs.declared.tree.Kind.{Kind}
-use Rattle.f77_actions.specs.declared.expression.Arithmetic.{Arithmetic}
+use Rattle.std.proofs.Common.{◌≡◌, sym, ◌∙◌, subst}
 use Rattle.f77_actions.specs.declared.expression.Element.TheViews as views
 use Rattle.f77_actions.specs.declared.expression.Element as slots
 use Rattle.f77_actions.specs.declared.expression.Number.{Number}

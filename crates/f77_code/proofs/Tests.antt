@@ -1,15 +1,11 @@
 -- Terms stand for LOGICAL expressions when their operands do.
 use Rattle.std.proofs.Common.{◌≡◌, subst}
-use Rattle.std.specs.declared.alloc.Global.{Global}
 use Rattle.f77_actions.specs.declared.expression.Condition.{Condition}
 use Rattle.f77_actions.specs.declared.expression.Condition as condition
 use Rattle.f77_actions.specs.declared.expression.Condition.TheViews as conditions
-use Rattle.f77_actions.specs.declared.expression.Connective.{Connective}
-use Rattle.f77_actions.specs.declared.expression.Element.{Element}
 use Rattle.f77_actions.specs.declared.expression.Number.{Number}
 use Rattle.f77_actions.specs.declared.expression.Relation.{Relation}
 use Rattle.f77_code.specs.declared.constants.Constants.{Constants}
-use Rattle.f77_code.specs.declared.term.Pair.{Pair}
 use Rattle.f77_code.specs.declared.term.Term.{Term, Compared, Related'}
 use Rattle.f77_code.specs.declared.term.Term.TheViews as terms
 use Rattle.f77_code.specs.code.Compile.{IsNumberTerm, IsTestTerm, IsRelationOf}

@@ -1,6 +1,6 @@
 -- Instructions and code that stand for statements in each plan that begins with a table of
 -- constants.
-use Rattle.std.specs.Prelude.{◌≡◌, ◌≢◌, ◌<◌, ◌+◌, ◌&&◌, ℕ, Bool, true, nat_lt, List, length, Some, slice_get}
+use Rattle.std.specs.Prelude.{◌≡◌, ◌<◌, ◌+◌, ◌&&◌, ℕ, Bool, true, nat_lt, List, length, Some, slice_get}
 use Rattle.std.specs.List.{list_all}
 use Rattle.f77_actions.specs.declared.action.Action.{Action, Branch, Loop}
 use Rattle.f77_actions.specs.declared.resolved.Resolved.{Resolved}

@@ -30,7 +30,6 @@ use Rattle.f77_meaning.specs.code.Running.{site_of}
 use Rattle.f77_meaning.specs.code.Spans.{HaveRoom, AreWithin, AllHold, span}
 use Rattle.f77_meaning.specs.Spans.{size_of, all_filled}
 use Rattle.f77_meaning.specs.Start.{IsStart, constant_value, start_values}
-use Rattle.f77_actions.specs.declared.finish.Finish.{Finish}
 use Rattle.f77_code.specs.declared.control.Place.TheVariants as places
 use Rattle.f77_meaning.proofs.InRun.{stands_for}
 use Rattle.f77_meaning.specs.Step.{config}

@@ -3,7 +3,6 @@ use Rattle.std.specs.Prelude.{map}
 use Rattle.f77_program.specs.Program.{line_of}
 use Rattle.f77_check.specs.Checked.{CheckedFields}
 use Rattle.f77_legal.specs.Names.{bounds_of}
-use Rattle.f77_meaning.specs.declared.argument.Arg.{Arg}
 use Rattle.f77_code.specs.Moves.{Cells}
 use Rattle.f77_meaning.specs.States.{values_of}
 use Rattle.f77_meaning.specs.Value.{Store}

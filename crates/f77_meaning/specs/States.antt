@@ -8,7 +8,6 @@ use Rattle.f77_legal.specs.InitialValues.{product}
 use Rattle.f77_check.specs.Slots.{first_slot}
 use Rattle.f77_code.specs.declared.control.Place.{Place}
 use Rattle.f77_code.specs.declared.control.Place.TheVariants.{Execute, Increment}
-use Rattle.f77_code.specs.declared.control.Turn.{Turn}
 use Rattle.f77_code.specs.Evaluation.{held_in}
 use Rattle.f77_code.specs.Moves.{Cells}
 use Rattle.f77_meaning.specs.Step as run

@@ -12,7 +12,6 @@ use Rattle.f77_actions.specs.Number.{fits}
 use Rattle.f77_actions.specs.declared.finish.Finish.{Finish}
 use Rattle.f77_actions.specs.declared.finish.Finish.TheVariants.{Returned, Stopped, Failed, StepLimit}
 use Rattle.f77_code.specs.declared.code.Code.{Code}
-use Rattle.f77_code.specs.declared.control.Place.{Place}
 use Rattle.f77_code.specs.declared.control.Turn.{Turn}
 use Rattle.f77_code.specs.Block.{code_after, code_within}
 use Rattle.f77_code.specs.Instructions.{place_at, AreCode}

@@ -1,5 +1,5 @@
 -- Mutants are added at the end of a list.
-use Rattle.std.proofs.Common.{arith, ◌≡◌, ◌<◌, ◌+◌, ◌++◌, ℕ, inl, inr, refl, sym, List, [], ◌∷◌, get_or, subst}
+use Rattle.std.proofs.Common.{arith, ◌≡◌, ◌+◌, ◌++◌, ℕ, inl, inr, refl, sym, List, [], ◌∷◌, get_or, subst}
 use Rattle.std.proofs.lemmas.List.Elements.{All-push, All-weaker}
 use Rattle.std.proofs.lemmas.List.Quantifiers.{all_pairs_push}
 use Rattle.mothra_codes.specs.declared.op.Op.{Op}

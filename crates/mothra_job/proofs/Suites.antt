@@ -1,5 +1,5 @@
 -- The tests of a suite are read one by one.
-use Rattle.std.proofs.Common.{◌≡◌, ap, refl, ℕ, ◌+◌, ◌<◌, ◌≤◌, lt-ltb, le-ltb, List, [], ◌∷◌, ◌++◌, length, map, Err}
+use Rattle.std.proofs.Common.{◌≡◌, ap, refl, ◌<◌, ◌≤◌, lt-ltb, le-ltb, List, [], ◌∷◌, length, map, Err}
 use Rattle.std.proofs.lemmas.List.{length-map}
 use Rattle.serde_json.specs.Data.{Data}
 use Rattle.serde_json.specs.View.{view, items_of}
