@@ -14,56 +14,63 @@ from mutants.pages.declared import proved_part
 from mutants.program import finding
 from mutants.texts.jobs import Job, declared_text
 from mutants.texts.lines import Mutant
-from mutants.texts.proofs import Proof, meaning_of, read_proofs, spare_of
+from mutants.texts.proofs import Answer, Proof, meaning_of, read_proofs
 from mutants.texts.reports import Row
 
 LINES = """\
-EQUIVALENT ABS 2 4 UNREAD LINE 7 K=IABS(I)
-EQUIVALENT SDL 1 1 SPARE-3 LINE 9 CONTINUE
+EQUIVALENT ABS 2 4 LINE 7 K=IABS(I)
+SPARE 3 SDL 1 1 LINE 9 CONTINUE
 PROVED 2 OF 9
 """
-
-
-STEPS_MORE = "the run ends as the program's does, by 2 steps more at most; each test leaves that room"
+UNFINISHED = LINES.replace("OF 9", "OF 9, 7 NOT FINISHED")
 
 
 class Reading(unittest.TestCase):
-    def test_a_line_has_its_mutant_and_what_the_proof_rests_on(self) -> None:
-        proofs, total = read_proofs(LINES)
+    def test_a_line_has_its_mutant_and_how_many_steps_are_to_spare(self) -> None:
         first, second = Mutant("ABS", 2, 4, 7, "K=IABS(I)"), Mutant("SDL", 1, 1, 9, "CONTINUE")
-        self.assertEqual((proofs, total), ([Proof(first, "UNREAD"), Proof(second, "SPARE-3")], 9))
-        self.assertEqual([proof.has_spare for proof in proofs], [False, True])
-        self.assertEqual(read_proofs("PROVED 0 OF 0\n"), ([], 0))
+        self.assertEqual(read_proofs(LINES), Answer([Proof(first), Proof(second, 3)]))
+        self.assertEqual(read_proofs(UNFINISHED), Answer([Proof(first), Proof(second, 3)], 7))
+        self.assertEqual(read_proofs("PROVED 0 OF 0\n"), Answer([]))
+        self.assertEqual(read_proofs("PROVED 0 OF 10, 10 NOT FINISHED\n"), Answer([], 10))
 
     def test_a_mutant_with_steps_to_spare_is_told_apart(self) -> None:
-        found = proofs_of(read_proofs(LINES)[0])
+        found = proofs_of(read_proofs(LINES))
         self.assertEqual((found.names, list(map(found.has_spare, found.names))), (["ABS 4", "SDL 1"], [False, True]))
-        self.assertEqual(found.reason("ABS 4"), "proved (UNREAD): what it changes is not read")
-        self.assertEqual(found.reason("SDL 1"), f"proved (SPARE-3): {STEPS_MORE.replace('2', '3')}")
-        self.assertEqual(meaning_of("SPARE-1"), STEPS_MORE.replace("2 steps", "1 step"))
+        self.assertEqual(found.reason("ABS 4"), "proved equivalent")
+        self.assertEqual(found.reason("SDL 1"), "proved equivalent with 3 steps to spare")
+        self.assertEqual(meaning_of(1), "equivalent with 1 step to spare")
         self.assertEqual((found.for_all_tests().names, found.has_spare("ROR 1")), (["ABS 4"], False))
-        self.assertEqual(list(map(spare_of, ("SAME", "SPARE-1", "SPARE-12"))), [0, 1, 12])
+
+    def test_that_some_are_not_finished_is_told(self) -> None:
+        self.assertEqual(proofs_of(read_proofs(LINES)).left_open(), "")
+        for unfinished, told in ((UNFINISHED, "7 mutants."), ("PROVED 0 OF 1, 1 NOT FINISHED\n", "1 mutant.")):
+            sentence = f"The program equivalents stopped at its bound of work for {told}"
+            self.assertEqual(proofs_of(read_proofs(unfinished)).left_open(), sentence)
 
     def test_a_number_that_no_job_declares_is_left_out(self) -> None:
-        great = Proof(Mutant("GLR", 1, 1_048_576, 7, "GO TO 10"), "SAME")
-        self.assertEqual(proofs_of([great, great._replace(mutant=great.mutant._replace(place=7))]).names, ["GLR 7"])
+        great = Mutant("GLR", 1, 1_048_576, 7, "GO TO 10")
+        answer = Answer([Proof(great), Proof(great._replace(place=7))])
+        self.assertEqual(proofs_of(answer).names, ["GLR 7"])
 
     def test_what_is_no_such_text_is_refused(self) -> None:
         for text, told in (
             ("", "cut short"), (LINES[:-1], "cut short"), (LINES.replace("2 OF", "3 OF"), "has not their number"),
-            (LINES.replace("OF 9", "OF 1"), "has not their number"), (LINES.replace("UNREAD", "UNSEEN"), "is none"),
-            (LINES.replace("SPARE-3", "SPARE-0"), "is none"), (LINES.replace("LINE 7", "LINE"), "is none"),
-            (LINES.replace("SPARE-3", "SPARE"), "is none"), (LINES.replace("SPARE-3", "SPARE-"), "is none"),
-            (LINES.replace("SPARE-3", "SPARE-03"), "is none"), (LINES.replace("SPARE-3", "SPARE-3A"), "is none"),
-            (LINES.replace("SPARE-3", "SAME-3"), "is none"), (LINES.replace("SPARE-3", "SPARE--3"), "is none"),
+            (LINES.replace("OF 9", "OF 1"), "has not their number"), (LINES.replace("SPARE 3", "SPARE 0"), "is none"),
+            (UNFINISHED.replace("7 NOT", "8 NOT"), "has not their number"), (LINES.replace("7 K", "K"), "is none"),
+            (UNFINISHED.replace("7 NOT", "0 NOT"), "cut short"), (UNFINISHED.replace(", 7", " 7"), "cut short"),
+            (UNFINISHED.replace("FINISHED", "FINISHED,"), "cut short"), (LINES.replace("SPARE 3", "SPARE"), "is none"),
+            (LINES.replace("SPARE 3", "SPARE 03"), "is none"), (LINES.replace("SPARE 3", "SPARE 3A"), "is none"),
+            (LINES.replace("SPARE 3", "SPARE -3"), "is none"), (LINES.replace("SPARE 3", "SPARE-3"), "is none"),
+            (LINES.replace("ABS", "1 ABS"), "is none"), (LINES.replace("4 LINE", "4 SAME LINE"), "is none"),
             (LINES.replace("ABS 2 4", "ABS 2"), "is none"), ("FAULT S2 1\n", "is a fault"),
-            ("EQUIVALENT ABS 1 1 SAME LINE 1 K=I\n" * 2 + "PROVED 2 OF 2\n", "twice"), ("ABS 1\nTOTAL 1\n", "is none"),
+            ("EQUIVALENT ABS 1 1 LINE 1 K=I\n" * 2 + "PROVED 2 OF 2\n", "twice"), ("ABS 1\nTOTAL 1\n", "is none"),
+            ("EQUIVALENT ABS 1 1 LINE 1 K=I\nSPARE 1 ABS 1 1 LINE 1 K=I\nPROVED 2 OF 2\n", "twice"),
         ):  # fmt: skip
             with self.subTest(text[:40]), self.assertRaisesRegex(ValueError, told):
                 read_proofs(text)
 
     def test_each_is_one_of_the_list(self) -> None:
-        proofs, _ = read_proofs(LINES)
+        proofs = read_proofs(LINES).proofs
         listed = [proof.mutant for proof in proofs]
         assert_listed(proofs, listed)
         for other in (listed[:1], [listed[0], listed[1]._replace(line=8)], [listed[0]._replace(text="K=I"), listed[1]]):
@@ -93,18 +100,18 @@ class Finding(Folder):
     def test_without_one_nothing_is_proved_and_why_is_told(self) -> None:
         found = Prover(not_asked=NOT_FOUND).proofs([], Job(LEAST, [], ["ROR 1"]), [])
         told = "Which mutants can be proved equivalent was not asked: the program equivalents is not found."
-        self.assertEqual((found.names, found.not_asked_text()), ([], told))
-        self.assertEqual(NO_PROVER.proofs([], Job(LEAST, []), []).not_asked_text(), "")
+        self.assertEqual((found.names, found.left_open()), ([], told))
+        self.assertEqual(NO_PROVER.proofs([], Job(LEAST, []), []).left_open(), "")
 
 
 class Values(unittest.TestCase):
     def test_what_is_declared_by_a_proof_alone(self) -> None:
-        found = Proofs({"ROR 1": "SAME", "ABS 2": "UNREAD"}, {"ROR 1"})
+        found = Proofs({"ROR 1": 0, "ABS 2": 0}, {"ROR 1"})
         self.assertEqual((found.names, found.is_alone("ROR 1"), found.is_alone("SDL 1")), (["ABS 2"], False, False))
-        self.assertEqual((NO_PROOFS.names, NO_PROOFS.not_asked_text(), NO_PROOFS.reason("ROR 1")), ([], "", ""))
+        self.assertEqual((NO_PROOFS.names, NO_PROOFS.left_open(), NO_PROOFS.reason("ROR 1")), ([], "", ""))
 
     def test_one_that_a_later_row_kills_is_no_fault_of_the_programs(self) -> None:
-        proofs = Proofs({"ROR 1": "SAME", "ROR 7": "SPARE-2", "ROR 3": "SPARE-1"}, tests=2)
+        proofs = Proofs({"ROR 1": 0, "ROR 7": 2, "ROR 3": 1}, tests=2)
         rows = [Row("ROR", 7, 7, "W", "001"), Row("ROR", 3, 3, "W", "011"), Row("ROR", 1, 1, "W", "001")]
         self.assertEqual((killed_later(rows, proofs), wrongly_proved(rows, proofs)), (["ROR 7"], ["ROR 3", "ROR 1"]))
         alive = [row._replace(status="E", bits="000") for row in rows]
@@ -113,9 +120,9 @@ class Values(unittest.TestCase):
     def test_rows_that_are_killed_come_first(self) -> None:
         listed = [Mutant("ROR", n, n, 3, f"K={n}") for n in (1, 2)]
         rows = [Row("ROR", 1, 1, "E", "0"), Row("ROR", 2, 2, "W", "1")]
-        part = proved_part(listed, rows, {3: "K=9"}, Said(proofs=Proofs({"ROR 1": "SAME", "ROR 2": "UNREACHED"})))
+        part = proved_part(listed, rows, {3: "K=9"}, Said(proofs=Proofs({"ROR 1": 0, "ROR 2": 0})))
         self.assertLess(part.index("ROR 2"), part.index("ROR 1"))
-        has(self, part, "<summary>2 mutants proved equivalent</summary>", "proved (UNREACHED): no run comes there")
+        has(self, part, "<summary>2 mutants proved equivalent</summary>", "proved equivalent</td>")
         self.assertEqual(proved_part([], [], {}, Said()), "")
 
 

@@ -125,7 +125,7 @@ def proved_lines(checked: Checked, shows_proved: bool) -> Iterator[str]:
         end = ":" if shows_proved else f" (--show-proved tells {'it' if is_one else 'each'})."
         yield f"{proved_text(groups, said.proofs)}{end}"
     yield from group_lines(checked, groups if shows_proved else [])
-    both = [name for name in map(name_of, checked.listed) if name in proofs.whys and name in proofs.declared]
+    both = [name for name in map(name_of, checked.listed) if name in proofs.spares and name in proofs.declared]
     if both:
         verb = "is" if len(both) == 1 else "are"
         yield f"Of the declared mutants {len(both)} {verb} proved too, and need not be declared."
@@ -211,7 +211,7 @@ def unreached_lines(checked: Checked) -> Iterator[str]:
     """The statements that no test comes to, as far as the report shows it: a trap in their place survives. Where the
     trap is proved equivalent, no test can come there."""
     traps = [mutant for mutant in checked.listed if mutant.op == "SAN" and mutant.text == "TRAP"]
-    alive, proved = set(checked.report.survivors), checked.said.proofs.whys
+    alive, proved = set(checked.report.survivors), checked.said.proofs.spares
     for verb, lines in (
         ("comes", [mutant.line for mutant in traps if mutant in alive]),
         ("can come", [mutant.line for mutant in traps if name_of(mutant) in proved]),

@@ -25,7 +25,7 @@ def digest_of_class(tasks: Sequence[Task], results: Results, remark: str) -> str
     """The digest of all of which the files of a class are made, beside the answers that are kept."""
     digest = hashlib.sha256(f"{tool_digest()}{remark}".encode())
     for task in tasks:
-        proofs = sorted(task.proofs.whys.items()), task.proofs.not_asked_text(), task.proofs.remark
+        proofs = sorted(task.proofs.spares.items()), task.proofs.left_open(), task.proofs.remark
         said = task.name, task.refusal, task.shown, task.meant, task.remarks, task.expected, proofs
         digest.update(f"{results.key(task)}{said!r}".encode("utf-8", "replace"))
     return digest.hexdigest()

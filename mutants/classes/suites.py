@@ -111,7 +111,7 @@ def digest_of_page(suite: Suite, shared: str) -> str:
 
 def digest_of_program(task: Task, known: Known, remark: str) -> str:
     """The digest of what the pages of a program share, and of what makes them."""
-    proofs = sorted(task.proofs.whys.items()), task.proofs.remark
+    proofs = sorted(task.proofs.spares.items()), task.proofs.remark
     return digest_of_all(tool_digest(), known, task.shown, task.meant, proofs, remark)
 
 

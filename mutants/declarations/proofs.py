@@ -7,7 +7,7 @@ from typing import NamedTuple
 
 from mutants.english import plural
 from mutants.texts.lines import Mutant
-from mutants.texts.proofs import Proof, has_spare, meaning_of
+from mutants.texts.proofs import Answer, Proof, meaning_of
 from mutants.texts.reports import Count, Row, score_of
 from mutants.texts.twins import name_of
 
@@ -18,52 +18,53 @@ NO_NAMES: Collection[str] = frozenset()
 
 
 class Proofs(NamedTuple):
-    """What is proved of the mutants of a program: the rule of each proof, by the name of the mutant; or why nothing was
-    asked. `declared` are the names that a person declares, whether they are proved or not. SPARE-n proofs are of the
-    first `tests` tests of a suite."""
+    """What is proved of the mutants of a program: how many steps each has to spare, by its name; or why nothing was
+    asked. `declared` are the names that a person declares, whether they are proved or not. Proofs with steps to spare
+    are of the first `tests` tests of a suite. `unfinished` mutants were left at the bound on work."""
 
-    whys: Mapping[str, str] = MappingProxyType({})
+    spares: Mapping[str, int] = MappingProxyType({})
     declared: Collection[str] = NO_NAMES
     not_asked: str = ""
     remark: str = ""
     tests: int = 0
+    unfinished: int = 0
 
     @property
     def names(self) -> list[str]:
         """The mutants that are declared by their proofs alone."""
-        return [name for name in self.whys if name not in self.declared]
+        return [name for name in self.spares if name not in self.declared]
 
     def is_alone(self, name: str) -> bool:
         """Whether a mutant is declared by its proof alone."""
-        return name in self.whys and name not in self.declared
+        return name in self.spares and name not in self.declared
 
     def has_spare(self, name: str) -> bool:
-        """Whether the proof of a mutant is SPARE-n, and so holds only for the tests as they are."""
-        return has_spare(self.whys.get(name, ""))
+        """Whether a mutant is proved with steps to spare, and so only for the tests as they are."""
+        return self.spares.get(name, 0) > 0
 
     def for_all_tests(self) -> "Proofs":
-        """The proofs that hold for every test that anybody will ever write: all but SPARE-n."""
-        return self._replace(whys={name: why for name, why in self.whys.items() if not has_spare(why)})
+        """The proofs that hold for every test that anybody will ever write: all without steps to spare."""
+        return self._replace(spares={name: 0 for name, spare in self.spares.items() if not spare})
 
     def reason(self, name: str) -> str:
         """The reason why a mutant is equivalent, if it is proved; else no text."""
-        why = self.whys.get(name)
-        return f"{PROVED} ({why}): {meaning_of(why)}" if why else ""
+        return f"{PROVED} {meaning_of(self.spares[name])}" if name in self.spares else ""
 
-    def not_asked_text(self) -> str:
-        """One sentence where no proofs were asked for; else no text."""
-        return f"Which mutants can be proved equivalent was not asked: {self.not_asked}." if self.not_asked else ""
+    def left_open(self) -> str:
+        """One sentence where not all mutants were asked about to the end; else no text."""
+        if self.not_asked:
+            return f"Which mutants can be proved equivalent was not asked: {self.not_asked}."
+        unfinished = plural(self.unfinished, "mutant")
+        return f"The program equivalents stopped at its bound of work for {unfinished}." if self.unfinished else ""
 
 
 NO_PROOFS = Proofs()
 
 
-def proofs_of(
-    proved: Iterable[Proof], declared: Collection[str] = NO_NAMES, remark: str = "", tests: int = 0
-) -> Proofs:
+def proofs_of(answer: Answer, declared: Collection[str] = NO_NAMES, remark: str = "", tests: int = 0) -> Proofs:
     """The proofs of mutants that a job may declare."""
-    whys = {name_of(proof.mutant): proof.why for proof in proved if proof.mutant.place <= MOST}
-    return Proofs(whys, frozenset(declared), remark=remark, tests=tests)
+    spares = {name_of(proof.mutant): proof.spare for proof in answer.proofs if proof.mutant.place <= MOST}
+    return Proofs(spares, frozenset(declared), remark=remark, tests=tests, unfinished=answer.unfinished)
 
 
 def assert_listed(proved: Iterable[Proof], listed: Iterable[Mutant]) -> None:
@@ -90,18 +91,18 @@ def score_without(count: Count, proved: int) -> str:
 
 
 def is_killed_later(row: Row, proofs: Proofs) -> bool:
-    """Whether a mutant with a SPARE-n proof is killed only by tests that came after those of its proof."""
+    """Whether a mutant with steps to spare is killed only by tests that came after those of its proof."""
     return proofs.has_spare(name_of(row)) and row.status in "WK" and "1" not in row.bits[: proofs.tests]
 
 
 def killed_later(rows: Iterable[Row], proofs: Proofs) -> list[str]:
-    """The mutants with SPARE-n proofs that are killed by tests which came later."""
+    """The mutants with steps to spare that are killed by tests which came later."""
     return [name_of(row) for row in rows if is_killed_later(row, proofs)]
 
 
 def wrongly_proved(rows: Iterable[Row], proofs: Proofs) -> list[str]:
     """The mutants that are proved equivalent and that a test kills. There are none where both programs are proved."""
-    killed = [row for row in rows if row.status in "WK" and name_of(row) in proofs.whys]
+    killed = [row for row in rows if row.status in "WK" and name_of(row) in proofs.spares]
     return [name_of(row) for row in killed if not is_killed_later(row, proofs)]
 
 

@@ -14,7 +14,7 @@ from mutants.statuses import WORDS
 from mutants.texts.batches import batch_text, batches
 from mutants.texts.jobs import Job
 from mutants.texts.lines import Mutant
-from mutants.texts.proofs import Proof, read_proofs
+from mutants.texts.proofs import Answer, read_proofs
 
 NAME = EQUIVALENTS.name
 NOT_FOUND = f"the program {NAME} is not found"
@@ -46,26 +46,25 @@ class Prover(NamedTuple):
     not_asked: str = ""
     anew: bool = False
 
-    def asked(self, words: Sequence[str], job: bytes) -> list[Proof]:
+    def asked(self, words: Sequence[str], job: bytes) -> Answer:
         """The answer of the program to a job; the words are its options."""
         text = answered(self.program, words, job, lambda: plain_answer(NAME, self.program, words, job), self.anew)
-        return read_as(NAME, read_proofs, text)[0]
+        return read_as(NAME, read_proofs, text)
 
-    def proved(self, words: Sequence[str], job: Job) -> list[Proof]:
+    def proved(self, words: Sequence[str], job: Job) -> Answer:
         """What the program says of a source and its tests, of any number.
 
-        Only SPARE-n proofs depend on the tests. So the program is asked about the source, and then, with the tests,
-        about the operators that have such proofs. Where there are more tests than a job takes, each batch has to leave
-        n steps.
+        Where there are more tests than a job takes, it is asked about the first ones, and of the others only about the
+        operators that have mutants with steps to spare: each batch has to leave these.
         """
-        every = self.asked(words, batch_text(Job(job.source, [])))
-        ops = list(dict.fromkeys(proof.mutant.op for proof in every if proof.has_spare))
-        if not ops or not job.suite:
-            return every
         plain = Job(job.source, job.suite)
-        answers = [self.asked(with_ops(words, ops), batch_text(plain, *ends)) for ends in batches(plain)]
-        kept = set(answers[0]).intersection(*answers[1:])
-        return [proof for proof in every if proof.mutant.op not in ops or proof in kept]
+        first, *others = batches(plain)
+        answer = self.asked(words, batch_text(plain, *first))
+        ops = list(dict.fromkeys(proof.mutant.op for proof in answer.proofs if proof.spare))
+        for ends in others if ops else []:
+            kept = set(self.asked(with_ops(words, ops), batch_text(plain, *ends)).proofs)
+            answer = answer._replace(proofs=[proof for proof in answer.proofs if not proof.spare or proof in kept])
+        return answer
 
     def proofs(self, words: Sequence[str], job: Job, listed: Iterable[Mutant]) -> Proofs:
         """What is proved of the mutants of a job: those that mothra lists for the same words, without the limit on
@@ -74,13 +73,13 @@ class Prover(NamedTuple):
         if not self.program:
             return Proofs(declared=declared, not_asked=self.not_asked)
         try:
-            proved = self.proved(words, job)
+            answer = self.proved(words, job)
         except Fault as fault:
             if fault.status == WORDS:
                 raise
             return Proofs(declared=declared, not_asked=f"{NAME} answers {fault.line}")
-        assert_listed(proved, listed)
-        return proofs_of(proved, declared, remark_on_proofs(self.program), len(job.suite))
+        assert_listed(answer.proofs, listed)
+        return proofs_of(answer, declared, remark_on_proofs(self.program), len(job.suite))
 
 
 NO_PROVER = Prover()

@@ -78,7 +78,7 @@ def groups_of_proofs(listed: Iterable[Mutant], rows: Iterable[Row], said: Said) 
 
 
 def proved_text(groups: Iterable[Group], proofs: Proofs) -> str:
-    """How many mutants are proved equivalent, and how many of them by SPARE-n."""
+    """How many mutants are proved equivalent, and how many of them with steps to spare."""
     names = [name_of(mutant) for group in groups for mutant in group.mutants]
     spare = sum(map(proofs.has_spare, names))
     some = "" if spare == len(names) else f"{spare} of them "

@@ -6,6 +6,7 @@ from typing import NamedTuple
 from mutants.checks.checking import Checked
 from mutants.declarations.proofs import PROVED
 from mutants.texts.lines import Mutant
+from mutants.texts.proofs import meaning_of
 from mutants.texts.reports import Row, tests_in
 from mutants.texts.separated import row_text
 from mutants.texts.twins import name_of, names_text, others_by_name
@@ -15,7 +16,7 @@ COLUMNS = "mutant operator line status declared proof before after killed_by cov
 
 class Record(NamedTuple):
     """A mutant, its statement, its status, whether it is declared equivalent, the tests that kill it and come to it,
-    the names of those that are the same program, and the word of its proof where it is declared by that alone."""
+    the names of those that are the same program, and what is proved of it where it is declared by that alone."""
 
     mutant: Mutant
     before: str
@@ -47,7 +48,7 @@ def records_of(checked: Checked, covered: Mapping[int, str]) -> Iterator[Record]
     for mutant, row in zip(checked.listed, checked.report.rows):
         bits, twins = covered[mutant.line], names_text(others.get(name_of(mutant), []))
         before, status = checked.statements[mutant.line], status_of(row, bits)
-        proof = proofs.whys[name_of(mutant)] if proofs.is_alone(name_of(mutant)) else ""
+        proof = meaning_of(proofs.spares[name_of(mutant)]) if proofs.is_alone(name_of(mutant)) else ""
         numbers = tests_in(row.bits), tests_in(bits)
         yield Record(mutant, before, status, row.status in "EW", *numbers, twins, proof)
 

@@ -14,13 +14,13 @@ from mutants.texts.lines import Mutant
 from mutants.texts.reports import Row, tests_in
 from mutants.texts.twins import name_of, names_text
 
-# What proofs promise, and what SPARE-n proofs promise.
+# What proofs promise, and what those with steps to spare promise.
 ALL_TESTS = (
     "No test that a suite may have kills these, and nobody has to think about them: of each it is proved that it"
     " does what the program does, on all arguments on which the program returns or stops."
 )
 STEPS_TO_SPARE = (
-    " Where the reason says SPARE, this is promised of the tests as they are: the mutant may take some steps more, and"
+    " Where there are steps to spare, this is promised of the tests as they are: the mutant may take so many more, and"
     " each test leaves room for them under the limit on steps."
 )
 

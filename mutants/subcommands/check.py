@@ -22,8 +22,9 @@ each test in place of it. An outcome that is not as expected is reported, and th
 Where the program equivalents is there, it is asked which mutants are equivalent by a proof. These are declared by
 themselves, with the reason that they are proved: the score does not count them, and is given with and without them.
 They are folded, on the terminal to one line, which --show-proved unfolds. What a person declares stands apart.
---no-proofs asks for no proofs. A proof with steps to spare, SPARE-n, is of these tests and this limit on steps: the
-mutant may take n steps more, and each test leaves room for them.
+--no-proofs asks for no proofs. A proof with steps to spare is of these tests and this limit on steps: the mutant may
+take so many steps more, and each test leaves room for them. Where equivalents stopped at its bound of work, the check
+says for how many mutants: more of these may be equivalent.
 
 Options that are always the same can stand in mutants.ini beside the program (or mutants.toml), in its section
 [mutants], by the same names: `fail-under = 80`. What the command line says comes first. A section of its own for a
@@ -128,8 +129,8 @@ def status_of(checked: Checked, is_below: bool, is_lost: bool) -> int:
 
 
 def end_lines(proofs: Proofs, settings: Path | None, remark: str) -> list[str]:
-    """The last lines: why no proofs were asked for, which file of options was read, and that a build is unproved."""
-    lines = [proofs.not_asked_text(), f"Options are from {settings}, too." if settings else "", proofs.remark, remark]
+    """The last lines: what was not asked for proofs, which file of options was read, and that a build is unproved."""
+    lines = [proofs.left_open(), f"Options are from {settings}, too." if settings else "", proofs.remark, remark]
     return [each for each in lines if each]
 
 

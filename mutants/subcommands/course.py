@@ -163,8 +163,8 @@ def prove_with(given: argparse.Namespace, program: str) -> Prove:
 
 
 def proof_remarks(tasks: Sequence[Task]) -> list[str]:
-    """Why no proofs were asked for, and that a build is unproved."""
-    remarks = [text for task in tasks for text in (task.proofs.not_asked_text(), task.proofs.remark) if text]
+    """What was not asked for proofs, and that a build is unproved."""
+    remarks = [text for task in tasks for text in (task.proofs.left_open(), task.proofs.remark) if text]
     return list(dict.fromkeys(remarks))
 
 

@@ -27,7 +27,7 @@ from mutants.checks.settings import READING, with_settings
 from mutants.declarations.entries import Entry, appended, entries_text, written_entries
 from mutants.declarations.files import asked_present, path_beside
 from mutants.declarations.proofs import Proofs
-from mutants.declarations.proving import add_proof_options, prover_of
+from mutants.declarations.proving import add_proof_options, prover_of, with_ops
 from mutants.declarations.settling import Present, Settled, entry_for, settled
 from mutants.english import joined_words, plural
 from mutants.files import locked, written
@@ -45,7 +45,7 @@ from mutants.texts.twins import name_of, others_by_name
 from mutants.words import visible
 
 Name = tuple[str, int]
-# What is said of mutants that are proved only by SPARE-n.
+# What is said of mutants that are proved with steps to spare.
 OF_THESE_TESTS = "this holds for the tests as they are, where each leaves that room under the limit on steps"
 
 
@@ -110,11 +110,11 @@ def needless_text(left: Sequence[Entry], proofs: Proofs) -> str:
     if not left:
         return ""
     is_one = len(left) == 1
-    names = joined_words(f"{entry.name} ({proofs.whys[entry.name]})" for entry in left)
+    names = joined_words(entry.name for entry in left)
     verb, them = ("is", "it") if is_one else ("are", "them")
     said = f"{names} {verb} proved equivalent and need not be declared (--no-proofs declares {them} all the same)"
     spare = [entry.name for entry in left if proofs.has_spare(entry.name)]
-    return f"{said}; of {joined_words(spare)} {OF_THESE_TESTS}" if spare else said
+    return f"{said}; of {joined_words(spare)}, with steps to spare, {OF_THESE_TESTS}" if spare else said
 
 
 def new_text(new: Sequence[Entry], names: Sequence[Name], meant: Settled) -> str:
@@ -135,12 +135,13 @@ def declare(
 ) -> str:
     """Writes the entries of these mutants at the end of the file. The result is these entries."""
     wanted = new_entries(given, names, meant, present)
-    proofs = prover_of(given).proofs([], Job(source.text, []), present.listed)
-    new = [entry for entry in wanted if entry.name not in proofs.whys]
+    words = with_ops([], dict.fromkeys(entry.op for entry in wanted))
+    proofs = prover_of(given).proofs(words, Job(source.text, []), present.listed)
+    new = [entry for entry in wanted if entry.name not in proofs.spares]
     if new:
         text = decoded(path.read_bytes()) if path.exists() else ""
         written(path, appended(text, new).encode())
-    left = needless_text([entry for entry in wanted if entry.name in proofs.whys], proofs)
+    left = needless_text([entry for entry in wanted if entry.name in proofs.spares], proofs)
     return "; ".join(each for each in (new_text(new, names, meant), left) if each)
 
 

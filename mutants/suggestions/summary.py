@@ -142,7 +142,7 @@ def needless_lines(result: Suggested) -> Iterator[str]:
 
 
 def spare_lines(result: Suggested) -> Iterator[str]:
-    """The mutants with SPARE-n proofs that a row kills. The next check does not call them proved."""
+    """The mutants with steps to spare that a row kills. The next check does not call them proved."""
     names = killed_later(result.final.report.rows, result.final.said.proofs)
     if names:
         verb, them = ("is", "it") if len(names) == 1 else ("are", "them")

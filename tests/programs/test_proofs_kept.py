@@ -31,12 +31,12 @@ class Kept(Room):
         self.asked.append(words)
         return ANSWER(name, program, words, job)
 
-    def whys(
+    def spares(
         self, ops: str = "SDL", *words: str, suite: list[object] = [[1, 0]], source: str = SURE, anew: bool = False
-    ) -> list[str]:
-        """The proofs of a program and its tests, as they are found."""
-        found = Prover(EQUIVALENTS, anew=anew).proved(["--ops", ops, *words], Job(source, suite))
-        return [proof.why for proof in found]
+    ) -> list[int]:
+        """How many steps the proofs of a program and its tests have to spare."""
+        answer = Prover(EQUIVALENTS, anew=anew).proved(["--ops", ops, *words], Job(source, suite))
+        return [proof.spare for proof in answer.proofs]
 
     def entry(self) -> Path:
         folder = caches_folder(kept.KIND)
@@ -45,54 +45,54 @@ class Kept(Room):
         return found
 
     def test_what_has_not_changed_is_asked_once(self) -> None:
-        for suite in ([[1, 0]], [[1, 0]], [[2, 1], [3, 3]]):
-            self.assertEqual(self.whys(suite=suite), ["UNREAD"])
-        self.assertEqual(len(self.asked), 1)
-        self.whys(source=SURE + "C     A remark\n")
-        self.whys("ROR")
-        self.assertEqual(len(self.asked), 3)
-        self.whys(anew=True)
+        for suite, count in (([[1, 0]], 1), ([[1, 0]], 1), ([[2, 1], [3, 3]], 2)):
+            self.assertEqual(self.spares(suite=suite), [0])
+            self.assertEqual(len(self.asked), count)
+        self.spares(source=SURE + "C     A remark\n")
+        self.spares("ROR")
         self.assertEqual(len(self.asked), 4)
+        self.spares(anew=True)
+        self.assertEqual(len(self.asked), 5)
 
     def test_a_check_asks_once_and_with_anew_again(self) -> None:
         for words, count in (([], 1), ([], 1), (["--anew"], 2), (["--no-proofs"], 2)):
             self.assertEqual(self.check("--no-page", *words, proofs=EQUIVALENTS)[0], 0)
             self.assertEqual(len(self.asked), count, words)
 
-    def test_steps_to_spare_are_asked_of_the_tests_and_of_their_operators_alone(self) -> None:
+    def test_other_batches_are_asked_about_the_operators_with_steps_to_spare_alone(self) -> None:
         for _ in range(2):
-            self.assertEqual(self.whys("ROR,SDL", source=LOOP), ["UNREAD", "SPARE-1"])
+            self.assertEqual(self.spares("ROR,SDL", source=LOOP, suite=[[1, 0]] * 300), [0, 1])
             self.assertEqual(self.asked, [["--ops", "ROR,SDL"], ["--ops", "SDL"]])
         # This test leaves no room for a step more.
-        self.assertEqual(self.whys("ROR,SDL", "--steps", "60", source=LOOP, suite=[[100, 0]]), ["UNREAD"])
-        self.assertEqual(self.asked[2:], [["--ops", "ROR,SDL", "--steps", "60"], ["--steps", "60", "--ops", "SDL"]])
+        self.assertEqual(self.spares("ROR,SDL", "--steps", "60", source=LOOP, suite=[[100, 0]]), [0])
+        self.assertEqual(self.asked[2:], [["--ops", "ROR,SDL", "--steps", "60"]])
 
     def test_another_program_is_asked_for_itself(self) -> None:
         other = self.put("other", Path(EQUIVALENTS).read_bytes() + b"another build")
-        self.whys()
+        self.spares()
         with self.assertRaises(ValueError):
             Prover(str(other)).proved(["--ops", "SDL"], Job(SURE, []))
         self.assertEqual(len(self.asked), 2)
 
     def test_a_damaged_entry_is_made_anew(self) -> None:
-        self.whys()
+        self.spares()
         entry = self.entry()
         whole = entry.read_bytes()
-        for damaged in (whole[:-9], whole.replace(b"UNREAD", b"SAME"), b"", b"\xff\n\xff"):
+        for damaged in (whole[:-9], whole.replace(b"EQUIVALENT", b"SAME"), b"", b"\xff\n\xff"):
             entry.write_bytes(damaged)
-            self.assertEqual(self.whys(), ["UNREAD"])
+            self.assertEqual(self.spares(), [0])
             self.assertEqual(entry.read_bytes(), whole)
         self.assertEqual(len(self.asked), 5)
 
     def test_what_is_refused_is_not_kept(self) -> None:
         for _ in range(2):
             with self.assertRaises(Fault):
-                self.whys(source=SPARE.replace("RETURN", "CALL X"))
+                self.spares(source=SPARE.replace("RETURN", "CALL X"))
         self.assertEqual(len(self.asked), 2)
 
     def test_without_a_folder_it_is_asked(self) -> None:
         with mock.patch.dict(os.environ, {"XDG_CACHE_HOME": str(self.program)}):
-            self.assertEqual((self.whys(), self.whys()), (["UNREAD"], ["UNREAD"]))
+            self.assertEqual((self.spares(), self.spares()), ([0], [0]))
         self.assertEqual(len(self.asked), 2)
 
     def test_the_oldest_go_first(self) -> None:

@@ -25,10 +25,10 @@ from tags import Tags
 
 # That 7 is set is not read, so SDL 1 is equivalent; SDL 2 is killed where N is not 7.
 SURE = "C     K BECOMES N.\n      SUBROUTINE SURE(N,K)\n      K=7\n      K=N\n      END\n"
-UNREAD = "proved (UNREAD): what it changes is not read"
+EQUIVALENT = "proved equivalent"
 # It takes three steps. Without the RETURN, SDL 3, the END is one more.
 SPARE = SURE.replace("      END", "      RETURN\n      END")
-ONE_MORE = "proved (SPARE-1): the run ends as the program's does, by 1 step more at most; each test leaves that room"
+ONE_MORE = "proved equivalent with 1 step to spare"
 # It takes as many steps as N has, and more.
 LOOP = SPARE.replace("      RETURN", "      DO 10 I=1,N\n   10 CONTINUE\n      RETURN")
 UNREACHED = "      SUBROUTINE S(N,K)\n      K=N\n      RETURN\n      K=7\n      END\n"
@@ -36,7 +36,7 @@ UNREACHED = "      SUBROUTINE S(N,K)\n      K=N\n      RETURN\n      K=7\n      
 BOTH = "mutant,before,after,reason\nSDL 1,K=7,CONTINUE,it is set again\nSDL 2,K=N,CONTINUE,a mistake\n"
 MISTAKE = BOTH.replace("SDL 1,K=7,CONTINUE,it is set again\n", "")
 # What a prover says that is none.
-WRONG = "EQUIVALENT SDL 2 2 {} LINE 4 CONTINUE\nPROVED 1 OF 2\n"
+WRONG = "{} SDL 2 2 LINE 4 CONTINUE\nPROVED 1 OF 2\n"
 NOT_ASKED = "Which mutants can be proved equivalent was not asked: "
 
 
@@ -68,7 +68,7 @@ class Checks(Proving):
         has(self, out, "No mutant survives that is not declared or proved equivalent.\n")
         has(self, out, "\n1 mutant proved equivalent (--show-proved tells it).\n")
         self.assertNotIn("SDL 1 ", out)
-        told = f"  SDL 1     line 3: [K=7 -> CONTINUE]: {UNREAD}\n"
+        told = f"  SDL 1     line 3: [K=7 -> CONTINUE]: {EQUIVALENT}\n"
         has(self, self.told("--show-proved"), f"\n1 mutant proved equivalent:\n{told}")
         self.assertNotIn("proved", self.told("--lines", "4"))
 
@@ -90,8 +90,14 @@ class Checks(Proving):
         ended = self.asked("--no-page", proofs=self.saying("neither this nor that\n"))
         refuses(self, ended, "mutants check: equivalents: the proofs are cut short")
 
+    def test_that_some_were_not_finished_is_told(self) -> None:
+        left = self.saying("EQUIVALENT SDL 1 1 LINE 3 CONTINUE\nPROVED 1 OF 2, 1 NOT FINISHED\n")
+        told = "\nThe program equivalents stopped at its bound of work for 1 mutant.\n"
+        has(self, self.told(proofs=left), "not counting 1 proved equivalent", told)
+        self.assertNotIn("bound of work", self.told())
+
     def test_those_of_another_build_are_refused(self) -> None:
-        other = self.saying("EQUIVALENT SDL 1 1 SAME LINE 4 K=I\nPROVED 1 OF 7\n")
+        other = self.saying("EQUIVALENT SDL 1 1 LINE 4 K=I\nPROVED 1 OF 7\n")
         told = "equivalents names SDL 1", "build both programs of the same sources"
         refuses(self, self.asked("--no-page", proofs=other), *told)
 
@@ -121,7 +127,7 @@ class Checks(Proving):
         self.assertNotIn("Without the proofs", out)
 
     def test_one_that_is_killed_is_told_as_what_cannot_be(self) -> None:
-        out = self.told(proofs=self.saying(WRONG.format("SAME")))
+        out = self.told(proofs=self.saying(WRONG.format("EQUIVALENT")))
         has(self, out, "\nPROVED, AND YET KILLED: SDL 2. The programs mothra and equivalents do not agree")
         self.assertNotIn("WRONGLY", out)
 
@@ -164,7 +170,7 @@ class StepsToSpare(Proving):
         self.put("mutants.ini", "[mutants]\nsteps = 300\n")
         self.assertEqual(mutants("check", "--no-page", *both, proofs=spy, ops="SDL")[0], 0)
         self.assertEqual(mutants("declare", self.program, "SDL 1", "--reason", "why", proofs=spy)[0], 0)
-        asked = ["--ops SDL", "--ops SDL --steps 500"] * 3 + ["--ops SDL --steps 300", ""]
+        asked = ["--ops SDL", "--ops SDL --steps 500"] * 3 + ["--ops SDL --steps 300", "--ops SDL"]
         self.assertEqual(log.read_text().split("\n")[:-1], asked)
 
     def test_they_are_counted_apart(self) -> None:
@@ -175,7 +181,7 @@ class StepsToSpare(Proving):
         has(self, out, "\n1 mutant proved equivalent, with steps to spare (--show-proved tells it).\n")
         self.assertNotIn("to spare", self.told("--lines", "3-4"))
         out = self.told("--show-proved")
-        has(self, out, "\n2 mutants proved equivalent, 1 of them with steps to spare:\n", ONE_MORE, UNREAD)
+        has(self, out, "\n2 mutants proved equivalent, 1 of them with steps to spare:\n", ONE_MORE, f"{EQUIVALENT}\n")
 
     def test_they_are_asked_of_these_tests_and_this_limit(self) -> None:
         self.assertIn("2 proved equivalent", self.told("--steps", "4"))
@@ -183,19 +189,19 @@ class StepsToSpare(Proving):
 
     def test_each_batch_of_a_long_suite_has_to_leave_the_room(self) -> None:
         short, long = [[1, 0]] * 300, [100, 0]
-        for suite, whys in ((short, ["UNREAD", "SPARE-1"]), ([*short, long], ["UNREAD"]), ([long, *short], ["UNREAD"])):
-            found = Prover(EQUIVALENTS).proved(["--ops", "SDL", "--steps", "60"], Job(LOOP, suite))
-            self.assertEqual([proof.why for proof in found], whys)
+        for suite, spares in ((short, [0, 1]), ([*short, long], [0]), ([long, *short], [0])):
+            found = Prover(EQUIVALENTS).proved(["--ops", "SDL", "--steps", "60"], Job(LOOP, suite)).proofs
+            self.assertEqual([proof.spare for proof in found], spares)
 
     def test_other_batches_are_asked_only_where_it_matters(self) -> None:
-        for source, wanted in ((SURE, 1), (SPARE, 4)):
+        for source, wanted in ((SURE, 1), (SPARE, 3)):
             with mock.patch.object(proving, "plain_answer", wraps=proving.plain_answer) as asked:
                 Prover(EQUIVALENTS, anew=True).proved(["--ops", "SDL"], Job(source, [[1, 0]] * 600))
             self.assertEqual(asked.call_count, wanted)
 
     def test_a_list_that_is_thinned(self) -> None:
         found = Prover(EQUIVALENTS).proved(["--ops", "SDL", "--every", "2"], Job(SPARE, []))
-        self.assertEqual([proof.mutant[:3] for proof in found], [("SDL", 1, 1), ("SDL", 2, 3)])
+        self.assertEqual([proof.mutant[:3] for proof in found.proofs], [("SDL", 1, 1), ("SDL", 2, 3)])
         # A job names a mutant by its number in the whole list.
         self.assertEqual(proofs_of(found).names, ["SDL 1", "SDL 3"])
 
@@ -209,9 +215,9 @@ class StepsToSpare(Proving):
         tags = Tags(page)
         self.assertEqual((tags.open, tags.wrong), ([], []))
         has(self, page, "<summary>2 mutants proved equivalent, 1 of them with steps to spare</summary>")
-        has(self, page, "this is promised of the tests as they are", "proved (SPARE-1): the run ends as the program")
+        has(self, page, "this is promised of the tests as they are", ONE_MORE)
         self.asked("--lines", "3-4")
-        self.assertNotIn("SPARE", (self.folder / "sure.html").read_text())
+        self.assertNotIn("to spare", (self.folder / "sure.html").read_text())
 
     def test_other_programs_are_told_the_number_too(self) -> None:
         paths = [self.folder / name for name in ("m.json", "m.csv")]
@@ -222,7 +228,8 @@ class StepsToSpare(Proving):
         self.assertEqual(reasons["SDL 3"], f"declared equivalent: {ONE_MORE}")
         with open(paths[1], newline="") as file:
             rows = {row["mutant"]: (row["declared"], row["proof"]) for row in csv.DictReader(file)}
-        self.assertEqual(rows, {"SDL 1": ("proved", "UNREAD"), "SDL 2": ("no", ""), "SDL 3": ("proved", "SPARE-1")})
+        proved = [("proved", "equivalent"), ("no", ""), ("proved", "equivalent with 1 step to spare")]
+        self.assertEqual(rows, dict(zip(("SDL 1", "SDL 2", "SDL 3"), proved)))
 
     def test_a_comparison_takes_them_as_proofs_of_their_state(self) -> None:
         paths = [self.folder / name for name in ("old.json", "new.json")]
@@ -235,7 +242,7 @@ class StepsToSpare(Proving):
 
     def test_a_search_tells_which_of_them_a_row_kills(self) -> None:
         self.put("tests.csv", "7,0\n")
-        wrong = self.saying(WRONG.format("SPARE-2"))
+        wrong = self.saying(WRONG.format("SPARE 2"))
         # A row that kills N=7 in the place of K=7 kills SDL 2 too.
         words = ["--rounds", "1", "--ops", "SDL,SVR", self.program, self.tests]
         status, out, _ = mutants("suggest", *words, proofs=wrong)
@@ -255,7 +262,7 @@ class Pages(Proving):
     def test_they_are_folded_in_a_part_of_their_own(self) -> None:
         page = self.page(self.program, self.tests)
         has(self, page, '<h2 id="proved">Proved equivalent</h2>', "<summary>1 mutant proved equivalent</summary>")
-        has(self, page, UNREAD, "1 of 1 mutant killed, not counting 1 proved equivalent")
+        has(self, page, EQUIVALENT, "1 of 1 mutant killed, not counting 1 proved equivalent")
         has(self, page, "<summary>1 proved equivalent</summary>")
         has(self, page, "Without the proofs the score is 50.00 %: 1 of 2 mutants killed.")
         self.assertNotIn('id="declared"', page)
@@ -278,7 +285,7 @@ class Pages(Proving):
 
     def test_a_stored_job_keeps_what_it_declares(self) -> None:
         job = self.put("job.json", json.dumps({"source": SURE, "suite": [[1, 0]], "equivalent": ["SDL 2"]}))
-        both = "EQUIVALENT SDL 1 1 UNREAD LINE 3 CONTINUE\n" + WRONG.format("SAME").replace("1 OF", "2 OF")
+        both = "EQUIVALENT SDL 1 1 LINE 3 CONTINUE\n" + WRONG.format("EQUIVALENT").replace("1 OF", "2 OF")
         page = self.page(job, proofs=self.saying(both))
         has(self, page, "<b>Wrongly declared equivalent:</b> SDL 2.", "<b>Proved, and yet killed:</b> SDL 2.")
         has(self, page, "<summary>1 proved equivalent</summary>")
@@ -297,10 +304,10 @@ class Declares(Proving):
         file = self.folder / "sure.equivalent.csv"
         told = "proved equivalent and need not be declared (--no-proofs declares"
         ended = self.declare("SDL", "1")
-        left = f"{file}: 0 mutants declared, and 0 before; SDL 1 (UNREAD) is {told} it all the same)\n"
+        left = f"{file}: 0 mutants declared, and 0 before; SDL 1 is {told} it all the same)\n"
         self.assertEqual((ended, file.exists()), ((0, left, ""), False))
         status, out, _ = self.declare("CRP 1 SDL 1 2")
-        left = f"CRP 1 (UNREAD) and SDL 1 (UNREAD) are {told} them all the same)\n"
+        left = f"CRP 1 and SDL 1 are {told} them all the same)\n"
         self.assertEqual((status, out), (0, f"{file}: 1 mutant declared, and 0 before; {left}"))
         self.assertEqual(self.declare("SDL 1", "--no-proofs")[1], f"{file}: 1 mutant declared, and 1 before\n")
         with open(file, newline="") as rows:
@@ -311,7 +318,8 @@ class Declares(Proving):
         of_tests = "this holds for the tests as they are, where each leaves that room under the limit on steps\n"
         status, out, _ = self.declare("SDL 3")
         self.assertEqual((status, (self.folder / "sure.equivalent.csv").exists()), (0, False))
-        has(self, out, "; SDL 3 (SPARE-1) is proved equivalent and need not", f" it all the same); of SDL 3 {of_tests}")
+        has(self, out, "; SDL 3 is proved equivalent and need not be declared (")
+        has(self, out, f" it all the same); of SDL 3, with steps to spare, {of_tests}")
         self.assertNotIn("as they are", self.declare("SDL 1")[1])
 
 
@@ -327,7 +335,7 @@ class Exports(Proving):
         report = json.loads(paths["json"].read_text())
         self.assertEqual((report_faults(report), report["config"]["proved"]), ([], ["SDL 1"]))
         first = next(each for each in report["files"][str(self.program)]["mutants"] if each["id"] == "SDL 1")
-        self.assertEqual((first["status"], first["statusReason"]), ("Ignored", f"declared equivalent: {UNREAD}"))
+        self.assertEqual((first["status"], first["statusReason"]), ("Ignored", f"declared equivalent: {EQUIVALENT}"))
         with open(paths["csv"], newline="") as file:
             rows = {row["mutant"]: (row["status"], row["declared"]) for row in csv.DictReader(file)}
         self.assertEqual(rows, {"SDL 1": ("Ignored", "proved"), "SDL 2": ("Killed", "no")})
@@ -346,7 +354,7 @@ class Exports(Proving):
     def test_one_that_was_killed_and_is_proved_does_not_survive_newly(self) -> None:
         old = self.written("--no-proofs", ops="SDL,SVR")["json"].rename(self.folder / "old.json")
         self.put("tests.csv", "7,0\n")
-        new = self.written(proofs=self.saying(WRONG.format("SAME")), ops="SDL,SVR")["json"]
+        new = self.written(proofs=self.saying(WRONG.format("EQUIVALENT")), ops="SDL,SVR")["json"]
         comparison = compared(read_state(old), read_state(new))
         self.assertNotIn("SDL", [each.mutant.op for each in comparison.newly_surviving])
         self.assertEqual([mutant.place for mutant in comparison.proved], [2])

@@ -17,30 +17,32 @@ from mutants.texts.lines import Mutant
 from mutants.texts.proofs import Proof
 from running import LEAST, Ended, run
 
-SDL_2 = "EQUIVALENT SDL 2 2 {} LINE 4 CONTINUE"
+SDL_2 = "{} SDL 2 2 LINE 4 CONTINUE"
 
 
 class Sweeps(Room):
     def sweep(self, *words: object, mothra: object = MOTHRA, proofs: object = EQUIVALENTS) -> Ended:
         return run("equivalents-sweep", "--tests", "40", "--jobs", "1", *words, mothra, proofs, self.program)
 
-    def wrong(self, why: str) -> Path:
+    def wrong(self, word: str) -> Path:
         """A program that calls a mutant equivalent which a test kills."""
-        return self.put_program("wrong", f"#!/bin/sh\nprintf '{SDL_2.format(why)}\\nPROVED 1 OF 2\\n'\n")
+        return self.put_program("wrong", f"#!/bin/sh\nprintf '{SDL_2.format(word)}\\nPROVED 1 OF 2\\n'\n")
 
     def test_an_equivalent_mutant_is_not_killed(self) -> None:
         self.program.write_text(SURE)
         status, out, errors = self.sweep("--programs", "2")
         self.assertEqual((status, errors), (statuses.SUCCESS, ""))
-        self.assertRegex(out, r"^least\.f: \d+ mutants, \d+ proved \(\w+ .*\), \d+ tests, 0 killed\n2 made programs: ")
+        proved = r"\d+ proved, \d+ with steps to spare \(\d at most\), 0 not finished"
+        self.assertRegex(out, rf"^least\.f: \d+ mutants, {proved}, \d+ tests, 0 killed\n2 made programs: ")
         self.assertTrue(out.endswith("\nno mutant is killed that is proved equivalent\n"), out)
 
     def test_one_that_is_killed_is_told_with_the_test(self) -> None:
-        for why in ("UNREAD", "SPARE-1"):
-            status, out, _ = self.sweep("--programs", "0", proofs=self.wrong(why))
+        for word, spare, meant in (("EQUIVALENT", 0, ""), ("SPARE 1", 1, " with 1 step to spare")):
+            status, out, _ = self.sweep("--programs", "0", proofs=self.wrong(word))
             self.assertEqual(status, statuses.FAULT)
-            self.assertIn(f" 1 proved ({why} 1), 40 tests, 1 killed\n", out)
-            self.assertRegex(out, rf"\nleast.f: SDL 2 2 {why} LINE 4 CONTINUE: killed by \[.*\] with --steps 10000\n")
+            self.assertIn(f" 1 proved, {spare} with steps to spare ({spare} at most), 0 not finished, 40 tests, 1", out)
+            named = f"\nleast.f: SDL 2 2 LINE 4 CONTINUE, equivalent{meant}: killed by "
+            self.assertRegex(out, named + r"\[.*\] with --steps 10000\n")
 
     def test_where_it_has_not_the_room_to_spare_it_may_be_killed(self) -> None:
         limits: list[int] = []
@@ -50,12 +52,12 @@ class Sweeps(Room):
             return set()
 
         with mock.patch.object(sweep, "within", within):
-            status, out, _ = self.sweep("--programs", "0", proofs=self.wrong("SPARE-2"))
+            status, out, _ = self.sweep("--programs", "0", proofs=self.wrong("SPARE 2"))
         self.assertEqual((status, limits[0]), (statuses.SUCCESS, sweep.STEPS - 2))
         self.assertIn(limits[1] + 2, sweep.SMALL)
 
     def test_within_no_step_no_program_ends(self) -> None:
-        proof = Proof(Mutant("SDL", 2, 2, 4, "CONTINUE"), "SPARE-2")
+        proof = Proof(Mutant("SDL", 2, 2, 4, "CONTINUE"), 2)
         asker = sweep.asker_of(sweep.Case("least.f", LEAST), [], [proof], MOTHRA)
         found = [sweep.within(asker, [(1, 2, 3)], steps) for steps in (-1, 0, 1, 9)]
         self.assertEqual(found, [set(), set(), set(), {(1, 2, 3)}])

@@ -15,7 +15,6 @@ the source of a made program below it. The exit status is 1 where there is one.
 
 import argparse
 import json
-from collections import Counter
 from collections.abc import Iterator, Sequence
 from concurrent.futures import ThreadPoolExecutor
 from functools import partial
@@ -42,7 +41,7 @@ from mutants.suggestions.values import constants_of
 from mutants.texts.decoding import decoded
 from mutants.texts.dummies import read_unit
 from mutants.texts.jobs import Job
-from mutants.texts.proofs import Proof, spare_of
+from mutants.texts.proofs import Answer, Proof, meaning_of
 from mutants.texts.reports import Count, Report
 from mutants.words import number_from_1, whole_path
 
@@ -71,23 +70,20 @@ class Killed(NamedTuple):
 
     def text(self) -> str:
         mutant = self.proof.mutant
-        named = f"{mutant.op} {mutant.number} {mutant.place} {self.proof.why} LINE {mutant.line} {mutant.text}"
-        return f"{named}: killed by {json.dumps(test_of(self.test))} with --steps {self.steps}"
+        named = f"{mutant.op} {mutant.number} {mutant.place} LINE {mutant.line} {mutant.text}"
+        killed = f"killed by {json.dumps(test_of(self.test))} with --steps {self.steps}"
+        return f"{named}, {meaning_of(self.proof.spare)}: {killed}"
 
 
 class Tried(NamedTuple):
-    """The result for a program: how many mutants it has, the proofs, how many tests were run, and what is wrong."""
+    """The result for a program: how many mutants it has, the answer, how many tests were run, and what is wrong."""
 
     case: Case
     mutants: int
-    proofs: Sequence[Proof]
-    tests: int
+    answer: Answer
+    tests: int = 0
     killed: Sequence[Killed] = ()
     refused: str = ""
-
-    @property
-    def whys(self) -> Counter[str]:
-        return Counter(proof.why for proof in self.proofs)
 
 
 class Programs(NamedTuple):
@@ -128,12 +124,12 @@ def killed_in(asker: Asker, proofs: Sequence[Proof], rows: Sequence[Row], steps:
     """How many rows were run, and the mutants that one of them kills, each once. A row that does not leave a mutant the
     steps which its proof needs may kill it."""
     kills = asker.kills(rows, asker.ops_of(asker.whole), steps)
-    spares = {spare_of(proof.why) for proof in proofs} - {0}
+    spares = {proof.spare for proof in proofs} - {0}
     fits = {0: set(kills), **{spare: within(asker, list(kills), steps - spare) for spare in spares}}
     killed: dict[int, Killed] = {}
     for row, mask in kills.items():
         for number, proof in enumerate(proofs):
-            if mask >> number & 1 and row in fits[spare_of(proof.why)]:
+            if mask >> number & 1 and row in fits[proof.spare]:
                 killed.setdefault(number, Killed(proof, row, steps))
     return len(kills), list(killed.values())
 
@@ -143,28 +139,29 @@ def tried(programs: Programs, case: Case) -> Tried:
     job = json.dumps({"source": case.source}).encode()
     try:
         listed = asked_list(programs.mothra, [], job)[1]
-        proofs = Prover(programs.equivalents, anew=True).proved([], Job(case.source, []))
+        answer = Prover(programs.equivalents, anew=True).proved([], Job(case.source, []))
     except Fault as fault:
-        return Tried(case, 0, [], 0, refused=str(fault))
+        return Tried(case, 0, Answer([]), refused=str(fault))
+    proofs = answer.proofs
     assert_listed(proofs, listed)
     if not proofs or not read_unit(case.source)[1]:
-        return Tried(case, len(listed), proofs, 0)
+        return Tried(case, len(listed), answer)
     printed, chance = asked_print(programs.mothra, job), Random(f"{programs.seed} {case.name}")
     asker = asker_of(case, printed, proofs, programs.mothra)
     rows = fitting_rows(case, asker, printed, programs.tests, chance)
     tests, killed = killed_in(asker, proofs, rows, STEPS) if rows else (0, [])
     more = killed_in(asker, proofs, rows[:FEW], chance.choice(SMALL))[1] if rows else []
     known = {each.proof for each in killed}
-    return Tried(case, len(listed), proofs, tests, [*killed, *(each for each in more if each.proof not in known)])
+    return Tried(case, len(listed), answer, tests, [*killed, *(each for each in more if each.proof not in known)])
 
 
 def line_on(what: str, every: Sequence[Tried]) -> str:
     """A line on some programs."""
     mutants, tests = sum(each.mutants for each in every), sum(each.tests for each in every)
-    whys: Counter[str] = sum((each.whys for each in every), Counter())
-    killed = sum(len(each.killed) for each in every)
-    each_why = ", ".join(f"{why} {count}" for why, count in sorted(whys.items())) or "none"
-    proved = f"{sum(whys.values())} proved ({each_why})"
+    spares = [proof.spare for each in every for proof in each.answer.proofs]
+    unfinished, killed = sum(each.answer.unfinished for each in every), sum(len(each.killed) for each in every)
+    spared = f"{len(spares) - spares.count(0)} with steps to spare ({max(spares, default=0)} at most)"
+    proved = f"{len(spares)} proved, {spared}, {unfinished} not finished"
     return f"{what}: {mutants} mutants, {proved}, {plural(tests, 'test')}, {killed} killed"
 
 
@@ -206,7 +203,7 @@ def run(given: argparse.Namespace, name: str) -> int:
             faults += faults_of(case)
         results = list(pool.map(partial(tried, programs), made))
     if results:
-        without = sum(not each.tests for each in results if each.proofs)
+        without = sum(not each.tests for each in results if each.answer.proofs)
         print(f"{line_on(plural(len(results), 'made program'), results)}, {without} without a test")
     faults += [line for case in results for line in faults_of(case)]
     print("\n".join(faults) or "no mutant is killed that is proved equivalent")

@@ -52,7 +52,7 @@ job_refused i read answer fault gives (inr is) =
     let memory : Memory ≡ fault = cc in
     inr (subst (λ f. Contains memory_faults (Job f)) memory (0, omega arith, refl))
 
-read_so : (job : JobFields) (read : JobRead) → (let own : JobRead = Ok job in (own ≡ read) ⊎ (own ≡ Err Memory)) → (let own : JobRead = Ok job in own ≡ read)
+pub read_so : (job : JobFields) (read : JobRead) → (let own : JobRead = Ok job in (own ≡ read) ⊎ (own ≡ Err Memory)) → (let own : JobRead = Ok job in own ≡ read)
 read_so job read (inl is) = is
 read_so job read (inr is) = absurd (cc)
 

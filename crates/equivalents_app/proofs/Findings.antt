@@ -7,15 +7,12 @@ use Rattle.mothra_app.specs.Program.{IsLegalProgramOf}
 use Rattle.mothra_app.specs.declared.fault.Fault.{Fault}
 use Rattle.mothra_app.specs.declared.fault.Fault.TheVariants.{Ops}
 use Rattle.mothra_codes.specs.declared.op.Op.{Op}
-use Rattle.mothra_equivalents.specs.declared.equivalents.Equivalent.{Equivalent}
 use Rattle.mothra_job.specs.Job.{JobFields}
 use Rattle.mothra_ops.specs.Mutants.{program_of}
 use Rattle.mothra_ops.specs.Plan.{IsFirstTooLong, IsNoPlan, IsPlan, PlanFields, asked}
 use Rattle.mothra_replacements.specs.declared.fault.OpsFault.{OpsFault}
 use Rattle.mothra_replacements.specs.declared.fault.OpsFault.TheVariants as ops
-use Rattle.equivalents_app.specs.Finding.{IsFound}
-use Rattle.equivalents_app.specs.Room.{AreNamedMutants}
-use Rattle.equivalents_app.specs.Rendering.{written_text}
+use Rattle.equivalents_app.specs.Finding.{IsFound, IsNamedIn}
 use Rattle.equivalents_app.specs.declared.words.Inquiry.{Inquiry}
 
 -- where the result is this fault, what holds of the fault holds of the result
@@ -53,16 +50,14 @@ module _ (job : JobFields) (i : Inquiry) where
           inl (IsFound.too_many (subst (λ s. IsLegalProgramOf s (Ok program)) own is)
           (subst (λ codes. IsFirstTooLong codes program i.every op) are first))
 
-      pub found : (text : List ℕ) (program : List LineFields) (plan : PlanFields) (list : List Equivalent)
-          → IsLegalProgramOf source (Ok program) → program_of plan ≡ program → plan.every ≡ i.every
-          → ((op : Op) → IsTrue (asked plan op) ↔ Contains named op) → IsPlan plan → AreNamedMutants plan job.suite i.steps list
-          → text ≡ written_text plan list i.json → IsFound job i (Ok text)
-      found text program plan list is of_program kept asks planned mutants written =
-          subst (λ t. IsFound job i (Ok t)) (sym written)
-          (IsFound.text (subst (λ s. IsLegalProgramOf s (Ok program)) own is)
+      pub found : (text : List ℕ) (program : List LineFields) (plan : PlanFields) → IsLegalProgramOf source (Ok program)
+          → program_of plan ≡ program → plan.every ≡ i.every → ((op : Op) → IsTrue (asked plan op) ↔ Contains named op) → IsPlan plan
+          → IsNamedIn plan job.suite i.steps i.json text → IsFound job i (Ok text)
+      found text program plan is of_program kept asks planned names =
+          IsFound.text (subst (λ s. IsLegalProgramOf s (Ok program)) own is)
           (record {
             own = of_program;
             kept = kept;
             asked = subst (λ codes. (op : Op) → IsTrue (asked plan op) ↔ Contains codes op) are asks;
             is = planned;
-          }) mutants)
+          }) names

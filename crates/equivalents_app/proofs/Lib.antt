@@ -7,4 +7,5 @@ mod Findings
 mod Longer
 mod Rooms
 mod Answered
+mod Storable
 mod Tests

@@ -1,5 +1,5 @@
 -- The room that tests leave, and the mutants that need at most this room.
-use Rattle.std.proofs.Common.{arith, leb-true, ◌≡◌, ◌≤◌, ◌<◌, ◌+◌, ℕ, true, true≢false, List, get_or, length, take, Option, Some, None, sym, subst}
+use Rattle.std.proofs.Common.{arith, leb-true, ◌≡◌, ◌≤◌, ◌<◌, ◌+◌, ℕ, zero, suc, true, true≢false, List, get_or, length, take, Option, Some, None, sym, subst}
 use Rattle.std.specs.Prelude.{filter, IfSome}
 use Rattle.std.proofs.lemmas.List.{take_all}
 use Rattle.std.proofs.lemmas.List.Elements.{All-filter, All-more, All-weaker, filter_passes}
@@ -12,8 +12,6 @@ use Rattle.f77_meaning.specs.declared.outcome.Outcome.{Outcome}
 use Rattle.mothra_codes.specs.Ticket.{Before}
 use Rattle.mothra_equivalents.specs.Equivalents.{AreEquivalents, IsNamed}
 use Rattle.mothra_equivalents.specs.declared.equivalents.Equivalent.{Equivalent}
-use Rattle.mothra_equivalents.specs.declared.why.Why.{Why}
-use Rattle.mothra_equivalents.specs.declared.why.Why.TheVariants as why
 use Rattle.mothra_ops.specs.Mutants.{program_of}
 use Rattle.mothra_ops.specs.Plan.{PlanFields}
 use Rattle.equivalents_app.specs.Room.{AreNamedMutants, HasRoom, LeavesRoom, LeavesRoomOn}
@@ -54,25 +52,22 @@ all_left program tests i steps room end leave = subst (λ all. LeavesRoom progra
 -- ---- mutants
 
 module _ (plan : PlanFields) (tests : List (List Arg)) (steps : ℕ) where
-  has_room : (room : Option ℕ) (rule : Why) → IfSome room (LeavesRoom (program_of plan) tests steps) → is_within room rule ≡ true
-      → HasRoom (program_of plan) tests steps rule
-  has_room room why.Same leave is = tt
-  has_room room why.Unread leave is = tt
-  has_room room why.Continues leave is = tt
-  has_room None (why.Spare spare) leave is = absurd (true≢false (sym is))
-  has_room (Some room) (why.Spare spare) leave is = less_room (program_of plan) tests steps spare room (leb-true spare room is) leave
-  has_room room why.Unreached leave is = tt
+  has_room : (room : Option ℕ) (spare : ℕ) → IfSome room (LeavesRoom (program_of plan) tests steps) → is_within room spare ≡ true
+      → HasRoom (program_of plan) tests steps spare
+  has_room room zero leave is = tt
+  has_room None (suc n) leave is = absurd (true≢false (sym is))
+  has_room (Some room) (suc n) leave is = less_room (program_of plan) tests steps (suc n) room (leb-true (suc n) room is) leave
 
   pub named : (room : Option ℕ) (all kept : List Equivalent) → AreEquivalents plan all → IfSome room (LeavesRoom (program_of plan) tests steps)
-      → kept ≡ filter (λ e. is_within room e.why) all → AreNamedMutants plan tests steps kept
+      → kept ≡ filter (λ e. is_within room e.spare) all → AreNamedMutants plan tests steps kept
   named room all kept are leave is =
-      let within : Equivalent → _ = λ e. is_within room e.why in
+      let within : Equivalent → _ = λ e. is_within room e.spare in
       subst (AreNamedMutants plan tests steps) (sym is)
       record {
         are = record {
           ordered = AllPairs-filter (λ (one other : Equivalent). Before one.ticket other.ticket) within all are.ordered;
           each = All-filter within (IsNamed plan) all are.each;
         };
-        room = All-weaker (λ (e : Equivalent). is_within room e.why ≡ true) (λ (e : Equivalent). HasRoom (program_of plan) tests steps e.why)
-            (λ e. has_room room e.why leave) (filter within all) (filter_passes within all);
+        room = All-weaker (λ (e : Equivalent). is_within room e.spare ≡ true) (λ (e : Equivalent). HasRoom (program_of plan) tests steps e.spare)
+            (λ e. has_room room e.spare leave) (filter within all) (filter_passes within all);
       }

@@ -1,14 +1,13 @@
 -- No test of a bench kills an equivalent mutant.
-use Rattle.std.proofs.Common.{arith, ◌≡◌, ◌∙◌, ◌+◌, ◌==◌, ℕ, suc, Bool, true, false, cond, inl, inr, not, ap, refl, sym, subst, List, [], ◌∷◌, length, nat_lt, Option, Some, None}
+use Rattle.std.proofs.Common.{arith, ◌≡◌, ◌∙◌, ◌+◌, ◌==◌, ℕ, zero, suc, get_or, Bool, true, false, cond, inl, inr, not, ap, refl, sym, subst, List, [], ◌∷◌, length, nat_lt, Option, Some, None}
 use Rattle.std.specs.Prelude.{All, option_map, position}
 use Rattle.std.specs.List.{position_or_len, zip}
 use Rattle.std.proofs.lemmas.Bool.{cases_lt, eqb-true, le-ltb, lt-ltb}
 use Rattle.std.proofs.lemmas.List.Elements.{All-cons, All-head, All-nil, All-tail}
 use Rattle.f77_check.specs.Checked.{shapes}
 use Rattle.f77_check.specs.declared.checked.Shape.{Shape}
-use Rattle.f77_continuations.specs.Within.{IsEquivalentWithin, KeepsEndsWithin}
 use Rattle.f77_equivalence.specs.Equivalent as equivalence
-use Rattle.f77_equivalence.specs.Equivalent.{IsEquivalent, KeepsEnds}
+use Rattle.f77_equivalence.specs.Equivalent.{IsEquivalent, IsEquivalentWithin, KeepsEnds, KeepsEndsWithin}
 use Rattle.f77_equivalence.specs.Storable.{AreStorable}
 use Rattle.f77_program.specs.Program.{LineFields}
 use Rattle.f77_meaning.specs.Interpreter.{AreFitting, IsOutcomeOf, OneAnswer, first_misfit, has_shape, refusal}
@@ -17,12 +16,15 @@ use Rattle.f77_meaning.specs.declared.outcome.Outcome.{Outcome}
 use Rattle.f77_meaning.specs.declared.outcome.Outcome.TheVariants as outcome
 use Rattle.f77_meaning.specs.declared.outcome.RunFault.{RunFault}
 use Rattle.f77_meaning.specs.declared.outcome.RunFault.TheVariants as fault
-use Rattle.mothra_verdicts.specs.Bench.{AreOutcomes, FitsProgram, IsProgramEnd}
-use Rattle.mothra_verdicts.specs.Verdict.{IsAlone, IsKill, mutated}
+use Rattle.mothra_codes.specs.declared.ticket.Ticket.{Ticket}
+use Rattle.mothra_equivalents.specs.Equivalents.{IsProvedMutant}
+use Rattle.mothra_verdicts.specs.Bench.{AreOutcomes, BenchFields, FitsProgram, IsBench, IsProgramEnd}
+use Rattle.mothra_verdicts.specs.Verdict.{IsAlone, IsKill, IsVerdict, mutated}
 use Rattle.mothra_ops.specs.Mutants.{MutantFields, program_of}
-use Rattle.equivalents_app.specs.Law.{NoTestKills, NoTestKillsSpared}
-use Rattle.equivalents_app.specs.Room.{LeavesRoom, LeavesRoomOn}
+use Rattle.equivalents_app.specs.Law.{NoTestKills}
+use Rattle.equivalents_app.specs.Room.{HasRoom, LeavesRoom, LeavesRoomOn}
 use Rattle.equivalents_app.proofs.Longer.{longer}
+use Rattle.equivalents_app.proofs.Storable.{storable_suite}
 
 -- ---- arguments that are not refused fit
 
@@ -129,16 +131,31 @@ module _ (one : OneAnswer) (p q : List LineFields) (steps : ℕ) where
 same_mutant : (m n : MutantFields) (o : Option MutantFields) → o ≡ Some m → o ≡ Some n → m ≡ n
 same_mutant m n o is also = let both : Some m ≡ Some n = sym is ∙ also in cc
 
-pub no_test_kills : OneAnswer → NoTestKills
-no_test_kills one bench ticket kills is storable equivalent verdict =
-    let p = program_of bench.plan in
-    let same = same_mutant equivalent.mutant verdict.mutant _ equivalent.is verdict.is in
-    let kept : IsEquivalent p (mutated p verdict.mutant) = subst (λ m. IsEquivalent p (mutated p m)) same equivalent.equivalent in
-    none_killed one p (mutated p verdict.mutant) bench.steps kept bench.tests bench.outcomes kills is.fit storable is.outcomes is.end verdict.alone
+module _ (one : OneAnswer) (bench : BenchFields) (is : IsBench bench) (storable : All AreStorable bench.tests) where
+  unspared : (ticket : Ticket) (kills : List Bool) → IsProvedMutant bench.plan ticket 0 → IsVerdict bench ticket kills → All (λ kill. kill ≡ false) kills
+  unspared ticket kills equivalent verdict =
+      let p = program_of bench.plan in
+      let same = same_mutant equivalent.mutant verdict.mutant _ equivalent.is verdict.is in
+      let kept : IsEquivalent p (mutated p verdict.mutant) = subst (λ m. IsEquivalent p (mutated p m)) same (equivalent.proved.equivalent refl) in
+      none_killed one p (mutated p verdict.mutant) bench.steps kept bench.tests bench.outcomes kills is.fit storable is.outcomes is.end verdict.alone
 
-pub no_test_kills_spared : OneAnswer → NoTestKillsSpared
-no_test_kills_spared one bench ticket spare kills is storable leave spared verdict =
-    let p = program_of bench.plan in
-    let same = same_mutant spared.mutant verdict.mutant _ spared.is verdict.is in
-    let kept : IsEquivalentWithin spare p (mutated p verdict.mutant) = subst (λ m. IsEquivalentWithin spare p (mutated p m)) same spared.spared in
-    none_killed_spared one p (mutated p verdict.mutant) bench.steps spare kept bench.tests kills is.fit storable leave verdict.alone
+  spared : (ticket : Ticket) (spare : ℕ) (kills : List Bool) → LeavesRoom (program_of bench.plan) bench.tests bench.steps spare
+      → IsProvedMutant bench.plan ticket spare → IsVerdict bench ticket kills → All (λ kill. kill ≡ false) kills
+  spared ticket spare kills leave equivalent verdict =
+      let p = program_of bench.plan in
+      let same = same_mutant equivalent.mutant verdict.mutant _ equivalent.is verdict.is in
+      let kept : IsEquivalentWithin spare p (mutated p verdict.mutant) = subst (λ m. IsEquivalentWithin spare p (mutated p m)) same equivalent.proved.within in
+      none_killed_spared one p (mutated p verdict.mutant) bench.steps spare kept bench.tests kills is.fit storable leave verdict.alone
+
+  with_room : (ticket : Ticket) (spare : ℕ) (kills : List Bool) → HasRoom (program_of bench.plan) bench.tests bench.steps spare
+      → IsProvedMutant bench.plan ticket spare → IsVerdict bench ticket kills → All (λ kill. kill ≡ false) kills
+  with_room ticket zero kills room equivalent verdict = unspared ticket kills equivalent verdict
+  with_room ticket (suc n) kills room equivalent verdict = spared ticket (suc n) kills room equivalent verdict
+
+pub none_kills : OneAnswer → NoTestKills
+none_kills one bytes job bench list read is tests named k d within kills verdict =
+    let e = get_or list k d in
+    let storable : All AreStorable bench.tests = subst (All AreStorable) (sym tests) (storable_suite bytes job (sym read)) in
+    let room : HasRoom (program_of bench.plan) bench.tests bench.steps e.spare
+    = subst (λ suite. HasRoom (program_of bench.plan) suite bench.steps e.spare) (sym tests) (named.room k d within) in
+    with_room one bench is storable e.ticket e.spare kills room (named.are.each k d within) verdict

@@ -1,6 +1,7 @@
 -- Which mutants of the program of a job are named, and the text that names them.
-use Rattle.std.specs.Prelude.{ℕ, List, Result, Ok, Err}
+use Rattle.std.specs.Prelude.{◌≡◌, ℕ, Bool, List, Result, Ok, Err}
 use Rattle.f77_program.specs.Program.{LineFields}
+use Rattle.f77_meaning.specs.declared.argument.Arg.{Arg}
 use Rattle.mothra_app.specs.Program.{IsLegalProgramOf}
 use Rattle.mothra_app.specs.Reporting.{IsPlanOf}
 use Rattle.mothra_app.specs.declared.fault.Fault.{Fault}
@@ -14,14 +15,22 @@ use Rattle.equivalents_app.specs.Room.{AreNamedMutants}
 use Rattle.equivalents_app.specs.Rendering.{written_text}
 use Rattle.equivalents_app.specs.declared.words.Inquiry.{Inquiry}
 
--- The outcome of an inquiry for a job: the text that names equivalent mutants of the
--- plan, for each of which the tests leave room under the limit on steps; or the first
--- fault. Which equivalent mutants are named is left open, but only such are named.
+-- The text names mutants of the plan, for each of which the tests leave room under the limit on
+-- steps, and tells how many were left at the bound on work.
+pub record IsNamedIn (plan : PlanFields) (tests : List (List Arg)) (steps : ℕ) (json : Bool)
+    (text : List ℕ) : Type 0 where
+  pub list : List Equivalent
+  pub left : ℕ
+  pub are : AreNamedMutants plan tests steps list
+  pub is : text ≡ written_text plan list left json
+
+-- The outcome of an inquiry for a job: the text that names equivalent mutants of the plan; or
+-- the first fault. Which equivalent mutants are named is left open, but only such are named.
 pub data IsFound (job : JobFields) (i : Inquiry) : Result (List ℕ) Fault → Type 0 where
   no_program : {fault : Fault} → IsLegalProgramOf job.source (Err fault) → IsFound job i (Err fault)
   too_many : {program : List LineFields} {op : Op} → IsLegalProgramOf job.source (Ok program)
       → IsFirstTooLong i.operators program i.every op → IsFound job i (Err (Ops (TooMany op)))
-  text : {program : List LineFields} {plan : PlanFields} {list : List Equivalent}
+  text : {program : List LineFields} {plan : PlanFields} {text : List ℕ}
       → IsLegalProgramOf job.source (Ok program)
-      → IsPlanOf program i.operators i.every plan → AreNamedMutants plan job.suite i.steps list
-      → IsFound job i (Ok (written_text plan list i.json))
+      → IsPlanOf program i.operators i.every plan → IsNamedIn plan job.suite i.steps i.json text
+      → IsFound job i (Ok text)

@@ -1,26 +1,22 @@
--- What the equivalence of a mutant means for tests.
-use Rattle.std.specs.Prelude.{◌≡◌, ℕ, Bool, false, All, List}
-use Rattle.f77_equivalence.specs.Storable.{AreStorable}
+-- What the equivalence of mutants that are named for a job means for its tests.
+use Rattle.std.specs.Prelude.{◌≡◌, ℕ, Bool, false, All, List, Ok}
+use Rattle.mothra_equivalents.specs.declared.equivalents.Equivalent.{Equivalent}
+use Rattle.mothra_job.specs.Job.{JobFields, JobRead, job_of}
 use Rattle.mothra_verdicts.specs.Bench.{BenchFields, IsBench}
 use Rattle.mothra_verdicts.specs.Verdict.{IsVerdict}
-use Rattle.mothra_codes.specs.declared.ticket.Ticket.{Ticket}
-use Rattle.mothra_equivalents.specs.Equivalents.{IsEquivalentMutant, IsSparedMutant}
-use Rattle.mothra_ops.specs.Mutants.{program_of}
-use Rattle.equivalents_app.specs.Room.{LeavesRoom}
+use Rattle.equivalents_app.specs.Room.{AreNamedMutants}
 
--- no test of a bench kills an equivalent mutant, where the
--- numbers of the tests are in the range of INTEGER
+-- the mutant's verdict on the bench is that no test kills it
+abbrev pub LivesOn : BenchFields → Equivalent → Type 0
+LivesOn bench named =
+    (kills : List Bool) → IsVerdict bench named.ticket kills → All (λ kill. kill ≡ false) kills
+
+-- Rule: what `equivalents` writes
+-- of the mutants that are named for a job, no test kills one on any bench of that job's tests
 abbrev pub NoTestKills : Type 0
-NoTestKills = (bench : BenchFields) (ticket : Ticket) (kills : List Bool)
-    → IsBench bench → All AreStorable bench.tests
-    → IsEquivalentMutant bench.plan ticket
-    → IsVerdict bench ticket kills → All (λ kill. kill ≡ false) kills
-
--- no test of a bench kills a mutant that needs `spare` steps more, where the
--- numbers are in range and each test leaves as many steps under the limit
-abbrev pub NoTestKillsSpared : Type 0
-NoTestKillsSpared = (bench : BenchFields) (ticket : Ticket) (spare : ℕ) (kills : List Bool)
-    → IsBench bench → All AreStorable bench.tests
-    → LeavesRoom (program_of bench.plan) bench.tests bench.steps spare
-    → IsSparedMutant bench.plan ticket spare
-    → IsVerdict bench ticket kills → All (λ kill. kill ≡ false) kills
+NoTestKills =
+    (bytes : List ℕ) (job : JobFields) (bench : BenchFields) (list : List Equivalent)
+    → (let read : JobRead = Ok job in job_of bytes ≡ read)
+    → IsBench bench → bench.tests ≡ job.suite
+    → AreNamedMutants bench.plan job.suite bench.steps list
+    → All (LivesOn bench) list

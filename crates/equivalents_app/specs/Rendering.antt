@@ -1,5 +1,5 @@
 -- The text that names the mutants of a plan that are proved equivalent.
-use Rattle.std.specs.Prelude.{ℕ, Bool, List, [], ◌++◌, Option, Some, None, codes}
+use Rattle.std.specs.Prelude.{ℕ, zero, suc, Bool, List, [], ◌++◌, Option, Some, None, codes}
 use Rattle.std.specs.Prelude.{filter_map, flat_map, if◌then◌else◌, length, nat_le}
 use Rattle.std.specs.Fmt.{decimal}
 use Rattle.std.specs.Option.{option_map_or}
@@ -8,44 +8,44 @@ use Rattle.mothra_app.specs.Listing.{asked_total}
 use Rattle.mothra_codes.specs.Ticket.{ticket}
 use Rattle.mothra_codes.specs.declared.ticket.Ticket.{Ticket}
 use Rattle.mothra_equivalents.specs.declared.equivalents.Equivalent.{Equivalent}
-use Rattle.mothra_equivalents.specs.declared.why.Why.{Why}
-use Rattle.mothra_equivalents.specs.declared.why.Why.TheVariants as why
 use Rattle.mothra_job.specs.Equivalent.{ticket_text}
 use Rattle.mothra_ops.specs.Mutants.{MutantFields, change_text, mutant_name, mutant_of, original_number, program_of}
 use Rattle.mothra_ops.specs.Plan.{PlanFields}
 
 -- ---- in lines
 
-abbrev pub why_text : Why → List ℕ
-why_text why.Same = codes "SAME"
-why_text why.Unread = codes "UNREAD"
-why_text why.Continues = codes "CONTINUES"
-why_text (why.Spare spare) = codes "SPARE-" ++ decimal spare
-why_text why.Unreached = codes "UNREACHED"
+-- what is promised: equivalent, or so with steps to spare
+abbrev pub word_text : ℕ → List ℕ
+word_text zero = codes "EQUIVALENT "
+word_text (suc n) = codes "SPARE " ++ (decimal (suc n) ++ codes " ")
 
--- the name of a mutant, and the rule of its proof
-abbrev pub reason_text : ℕ → Equivalent → List ℕ
-reason_text every e =
-    codes "EQUIVALENT " ++ (mutant_name every e.ticket.op e.ticket.number
-    ++ (codes " " ++ (why_text e.why ++ codes " ")))
+-- what is promised of a mutant, and its name
+abbrev pub promise_text : ℕ → Equivalent → List ℕ
+promise_text every e =
+    word_text e.spare ++ (mutant_name every e.ticket.op e.ticket.number ++ codes " ")
 
--- the line of a mutant: its name, the rule, and the change that it makes
-abbrev pub rule_line : PlanFields → Equivalent → MutantFields → List ℕ
-rule_line plan e mutant =
-    reason_text plan.every e ++ (change_text (program_of plan) mutant ++ codes "\n")
+-- the line of a mutant: what is promised, its name, and the change that it makes
+abbrev pub promise_line : PlanFields → Equivalent → MutantFields → List ℕ
+promise_line plan e mutant =
+    promise_text plan.every e ++ (change_text (program_of plan) mutant ++ codes "\n")
 
 abbrev pub equivalent_line : PlanFields → Equivalent → List ℕ
 equivalent_line plan e =
-    option_map_or (rule_line plan e) (mutant_of plan e.ticket.op e.ticket.number) []
+    option_map_or (promise_line plan e) (mutant_of plan e.ticket.op e.ticket.number) []
 
--- how many of the plan's mutants are proved equivalent, and how many it has
-abbrev pub proved_line : ℕ → ℕ → List ℕ
-proved_line count total =
-    codes "PROVED " ++ (decimal count ++ (codes " OF " ++ (decimal total ++ codes "\n")))
+-- how many mutants were left at the bound on work, if any
+abbrev pub left_text : ℕ → List ℕ
+left_text zero = []
+left_text (suc n) = codes ", " ++ (decimal (suc n) ++ codes " NOT FINISHED")
 
-abbrev pub lines_text : PlanFields → List Equivalent → List ℕ
-lines_text plan list =
-    flat_map (equivalent_line plan) list ++ proved_line (length list) (asked_total plan)
+-- how many of the plan's mutants are proved equivalent, how many it has, and how many were left
+abbrev pub last_line : ℕ → ℕ → ℕ → List ℕ
+last_line count total left =
+    codes "PROVED " ++ (decimal count ++ (codes " OF " ++ (decimal total ++ (left_text left ++ codes "\n"))))
+
+abbrev pub lines_text : PlanFields → List Equivalent → ℕ → List ℕ
+lines_text plan list left =
+    flat_map (equivalent_line plan) list ++ last_line (length list) (asked_total plan) left
 
 -- ---- as the list that the key `equivalent` of a job takes
 
@@ -69,5 +69,6 @@ json_line every list = codes "[" ++ (separated entry_text [] (declarable every l
 -- ---- lines or JSON, as asked for
 
 -- Rule: what `equivalents` writes
-abbrev pub written_text : PlanFields → List Equivalent → Bool → List ℕ
-written_text plan list json = if json then json_line plan.every list else lines_text plan list
+abbrev pub written_text : PlanFields → List Equivalent → ℕ → Bool → List ℕ
+written_text plan list left json =
+    if json then json_line plan.every list else lines_text plan list left

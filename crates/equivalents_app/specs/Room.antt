@@ -1,5 +1,5 @@
 -- Whether the tests leave room for mutants that may take more steps than the program.
-use Rattle.std.specs.Prelude.{◌≤◌, ◌+◌, ⊤, ℕ, All, List}
+use Rattle.std.specs.Prelude.{◌≤◌, ◌+◌, ⊤, ℕ, zero, suc, All, List}
 use Rattle.f77_equivalence.specs.Equivalent.{IsEnd}
 use Rattle.f77_program.specs.Program.{LineFields}
 use Rattle.f77_meaning.specs.Interpreter.{IsOutcomeOf}
@@ -7,8 +7,6 @@ use Rattle.f77_meaning.specs.declared.argument.Arg.{Arg}
 use Rattle.f77_meaning.specs.declared.outcome.Outcome.{Outcome}
 use Rattle.mothra_equivalents.specs.Equivalents.{AreEquivalents}
 use Rattle.mothra_equivalents.specs.declared.equivalents.Equivalent.{Equivalent}
-use Rattle.mothra_equivalents.specs.declared.why.Why.{Why}
-use Rattle.mothra_equivalents.specs.declared.why.Why.TheVariants as why
 use Rattle.mothra_ops.specs.Mutants.{program_of}
 use Rattle.mothra_ops.specs.Plan.{PlanFields}
 
@@ -23,17 +21,14 @@ LeavesRoomOn program steps room test =
 abbrev pub LeavesRoom : List LineFields → List (List Arg) → ℕ → ℕ → Type 0
 LeavesRoom program tests steps room = All (LeavesRoomOn program steps room) tests
 
--- the tests leave the room that a mutant proved by this rule needs
-abbrev pub HasRoom : List LineFields → List (List Arg) → ℕ → Why → Type 0
-HasRoom program tests steps why.Same = ⊤
-HasRoom program tests steps why.Unread = ⊤
-HasRoom program tests steps why.Continues = ⊤
-HasRoom program tests steps (why.Spare spare) = LeavesRoom program tests steps spare
-HasRoom program tests steps why.Unreached = ⊤
+-- the tests leave room for a mutant with so many steps to spare
+abbrev pub HasRoom : List LineFields → List (List Arg) → ℕ → ℕ → Type 0
+HasRoom program tests steps zero = ⊤
+HasRoom program tests steps (suc n) = LeavesRoom program tests steps (suc n)
 
 -- Rule: what `equivalents` writes
 -- the mutants are equivalent, and the tests leave the room that each of them needs
 pub record AreNamedMutants (plan : PlanFields) (tests : List (List Arg)) (steps : ℕ)
     (list : List Equivalent) : Type 0 where
   pub are : AreEquivalents plan list
-  pub room : All (λ equivalent. HasRoom (program_of plan) tests steps equivalent.why) list
+  pub room : All (λ equivalent. HasRoom (program_of plan) tests steps equivalent.spare) list

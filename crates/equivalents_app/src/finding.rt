@@ -1,49 +1,94 @@
 //! Which mutants of the program of a job are named as equivalent.
 
-ghost use Rattle.std.specs.Prelude.{◌≡◌, ◌⊎◌, Ok, Err, Contains, IfErr, IfOk, MatchResult, string_bytes};
+ghost use Rattle.std.specs.Prelude.{◌≡◌, ◌≤◌, ◌⊎◌, ℕ, List, Ok, Err, Contains, IfErr, IfOk, IfSome, MatchResult};
+ghost use Rattle.std.specs.Prelude.{length, string_bytes};
 ghost use Rattle.mothra_app.specs.Fault.{of_mutants};
 ghost use Rattle.mothra_replacements.specs.declared.fault.OpsFault.TheVariants.{Memory};
-ghost use Rattle.equivalents_app.specs.Finding.{IsFound};
-ghost use Rattle.equivalents_app.specs.Room.{AreNamedMutants};
+ghost use Rattle.equivalents_app.specs.Finding.{IsFound, IsNamedIn};
+ghost use Rattle.f77_meaning.specs.declared.argument.Arg.{Arg as Given};
+ghost use Rattle.mothra_ops.specs.Mutants.{program_of};
+ghost use Rattle.equivalents_app.specs.Room.{AreNamedMutants, LeavesRoom};
 ghost use Rattle.equivalents_app.specs.Words.{IsInquiryBounded};
 
+use crate::killed::{bench_of, killed_on};
 use crate::rendering::text_of;
-use crate::room::{keep_within, room_for};
+use crate::room::{keep_within, room_of};
 use crate::words::Inquiry;
 use f77_meaning::{Arg, Values};
+use indexmap::IndexSet;
 use mothra_app::fault::Fault;
 use mothra_app::program::legal_program_of;
-use mothra_equivalents::{Equivalent, equivalents_of};
+use mothra_codes::Ticket;
+use mothra_equivalents::{Found, equivalents_of};
 use mothra_job::Job;
 use mothra_ops::{OpsFault, Plan};
 use std::alloc::Global;
 
-/// The mutants of the plan that are named: those that are proved equivalent,
-/// without those for which the tests leave no room.
+/// The mutants of the plan that are named: those that are proved equivalent, without those that need more room.
 fn named_of(
     alloc: Global,
     plan: &Plan,
-    tests: &[Values<Arg>],
-    steps: u32,
-) -> Result<Vec<Equivalent>, OpsFault>
-    ensures named { IfOk result (λ list. AreNamedMutants plan.now tests.now steps list.items) }
+    killed: &IndexSet<Ticket>,
+    room: Option<u32>,
+) -> Result<Found, OpsFault>
+    ensures named { IfOk result (λ found. (tests : List (List Given)) (steps : ℕ)
+        → IfSome room (LeavesRoom (program_of plan.now) tests steps)
+        → AreNamedMutants plan.now tests steps found.list.items) }
     ensures memory { IfErr result (λ fault. fault ≡ Memory) }
 {
-    let mut list = equivalents_of(alloc, plan)?;
-    let room = room_for(alloc, &list, plan.program(), tests, steps)?;
-    keep_within(&mut list, room);
-    Ok(list)
+    let mut found = equivalents_of(alloc, plan, killed)?;
+    keep_within(&mut found.list, room);
+    Ok(found)
+}
+
+/// The text that names equivalent mutants of the plan.
+fn text_for(
+    alloc: Global,
+    plan: &Plan,
+    killed: &IndexSet<Ticket>,
+    room: Option<u32>,
+    json: bool,
+) -> Result<String, OpsFault>
+    ensures text { IfOk result (λ text. (tests : List (List Given)) (steps : ℕ)
+        → IfSome room (LeavesRoom (program_of plan.now) tests steps)
+        → IsNamedIn plan.now tests steps json (string_bytes text)) }
+    ensures memory { IfErr result (λ fault. fault ≡ Memory) }
+{
+    let found = named_of(alloc, plan, killed, room)?;
+    text_of(alloc, plan, &found, json)
+}
+
+/// The text that names mutants of the plan that are equivalent, as the words ask for it. Where a test does not fit, or
+/// the program does not end on it, all mutants are asked about, and none is named that needs room.
+fn text_in(
+    alloc: Global,
+    plan: Plan,
+    tests: Values<Values<Arg>>,
+    inquiry: &Inquiry,
+) -> Result<String, OpsFault>
+    requires few { length tests ≤ 256 }
+    ensures named { IfOk result
+        (λ text. IsNamedIn plan tests inquiry.now.steps inquiry.now.json (string_bytes text)) }
+    ensures memory { IfErr result (λ fault. fault ≡ Memory) }
+{
+    let Some(room) = room_of(alloc, plan.program(), tests.as_slice(), inquiry.steps)? else {
+        return text_for(alloc, &plan, &IndexSet::new(alloc), None, inquiry.json);
+    };
+    let bench = bench_of(alloc, plan, tests, inquiry.steps)?;
+    let killed = killed_on(alloc, &bench)?;
+    text_for(alloc, bench.plan(), &killed, Some(room), inquiry.json)
 }
 
 /// The text that names equivalent mutants of the program of a job, as the words ask for it.
-pub(crate) fn find(alloc: Global, job: &Job, inquiry: &Inquiry) -> Result<String, Fault>
-    requires { IsInquiryBounded inquiry.now }
+pub(crate) fn find(alloc: Global, job: Job, inquiry: &Inquiry) -> Result<String, Fault>
+    requires bounded { IsInquiryBounded inquiry.now }
+    requires few { length job.suite ≤ 256 }
     ensures { MatchResult result
-        (λ text. IsFound job.now inquiry.now (Ok (string_bytes text)))
-        (λ fault. IsFound job.now inquiry.now (Err fault) ⊎ Contains of_mutants fault) }
+        (λ text. IsFound job inquiry.now (Ok (string_bytes text)))
+        (λ fault. IsFound job inquiry.now (Err fault) ⊎ Contains of_mutants fault) }
 {
     let checked = legal_program_of(alloc, job.source())?;
     let plan = Plan::new(alloc, checked, inquiry.operators.as_slice(), inquiry.every)?;
-    let list = named_of(alloc, &plan, job.suite(), inquiry.steps)?;
-    Ok(text_of(alloc, &plan, &list, inquiry.json)?)
+    let (tests, _declared) = job.into_lists();
+    Ok(text_in(alloc, plan, tests, inquiry)?)
 }

@@ -3,6 +3,7 @@
 #![tactic(auto)]
 
 mod finding;
+mod killed;
 pub mod law;
 mod rendering;
 mod room;

@@ -7,38 +7,26 @@ ghost use Rattle.mothra_ops.specs.Made.{IsMadeMutant};
 ghost use Rattle.mothra_ops.specs.Mutants.{mutant_fields, original_number};
 ghost use Rattle.mothra_replacements.specs.declared.fault.OpsFault.TheVariants.{Memory};
 ghost use Rattle.equivalents_app.specs.Rendering.{declarable, entry_text, equivalent_line};
-ghost use Rattle.equivalents_app.specs.Rendering.{json_line, lines_text, rule_line};
+ghost use Rattle.equivalents_app.specs.Rendering.{json_line, last_line, lines_text, promise_line};
 ghost use Rattle.equivalents_app.specs.Rendering as definition;
 
 use mothra_codes::Ticket;
-use mothra_equivalents::{Equivalent, Why};
+use mothra_equivalents::{Equivalent, Found};
 use mothra_ops::{Mutant, Op, OpsFault, Plan, push_name};
 use std::alloc::{AllocError, Global};
 
 /// The greatest number that the key `equivalent` of a job takes.
 const MOST: u64 = 1_048_575;
 
-/// Adds the word of a rule.
-fn push_why(text: &mut String, why: Why) -> Result<(), AllocError>
-    ensures { OnOk result (string_bytes text.new ≡ string_bytes text.old ++ definition.why_text why) }
+/// Adds the front of a mutant's line: what is promised of it, and its name.
+fn push_promise(text: &mut String, every: u32, equivalent: Equivalent) -> Result<(), AllocError>
+    ensures { OnOk result (string_bytes text.new ≡ string_bytes text.old ++ definition.promise_text every equivalent) }
 {
-    match why {
-        Why::Same => text.push_str("SAME"),
-        Why::Unread => text.push_str("UNREAD"),
-        Why::Continues => text.push_str("CONTINUES"),
-        Why::Spare(spare) => write!(text, "SPARE-{spare}"),
-        Why::Unreached => text.push_str("UNREACHED"),
+    match equivalent.spare {
+        0 => text.push_str("EQUIVALENT ")?,
+        spare => write!(text, "SPARE {spare} ")?,
     }
-}
-
-/// Adds the front of a mutant's line: its name and the rule of its proof.
-fn push_reason(text: &mut String, every: u32, equivalent: Equivalent) -> Result<(), AllocError>
-    ensures { OnOk result (string_bytes text.new ≡ string_bytes text.old ++ definition.reason_text every equivalent) }
-{
-    text.push_str("EQUIVALENT ")?;
     push_name(text, every, equivalent.ticket.op, equivalent.ticket.number)?;
-    text.push_str(" ")?;
-    push_why(text, equivalent.why)?;
     text.push_str(" ")
 }
 
@@ -51,10 +39,10 @@ fn push_mutant(
 ) -> Result<(), OpsFault>
     requires { IsMadeMutant plan.now.checked mutant.now }
     ensures line { OnOk result
-        (string_bytes text.new ≡ string_bytes text.old ++ rule_line plan.now equivalent (mutant_fields mutant.now)) }
+        (string_bytes text.new ≡ string_bytes text.old ++ promise_line plan.now equivalent (mutant_fields mutant.now)) }
     ensures memory { IfErr result (λ fault. fault ≡ Memory) }
 {
-    push_reason(text, plan.every(), equivalent)?;
+    push_promise(text, plan.every(), equivalent)?;
     plan.push_change(text, mutant)?;
     text.push_str("\n")?;
     Ok(())
@@ -97,16 +85,41 @@ fn total_of(plan: &Plan) -> u64
     total
 }
 
+/// Adds how many mutants were left at the bound on work, if any.
+fn push_left(text: &mut String, unfinished: u64) -> Result<(), AllocError>
+    ensures { OnOk result (string_bytes text.new ≡ string_bytes text.old ++ definition.left_text unfinished) }
+{
+    match unfinished {
+        0 => Ok(()),
+        left => write!(text, ", {left} NOT FINISHED"),
+    }
+}
+
+/// Adds the last line: how many are proved, of how many, and how many were left.
+fn push_last(
+    text: &mut String,
+    plan: &Plan,
+    count: usize,
+    unfinished: u64,
+) -> Result<(), AllocError>
+    ensures { OnOk result
+        (string_bytes text.new ≡ string_bytes text.old ++ last_line count (asked_total plan.now) unfinished) }
+{
+    let total = total_of(plan);
+    write!(text, "PROVED {count} OF {total}")?;
+    push_left(text, unfinished)?;
+    text.push_str("\n")
+}
+
 /// The lines of mutants of the plan.
-fn lines_of(alloc: Global, plan: &Plan, list: &[Equivalent]) -> Result<String, OpsFault>
-    ensures text { IfOk result (λ text. string_bytes text ≡ lines_text plan.now list.now) }
+fn lines_of(alloc: Global, plan: &Plan, found: &Found) -> Result<String, OpsFault>
+    ensures text { IfOk result
+        (λ text. string_bytes text ≡ lines_text plan.now found.now.list.items found.now.unfinished) }
     ensures memory { IfErr result (λ fault. fault ≡ Memory) }
 {
     let mut text = String::new(alloc);
-    push_equivalents(&mut text, plan, list)?;
-    let count = list.len();
-    let total = total_of(plan);
-    write!(text, "PROVED {count} OF {total}\n")?;
+    push_equivalents(&mut text, plan, &found.list)?;
+    push_last(&mut text, plan, found.list.len(), found.unfinished)?;
     Ok(text)
 }
 
@@ -167,19 +180,14 @@ fn json_of(alloc: Global, every: u32, list: &[Equivalent]) -> Result<String, All
 }
 
 /// The text that names mutants of the plan: lines, or a JSON list.
-pub fn text_of(
-    alloc: Global,
-    plan: &Plan,
-    list: &[Equivalent],
-    json: bool,
-) -> Result<String, OpsFault>
-    ensures text { IfOk result
-        (λ text. string_bytes text ≡ definition.written_text plan.now list.now json) }
+pub fn text_of(alloc: Global, plan: &Plan, found: &Found, json: bool) -> Result<String, OpsFault>
+    ensures text { IfOk result (λ text. string_bytes text
+        ≡ definition.written_text plan.now found.now.list.items found.now.unfinished json) }
     ensures memory { IfErr result (λ fault. fault ≡ Memory) }
 {
     if json {
-        Ok(json_of(alloc, plan.every(), list)?)
+        Ok(json_of(alloc, plan.every(), &found.list)?)
     } else {
-        lines_of(alloc, plan, list)
+        lines_of(alloc, plan, found)
     }
 }

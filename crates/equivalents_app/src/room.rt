@@ -10,7 +10,7 @@ ghost use Rattle.equivalents_app.specs.code.Room as definition;
 use f77_check::Checked;
 use f77_meaning::{Arg, Outcome, RunFault, Values};
 use f77_run::counted_run;
-use mothra_equivalents::{Equivalent, Why};
+use mothra_equivalents::Equivalent;
 use mothra_ops::OpsFault;
 use std::alloc::Global;
 
@@ -51,7 +51,7 @@ fn room_on(
 }
 
 /// The least room that the tests leave; None where one test has no room by `room_on`.
-fn room_of(
+pub(crate) fn room_of(
     alloc: Global,
     checked: &Checked,
     tests: &[Values<Arg>],
@@ -71,48 +71,16 @@ fn room_of(
     Ok(Some(room))
 }
 
-/// Whether one of the mutants may take more steps than the program.
-fn ask_for_room(list: &[Equivalent]) -> bool {
-    list.iter()
-        .any(|equivalent| matches!(equivalent.why, Why::Spare(_)))
-}
-
-/// The least room that the tests leave. The program is run only where one of the mutants needs room; else the result is
-/// None.
-pub(crate) fn room_for(
-    alloc: Global,
-    list: &[Equivalent],
-    checked: &Checked,
-    tests: &[Values<Arg>],
-    steps: u32,
-) -> Result<Option<u32>, OpsFault>
-    ensures room { IfOk result
-        (λ found. IfSome found (λ room. LeavesRoom (map line_of checked.now.program) tests.now steps room)) }
-    ensures memory { IfErr result (λ fault. fault ≡ Memory) }
+/// Whether a mutant with so many steps to spare needs at most this room.
+fn is_within(room: Option<u32>, spare: u32) -> bool
+    ensures { result ≡ definition.is_within room spare }
 {
-    if ask_for_room(list) {
-        room_of(alloc, checked, tests, steps)
-    } else {
-        Ok(None)
-    }
-}
-
-/// Whether a mutant that is proved by this rule needs at most this room.
-fn is_within(room: Option<u32>, why: Why) -> bool
-    ensures { result ≡ definition.is_within room why }
-{
-    match why {
-        Why::Spare(spare) => match room {
-            Some(room) => spare <= room,
-            None => false,
-        },
-        Why::Same | Why::Unread | Why::Continues | Why::Unreached => true,
-    }
+    spare == 0 || room.is_some_and(|room| spare <= room)
 }
 
 /// Keeps the mutants that need at most this room.
 pub(crate) fn keep_within(list: &mut Vec<Equivalent>, room: Option<u32>)
-    ensures { list.new.items ≡ filter (λ equivalent. definition.is_within room equivalent.why) list.old.items }
+    ensures { list.new.items ≡ filter (λ equivalent. definition.is_within room equivalent.spare) list.old.items }
 {
-    list.retain(|equivalent| is_within(room, equivalent.why));
+    list.retain(|equivalent| is_within(room, equivalent.spare));
 }

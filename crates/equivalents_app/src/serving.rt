@@ -29,7 +29,7 @@ fn text_for(alloc: Global, inquiry: &Inquiry, bytes: &[u8]) -> Result<String, Fa
         (λ fault. IsInquiryOutcome inquiry.now (job_of bytes.now) (Err fault) ⊎ Contains memory_faults fault) }
 {
     let job = read_job(alloc, bytes)?;
-    find(alloc, &job, inquiry)
+    find(alloc, job, inquiry)
 }
 
 /// The answer to the inquiry on the job that the bytes are; a fault gives an answer with its line.

@@ -1,5 +1,5 @@
 -- A changed program comes to what the program comes to where its runs end alike.
-use Rattle.std.proofs.Common.{arith, ◌≡◌, ◌+◌, ◌∙◌, ℕ, zero, suc, inr, List, map, Some, refl, sym, ap, subst}
+use Rattle.std.proofs.Common.{◌≡◌, ◌+◌, ◌∙◌, ℕ, zero, suc, inr, List, map, Some, refl, sym, ap, subst}
 use Rattle.f77_program.specs.Program.{LineFields, line_of}
 use Rattle.f77_legal.specs.Names.{bounds_of}
 use Rattle.f77_legal.proofs.FrameNames.{bounds_of_same}
@@ -31,7 +31,7 @@ use Rattle.f77_meaning.proofs.Moving.{ComesIn, moves_by, comes_by}
 use Rattle.f77_meaning.proofs.OneAnswer.{one_start}
 use Rattle.f77_meaning.proofs.OneWay.{one_outcome}
 use Rattle.f77_meaning.proofs.Unreached.{starts_same, reports_same}
-use Rattle.f77_equivalence.specs.Changed.{EndsAlike, EquivalentWhereEndsAlike, HoldAlike, IsChange, IsEnding}
+use Rattle.f77_equivalence.specs.Changed.{HoldAlike, IsChange, IsEnding}
 use Rattle.f77_equivalence.proofs.Changed.{EndsAlikeWithin}
 use Rattle.f77_equivalence.specs.Equivalent.{IsEnd}
 use Rattle.f77_equivalence.specs.Start.{start_state}
@@ -168,18 +168,3 @@ pub keeps_ends_within : (checked : CheckedFields) (i : ℕ) (program : List Line
 keeps_ends_within checked i program changed spare change alike arguments fits storable =
     let fitting : AreFitting checked.arguments arguments = subst (λ list. AreFitting list arguments) (sym change.own.arguments) fits in
     keeps_ends checked i program changed change arguments fitting spare (alike arguments fitting storable)
-
--- with none to spare
-none_more : (checked : CheckedFields) (changed : List Resolved) (arguments : List Arg) → EndsAlike checked changed arguments
-    → EndsAlikeWithin 0 checked changed arguments
-none_more checked changed arguments alike n finish cells is e =
-    let it = alike n finish cells is e in
-    let same : n ≡ n + 0 = omega arith in
-    (it.0, subst (λ k. moved_by changed k (start_state checked arguments) ≡ Some (Ends finish it.0)) same it.1, it.2)
-
-pub equivalent_where_ends_alike : EquivalentWhereEndsAlike
-equivalent_where_ends_alike checked i program changed change alike arguments fits storable limit answer is end =
-    let same : limit + 0 ≡ limit = omega arith in
-    subst (λ k. IsOutcomeOf program arguments k answer) same
-    (keeps_ends_within checked i program changed 0 change
-    (λ arguments fits storable. none_more checked changed arguments (alike arguments fits storable)) arguments fits storable limit answer is end)

@@ -1,16 +1,7 @@
-pub mod Lists
 pub mod Alike
-pub mod Actions
-pub mod Turning
-pub mod Evaluated
-pub mod Cases
 pub mod Moving
-pub mod Relations
-pub mod Sizes
 pub mod Throughout
-pub mod Lifted
 pub mod Ending
-pub mod Equivalence
 pub mod StartSlots
 pub mod InPlace
 pub mod Changed

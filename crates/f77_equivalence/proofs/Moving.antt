@@ -1,76 +1,28 @@
--- Steps of two programs.
-use Rattle.std.proofs.Common.{◌≡◌, ◌≢◌, ◌⊎◌, inl, inr, ℕ, ◌-◌, Bool, true, false, List, Option, Some, None, refl, sym, ap, subst, ◌∙◌}
-use Rattle.std.specs.Prelude.{Result, Ok, Err, IfOk, slice_get, slice_set, option_map, ◌+ℤ◌, if◌then◌else◌}
+-- A step of a program with one statement changed, elsewhere than at that statement.
+use Rattle.std.proofs.Common.{◌≡◌, ◌≢◌, ◌⊎◌, inl, inr, ℕ, ◌-◌, List, Option, Some, None, refl, sym, ap, subst, ℤ, pos, negsuc, zero, suc}
+use Rattle.std.specs.Prelude.{Result, Ok, Err, slice_get, slice_set, option_map, ◌+ℤ◌, if◌then◌else◌}
 use Rattle.std.specs.Option.{option_and_then, option_map_or}
 use Rattle.f77_actions.specs.declared.action.Action.{Action, LogicalIf', Loop}
 use Rattle.f77_actions.specs.declared.resolved.Resolved.{Resolved}
 use Rattle.f77_actions.specs.declared.finish.Fault.{Fault}
 use Rattle.f77_actions.specs.declared.value.Value.TheVariants as held
-use Rattle.f77_actions.specs.Number.{in_range}
+use Rattle.f77_actions.specs.Number.{in_range, trip_count}
 use Rattle.f77_actions.specs.Value.{whole}
 use Rattle.f77_code.specs.declared.control.Place.{Place}
 use Rattle.f77_code.specs.declared.control.Place.TheVariants.{Execute, Increment}
 use Rattle.f77_code.specs.declared.control.Turn.{Turn}
 use Rattle.f77_code.specs.Evaluation.{held_in, number_in, truth_in}
 use Rattle.f77_code.specs.Moves.{Cells, TurnList, Move, Goes, state, used, jump_chosen, acted, begun, incremented, go_on, passing, passing_at, moved, turn_at, is_executed, is_loop}
-use Rattle.f77_facts.specs.declared.facts.Fact.{Fact}
-use Rattle.f77_facts.specs.declared.loops.LoopFact.{LoopFact}
 use Rattle.f77_facts.proofs.Slots.{same_or_not}
-use Rattle.f77_equivalence.specs.Same.{Follows, SameMoves}
-use Rattle.f77_equivalence.specs.Alike.{AgreeBut, GoOnAlike, PassAlike, PassesAlike, ActsAlike, site}
-use Rattle.f77_equivalence.proofs.Actions.{one_follows, begun_alike}
+use Rattle.f77_equivalence.specs.Alike.{AgreeBut, PassAlike, site}
 
-pub ok_then : {A E : Type 0} (r : Result A E) {P Q : A → Type 0} → IfOk r P → ((x : A) → P x → Q x) → IfOk r Q
-ok_then (Ok x) p f = f x p
-ok_then (Err e) p f = tt
-
--- what is done at all is this
-pub if_done : (b : Bool) (m n : Move) → (if b then Some m else None) ≡ Some n → m ≡ n
-if_done true m n e = cc (e)
-if_done false m n e = absurd (cc (e))
-
-pub executed_alike : (statements others : List Resolved) (i : ℕ) (r s : Resolved) (facts : List Fact) → slice_get statements i ≡ Some r → slice_get others i ≡ Some s
-    → is_executed s.action ≡ true → GoOnAlike r s → PassesAlike statements others r.action → ActsAlike facts r.action s.action
-    → (loops : List LoopFact) → SameMoves statements others (Execute i) facts loops
-executed_alike statements others i r s facts own other executed on pass acts loops cells turns move inside left e =
-    (acted others i s s.action cells turns, there, follows)
-  where
-    there : moved others (state (Execute i) cells turns) ≡ Some (acted others i s s.action cells turns)
-    there = rw (other, executed) refl
-
-    same : acted statements i r r.action cells turns ≡ move
-    same = if_done (is_executed r.action) (acted statements i r r.action cells turns) move (rw own at e)
-
-    follows : Follows move (acted others i s s.action cells turns)
-    follows = subst (λ m. Follows m (acted others i s s.action cells turns)) same (acts statements others i r s cells turns on pass inside)
-
-turned : (o : Option Turn) (f : Turn → Move) (m : Move) → option_map f o ≡ Some m → (turn : Turn) × (o ≡ Some turn) × (f turn ≡ m)
-turned (Some turn) f m e = (turn, refl, cc (e))
-turned None f m e = absurd (cc (e))
-
-if_there : (b : Bool) (o : Option Move) (n : Move) → (if b then o else None) ≡ Some n → o ≡ Some n
-if_there true o n e = e
-if_there false o n e = absurd (cc (e))
-
-pub incremented_alike : (statements others : List Resolved) (d : ℕ) (r s : Resolved) → slice_get statements d ≡ Some r → slice_get others d ≡ Some s
-    → is_loop s.action ≡ true
-    → ((turn : Turn) (cells : Cells) (turns : TurnList) → incremented others d s.action turn cells turns ≡ incremented statements d r.action turn cells turns)
-    → (facts : List Fact) (loops : List LoopFact) → SameMoves statements others (Increment d) facts loops
-incremented_alike statements others d r s own other is_do alike facts loops cells turns move inside left e = by it.0 it.1 it.2
-  where
-    done : option_map (λ turn. incremented statements d r.action turn cells turns) (turn_at turns d) ≡ Some move
-    done = if_there (is_loop r.action) (option_map (λ turn. incremented statements d r.action turn cells turns) (turn_at turns d)) move (rw own at e)
-
-    it : (turn : Turn) × (turn_at turns d ≡ Some turn) × (incremented statements d r.action turn cells turns ≡ move)
-    it = turned (turn_at turns d) (λ turn. incremented statements d r.action turn cells turns) move done
-
-    by : (turn : Turn) → turn_at turns d ≡ Some turn → incremented statements d r.action turn cells turns ≡ move
-        → (n : Move) × (moved others (state (Increment d) cells turns) ≡ Some n) × Follows move n
-    by turn active same = (
-      incremented others d s.action turn cells turns,
-      rw (other, is_do, active) refl,
-      one_follows move (incremented others d s.action turn cells turns) (alike turn cells turns ∙ same),
-    )
+begun_alike : (statements others : List Resolved) (d variable t : ℕ) (a b step : ℤ) (cells : Cells) (turns : TurnList) → PassAlike statements others t
+    → begun others d variable t a b step cells turns ≡ begun statements d variable t a b step cells turns
+begun_alike statements others d variable t a b (pos zero) cells turns alike = refl
+begun_alike statements others d variable t a b (pos (suc m)) cells turns alike =
+    alike d (trip_count a b (pos (suc m))) (pos (suc m)) (slice_set cells variable (Some (held.Number a))) turns
+begun_alike statements others d variable t a b (negsuc m) cells turns alike =
+    alike d (trip_count a b (negsuc m)) (negsuc m) (slice_set cells variable (Some (held.Number a))) turns
 
 -- a result is used alike
 used_same : {A : Type 0} (x : Result A Fault) (cells : Cells) (f g : A → Move) → ((v : A) → g v ≡ f v) → used x cells g ≡ used x cells f
@@ -87,12 +39,6 @@ module _ (statements others : List Resolved) (changed : ℕ) (agree : AgreeBut c
           subst (λ n. passing_at others n d passes step cells turns ≡ passing_at statements n d passes step cells turns) (sym same) (pass d passes step cells turns)
       by (inr differ) =
           ap (λ (o : Option Resolved). option_map_or (λ end. passing end d passes step cells turns) o (Goes (state (Execute t) cells turns))) (sym (agree t differ))
-
-  -- so are the passes of whatever an action is
-  pub passes_same : (action : Action) → PassesAlike statements others action
-  passes_same (LogicalIf' x p action) = passes_same action
-  passes_same (Loop variable first last step t) = every_pass t
-  passes_same _ = tt
 
   acted_same : (i : ℕ) (r : Resolved) (action : Action) (cells : Cells) (turns : TurnList)
       → acted others i r action cells turns ≡ acted statements i r action cells turns
@@ -149,7 +95,3 @@ module _ (statements others : List Resolved) (changed : ℕ) (agree : AgreeBut c
       → moved others (state place cells turns) ≡ moved statements (state place cells turns)
   moved_same (Execute i) cells turns differ = rw (agree i differ) (executed_same i (slice_get others i) cells turns)
   moved_same (Increment d) cells turns differ = rw (agree d differ) (advanced_same d (slice_get others d) cells turns)
-
-  pub moves_elsewhere : (place : Place) (facts : List Fact) (loops : List LoopFact) → site place ≢ changed → SameMoves statements others place facts loops
-  moves_elsewhere place facts loops differ cells turns move inside left e =
-      (move, moved_same place cells turns differ ∙ e, one_follows move move refl)

@@ -1,7 +1,5 @@
-pub mod Same
 pub mod Alike
 pub mod Ways
-pub mod Sizes
 pub mod Storable
 pub mod Equivalent
 pub mod Start

@@ -1,14 +1,8 @@
--- Statements and jumps from which control goes one way.
+-- Statements from which control goes one way.
 use Rattle.std.specs.Prelude.{◌≡◌}
-use Rattle.f77_actions.specs.declared.action.Jump.{Jump}
 use Rattle.f77_actions.specs.declared.resolved.Resolved.{Resolved}
 
 -- control goes on from both to one statement, and the same DOs end at them
 pub record HaveOneWayOn (r s : Resolved) : Type 0 where
   pub next : s.next ≡ r.next
   pub ends : s.ends.items ≡ r.ends.items
-
--- both lead to one statement, and leave the same DOs
-pub record HaveOneTarget (one other : Jump) : Type 0 where
-  pub target : other.target ≡ one.target
-  pub leaves : other.leaves.items ≡ one.leaves.items

@@ -1,13 +1,11 @@
 //! What is known throughout the runs of a program.
 
-ghost use Rattle.std.specs.Prelude.{◌≡◌, ◌<◌, true, Some, IfOk, IfSome};
-ghost use Rattle.f77_equivalence.specs.Alike.{site};
-ghost use Rattle.f77_equivalence.specs.Invariant.{InvariantFields, HoldsThroughout, IsUnreached};
+ghost use Rattle.std.specs.Prelude.{◌≡◌, IfOk, IfSome};
+ghost use Rattle.f77_equivalence.specs.Invariant.{InvariantFields, HoldsThroughout};
 
 use crate::start::holds_start;
 use f77_check::Checked;
-use f77_code::Place;
-use f77_facts::entries::{Entry, entry_at};
+use f77_facts::entries::Entry;
 use f77_facts::inductive::is_inductive;
 use std::alloc::{AllocError, Global};
 use std::marker::Model;
@@ -85,26 +83,4 @@ impl<'a> Invariant<'a> {
     {
         &self.entries
     }
-}
-
-/// The statement where control is, from 0.
-fn site_of(place: Place) -> usize
-    ensures { result ≡ site place }
-{
-    match place {
-        Place::Execute(i) => i,
-        Place::Increment(d) => d,
-    }
-}
-
-/// No entry says that control is at the statement `i`, from 0.
-pub fn is_unreached(entries: &[Entry], i: usize) -> bool
-    ensures { result ≡ true → IsUnreached entries.now i }
-{
-    for number in 0..entries.len() {
-        if site_of(entry_at(entries, number).place) == i {
-            return false;
-        }
-    }
-    true
 }

@@ -1,18 +1,6 @@
-//! When a changed program can be told from the program by no test.
+//! Programs with one statement changed, when they are equivalent, and what is known throughout the runs of a program.
 #![tactic(auto)]
 
-pub mod acting;
-pub mod conditions;
-pub mod entries_alike;
-pub mod equivalent;
-mod forms;
 pub mod invariant;
-pub mod law;
-pub mod moves_alike;
-mod relating;
-pub mod same;
-mod settled;
-mod signs;
 pub mod start;
-mod turns;
 pub mod ways;

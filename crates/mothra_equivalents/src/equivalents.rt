@@ -7,37 +7,51 @@ ghost use Rattle.mothra_equivalents.specs.code.Equivalents.{AreOf, IsFront};
 ghost use Rattle.mothra_replacements.specs.declared.fault.OpsFault.TheVariants.{Memory};
 
 use crate::prover::Prover;
-use crate::why::Why;
+use indexmap::IndexSet;
 use mothra_codes::{Op, Ticket};
 use mothra_ops::{OpsFault, Plan};
 use std::alloc::Global;
 
-/// A mutant that is proved equivalent: no test can kill it on which the program returns or stops. By SPARE-n this
-/// holds only of tests on which the program does so at least n steps before the limit.
+/// A mutant that is proved equivalent: no test can kill it on which the program returns or stops as many steps before
+/// the limit as are to be spared.
 #[derive(Clone, Copy, PartialEq, Eq, Debug, Drop)]
 pub struct Equivalent {
     /// The mutant; the number is that in the plan's list of the operator, which may be thinned.
     pub ticket: Ticket,
-    /// The rule by which it was proved.
-    pub why: Why,
+    /// So many steps it may need more than the program; none if it is 0.
+    pub spare: u32,
 }
 
-/// Adds the operator's mutant with this number to the list, if it is proved equivalent.
+/// What was found of the mutants of a plan.
+#[derive(Drop)]
+pub struct Found {
+    /// Those that are proved equivalent, by operator, then number.
+    pub list: Vec<Equivalent>,
+    /// For so many others the bound on work was met before anything was told of them.
+    pub unfinished: u64,
+}
+
+/// Adds the operator's mutant with this number to the list, if it is proved equivalent. Nothing is asked of a killed
+/// one.
 fn add(
     alloc: Global,
     list: &mut Vec<Equivalent>,
     prover: &mut Prover<'_>,
+    killed: &IndexSet<Ticket>,
     op: Op,
     number: u32,
 ) -> Result<(), OpsFault>
-    ensures plan { prover.new ≡ prover.old }
     ensures front { OnOk result
         (IsFront prover.old op number list.old.items → IsFront prover.old op (number + 1) list.new.items) }
+    ensures plan { prover.new ≡ prover.old }
     ensures memory { IfErr result (λ fault. fault ≡ Memory) }
 {
     let ticket = Ticket { op, number };
-    if let Some(why) = prover.why(alloc, ticket)? {
-        list.push(Equivalent { ticket, why })?;
+    if killed.contains(&ticket) {
+        return Ok(());
+    }
+    if let Some(spare) = prover.spare(alloc, ticket)? {
+        list.push(Equivalent { ticket, spare })?;
     }
     Ok(())
 }
@@ -47,32 +61,50 @@ fn add_operator(
     alloc: Global,
     list: &mut Vec<Equivalent>,
     prover: &mut Prover<'_>,
+    killed: &IndexSet<Ticket>,
     op: Op,
     count: u32,
 ) -> Result<(), OpsFault>
-    ensures plan { prover.new ≡ prover.old }
     ensures front { OnOk result
         (AreOf prover.old (index op) list.old.items → AreOf prover.old (index op + 1) list.new.items) }
+    ensures plan { prover.new ≡ prover.old }
     ensures memory { IfErr result (λ fault. fault ≡ Memory) }
 {
     for before in 0..count {
-        add(alloc, list, prover, op, before + 1)?;
+        add(alloc, list, prover, killed, op, before + 1)?;
     }
     Ok(())
 }
 
+/// How many mutants of the plan are asked about.
+fn asked_of(plan: &Plan, killed: &IndexSet<Ticket>) -> u64 {
+    let mut total = 0u64;
+    for op in Op::ALL {
+        total = total.saturating_add(u64::from(plan.count(op)));
+    }
+    total.saturating_sub(killed.len() as u64)
+}
+
 /// The mutants of the plan that are proved equivalent, by operator, then number. A mutant that is not among them may
-/// be equivalent, too.
-pub fn equivalents_of(alloc: Global, plan: &Plan) -> Result<Vec<Equivalent>, OpsFault>
-    ensures equivalents { IfOk result (λ list. AreEquivalents plan.now list.items) }
+/// be equivalent, too. Those that a test kills can not be: nothing is asked of them.
+pub fn equivalents_of(
+    alloc: Global,
+    plan: &Plan,
+    killed: &IndexSet<Ticket>,
+) -> Result<Found, OpsFault>
+    ensures equivalents { IfOk result (λ found. AreEquivalents plan.now found.list.items) }
     ensures memory { IfErr result (λ fault. fault ≡ Memory) }
 {
     let mut list = Vec::new(alloc);
-    let Some(mut prover) = Prover::of(alloc, plan)? else {
-        return Ok(list);
+    let unfinished = asked_of(plan, killed);
+    let Some(mut prover) = Prover::of(alloc, plan, unfinished)? else {
+        return Ok(Found { list, unfinished });
     };
     for op in Op::ALL {
-        add_operator(alloc, &mut list, &mut prover, op, plan.count(op))?;
+        add_operator(alloc, &mut list, &mut prover, killed, op, plan.count(op))?;
     }
-    Ok(list)
+    Ok(Found {
+        list,
+        unfinished: prover.unfinished(),
+    })
 }

@@ -3,9 +3,5 @@
 
 mod equivalents;
 mod prover;
-mod rules;
-mod why;
-mod work;
 
-pub use equivalents::{Equivalent, equivalents_of};
-pub use why::Why;
+pub use equivalents::{Equivalent, Found, equivalents_of};

@@ -1,36 +1,57 @@
 //! The mutants of a plan, proved equivalent one at a time.
 
-ghost use Rattle.std.specs.Prelude.{◌≡◌, IfErr, IfOk, IfSome};
+ghost use Rattle.std.specs.Prelude.{◌≡◌, IfErr, IfOk, IfSome, Some};
 ghost use Rattle.f77_program.specs.Patching.{patched};
 ghost use Rattle.f77_tree.specs.Statement.{statement_of};
+ghost use Rattle.f77_check.specs.Patching.{IsInPlace};
+ghost use Rattle.mothra_ops.specs.Edits.{IsMutant};
 ghost use Rattle.mothra_ops.specs.Made.{IsMadeMutant};
 ghost use Rattle.mothra_ops.specs.Mutants.{program_of};
-ghost use Rattle.mothra_equivalents.specs.code.Equivalents.{IsEquivalentBy};
-ghost use Rattle.mothra_equivalents.specs.Equivalents.{IsMutantBy};
+ghost use Rattle.mothra_equivalents.specs.Equivalents.{IsProved, IsProvedMutant};
 ghost use Rattle.mothra_replacements.specs.declared.fault.OpsFault.TheVariants.{Memory};
 
-use crate::rules::rule_of;
-use crate::why::Why;
-use crate::work::Work;
-use f77_conditions::conditions::Conditions;
+use f77_check::Resolved;
 use f77_equivalence::invariant::Invariant;
 use f77_finder::finding::entries_of;
+use f77_symbolic::equivalent::Tours;
+use f77_tree::{Shared, Stmt};
 use mothra_codes::Ticket;
 use mothra_ops::{Mutant, OpsFault, Plan};
-use std::alloc::Global;
+use std::alloc::{AllocError, Global};
 use std::marker::Model;
 
-/// The mutants of a plan, with the invariants of its program.
+/// So much work the walks of the program alone may take from all cuts. A hundred thousand units take some tenths of a
+/// second at the most.
+const TOUR: u64 = 400_000;
+
+/// So much the walk of the program alone may take from its start, past all cuts.
+const FROM_START: u64 = 20_000;
+
+/// So much all mutants of a plan may take.
+const BUDGET: u64 = 5_000_000;
+
+/// So much a mutant may take at least, and at most; and so many times its share of what is left.
+const FEWEST: u64 = 1_000;
+
+const MOST: u64 = 40_000;
+
+const SHARES: u64 = 5;
+
+/// The mutants of the plan, with the tours of its program.
 #[derive(Drop)]
 pub(crate) struct Prover<'a> {
     plan: &'a Plan,
-    invariant: Invariant<'a>,
-    conditions: Option<Conditions<'a>>,
-    work: Work,
+    tours: Tours<'a>,
+    /// So many mutants may still be asked about.
+    asked: u64,
+    /// So much work is left for them.
+    left: u64,
+    /// For so many mutants the work did not do.
+    unfinished: u64,
 }
 
 impl<'a> Model for Prover<'a> {
-    ghost use Rattle.std.specs.Prelude.{◌≡◌, IfSome};
+    ghost use Rattle.std.specs.Prelude.{◌≡◌};
     ghost use Rattle.std.specs.Coded.{codes};
     ghost use Rattle.f77_tree.specs.contracts.tree.Expr as expr;
     ghost use Rattle.f77_tree.specs.contracts.statement.Stmt as stmt;
@@ -54,54 +75,113 @@ impl<'a> Model for Prover<'a> {
 
     ghost view = { λ prover. prover.plan.now };
 
-    ghost invariant = { λ prover. (prover.invariant.checked ≡ prover.plan.now.checked)
-        × IfSome prover.conditions (λ conditions. conditions.checked ≡ prover.invariant.checked) };
+    ghost invariant = { λ prover. prover.tours ≡ prover.plan.now.checked };
+}
+
+/// How much work the next of so many mutants may take, where so much is left for all.
+fn work_for(asked: u64, left: u64) -> u64 {
+    let share = (left / asked.max(1)).saturating_mul(SHARES);
+    share.max(FEWEST).min(MOST).min(left)
+}
+
+/// So many steps, if 32 bits hold their number.
+fn in_32_bits(spare: Option<u64>) -> Option<u32>
+    ensures { IfSome result (λ steps. spare ≡ Some steps) }
+{
+    u32::try_from(spare?).ok()
 }
 
 impl<'a> Prover<'a> {
-    /// The mutants of the plan; None if no invariant of the program was found.
-    pub(crate) fn of(alloc: Global, plan: &'a Plan) -> Result<Option<Prover<'a>>, OpsFault>
+    /// The mutants of the plan, of which about so many are asked; None if no invariant of the program was found.
+    pub(crate) fn of(
+        alloc: Global,
+        plan: &'a Plan,
+        asked: u64,
+    ) -> Result<Option<Prover<'a>>, OpsFault>
         ensures plan { IfOk result (λ found. IfSome found (λ prover. prover ≡ plan.now)) }
         ensures memory { IfErr result (λ fault. fault ≡ Memory) }
     {
         let checked = plan.program();
         let entries = entries_of(alloc, checked)?;
-        match Invariant::of(alloc, checked, entries)? {
-            Some(invariant) => {
-                let work = Work::of(alloc, checked, invariant.entries())?;
-                let conditions = Conditions::of(alloc, checked)?;
-                Ok(Some(Prover {
-                    plan,
-                    invariant,
-                    conditions,
-                    work,
-                }))
-            }
-            None => Ok(None),
+        let Some(invariant) = Invariant::of(alloc, checked, entries)? else {
+            return Ok(None);
+        };
+        let tours = Tours::of(alloc, checked, invariant.entries(), TOUR, FROM_START)?;
+        Ok(Some(Prover {
+            plan,
+            left: if tours.is_empty() { 0 } else { BUDGET },
+            tours,
+            asked,
+            unfinished: 0,
+        }))
+    }
+
+    /// For how many mutants the work did not do.
+    pub(crate) fn unfinished(&self) -> u64 {
+        self.unfinished
+    }
+
+    /// How many steps are to be spared for the mutant with this statement, if it is equivalent then. `resolved` is the
+    /// statement's resolved form.
+    fn judge_in_place(
+        &mut self,
+        alloc: Global,
+        number: usize,
+        stmt: &Stmt,
+        resolved: &Shared<Resolved>,
+    ) -> Result<Option<u32>, AllocError>
+        requires mutant { IsMutant (program_of self.old) number (statement_of stmt.now) }
+        requires in_place { IsInPlace self.old.checked number (statement_of stmt.now) resolved.now }
+        ensures equivalent { IfOk result (λ found. IfSome found (λ spare. IsProved spare (program_of self.old)
+            (patched (program_of self.old) number (statement_of stmt.now)))) }
+        ensures plan { self.new ≡ self.old }
+    {
+        let most = work_for(self.asked, self.left);
+        let mut work = most;
+        let spare = self
+            .tours
+            .steps_to_spare(alloc, number, stmt, resolved, &mut work)?;
+        self.left = self.left.saturating_sub(most.saturating_sub(work));
+        if spare.is_none() && work == 0 {
+            self.unfinished = self.unfinished.saturating_add(1);
         }
+        Ok(in_32_bits(spare))
     }
 
-    /// The rule by which the mutant is equivalent, if there is one.
-    fn judge(&mut self, alloc: Global, mutant: &Mutant) -> Result<Option<Why>, OpsFault>
+    /// How many steps are to be spared for the mutant, if it is equivalent then. It is not asked where the change is in
+    /// a declaration, in DATA or in the label of a DO.
+    fn judge(&mut self, alloc: Global, mutant: &Mutant) -> Result<Option<u32>, OpsFault>
         requires { IsMadeMutant self.old.checked mutant.now }
-        ensures plan { self.new ≡ self.old }
-        ensures equivalent { IfOk result (λ found. IfSome found (λ why. IsEquivalentBy why (program_of self.old)
+        ensures equivalent { IfOk result (λ found. IfSome found (λ spare. IsProved spare (program_of self.old)
             (patched (program_of self.old) mutant.now.edit.statement (statement_of mutant.now.stmt.value)))) }
-        ensures memory { IfErr result (λ fault. fault ≡ Memory) }
-    {
-        self.work.spend(mutant.number());
-        rule_of(alloc, &self.invariant, &self.conditions, mutant)
-    }
-
-    /// The rule by which the ticket's mutant is equivalent, if there is one. Once all work is done, no rule is tried.
-    pub(crate) fn why(&mut self, alloc: Global, ticket: Ticket) -> Result<Option<Why>, OpsFault>
         ensures plan { self.new ≡ self.old }
-        ensures equivalent { IfOk result (λ found. IfSome found (λ why. IsMutantBy why self.old ticket)) }
         ensures memory { IfErr result (λ fault. fault ≡ Memory) }
     {
-        if self.work.is_done() {
+        self.asked = self.asked.saturating_sub(1);
+        if !mutant.is_alone {
             return Ok(None);
         }
+        if self.left == 0 {
+            self.unfinished = self.unfinished.saturating_add(1);
+            return Ok(None);
+        }
+        let number = mutant.number();
+        let checked = self.plan.program();
+        let stmt = mutant.statement(checked)?;
+        match checked.resolved(number, &stmt) {
+            Ok(resolved) => Ok(self.judge_in_place(alloc, number, &stmt, &resolved)?),
+            // A legal program is refused for want of memory alone.
+            Err(_) => Err(OpsFault::Memory),
+        }
+    }
+
+    /// How many steps are to be spared for the ticket's mutant, if it is equivalent then.
+    pub(crate) fn spare(&mut self, alloc: Global, ticket: Ticket) -> Result<Option<u32>, OpsFault>
+        ensures equivalent { IfOk result
+            (λ found. IfSome found (λ spare. IsProvedMutant self.old ticket spare)) }
+        ensures plan { self.new ≡ self.old }
+        ensures memory { IfErr result (λ fault. fault ≡ Memory) }
+    {
         match self.plan.mutant(ticket.op, ticket.number) {
             Some(mutant) => self.judge(alloc, mutant),
             None => Ok(None),

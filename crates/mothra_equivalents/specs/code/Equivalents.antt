@@ -1,25 +1,12 @@
 -- The mutants of a plan that no test can kill.
 -- Only private functions and proofs cite these definitions.
 use Rattle.std.specs.Prelude.{◌<◌, ℕ, List, All}
-use Rattle.f77_program.specs.Program.{LineFields}
-use Rattle.f77_equivalence.specs.Equivalent.{IsEquivalent}
-use Rattle.f77_continuations.specs.Within.{IsEquivalentWithin}
 use Rattle.mothra_codes.specs.Op.{index}
 use Rattle.mothra_codes.specs.declared.op.Op.{Op}
 use Rattle.mothra_codes.specs.Ticket.{Before, ticket}
 use Rattle.mothra_ops.specs.Plan.{PlanFields}
 use Rattle.mothra_equivalents.specs.declared.equivalents.Equivalent.{Equivalent}
-use Rattle.mothra_equivalents.specs.declared.why.Why.{Why}
-use Rattle.mothra_equivalents.specs.declared.why.Why.TheVariants as why
 use Rattle.mothra_equivalents.specs.Equivalents.{AreEquivalents}
-
--- what a rule promises of a program p and a mutant q of it
-abbrev pub IsEquivalentBy : Why → List LineFields → List LineFields → Type 0
-IsEquivalentBy why.Same p q = IsEquivalent p q
-IsEquivalentBy why.Unread p q = IsEquivalent p q
-IsEquivalentBy why.Continues p q = IsEquivalent p q
-IsEquivalentBy (why.Spare spare) p q = IsEquivalentWithin spare p q
-IsEquivalentBy why.Unreached p q = IsEquivalent p q
 
 -- the list has equivalent mutants, each before this number of the operator
 pub record IsFront (plan : PlanFields) (op : Op) (number : ℕ) (list : List Equivalent) : Type 0 where

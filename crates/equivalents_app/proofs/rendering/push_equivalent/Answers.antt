@@ -2,11 +2,11 @@ use Rattle.std.proofs.Common.{◌≡◌, ◌++◌, [], string_bytes, subst}
 use Rattle.std.specs.Prelude.{OnOk, Option}
 use Rattle.std.specs.Option.{option_map_or}
 use Rattle.mothra_ops.specs.Mutants.{MutantFields}
-use Rattle.equivalents_app.specs.Rendering.{rule_line}
+use Rattle.equivalents_app.specs.Rendering.{promise_line}
 use Rattle.equivalents_app.proofs.rendering.push_equivalent.Goals as goal
 
 pub returns-in-Some-clause-line : goal.returns-in-Some-clause-line
 returns-in-Some-clause-line c =
     let plan = c.args.plan.now in
     subst (λ (found : Option MutantFields). OnOk c.push_mutant.result (string_bytes c.push_mutant.new.text
-    ≡ string_bytes c.args.text.now ++ option_map_or (rule_line plan c.args.equivalent) found [])) c.in-Some.ensures.mutant c.push_mutant.ensures.line
+    ≡ string_bytes c.args.text.now ++ option_map_or (promise_line plan c.args.equivalent) found [])) c.in-Some.ensures.mutant c.push_mutant.ensures.line

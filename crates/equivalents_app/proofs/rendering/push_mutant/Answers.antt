@@ -1,17 +1,17 @@
 use Rattle.std.proofs.Common.{rules, ◌∙◌, ◌++◌, ℕ, ap, codes, string_bytes}
 use Rattle.mothra_ops.specs.Mutants.{change_text, mutant_fields, program_of}
-use Rattle.equivalents_app.specs.Rendering.{reason_text}
+use Rattle.equivalents_app.specs.Rendering.{promise_text}
 use Rattle.equivalents_app.proofs.Parts.{three_parts}
 use Rattle.equivalents_app.proofs.rendering.push_mutant.Goals as goal
 
 pub returns-clause-line : goal.returns-clause-line
 returns-clause-line c =
     let old = string_bytes c.args.text.now in
-    let reasoned = string_bytes c.push_reason.new.text in
+    let promised = string_bytes c.push_promise.new.text in
     let changed = string_bytes c.push_change.new.text in
     let mutant = mutant_fields c.args.mutant.now in
-    three_parts old (reason_text c.args.plan.now.every c.args.equivalent) (change_text (program_of c.args.plan.now) mutant) (codes "\n")
-    reasoned changed (string_bytes c.push_str.new.self)
-    (c.in_ok-push_reason.ensures ∙ ap (λ (every : ℕ). old ++ reason_text every c.args.equivalent) c.every.ensures)
+    three_parts old (promise_text c.args.plan.now.every c.args.equivalent) (change_text (program_of c.args.plan.now) mutant) (codes "\n")
+    promised changed (string_bytes c.push_str.new.self)
+    (c.in_ok-push_promise.ensures ∙ ap (λ (every : ℕ). old ++ promise_text every c.args.equivalent) c.every.ensures)
     c.in_ok-push_change.ensures.text
     (search rules)

@@ -1,7 +1,8 @@
 use Rattle.std.proofs.Common.{refl}
 use Rattle.mothra_app.specs.declared.fault.Fault.TheVariants.{Job}
 use Rattle.mothra_job.specs.Job.{job_of}
-use Rattle.equivalents_app.proofs.Answered.{job_refused, outcome_found}
+use Rattle.mothra_job.proofs.FewTests.{few_tests}
+use Rattle.equivalents_app.proofs.Answered.{job_refused, outcome_found, read_so}
 use Rattle.equivalents_app.proofs.Findings.{failed_by}
 use Rattle.equivalents_app.proofs.serving.text_for.Goals as goal
 
@@ -13,3 +14,6 @@ returns-in_err-job c =
 pub returns : goal.returns
 returns c =
     outcome_found c.args.inquiry.now c.in_ok-job.job (job_of c.args.bytes.now) c.find.result c.in_ok-job.ensures.job c.find.ensures
+
+pub find-requires-clause-few : goal.find-requires-clause-few
+find-requires-clause-few c = few_tests c.args.bytes.now c.in_ok-job.job (read_so c.in_ok-job.job (job_of c.args.bytes.now) c.in_ok-job.ensures.job)

@@ -1,0 +1,81 @@
+//! The mutants that the tests of a job kill: of these nothing is asked, since a run costs less than a proof.
+
+ghost use Rattle.std.specs.Prelude.{◌≡◌, ◌≤◌, IfErr, IfOk, OnOk, length};
+ghost use Rattle.mothra_replacements.specs.declared.fault.OpsFault.TheVariants.{Memory};
+ghost use Rattle.mothra_verdicts.specs.Bench.{most_tests};
+
+use f77_meaning::{Arg, Values};
+use indexmap::IndexSet;
+use mothra_codes::{Op, Ticket};
+use mothra_ops::{OpsFault, Plan};
+use mothra_verdicts::{Bench, Verdicts};
+use std::alloc::Global;
+
+/// The bench of these tests, on each of which the program returns or stops within the steps. Nothing is declared.
+pub(crate) fn bench_of(
+    alloc: Global,
+    plan: Plan,
+    tests: Values<Values<Arg>>,
+    steps: u32,
+) -> Result<Bench, OpsFault>
+    requires { length tests ≤ most_tests }
+    ensures plan { IfOk result (λ bench. bench.plan ≡ plan) }
+    ensures memory { IfErr result (λ fault. fault ≡ Memory) }
+{
+    match Bench::new(alloc, plan, tests, steps, Values::new(Vec::new(alloc))) {
+        Ok(bench) => Ok(bench),
+        // Tests that fit, on which the program ends, are refused for want of memory alone.
+        Err(_) => Err(OpsFault::Memory),
+    }
+}
+
+/// Adds the mutant to those that are killed, if a test kills it.
+fn add(
+    alloc: Global,
+    verdicts: &mut Verdicts<'_>,
+    killed: &mut IndexSet<Ticket>,
+    ticket: Ticket,
+) -> Result<(), OpsFault>
+    ensures memory { IfErr result (λ fault. fault ≡ Memory) }
+{
+    // A mutant of the plan is refused for want of memory alone.
+    let Ok(row) = verdicts.row(alloc, ticket) else {
+        return Err(OpsFault::Memory);
+    };
+    if row.kills.as_slice().iter().any(|kill| *kill) {
+        killed.insert(ticket)?;
+    }
+    Ok(())
+}
+
+/// Adds the mutants of an operator that a test kills; `count` is how many it has.
+fn add_operator(
+    alloc: Global,
+    verdicts: &mut Verdicts<'_>,
+    killed: &mut IndexSet<Ticket>,
+    op: Op,
+    count: u32,
+) -> Result<(), OpsFault>
+    ensures memory { IfErr result (λ fault. fault ≡ Memory) }
+{
+    for before in 0..count {
+        let number = before + 1;
+        add(alloc, verdicts, killed, Ticket { op, number })?;
+    }
+    Ok(())
+}
+
+/// The mutants of the bench that a test kills.
+pub(crate) fn killed_on(alloc: Global, bench: &Bench) -> Result<IndexSet<Ticket>, OpsFault>
+    ensures memory { IfErr result (λ fault. fault ≡ Memory) }
+{
+    let mut killed = IndexSet::new(alloc);
+    let Ok(mut verdicts) = Verdicts::of(alloc, bench) else {
+        return Err(OpsFault::Memory);
+    };
+    for op in Op::ALL {
+        let count = bench.plan().count(op);
+        add_operator(alloc, &mut verdicts, &mut killed, op, count)?;
+    }
+    Ok(killed)
+}

@@ -1,9 +1,0 @@
-pub mod Extents
-pub mod Kept
-pub mod Lists
-pub mod Going
-pub mod Leading
-pub mod Actions
-pub mod Keeping
-pub mod Choosing
-pub mod Together

@@ -1,4 +1,0 @@
-pub mod Reading
-pub mod Edges
-pub mod Table
-pub mod Same

@@ -1,4 +1,0 @@
-pub mod Paths
-pub mod Continuing
-pub mod Within
-pub mod code

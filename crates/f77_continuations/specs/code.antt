@@ -1,4 +1,0 @@
-pub mod Paths
-pub mod Exits
-pub mod Choosing
-pub mod Continuing

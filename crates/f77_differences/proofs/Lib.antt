@@ -1,9 +1,0 @@
-pub mod Agreeing
-pub mod Values
-pub mod GoingOn
-pub mod Actions
-pub mod Changes
-pub mod Stepping
-pub mod Holding
-pub mod Lockstep
-pub mod Replacing

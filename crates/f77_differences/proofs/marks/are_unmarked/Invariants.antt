@@ -1,6 +1,0 @@
-use Rattle.std.proofs.Common.{◌≡◌, ◌<◌, ◌≤◌, ℕ, false}
-use Rattle.f77_differences.specs.code.Marks.{is_marked}
-use Rattle.f77_differences.proofs.marks.are_unmarked.Given as goal
-
-abbrev pub invariant-loop-slot : goal.invariant-loop-slot
-invariant-loop-slot l = (k : ℕ) → k < l.slot → l.fn.reach.first ≤ k → is_marked l.marks k ≡ false

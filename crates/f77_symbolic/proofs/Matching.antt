@@ -1,0 +1,109 @@
+-- When two sides hold the same.
+use Rattle.std.proofs.Common.{arith, ◌≡◌, ◌≢◌, ◌⊎◌, inl, inr, ◌<◌, ◌+◌, ℕ, suc, false, List, [], ◌∷◌, length, get_or, Option, Some, None, refl, sym, subst, ap, ◌∙◌, below_more}
+use Rattle.std.specs.Prelude.{All, slice_get, slice_set, option_map}
+use Rattle.std.specs.Option.{option_and_then}
+use Rattle.std.proofs.lemmas.Option.{get_or_from_slice_get}
+use Rattle.f77_actions.specs.declared.value.Value.{Value}
+use Rattle.f77_code.specs.Evaluation.{held_in}
+use Rattle.f77_code.specs.Moves.{Cells}
+use Rattle.f77_facts.proofs.Slots.{got_other, same_or_not}
+use Rattle.f77_terms.specs.Terms.{Valuation}
+use Rattle.f77_symbolic.specs.declared.evaluator.Evaluator.{Evaluator}
+use Rattle.f77_symbolic.specs.declared.memory.Symbolic.{Symbolic}
+use Rattle.f77_symbolic.specs.declared.memory.Write.{Write}
+use Rattle.f77_symbolic.specs.declared.sides.SymbolicTurn.{SymbolicTurn}
+use Rattle.f77_symbolic.specs.declared.values.Slots.{Slots}
+use Rattle.f77_symbolic.specs.code.Evaluation.{StaysOn}
+use Rattle.f77_symbolic.specs.Memory.{cells_of, content_of, slot_of}
+use Rattle.f77_symbolic.specs.code.Memory.{HoldSameIn}
+use Rattle.f77_symbolic.specs.Sides.{turn_of, turns_of}
+use Rattle.f77_symbolic.proofs.Read.{Reads}
+use Rattle.f77_symbolic.proofs.Written.{cells_length}
+
+-- of cells with which others start
+held_first : (cell other : Option Value) (cells others : Cells) → ((k : ℕ) → held_in (other ∷ others) k ≡ held_in (cell ∷ cells) k) → other ≡ cell
+held_first cell other cells others same = same 0
+
+-- so many cells that hold the same in each slot are the same
+pub same_cells : (cells others : Cells) → length others ≡ length cells → ((k : ℕ) → held_in others k ≡ held_in cells k) → others ≡ cells
+same_cells [] [] count same = refl
+same_cells [] (other ∷ others) count same = absurd (cc (count))
+same_cells (cell ∷ cells) [] count same = absurd (cc (count))
+same_cells (cell ∷ cells) (other ∷ others) count same =
+    let first : other ≡ cell = held_first cell other cells others same in
+    let rest : others ≡ cells = same_cells cells others (cc (count)) (λ k. same (suc k)) in
+    λ i. first i ∷ rest i
+
+-- what is so of those before, and of one more
+pub all_more : {X : Type 0} (P : X → Type 0) (xs : List X) (i : ℕ) (x : X) → slice_get xs i ≡ Some x → ((k : ℕ) (d : X) → k < i → P (get_or xs k d)) → P x
+    → (k : ℕ) (d : X) → k < i + 1 → P (get_or xs k d)
+all_more {X} P xs i x is before here k d less =
+    below_more (λ k. (d : X) → P (get_or xs k d)) i (λ j below d. before j d below)
+    (λ d. subst P (sym (get_or_from_slice_get xs i x d is)) here) k less d
+
+-- each turn is the same, so all are
+pub same_turns : (v : Valuation) (a b : List (Option SymbolicTurn)) → length b ≡ length a
+    → ((k : ℕ) → k < length a → option_map (option_map (turn_of v)) (slice_get b k) ≡ option_map (option_map (turn_of v)) (slice_get a k))
+    → turns_of v b ≡ turns_of v a
+same_turns v [] [] count same = refl
+same_turns v [] (other ∷ b) count same = absurd (cc (count))
+same_turns v (turn ∷ a) [] count same = absurd (cc (count))
+same_turns v (turn ∷ a) (other ∷ b) count same =
+    let here : Some (option_map (turn_of v) other) ≡ Some (option_map (turn_of v) turn) = same 0 (omega arith) in
+    let first : option_map (turn_of v) other ≡ option_map (turn_of v) turn = cc (here) in
+    let rest : turns_of v b ≡ turns_of v a = same_turns v a b (cc (count)) (λ k less. same (suc k) (omega (arith, less))) in
+    λ i. first i ∷ rest i
+
+-- a slot is not one that is written to, or a write is to it
+abbrev IsWritten : Valuation → ℕ → List Write → Type 0
+IsWritten v slot ws = (k : ℕ) × (w : Write) × (k < length ws) × (get_or ws k w ≡ w) × (slot_of v w.location ≡ slot)
+
+module _ (v : Valuation) (slot : ℕ) where
+  written_or : (cells : Cells) (ws : List Write) → IsWritten v slot ws ⊎ (held_in (cells_of cells v ws) slot ≡ held_in cells slot)
+  written_or cells [] = inr refl
+  written_or cells (w ∷ ws) =
+      by (same_or_not (slot_of v w.location) slot)
+      (written_or (slice_set cells (slot_of v w.location) (content_of v w.value)) ws)
+    where
+      by : (slot_of v w.location ≡ slot) ⊎ (slot_of v w.location ≢ slot)
+          → IsWritten v slot ws ⊎ (held_in (cells_of cells v (w ∷ ws)) slot ≡ held_in (slice_set cells (slot_of v w.location) (content_of v w.value)) slot)
+          → IsWritten v slot (w ∷ ws) ⊎ (held_in (cells_of cells v (w ∷ ws)) slot ≡ held_in cells slot)
+      by (inl here) rest = inl (0, w, omega arith, refl, here)
+      by (inr apart) (inl (k, x, within, is, there)) = inl (suc k, x, omega (arith, within), is, there)
+      by (inr apart) (inr same) =
+          inr (same ∙ ap (option_and_then (λ cell. cell)) (got_other cells (slot_of v w.location) slot (content_of v w.value) (λ e. apart (sym e))))
+
+-- what is claimed of the slot of each write is so of a slot that one is to
+at_written : (v : Valuation) (slot : ℕ) (ws : List Write) (P : ℕ → Type 0) → All (λ w. P (slot_of v w.location)) ws → IsWritten v slot ws → P slot
+at_written v slot ws P all (k, w, within, is, there) =
+    subst P (ap (λ (x : Write). slot_of v x.location) is ∙ there) (all k w within)
+
+-- where the slots of all writes of both hold the same, so do all slots
+pub same_everywhere : (only : Option (List Slots)) (start : Cells) (v : Valuation) (left right : List Write)
+    → All (λ w. HoldSameIn only (cells_of start v left) (cells_of start v right) (slot_of v w.location)) left
+    → All (λ w. HoldSameIn only (cells_of start v left) (cells_of start v right) (slot_of v w.location)) right
+    → (slot : ℕ) → HoldSameIn only (cells_of start v left) (cells_of start v right) slot
+same_everywhere only start v left right own other slot = by (written_or v slot start left) (written_or v slot start right)
+  where
+    P : ℕ → Type 0
+    P k = HoldSameIn only (cells_of start v left) (cells_of start v right) k
+
+    by : IsWritten v slot left ⊎ (held_in (cells_of start v left) slot ≡ held_in start slot)
+        → IsWritten v slot right ⊎ (held_in (cells_of start v right) slot ≡ held_in start slot)
+        → HoldSameIn only (cells_of start v left) (cells_of start v right) slot
+    by (inl written) b = at_written v slot left (λ k. HoldSameIn only (cells_of start v left) (cells_of start v right) k) own written
+    by (inr first) (inl written) = at_written v slot right (λ k. HoldSameIn only (cells_of start v left) (cells_of start v right) k) other written
+    by (inr first) (inr second) = λ asked. second ∙ sym first
+
+-- where all slots hold the same, both hold the same cells
+pub same_cells_of : (start : Cells) (v : Valuation) (left right : List Write)
+    → ((slot : ℕ) → HoldSameIn None (cells_of start v left) (cells_of start v right) slot) → cells_of start v right ≡ cells_of start v left
+same_cells_of start v left right same =
+    same_cells (cells_of start v left) (cells_of start v right) (cells_length v start right ∙ sym (cells_length v start left))
+    (λ k. same k tt)
+
+-- what is read where no fault is assumed away
+pub read_so : (v : Valuation) (old new : Evaluator) (cell : Option Value) (value : Symbolic) → old.own ≡ false → Reads v old new cell value
+    → StaysOn v old new × (cell ≡ content_of v value)
+read_so v old new cell value off (inl it) = it
+read_so v old new cell value off (inr it) = absurd (cc (off, it.0))

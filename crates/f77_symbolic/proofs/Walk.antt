@@ -1,0 +1,154 @@
+-- The rules by which two machines are followed, and that they suffice.
+use Rattle.std.proofs.Common.{arith, ◌≡◌, ◌<◌, ◌≤◌, ◌+◌, ◌⊎◌, inl, inr, ℕ, zero, suc, Bool, true, false, refl, sym, subst}
+use Rattle.f77_symbolic.specs.Walk.{Machine, EndsBy, ReachesIn, Pairing, FollowsFor, IsEarlier, Under, KeysFollow, FollowsByKeys, LeadsUncut, IsReachable, diagonal}
+
+-- what holds of n where it holds of each lesser number holds of each
+pub everywhere : (P : ℕ → Type 0) → Under true P P → (n : ℕ) → P n
+everywhere P step n = step n (below n)
+  where
+    below : (k m : ℕ) → m < k → P m
+    below zero m h = absurd (omega (arith, h))
+    below (suc k) m h = step m (λ j g. below k j (omega (arith, h, g)))
+
+earlier : (fresh : Bool) (m n : ℕ) → m ≤ n → IsEarlier fresh m (suc n)
+earlier true m n h = omega (arith, h)
+earlier false m n h = omega (arith, h)
+
+pub longer : {S E : Type 0} (machine : Machine S E) (n k : ℕ) (s : S) (e : E) → EndsBy machine n s e → n ≤ k → EndsBy machine k s e
+longer machine zero k s e ends h = absurd ends
+longer machine (suc n) zero s e ends h = absurd (omega (arith, h))
+longer machine (suc n) (suc k) s e (inl ends) h = inl ends
+longer machine (suc n) (suc k) s e (inr (b, goes, ends)) h = inr (b, goes, longer machine n k b e ends (omega (arith, h)))
+
+-- one more step behind those that led to a state
+pub one_more : {S E : Type 0} (machine : Machine S E) (n : ℕ) (s t u : S) → ReachesIn machine n s t → machine.goes t u → ReachesIn machine (suc n) s u
+one_more machine zero s t u reaches goes = (u, subst (λ r. machine.goes r u) reaches goes, refl)
+one_more machine (suc n) s t u (b, first, rest) goes = (b, first, one_more machine n b t u rest goes)
+
+-- what is reached stays so
+pub reached_on : {S E : Type 0} (machine : Machine S E) (Start : S → Type 0) (s b : S) → IsReachable machine Start s → machine.goes s b → IsReachable machine Start b
+reached_on machine Start s b (a, start, n, leads) goes = (a, start, suc n, one_more machine n a s b leads goes)
+
+module _ (S E : Type 0) (p : Pairing S E) (closed : (s b : S) → p.Matters s → p.own.goes s b → p.Matters b) where
+  -- the first makes a step
+  pub own_step : (fresh : Bool) (room : ℕ) (s t : S) → ((e : E) → p.Wanted e → p.own.ends s e → ⊥)
+      → ((b : S) → p.own.goes s b → FollowsByKeys p false (suc room) b t) → FollowsByKeys p fresh room s t
+  unfolding FollowsByKeys
+  own_step fresh room s t none next matters zero keys e wanted ends = absurd ends
+  own_step fresh room s t none next matters (suc n) keys e wanted (inl ends) = absurd (none e wanted ends)
+  own_step fresh room s t none next matters (suc n) keys e wanted (inr (b, goes, ends)) =
+      let it = next b goes (closed s b matters goes) n (λ m h. keys m (earlier fresh m n h)) e wanted ends in
+      let same : n + suc room ≡ suc n + room = omega arith in
+      (it.0, subst (λ k. EndsBy p.other k t it.0) same it.1, it.2)
+
+  -- the second makes a step
+  pub other_step : (fresh : Bool) (room : ℕ) (s t b : S) → p.other.goes t b → FollowsByKeys p fresh room s b → FollowsByKeys p fresh (suc room) s t
+  unfolding FollowsByKeys
+  other_step fresh room s t b goes next matters n keys e wanted ends =
+      let it = next matters n keys e wanted ends in
+      let more : EndsBy p.other (suc (n + room)) t it.0 = inr (b, goes, it.1) in
+      let same : suc (n + room) ≡ n + suc room = omega arith in
+      (it.0, subst (λ k. EndsBy p.other k t it.0) same more, it.2)
+
+  -- both end
+  pub both_end : (fresh : Bool) (room : ℕ) (s t : S) → ((b : S) → p.own.goes s b → ⊥)
+      → ((e : E) → p.Wanted e → p.own.ends s e → (f : E) × p.other.ends t f × p.Alike e f) → FollowsByKeys p fresh room s t
+  unfolding FollowsByKeys
+  both_end fresh room s t none each matters zero keys e wanted ends = absurd ends
+  both_end fresh room s t none each matters (suc n) keys e wanted (inl ends) =
+      let it = each e wanted ends in
+      let now : EndsBy p.other (suc (n + room)) t it.0 = inl it.1 in
+      let same : suc (n + room) ≡ suc n + room = omega arith in
+      (it.0, subst (λ k. EndsBy p.other k t it.0) same now, it.2)
+  both_end fresh room s t none each matters (suc n) keys e wanted (inr (b, goes, ends)) = absurd (none b goes)
+
+  -- both do the same
+  pub joint : (fresh : Bool) (room : ℕ) (s t : S)
+      → ((e : E) → p.Wanted e → p.own.ends s e → (f : E) × p.other.ends t f × p.Alike e f)
+      → ((b : S) → p.own.goes s b → (c : S) × p.other.goes t c × FollowsByKeys p false room b c) → FollowsByKeys p fresh room s t
+  unfolding FollowsByKeys
+  joint fresh room s t each next matters zero keys e wanted ends = absurd ends
+  joint fresh room s t each next matters (suc n) keys e wanted (inl ends) =
+      let it = each e wanted ends in
+      let now : EndsBy p.other (suc (n + room)) t it.0 = inl it.1 in
+      let same : suc (n + room) ≡ suc n + room = omega arith in
+      (it.0, subst (λ k. EndsBy p.other k t it.0) same now, it.2)
+  joint fresh room s t each next matters (suc n) keys e wanted (inr (b, goes, ends)) =
+      let to = next b goes in
+      let it = to.2 (closed s b matters goes) n (λ m h. keys m (earlier fresh m n h)) e wanted ends in
+      let now : EndsBy p.other (suc (n + room)) t it.0 = inr (to.0, to.1, it.1) in
+      let same : suc (n + room) ≡ suc n + room = omega arith in
+      (it.0, subst (λ k. EndsBy p.other k t it.0) same now, it.2)
+
+  -- they stand at a key, and a step was made
+  pub at_key : (room : ℕ) (s t : S) → p.Key room s t → FollowsByKeys p false room s t
+  unfolding FollowsByKeys
+  at_key room s t key matters n keys e wanted ends = keys n (omega arith) room s t matters key e wanted ends
+
+  -- more room does no harm
+  pub roomier : (fresh : Bool) (room more : ℕ) (s t : S) → room ≤ more → FollowsByKeys p fresh room s t → FollowsByKeys p fresh more s t
+  unfolding FollowsByKeys
+  roomier fresh room more s t h comes matters n keys e wanted ends =
+      let it = comes matters n keys e wanted ends in
+      (it.0, longer p.other (n + room) (n + more) t it.0 it.1 (omega (arith, h)), it.2)
+
+  -- where the second follows from each key if it does from the keys, it does
+  pub keys_follow : ((room : ℕ) (s t : S) → p.Matters s → p.Key room s t → FollowsByKeys p true room s t) → (n : ℕ) → KeysFollow p n
+  unfolding FollowsByKeys
+  keys_follow each = everywhere (KeysFollow p) (λ n keys room s t matters key. each room s t matters key matters n keys)
+
+-- one more step, to a state that is no cut
+leads_on : {S E : Type 0} (machine : Machine S E) (cut : S → Bool) (n : ℕ) (s t u : S) → LeadsUncut machine cut n s t → machine.goes t u → cut u ≡ false → LeadsUncut machine cut (suc n) s u
+leads_on machine cut zero s t u leads goes apart = (u, subst (λ r. machine.goes r u) leads goes, apart, refl)
+leads_on machine cut (suc n) s t u (b, first, is, rest) goes apart = (b, first, is, leads_on machine cut n b t u rest goes apart)
+
+-- a state that is reached from a start: a cut from which some steps lead there, with no other cut on the way
+pub record IsVisited {S E : Type 0} (machine : Machine S E) (Start : S → Type 0) (cut : S → Bool) (s : S) : Type 0 where
+  pub from : S
+  pub reached : IsReachable machine Start from
+  pub is : cut from ≡ true
+  pub steps : ℕ
+  pub leads : LeadsUncut machine cut steps from s
+
+-- each state that is reached is led to from the last cut on the way
+module _ {S E : Type 0} (machine : Machine S E) (Start : S → Type 0) (cut : S → Bool) (starts : (s : S) → Start s → cut s ≡ true) where
+  onward : (t u : S) → IsReachable machine Start t → machine.goes t u → IsVisited machine Start cut t → (c : Bool) → cut u ≡ c → IsVisited machine Start cut u
+  onward t u reached goes v true is = record { from = u; reached = reached_on machine Start t u reached goes; is = is; steps = 0; leads = refl }
+  onward t u reached goes v false is =
+      record { from = v.from; reached = v.reached; is = v.is; steps = suc v.steps; leads = leads_on machine cut v.steps v.from t u v.leads goes is }
+
+  along : (n : ℕ) (s t : S) → IsReachable machine Start s → IsVisited machine Start cut s → ReachesIn machine n s t → IsVisited machine Start cut t
+  along zero s t reached v reaches = subst (IsVisited machine Start cut) (sym reaches) v
+  along (suc n) s t reached v (b, goes, rest) =
+      along n b t (reached_on machine Start s b reached goes) (onward s b reached goes v (cut b) refl) rest
+
+  pub visited : (t : S) → IsReachable machine Start t → IsVisited machine Start cut t
+  visited t (a, start, n, leads) =
+      along n a t (a, start, 0, refl) (record { from = a; reached = (a, start, 0, refl); is = starts a start; steps = 0; leads = refl }) leads
+
+-- here the second machine does what the first does
+pub record AreSameAt {S E : Type 0} (own other : Machine S E) (s : S) : Type 0 where
+  pub ends : (e : E) → own.ends s e → other.ends s e
+  pub goes : (b : S) → own.goes s b → other.goes s b
+
+module _ (S E : Type 0) (own other : Machine S E) (Wanted : E → Type 0) (Alike : E → E → Type 0) (Start Here : S → Type 0) (spare : ℕ)
+    (apart : (s : S) → Here s ⊎ AreSameAt own other s) (alike : (e : E) → Wanted e → Alike e e)
+    (there : (s : S) → IsReachable own Start s → Here s → FollowsByKeys (diagonal own other Wanted Alike Start spare) true spare s s) where
+  abbrev p : Pairing S E
+  p = diagonal own other Wanted Alike Start spare
+
+  closed : (s b : S) → IsReachable own Start s → own.goes s b → IsReachable own Start b
+  closed = reached_on own Start
+
+  from_key : (room : ℕ) (s : S) → IsReachable own Start s → spare ≤ room → Here s ⊎ AreSameAt own other s → FollowsByKeys p true room s s
+  from_key room s reached h (inl here) = roomier S E p closed true spare room s s h (there s reached here)
+  from_key room s reached h (inr same) =
+      joint S E p closed true room s s (λ e wanted ends. (e, same.ends e ends, alike e wanted))
+      (λ b goes. (b, same.goes b goes, at_key S E p closed room b b (refl, h)))
+
+  -- with so many steps to spare the other ends as the machine does
+  pub ends_alike : (n : ℕ) (s : S) → Start s → FollowsFor p spare n s s
+  ends_alike n s start =
+      keys_follow S E p closed
+      (λ room u t matters key. subst (λ r. FollowsByKeys p true room u r) (sym key.0) (from_key room u matters key.1 (apart u)))
+      n spare s s (s, start, 0, refl) (refl, omega arith)

@@ -1,0 +1,19 @@
+use Rattle.std.proofs.Common.{ap, sym, ◌∙◌, subst}
+use Rattle.std.specs.Prelude.{option_map}
+use Rattle.f77_terms.proofs.Values.{ok_then}
+use Rattle.f77_symbolic.specs.Memory.{cells_of}
+use Rattle.f77_symbolic.specs.Sides.{turn_of, turns_of}
+use Rattle.f77_symbolic.specs.code.Sides.{Stepped}
+use Rattle.f77_symbolic.proofs.Steps.{both_told, moved_increment}
+use Rattle.f77_symbolic.proofs.evaluator.Evaluator.count_on.Goals as goal
+
+pub returns-clause-steps : goal.returns-clause-steps
+returns-clause-steps c =
+    ok_then c.increment.result (both_told _ _ c.increment.result c.increment.ensures.steps c.increment.ensures.counts)
+    (λ step told start v there holds inside.
+    let cells = cells_of start.cells v c.args.side.now.writes.items in
+    let turns = turns_of v c.args.side.now.turns.items in
+    subst (λ move. Stepped start.cells v c.args.self.now.own c.increment.new.self.path c.args.side.now c.increment.new.side step move)
+    (sym (moved_increment c.args.statements.now c.args.d c.statement_at.result.now (turn_of v c.in_ok-turn.turn) cells turns c.statement_at.ensures told.1
+    ((rw c.deref.ensures.value at c.in_ok-turn_at.ensures) v ∙ ap (option_map (turn_of v)) c.in_ok-turn.ensures.ok_part)))
+    (told.0 start v there holds inside))

@@ -1,0 +1,18 @@
+use Rattle.std.proofs.Common.{sym, ◌∙◌, subst}
+use Rattle.f77_terms.proofs.Values.{ok_then}
+use Rattle.f77_symbolic.specs.Memory.{cells_of}
+use Rattle.f77_symbolic.specs.Sides.{turns_of}
+use Rattle.f77_symbolic.specs.code.Sides.{Stepped}
+use Rattle.f77_symbolic.proofs.Steps.{moved_execute}
+use Rattle.f77_symbolic.proofs.evaluator.Evaluator.execute.Goals as goal
+
+pub returns-clause-steps : goal.returns-clause-steps
+returns-clause-steps c =
+    ok_then c.act.result c.act.ensures.steps
+    (λ step claim start v there holds inside.
+    let cells = cells_of start.cells v c.args.side.now.writes.items in
+    let turns = turns_of v c.args.side.now.turns.items in
+    subst (λ move. Stepped start.cells v c.args.self.now.own c.act.new.self.path c.args.side.now c.act.new.side step move)
+    (sym (moved_execute c.args.statements.now c.args.i c.statement_at-resolved.result.now cells turns c.statement_at-resolved.ensures
+    (sym c.is_executed.ensures ∙ c.if-not-is_executed.false)))
+    (claim start v there holds inside))

@@ -1,0 +1,22 @@
+use Rattle.std.proofs.Common.{inl, refl, ◌+ℤ◌, ◌*ℤ◌, ◌≤ℤ◌, pos, w64}
+use Rattle.std.proofs.lemmas.Int.{to_z-of_z}
+use Rattle.f77_terms.proofs.Values.{ok_then}
+use Rattle.f77_terms.specs.Terms.{sum_value}
+use Rattle.f77_symbolic.proofs.Expecting.{expected_so}
+use Rattle.f77_symbolic.proofs.evaluator.Evaluator.expect_below.Goals as goal
+use mir.Val.{SFits}
+
+pub returns-then-not-self-clause-expects : goal.returns-then-not-self-clause-expects
+returns-then-not-self-clause-expects c =
+    let m : SFits w64 c.args.m = c.ranges.m in
+    let constant : SFits w64 c.args.constant = c.ranges.constant in
+    let bounded = simp to_z-of_z at c.in_ok-is_bounded.ensures in
+    ok_then c.unless_unknown-then-not-self.result c.unless_unknown-then-not-self.ensures
+    (λ x shown v holds. expected_so v c.args.self.now ((c.args.constant +ℤ c.args.m *ℤ sum_value v c.args.term.now) ≤ℤ pos 0) holds (bounded shown v holds))
+
+pub returns-clause-expects : goal.returns-clause-expects
+returns-clause-expects c v holds =
+    let m : SFits w64 c.args.m = c.ranges.m in
+    let constant : SFits w64 c.args.constant = c.ranges.constant in
+    let added = simp to_z-of_z at c.in_ok-add_below.ensures in
+    ((λ below. record { holds = added v holds below; own = refl }), inl c.if-not-self.false)

@@ -1,0 +1,41 @@
+use Rattle.std.proofs.Common.{◌≤◌, ◌<◌, ◌∙◌, length, arith, sym, subst}
+use Rattle.std.proofs.lemmas.List.{take_all}
+use Rattle.f77_terms.specs.Paths.{Holds}
+use Rattle.f77_symbolic.specs.Visits.{AreTurnNumbers}
+use Rattle.f77_symbolic.proofs.Entered.{turns_next, visit_first}
+use Rattle.f77_symbolic.proofs.evaluator.Evaluator.first_visit.Goals as goal
+
+pub returns-in_err-turn-clause-extends : goal.returns-in_err-turn-clause-extends
+returns-in_err-turn-clause-extends c start v is = c.loop-d.invariant.extends start v (c.turn_known.ensures.extends start v is)
+
+pub returns-in_err-push-clause-extends : goal.returns-in_err-push-clause-extends
+returns-in_err-push-clause-extends c start v is = c.loop-d.invariant.extends start v (c.in_ok-turn.ensures.extends start v is)
+
+pub returns-clause-extends : goal.returns-clause-extends
+returns-clause-extends c start v is = c.loop-d.invariant.extends start v (c.taken_path.ensures.extends start v is)
+
+pub loop-d-preserved : goal.loop-d-preserved
+loop-d-preserved c = record {
+  stands = λ start v is holds turns numbers left.
+      let old = c.in_ok-turn.ensures.extends start v is in
+      let first = c.loop-d.invariant.extends start v old in
+      let before = c.loop-d.invariant.stands start v old holds turns numbers left in
+      let same = sym first.known.count ∙ old.known.count in
+      let long = left.count in
+      let within : c.loop-d.d < length turns = omega arith in
+      let it =
+      c.in_ok-turn.ensures.stands start v is before.0 turns (subst (λ k. AreTurnNumbers k c.args.count turns start) same numbers)
+      (left.each c.loop-d.d c.loop_at.result c.loop_at.ensures) c.loop-d-test.true in (
+        it.0.holds,
+        turns_next v c.loop-d.turns.items c.push.new.self.items c.in_ok-turn.turn turns c.loop-d.d within c.in_ok-push.ensures.items it.1 before.1,
+      );
+  extends = λ start v is. c.loop-d.invariant.extends start v (c.in_ok-turn.ensures.extends start v is);
+}
+
+pub returns-clause-first : goal.returns-clause-first
+returns-clause-first c start v is holds s cells numbers place left =
+    let at = c.loop-d.invariant.stands start v (c.taken_path.ensures.extends start v is) holds s.turns numbers left in
+    let long = left.count in
+    let all : length s.turns ≤ c.loop-d.d = omega arith in
+    visit_first start v s (record { path = c.taken_path.result; side = record { place = c.args.place; writes = c.new.result; turns = c.loop-d.turns } })
+    (subst (Holds v) (sym c.taken_path.ensures.path) at.0) c.new.ensures.items cells place (at.1 ∙ take_all c.loop-d.d s.turns all)

@@ -1,0 +1,22 @@
+use Rattle.std.proofs.Common.{◌≤ℤ◌, ℕ, pos}
+use Rattle.std.specs.Prelude.{All}
+use Rattle.f77_check.specs.Checked.{CheckedFields}
+use Rattle.f77_terms.specs.Terms.{Valuation}
+use Rattle.f77_symbolic.specs.Atoms.{Interprets}
+use Rattle.f77_symbolic.specs.code.Atoms.{Extends}
+use Rattle.f77_symbolic.specs.Memory.{Start}
+use Rattle.f77_symbolic.specs.code.Pairs.{IsReady, IsSettled}
+use Rattle.f77_symbolic.proofs.evaluator.Evaluator.follow.Given as goal
+
+-- where the pairs that are left are settled, so are those at the start
+abbrev pub invariant-loop-work : goal.invariant-loop-work
+invariant-loop-work l = record {
+  extends : Extends l.initial.self.atoms l.self.atoms;
+  positive : pos 0 ≤ℤ l.behind;
+  leads : (spare : ℕ) (checked : CheckedFields) (start : Start) (v : Valuation) → IsReady checked l.change → Interprets l.self.atoms start v
+      → l.behind ≤ℤ pos spare → All (IsSettled spare checked l.change start v) l.todo.items
+      → All (IsSettled spare checked l.change start v) l.initial.todo.items;
+}
+
+abbrev pub decreases-loop-work : goal.decreases-loop-work
+decreases-loop-work l = l.work

@@ -1,0 +1,29 @@
+use Rattle.f77_terms.proofs.Values.{ok_then}
+use Rattle.f77_terms.specs.Terms.{sum_value}
+use Rattle.f77_symbolic.proofs.Elements.{IsSubscript, matrix_answers}
+use Rattle.f77_symbolic.proofs.Expecting.{both_expected}
+use Rattle.f77_symbolic.proofs.evaluator.Evaluator.matrix.Goals as goal
+
+pub returns-in_err-expect_subscript-2-clause-extends : goal.returns-in_err-expect_subscript-2-clause-extends
+returns-in_err-expect_subscript-2-clause-extends c start v is =
+    c.in_ok-expect_subscript.ensures.extends start v (c.expect_subscript-2.ensures.extends start v is)
+
+pub returns-in_err-index-clause-extends : goal.returns-in_err-index-clause-extends
+returns-in_err-index-clause-extends c start v is =
+    c.in_ok-expect_subscript.ensures.extends start v (c.in_ok-expect_subscript-2.ensures.extends start v is)
+
+pub returns-clause-locates : goal.returns-clause-locates
+returns-clause-locates c =
+    ok_then c.located.result c.located.ensures
+    (λ location there start v interprets holds.
+    let row = sum_value v c.args.row.now in
+    let column = sum_value v c.args.column.now in
+    matrix_answers v c.args.self.now c.expect_subscript-2.new.self location (sum_value v c.in_ok-index.index) row column
+    c.args.first c.args.rows c.args.columns (c.in_ok-index.ensures v)
+    (both_expected v c.args.self.now c.expect_subscript.new.self c.expect_subscript-2.new.self (IsSubscript c.args.rows row) (IsSubscript c.args.columns column)
+    (c.in_ok-expect_subscript.ensures.expects v holds) (c.in_ok-expect_subscript-2.ensures.expects v))
+    (there v))
+
+pub returns-clause-extends : goal.returns-clause-extends
+returns-clause-extends c start v is =
+    c.in_ok-expect_subscript.ensures.extends start v (c.in_ok-expect_subscript-2.ensures.extends start v is)

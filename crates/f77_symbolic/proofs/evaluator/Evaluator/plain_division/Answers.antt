@@ -1,0 +1,18 @@
+use Rattle.std.proofs.Common.{arith, rules, ◌≡◌, ◌⊎◌, inl, inr, pos, negsuc, w64}
+use Rattle.std.proofs.lemmas.Int.{ints, to_z-of_z}
+use Rattle.f77_terms.specs.Terms.{sum_value}
+use Rattle.f77_symbolic.proofs.Divisions.{unit_division}
+use Rattle.f77_symbolic.proofs.evaluator.Evaluator.plain_division.Goals as goal
+use Rattle.f77_symbolic.proofs.evaluator.Evaluator.plain_division.Goals.{else-divisor-ne1-via-then-divisor-ne1+else-divisor, else-divisor-ne1-via-else-divisor-ne1}
+use mir.Val.{SFits}
+
+pub returns : goal.returns
+returns c v =
+    let fits : SFits w64 c.in-Some.divisor = search rules in
+    let unit : (c.in-Some.divisor ≡ pos 1) ⊎ (c.in-Some.divisor ≡ negsuc 0) =
+    elim c.else-divisor-ne1.branch [
+      | else-divisor-ne1-via-then-divisor-ne1+else-divisor w ↦ inr (omega (arith, ints))
+      | else-divisor-ne1-via-else-divisor-ne1 w ↦ inl (omega (arith, ints))
+    ] in
+    unit_division v (record { quotient = c.in_ok-plus.field-0; remainder = c.constant_term.result }) (sum_value v c.args.a.now) (sum_value v c.args.b.now)
+    c.in-Some.divisor (c.in-Some.ensures v) unit ((simp to_z-of_z at c.in_ok-plus.ensures) v) (c.constant_term.ensures v)

@@ -1,0 +1,25 @@
+use Rattle.std.proofs.Common.{arith, rules, ◌≡◌, ℤ, pos, subst, w64}
+use Rattle.std.specs.Prelude.{◌≤ℤ◌, Ok}
+use Rattle.std.proofs.lemmas.Int.{ints, to_z-of_z}
+use Rattle.f77_terms.proofs.Values.{ok_then}
+use Rattle.f77_terms.specs.Terms.{Valuation, sum_value}
+use Rattle.f77_symbolic.specs.declared.halt.Halt.{Halt}
+use Rattle.f77_symbolic.specs.code.Evaluation.{Answers}
+use Rattle.f77_symbolic.proofs.Expecting.{some_told}
+use Rattle.f77_symbolic.proofs.Factors.{power_as}
+use Rattle.f77_symbolic.proofs.evaluator.Evaluator.power_of.Goals as goal
+use mir.Val.{SFits}
+
+pub returns-clause-calculates : goal.returns-clause-calculates
+returns-clause-calculates c =
+    let fits : SFits w64 c.in_ok-exponent.exponent = search rules in
+    let above : pos 1 ≤ℤ c.in_ok-exponent.exponent = omega (arith, ints) in
+    let exponent : (v : Valuation) → sum_value v c.args.b.now ≡ c.in_ok-exponent.exponent
+    = some_told {E = Halt} (λ (z : ℤ). (v : Valuation) → sum_value v c.args.b.now ≡ z) c.constant_of.result (Ok c.in_ok-exponent.exponent)
+    c.in_ok-exponent.ensures.ok_part c.constant_of.ensures in
+    ok_then c.ranged.result c.ranged.ensures.calculates
+    (λ value claim start v interprets holds.
+    subst (λ r. Answers v c.args.self.now c.ranged.new.self r (λ x. sum_value v value ≡ x))
+    (power_as (sum_value v c.args.a.now) (sum_value v c.args.b.now) c.in_ok-exponent.exponent (sum_value v c.in_ok-term.term) (exponent v) above
+    ((simp to_z-of_z at c.in_ok-term.ensures) above v))
+    (claim start v interprets holds))

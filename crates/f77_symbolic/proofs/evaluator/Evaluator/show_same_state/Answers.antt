@@ -1,0 +1,23 @@
+use Rattle.std.proofs.Common.{◌≡◌, sym, ◌∙◌}
+use Rattle.f77_code.specs.Moves.{state}
+use Rattle.f77_terms.proofs.Values.{ok_then}
+use Rattle.f77_symbolic.specs.Sides.{turns_of}
+use Rattle.f77_symbolic.proofs.Matching.{same_cells_of}
+use Rattle.f77_symbolic.proofs.Comparisons.{same_place}
+use Rattle.f77_symbolic.proofs.evaluator.Evaluator.show_same_state.Goals as goal
+
+pub returns-clause-same : goal.returns-clause-same
+returns-clause-same c =
+    ok_then c.show_same.result c.show_same.ensures.same
+    (λ x same start v there holds left right.
+    let on = c.in_ok-come_on.ensures.path v holds in
+    let turns : turns_of v c.args.right.now.turns.items ≡ turns_of v c.args.left.now.turns.items =
+    rw (c.deref.ensures.value, c.deref-2.ensures.value) at c.in_ok-show_same_turns.ensures v on in
+    let all = rw (c.deref-3.ensures.value, c.deref-4.ensures.value) at same start v there on in
+    let cells = same_cells_of start.cells v c.args.left.now.writes.items c.args.right.now.writes.items (all left right) in
+    let place : c.args.right.now.place ≡ c.args.left.now.place =
+    same_place c.args.left.now.place c.args.right.now.place (sym c.eq.ensures ∙ c.in_ok-unless_unknown.ensures) in
+    λ i. state (place i) (cells i) (turns i))
+
+pub returns-clause-extends : goal.returns-clause-extends
+returns-clause-extends c start v is = c.in_ok-come_on.ensures.extends start v (c.show_same.ensures.extends start v is)

@@ -1,0 +1,24 @@
+use Rattle.std.proofs.Common.{ap, sym, ◌∙◌, Some}
+use Rattle.std.specs.Prelude.{slice_set}
+use Rattle.f77_actions.specs.declared.value.Value.TheVariants as held
+use Rattle.f77_code.specs.Moves.{passing}
+use Rattle.f77_terms.proofs.Values.{ok_then}
+use Rattle.f77_terms.specs.Terms.{sum_value}
+use Rattle.f77_symbolic.specs.Memory.{cells_of}
+use Rattle.f77_symbolic.specs.Sides.{turns_of}
+use Rattle.f77_symbolic.proofs.looping.advance.Goals as goal
+
+pub returns : goal.returns
+returns c =
+    ok_then c.pass.result c.pass.ensures
+    (λ found claim start v passes step inside has.
+    let goes = claim v passes step has in
+    let here = c.fixed.ensures.inside v in
+    let cells = cells_of start v c.args.side.now.writes.items in (
+      goes.moves,
+      rw goes.writes (c.in_ok-put.ensures.inside v inside here),
+      ap (λ cells. passing c.args.end.now c.args.d passes step cells (turns_of v c.args.side.now.turns.items))
+          (ap (λ k. slice_set cells k (Some (held.Number (sum_value v c.args.number)))) (sym (c.fixed.ensures.slot v))
+          ∙ sym (c.in_ok-put.ensures.cells start v inside here))
+          ∙ goes.goes start,
+    ))

@@ -1,0 +1,10 @@
+use Rattle.std.proofs.Common.{ℕ, ◌<◌, ◌≤◌, ◌+◌, get_or}
+use Rattle.f77_terms.specs.Terms.{Valuation}
+use Rattle.f77_symbolic.specs.declared.values.Slots.{Slots}
+use Rattle.f77_symbolic.specs.Memory.{IsInside, slot_of}
+use Rattle.f77_symbolic.proofs.meeting.may_be_of.Given as goal
+
+abbrev pub invariant-loop-slots : goal.invariant-loop-slots
+invariant-loop-slots l =
+    (v : Valuation) → IsInside v l.location → (k : ℕ) → k < l.slots-index → (d : Slots)
+    → ((get_or l.list k d).first ≤ slot_of v l.location) × (slot_of v l.location < (get_or l.list k d).first + (get_or l.list k d).count) → ⊥

@@ -1,0 +1,37 @@
+use Rattle.std.proofs.Common.{rules, arith, ◌≡◌, ◌≢◌, inl, pos, refl, sym, subst, w64}
+use Rattle.std.specs.Prelude.{◌≤ℤ◌, ◌<ℤ◌, int_div, unsigned_abs}
+use Rattle.std.specs.Int.{int_max}
+use Rattle.std.proofs.lemmas.Int.{ints, to_z-of_z, quot_is, quot_fits}
+use Rattle.f77_symbolic.proofs.Sized.{quot_within, quot_above}
+use Rattle.f77_symbolic.proofs.spans.quotient_size.Goals as goal
+use mir.Val.{SFits}
+
+pub nonzero_div-result : goal.nonzero_div-result
+nonzero_div-result c =
+    let most : SFits w64 c.size_of.result = search rules in
+    let some : SFits w64 c.max.result = search rules in
+    let positive : pos 0 <ℤ c.max.result = omega (arith, ints, c.max.ensures.other_bound) in
+    let whole = quot_fits w64 c.size_of.result c.max.result most positive in
+    (search rules, simp to_z-of_z whole)
+
+pub returns-clause-sizes : goal.returns-clause-sizes
+returns-clause-sizes c x y first second apart =
+    let most : SFits w64 c.size_of.result = search rules in
+    let least : SFits w64 c.least_size_of.result = search rules in
+    let some : SFits w64 c.max.result = search rules in
+    let greater : c.max.result ≡ int_max c.least_size_of.result (pos 1) = simp to_z-of_z at c.max.ensures.value in
+    let positive : pos 0 <ℤ c.max.result = omega (arith, ints, c.max.ensures.other_bound) in
+    let is = quot_is w64 c.size_of.result c.max.result most some (quot_fits w64 c.size_of.result c.max.result most positive) in
+    subst (λ z. pos (unsigned_abs (int_div x y)) ≤ℤ z) (sym is)
+    (quot_within x y c.size_of.result c.least_size_of.result (int_div c.size_of.result c.max.result) apart
+    (c.size_of.ensures.sizes x first) (c.least_size_of.ensures.sizes y second) (rw greater refl))
+
+pub returns-clause-above : goal.returns-clause-above
+returns-clause-above c =
+    let most : SFits w64 c.size_of.result = search rules in
+    let some : SFits w64 c.max.result = search rules in
+    let positive : pos 0 <ℤ c.max.result = omega (arith, ints, c.max.ensures.other_bound) in
+    let is = quot_is w64 c.size_of.result c.max.result most some (quot_fits w64 c.size_of.result c.max.result most positive) in
+    let apart : c.max.result ≢ pos 0 = λ none. omega (arith, ints, positive, none) in
+    subst (λ z. pos 0 ≤ℤ z) (sym is)
+    (quot_above c.size_of.result c.max.result apart (inl (c.size_of.ensures.above, omega (arith, ints, positive))))

@@ -1,0 +1,27 @@
+use Rattle.std.proofs.Common.{rules, arith, ◌≡◌, pos, w64}
+use Rattle.std.specs.Prelude.{◌-ℤ◌}
+use Rattle.std.specs.Int.{int_max, int_min}
+use Rattle.std.proofs.lemmas.Int.{ints, clamps, to_z-of_z}
+use Rattle.f77_symbolic.proofs.Sized.{rem_within}
+use Rattle.f77_symbolic.proofs.spans.remainder_size.Goals as goal
+use mir.Val.{SFits}
+
+pub returns-clause-sizes : goal.returns-clause-sizes
+returns-clause-sizes c x y first second apart =
+    let most : SFits w64 c.size_of.result = search rules in
+    let more : SFits w64 c.size_of-2.result = search rules in
+    let less : SFits w64 (c.size_of-2.result -ℤ pos 1) = search rules in
+    let rest : SFits w64 c.max.result = search rules in
+    let size : SFits w64 c.min.result = search rules in
+    let greater : c.max.result ≡ int_max (c.size_of-2.result -ℤ pos 1) (pos 0) = simp to_z-of_z at c.max.ensures.value in
+    let lesser : c.min.result ≡ int_min c.size_of.result c.max.result = simp to_z-of_z at c.min.ensures.value in
+    simp to_z-of_z (rem_within x y c.size_of.result c.size_of-2.result c.min.result apart (c.size_of.ensures.sizes x first) (c.size_of-2.ensures.sizes y second)
+    (rw greater at lesser))
+
+pub returns-clause-above : goal.returns-clause-above
+returns-clause-above c =
+    let most : SFits w64 c.size_of.result = search rules in
+    let rest : SFits w64 c.max.result = search rules in
+    let size : SFits w64 c.min.result = search rules in
+    let lesser : c.min.result ≡ int_min c.size_of.result c.max.result = simp to_z-of_z at c.min.ensures.value in
+    simp to_z-of_z (omega (arith, ints, clamps, lesser, c.max.ensures.other_bound, c.size_of.ensures.above))

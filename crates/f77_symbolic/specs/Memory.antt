@@ -1,0 +1,62 @@
+-- What slots hold behind symbolic writes.
+use Rattle.std.specs.Prelude.{◌∷◌, ◌≤ℤ◌, ◌<ℤ◌, ℕ, true, false, not, List, [], All}
+use Rattle.std.specs.Prelude.{Option, Some, None, option_map, slice_get, slice_set, ℤ, pos}
+use Rattle.f77_actions.specs.declared.value.Value.{Value}
+use Rattle.f77_actions.specs.declared.value.Value.TheVariants as held
+use Rattle.f77_actions.specs.Number.{is_same}
+use Rattle.f77_code.specs.Moves.{Cells}
+use Rattle.f77_facts.specs.declared.facts.Fact.{Fact}
+use Rattle.f77_facts.specs.declared.facts.Fact.TheVariants as fact
+use Rattle.f77_terms.specs.Atoms.{Numbers, slot_behind}
+use Rattle.f77_terms.specs.Terms.{Valuation, sum_value}
+use Rattle.f77_symbolic.specs.declared.memory.Location.{Location}
+use Rattle.f77_symbolic.specs.declared.memory.Symbolic.{Symbolic}
+use Rattle.f77_symbolic.specs.declared.memory.Symbolic.TheVariants as symbolic
+use Rattle.f77_symbolic.specs.declared.memory.Write.{Write}
+use Rattle.f77_tree.specs.declared.tree.Kind.{Kind}
+use Rattle.f77_tree.specs.declared.tree.Kind.TheVariants.{Integer, Logical}
+
+-- what is held as a number: a truth value is 1 or 0
+abbrev pub number_of : Option Value → ℤ
+number_of (Some (held.Number z)) = z
+number_of (Some (held.Truth true)) = pos 1
+number_of (Some (held.Truth false)) = pos 0
+number_of None = pos 0
+
+-- where a walk starts: what the slots hold, and the numbers that atoms may stand for
+pub record Start : Type 0 where
+  pub cells : Cells
+  pub numbers : Numbers
+
+-- the kind of which a fact tells
+abbrev pub kind_of_fact : Fact → Kind
+kind_of_fact (fact.Number known) = Integer
+kind_of_fact (fact.Truth truths) = Logical
+
+-- the kind of which the fact of a slot tells
+abbrev pub kind_of_slot : List Fact → ℕ → Option Kind
+kind_of_slot facts slot = option_map kind_of_fact (slice_get facts slot)
+
+abbrev pub slot_of : Valuation → Location → ℕ
+slot_of v location = slot_behind location.first (sum_value v location.index)
+
+-- the location is one of its slots
+pub record IsInside (v : Valuation) (location : Location) : Type 0 where
+  pub above : pos 0 ≤ℤ sum_value v location.index
+  pub below : sum_value v location.index <ℤ pos location.count
+
+-- so is each that was written to
+abbrev pub AreInside : Valuation → List Write → Type 0
+AreInside v writes = All (λ write. IsInside v write.location) writes
+
+-- a truth value is true where its term is not 0
+abbrev pub content_of : Valuation → Symbolic → Option Value
+content_of v symbolic.Nothing = None
+content_of v (symbolic.Number term) = Some (held.Number (sum_value v term))
+content_of v (symbolic.Truth term) = Some (held.Truth (not (is_same (sum_value v term) (pos 0))))
+
+-- what the slots hold behind the writes, the first of them first
+abbrev pub cells_of : Cells → Valuation → List Write → Cells
+cells_of cells v [] = cells
+cells_of cells v (write ∷ writes) =
+    cells_of (slice_set cells (slot_of v write.location) (content_of v write.value)) v writes

@@ -1,0 +1,91 @@
+-- What a walk of the program alone visits.
+use Rattle.std.specs.Prelude.{◌≡◌, ◌+◌, ◌*◌, ◌==◌, ◌<◌}
+use Rattle.std.specs.Prelude.{ℕ, pos, Bool, true, false, Any, List, Some}
+use Rattle.std.specs.Prelude.{length, slice_get, Vec}
+use Rattle.std.specs.List.{list_any}
+use Rattle.std.specs.declared.alloc.Global.{Global}
+use Rattle.f77_actions.specs.declared.resolved.Resolved.{Resolved}
+use Rattle.f77_code.specs.declared.control.Place.{Place}
+use Rattle.f77_code.specs.declared.control.Place.TheVariants as place
+use Rattle.f77_code.specs.declared.control.Turn.{Turn}
+use Rattle.f77_code.specs.Moves.{State, TurnList, turn_at}
+use Rattle.f77_check.specs.Checked.{CheckedFields}
+use Rattle.f77_equivalence.specs.Alike.{site}
+use Rattle.f77_equivalence.specs.Invariant.{HoldsThroughout}
+use Rattle.f77_facts.specs.declared.entries.Entry.{Entry}
+use Rattle.f77_facts.specs.Facts.{AreIn, Lies}
+use Rattle.f77_facts.specs.Loops.{AreLeft}
+use Rattle.f77_terms.specs.Paths.{Holds}
+use Rattle.f77_terms.specs.Terms.{Valuation}
+use Rattle.f77_symbolic.specs.declared.visiting.Visit.{Visit}
+use Rattle.f77_symbolic.specs.declared.visiting.Visits.{Visits}
+use Rattle.f77_symbolic.specs.declared.visiting.Tour.{Tour}
+use Rattle.f77_symbolic.specs.Machines.{machine}
+use Rattle.f77_symbolic.specs.Walk.{LeadsUncut}
+use Rattle.f77_symbolic.specs.Atoms.{Interprets}
+use Rattle.f77_symbolic.specs.Memory.{AreInside, Start}
+use Rattle.f77_symbolic.specs.Sides.{state_of}
+
+abbrev pub is_same_place : Place → Place → Bool
+is_same_place (place.Execute i) (place.Execute j) = i == j
+is_same_place (place.Increment i) (place.Increment j) = i == j
+is_same_place _ _ = false
+
+-- the walk ends where control is at one of these places
+abbrev pub is_cut_in : List Place → State → Bool
+is_cut_in places s = list_any (λ other. is_same_place other s.place) places
+
+-- so many steps of the program lead from one state to the other, with no cut on the way
+abbrev pub LeadsTo : List Resolved → List Place → ℕ → State → State → Type 0
+LeadsTo statements places n s t = LeadsUncut (machine statements) (is_cut_in places) n s t
+
+-- the visit is one of this state
+pub record IsVisit (start : Start) (v : Valuation) (s : State) (visit : Visit) : Type 0 where
+  pub holds : Holds v visit.path
+  pub inside : AreInside v visit.side.writes.items
+  pub is : state_of start.cells v visit.side ≡ s
+
+-- the state is noted with its statement
+pub record IsVisitNoted (at : List (Vec Visit Global)) (start : Start) (v : Valuation) (s : State)
+    : Type 0 where
+  pub list : Vec Visit Global
+  pub there : slice_get at (site s.place) ≡ Some list
+  pub visits : Any (IsVisit start v s) list.items
+
+-- the numbers behind those of the slots are what the DOs have left, and then by how much they go on
+pub record AreTurnNumbers (slots count : ℕ) (turns : TurnList) (start : Start) : Type 0 where
+  pub passes : (d : ℕ) (turn : Turn) → d < count → turn_at turns d ≡ Some turn
+      → start.numbers (2 * slots + d) ≡ pos turn.passes
+  pub steps : (d : ℕ) (turn : Turn) → d < count → turn_at turns d ≡ Some turn
+      → start.numbers (2 * slots + count + d) ≡ turn.step
+
+-- the state is one of those of which the entry says what is known
+pub record IsOfEntry (entry : Entry) (s : State) : Type 0 where
+  pub place : entry.place ≡ s.place
+  pub inside : AreIn entry.facts.items s.cells
+  pub left : AreLeft entry.loops.items s.turns
+
+-- From each state of the entry, all that the program comes to before the next cut is noted.
+pub record AreVisits (statements : List Resolved) (places : List Place) (entry : Entry)
+    (visits : Visits) : Type 0 where
+  pub facts : Lies entry.facts.items visits.atoms.facts.items
+  pub noted : (first s : State) (n : ℕ) (start : Start) (v : Valuation) → start.cells ≡ first.cells
+      → Interprets visits.atoms start v
+      → AreTurnNumbers (length entry.facts.items) (length statements) first.turns start
+      → IsOfEntry entry first → LeadsTo statements places n first s
+      → IsVisitNoted visits.at.items start v s
+
+-- there are visits from each entry of these places
+abbrev pub IsTour : List Resolved → List Place → List Entry → List Visits → Type 0
+IsTour statements places entries each = (k : ℕ) (entry : Entry) → slice_get entries k ≡ Some entry
+    → list_any (λ place. is_same_place place entry.place) places ≡ true
+    → Any (AreVisits statements places entry) each
+
+-- a tour of a program, from entries that are an invariant
+pub record IsTourOf (checked : CheckedFields) (tour : Tour) : Type 0 where
+  pub places : List Place
+  pub entries : List Entry
+  pub throughout : HoldsThroughout (record { checked = checked; entries = entries })
+  pub start :
+      list_any (λ other. is_same_place other (place.Execute checked.start.entry)) places ≡ true
+  pub visits : IsTour checked.statements places entries tour.each.items

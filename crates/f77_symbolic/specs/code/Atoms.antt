@@ -1,0 +1,10 @@
+-- What atoms mean.
+-- Private functions and proofs alone cite what stands here.
+use Rattle.f77_terms.specs.Terms.{Valuation}
+use Rattle.f77_symbolic.specs.declared.evaluator.Atoms.{Atoms}
+use Rattle.f77_symbolic.specs.Memory.{Start}
+use Rattle.f77_symbolic.specs.Atoms.{Interprets}
+
+-- what interprets the new atoms interprets the old ones
+abbrev pub Extends : Atoms → Atoms → Type 0
+Extends old new = (start : Start) (v : Valuation) → Interprets new start v → Interprets old start v

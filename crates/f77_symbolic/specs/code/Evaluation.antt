@@ -1,0 +1,102 @@
+-- What an evaluator finds of expressions.
+-- Private functions and proofs alone cite what stands here.
+use Rattle.std.specs.Prelude.{◌≡◌, ◌≢◌, ◌+◌, ◌+ℤ◌, ◌*ℤ◌, ◌<◌, ◌≤ℤ◌, ◌<ℤ◌, ◌⊎◌, ℕ, ℤ, pos, negsuc, int_div, int_rem}
+use Rattle.std.specs.Prelude.{Bool, true, false, List, Option, Some, None, Result, Ok, Err}
+use Rattle.std.specs.declared.cmp.Ordering.{Ordering}
+use Rattle.std.specs.declared.cmp.Ordering.TheVariants.{Less, Equal, Greater}
+use Rattle.f77_actions.specs.declared.finish.Fault.{Fault}
+use Rattle.f77_code.specs.Evaluation.{held_in}
+use Rattle.f77_code.specs.Moves.{Cells}
+use Rattle.f77_terms.specs.Paths.{Holds}
+use Rattle.f77_terms.specs.Terms.{Valuation, sum_value}
+use Rattle.f77_terms.specs.declared.terms.Term.{Term}
+use Rattle.f77_symbolic.specs.declared.division.Division.{Division}
+use Rattle.f77_symbolic.specs.declared.evaluator.Evaluator.{Evaluator}
+use Rattle.f77_symbolic.specs.declared.halt.Split.{Split}
+use Rattle.f77_symbolic.specs.declared.halt.Split.TheVariants as split
+use Rattle.f77_symbolic.specs.declared.memory.Location.{Location}
+use Rattle.f77_symbolic.specs.declared.memory.Symbolic.{Symbolic}
+use Rattle.f77_symbolic.specs.declared.memory.Write.{Write}
+use Rattle.f77_symbolic.specs.Atoms.{Interprets}
+use Rattle.f77_symbolic.specs.Memory.{AreInside, IsInside, Start, cells_of, slot_of, content_of}
+use Rattle.f77_symbolic.specs.code.Memory.{IsLackingFor}
+
+-- the new path holds, and the evaluator is of the same program
+pub record StaysOn (v : Valuation) (old new : Evaluator) : Type 0 where
+  pub holds : Holds v new.path
+  pub own : new.own ≡ old.own
+
+-- so it is whatever the atoms mean, where the old path holds
+abbrev pub Always : Evaluator → Evaluator → (Start → Valuation → Type 0) → Type 0
+Always old new Claim =
+    (start : Start) (v : Valuation) → Interprets new.atoms start v → Holds v old.path → Claim start v
+
+-- so it is always, and the new path holds
+abbrev pub AlwaysTells : Evaluator → Evaluator → (Start → Valuation → Type 0) → Type 0
+AlwaysTells old new Claim = Always old new (λ start v. StaysOn v old new × Claim start v)
+
+-- The claim is true of the value, and the new path holds. Only the program's own faults are left out.
+abbrev pub Answers : {A : Type 0} → Valuation → Evaluator → Evaluator → Result A Fault → (A → Type 0) → Type 0
+Answers v old new (Ok x) Claim = StaysOn v old new × Claim x
+Answers v old new (Err fault) Claim = old.own ≡ true
+
+-- the term has the value that is calculated
+abbrev pub Calculates : Evaluator → Evaluator → Term → (Valuation → Result ℤ Fault) → Type 0
+Calculates old new term result =
+    Always old new (λ start v. Answers v old new (result v) (λ z. sum_value v term ≡ z))
+
+-- the claim is true of what an expression means behind these writes
+abbrev pub Yields : {A : Type 0} → Evaluator → Evaluator → List Write → (Cells → Result A Fault)
+    → (Valuation → A → Type 0) → Type 0
+Yields old new writes meaning Claim =
+    Always old new (λ start v. AreInside v writes
+    → Answers v old new (meaning (cells_of start.cells v writes)) (Claim v))
+
+-- the term has its value
+abbrev pub YieldsNumber : Evaluator → Evaluator → List Write → Term → (Cells → Result ℤ Fault) → Type 0
+YieldsNumber old new writes term meaning = Yields old new writes meaning (λ v z. sum_value v term ≡ z)
+
+-- the truth value is this one
+abbrev pub YieldsTruth : Evaluator → Evaluator → List Write → Bool → (Cells → Result Bool Fault) → Type 0
+YieldsTruth old new writes b meaning = Yields old new writes meaning (λ v c. b ≡ c)
+
+-- the location is the slot
+abbrev pub YieldsSlot : Evaluator → Evaluator → List Write → Location → (Cells → Result ℕ Fault) → Type 0
+YieldsSlot old new writes location meaning =
+    Yields old new writes meaning (λ v k. IsInside v location × (slot_of v location ≡ k))
+
+-- the slot of the location holds this value behind these writes, or it holds none of its kind and the program itself
+-- reads it
+abbrev pub ReadsSlot : Evaluator → Evaluator → List Write → Location → Symbolic → Type 0
+ReadsSlot old new writes location value =
+    Always old new (λ start v. AreInside v writes → IsInside v location
+    → (StaysOn v old new × (held_in (cells_of start.cells v writes) (slot_of v location) ≡ content_of v value))
+    ⊎ ((old.own ≡ true) × IsLackingFor value (held_in (cells_of start.cells v writes) (slot_of v location))))
+
+-- Where the claim is true the new path holds. Where it is not the program faults, and it is the program itself.
+abbrev pub Expects : Evaluator → Evaluator → (Valuation → Type 0) → Type 0
+Expects old new Claim =
+    (v : Valuation) → Holds v old.path → (Claim v → StaysOn v old new) × ((old.own ≡ true) ⊎ Claim v)
+
+-- these are the quotient and what is left
+pub record IsDivision (v : Valuation) (division : Division) (a b : ℤ) : Type 0 where
+  pub quotient : sum_value v division.quotient ≡ int_div a b
+  pub remainder : sum_value v division.remainder ≡ int_rem a b
+
+-- the number compared with 0
+abbrev pub HasSign : Ordering → ℤ → Type 0
+HasSign Less z = z <ℤ pos 0
+HasSign Equal z = z ≡ pos 0
+HasSign Greater z = pos 0 <ℤ z
+
+-- one of so many items has the number, counted from 1, or none has
+abbrev pub HasItem : Option ℕ → ℕ → ℤ → Type 0
+HasItem (Some place) count z = (place < count) × (z ≡ pos (place + 1))
+HasItem None count z = (z ≤ℤ pos 0) ⊎ (pos count <ℤ z)
+
+-- one of two ways, at 0 or at the sign, the first or the second
+abbrev pub IsOnWay : Valuation → Split → Bool → Type 0
+IsOnWay v (split.Sign term) true = (pos 1 +ℤ pos 1 *ℤ sum_value v term) ≤ℤ pos 0
+IsOnWay v (split.Sign term) false = (pos 0 +ℤ negsuc 0 *ℤ sum_value v term) ≤ℤ pos 0
+IsOnWay v (split.Zero term) true = sum_value v term ≡ pos 0
+IsOnWay v (split.Zero term) false = sum_value v term ≢ pos 0

@@ -1,0 +1,74 @@
+-- States by terms, and a step from there.
+-- Private functions and proofs alone cite what stands here.
+use Rattle.std.specs.Prelude.{◌≡◌, ◌≢◌, ℕ, ℤ, Bool, true, List, Option, Some, None}
+use Rattle.f77_actions.specs.declared.action.Action.{Action}
+use Rattle.f77_actions.specs.declared.finish.Finish.{Finish}
+use Rattle.f77_actions.specs.declared.finish.Finish.TheVariants.{Returned, Stopped, Failed}
+use Rattle.f77_actions.specs.declared.resolved.Resolved.{Resolved}
+use Rattle.f77_code.specs.Moves.{Cells, TurnList, state, Move, Goes, Ends, acted}
+use Rattle.f77_terms.specs.Paths.{Holds}
+use Rattle.f77_terms.specs.Terms.{Valuation}
+use Rattle.f77_terms.specs.declared.paths.Path.{Path}
+use Rattle.f77_symbolic.specs.declared.evaluator.Evaluator.{Evaluator}
+use Rattle.f77_symbolic.specs.declared.sides.Side.{Side}
+use Rattle.f77_symbolic.specs.declared.sides.SymbolicTurn.{SymbolicTurn}
+use Rattle.f77_symbolic.specs.declared.sides.Step.{Step}
+use Rattle.f77_symbolic.specs.declared.sides.Step.TheVariants as step
+use Rattle.f77_symbolic.specs.Atoms.{Interprets}
+use Rattle.f77_symbolic.specs.Memory.{AreInside, Start, cells_of}
+use Rattle.f77_symbolic.specs.Sides.{turn_of, turns_of, state_of}
+
+-- the second side stands for the states of the first, and what was written to is inside if it was there
+pub record IsSameSide (side other : Side) : Type 0 where
+  pub state : (start : Cells) (v : Valuation) → state_of start v other ≡ state_of start v side
+  pub inside : (v : Valuation) → AreInside v side.writes.items → AreInside v other.writes.items
+
+-- The move leads to the state of the side behind it, or it is the end that is said.
+-- Only the program's own faults are left out.
+abbrev pub Stepped : Cells → Valuation → Bool → Path → Side → Side → Step → Option Move → Type 0
+Stepped start v own path before after _ (Some (Ends (Failed fault) cells)) = own ≡ true
+Stepped start v own path before after step.Moves (Some (Goes s)) =
+    Holds v path × AreInside v after.writes.items × (s ≡ state_of start v after)
+Stepped start v own path before after step.Returns (Some (Ends Returned cells)) =
+    Holds v path × (cells ≡ cells_of start v before.writes.items)
+Stepped start v own path before after step.Stops (Some (Ends Stopped cells)) =
+    Holds v path × (cells ≡ cells_of start v before.writes.items)
+Stepped start v own path before after _ move = ⊥
+
+-- so it is from this path on, whatever the atoms mean
+abbrev pub StepsFrom : Path → Bool → Evaluator → Side → Side → Step
+    → (Valuation → Cells → TurnList → Option Move) → Type 0
+StepsFrom path own new before after step meaning =
+    (start : Start) (v : Valuation) → Interprets new.atoms start v → Holds v path → AreInside v before.writes.items
+    → Stepped start.cells v own new.path before after step
+    (meaning v (cells_of start.cells v before.writes.items) (turns_of v before.turns.items))
+
+-- so it is from the path of the old evaluator on
+abbrev pub AlwaysSteps : Evaluator → Evaluator → Side → Side → Step
+    → (Valuation → Cells → TurnList → Option Move) → Type 0
+AlwaysSteps old new before after step meaning = StepsFrom old.path old.own new before after step meaning
+
+-- the step is what this action does in a statement, whatever the others are
+abbrev pub Acts : Evaluator → Evaluator → Side → Side → Step → Resolved → Action → Type 0
+Acts old new before after step resolved action =
+    (statements : List Resolved) (i : ℕ)
+    → AlwaysSteps old new before after step (λ v cells turns. Some (acted statements i resolved action cells turns))
+
+-- a run ends so where this is the step
+abbrev pub IsEndOf : Step → Finish → Type 0
+IsEndOf step.Returns Returned = Unit {0}
+IsEndOf step.Stops Stopped = Unit {0}
+IsEndOf _ _ = ⊥
+
+-- the step is a move, from the states of one side to those of the other, and nothing is written
+pub record GoesTo (v : Valuation) (before after : Side) (made : Step) (move : Cells → TurnList → Move) : Type 0 where
+  pub moves : made ≡ step.Moves
+  pub goes : (start : Cells) → move (cells_of start v before.writes.items) (turns_of v before.turns.items)
+      ≡ Goes (state_of start v after)
+  pub writes : after.writes ≡ before.writes
+
+-- an active DO has so many passes left, with this step, and one that is not active has none
+abbrev pub HasLeft : Valuation → Option SymbolicTurn → ℕ → ℤ → Type 0
+HasLeft v None passes step = passes ≡ 0
+HasLeft v (Some turn) passes step =
+    (passes ≢ 0) × (turn_of v turn ≡ record { passes = passes; step = step })

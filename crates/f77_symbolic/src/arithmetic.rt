@@ -1,0 +1,238 @@
+//! Operations on numbers.
+
+ghost use Rattle.std.specs.Prelude.{◌≡◌, unsigned_abs, IfOk, IfSome};
+ghost use Rattle.f77_actions.specs.Number as exact;
+ghost use Rattle.f77_actions.specs.Value as meaning;
+ghost use Rattle.f77_code.specs.Evaluation.{calculated};
+ghost use Rattle.f77_terms.specs.Terms.{Valuation, monomial_value, sum_value};
+ghost use Rattle.f77_symbolic.specs.Atoms.{Interprets};
+ghost use Rattle.f77_symbolic.specs.code.Atoms.{Extends};
+ghost use Rattle.f77_symbolic.specs.code.Evaluation.{Calculates};
+ghost use Rattle.f77_symbolic.specs.Memory.{Start};
+
+use crate::evaluator::Evaluator;
+use crate::halt::Halt;
+use crate::spans::is_constant_zero;
+use f77_actions::Arithmetic;
+use f77_terms::atoms::{Key, is_in_order, key_at};
+use f77_terms::knowing::{know_maximum, know_minimum};
+use f77_terms::monomials::Monomial;
+use f77_terms::terms::{Part, Term, atom_term, copy, difference, part_at, product, sum};
+
+/// The least number that INTEGER holds.
+const LEAST: i64 = -2147483648;
+
+/// The greatest.
+const GREATEST: i64 = 2147483647;
+
+/// The part that the term is, but for its sign.
+fn alone_in(term: &Term) -> Option<Part>
+    ensures { IfSome result (λ part. (v : Valuation)
+        → unsigned_abs (monomial_value v part.monomial) ≡ unsigned_abs (sum_value v term.now)) }
+{
+    if term.constant != 0 || term.parts.len() != 1 {
+        return None;
+    }
+    let part = part_at(&term.parts, 0);
+    if part.factor != 1 && part.factor != -1 {
+        return None;
+    }
+    Some(part)
+}
+
+/// There is a sign before the term's first part.
+fn is_turned(term: &Term) -> bool {
+    if term.parts.len() > 0 {
+        term.parts[0].factor < 0
+    } else {
+        term.constant < 0
+    }
+}
+
+impl Evaluator {
+    /// The term, if INTEGER holds it.
+    pub(crate) fn ranged(&mut self, term: Term) -> Result<Term, Halt>
+        ensures calculates { IfOk result (λ value. Calculates self.old self.new value
+            (λ v. exact.in_range (sum_value v term))) }
+        ensures extends { Extends self.old.atoms self.new.atoms }
+    {
+        self.expect_below(-1, &term, LEAST)?;
+        self.expect_below(1, &term, -GREATEST)?;
+        Ok(term)
+    }
+
+    /// The number with the other sign.
+    pub(crate) fn negated(&mut self, a: &Term) -> Result<Term, Halt>
+        ensures calculates { IfOk result (λ value. Calculates self.old self.new value
+            (λ v. exact.in_range (exact.negated (sum_value v a.now)))) }
+        ensures extends { Extends self.old.atoms self.new.atoms }
+    {
+        let term = self.plus(-1, a, 0)?;
+        self.ranged(term)
+    }
+
+    /// The number, which is not to be 0.
+    pub(crate) fn pushed(&mut self, a: Term) -> Result<Term, Halt>
+        ensures calculates { IfOk result (λ value. Calculates self.old self.new value
+            (λ v. meaning.pushed (sum_value v a))) }
+        ensures extends { Extends self.old.atoms self.new.atoms }
+    {
+        self.expect_apart(&a)?;
+        Ok(a)
+    }
+
+    /// MIN0 of two numbers: one of them, or an atom.
+    fn lesser(&mut self, a: &Term, b: &Term) -> Result<Term, Halt>
+        ensures calculates { IfOk result (λ value. Calculates self.old self.new value
+            (λ v. calculated Arithmetic.Least (sum_value v a.now) (sum_value v b.now))) }
+        ensures extends { Extends self.old.atoms self.new.atoms }
+    {
+        if self.is_at_most(a, b)? {
+            return Ok(copy(self.alloc, a)?);
+        }
+        if self.is_at_most(b, a)? {
+            return Ok(copy(self.alloc, b)?);
+        }
+        let key = Key::Minimum(copy(self.alloc, a)?, copy(self.alloc, b)?);
+        let minimum = self.atom_of(key)?;
+        know_minimum(self.alloc, &mut self.path, a, b, minimum)?;
+        self.span_minimum(a, b, minimum)?;
+        Ok(atom_term(self.alloc, minimum)?)
+    }
+
+    /// MAX0 of two numbers: one of them, or an atom.
+    fn greater(&mut self, a: &Term, b: &Term) -> Result<Term, Halt>
+        ensures calculates { IfOk result (λ value. Calculates self.old self.new value
+            (λ v. calculated Arithmetic.Greatest (sum_value v a.now) (sum_value v b.now))) }
+        ensures extends { Extends self.old.atoms self.new.atoms }
+    {
+        if self.is_at_most(b, a)? {
+            return Ok(copy(self.alloc, a)?);
+        }
+        if self.is_at_most(a, b)? {
+            return Ok(copy(self.alloc, b)?);
+        }
+        let key = Key::Maximum(copy(self.alloc, a)?, copy(self.alloc, b)?);
+        let maximum = self.atom_of(key)?;
+        know_maximum(self.alloc, &mut self.path, a, b, maximum)?;
+        self.span_maximum(a, b, maximum)?;
+        Ok(atom_term(self.alloc, maximum)?)
+    }
+
+    /// IABS: the greater of the number and its negative.
+    pub(crate) fn absolute(&mut self, a: &Term) -> Result<Term, Halt>
+        ensures calculates { IfOk result (λ value. Calculates self.old self.new value
+            (λ v. exact.in_range (exact.without_sign (sum_value v a.now)))) }
+        ensures extends { Extends self.old.atoms self.new.atoms }
+    {
+        let negative = self.plus(-1, a, 0)?;
+        let size = self.greater(a, &negative)?;
+        self.ranged(size)
+    }
+
+    /// The quotient, truncated toward zero.
+    fn quotient(&mut self, a: &Term, b: &Term) -> Result<Term, Halt>
+        ensures calculates { IfOk result (λ value. Calculates self.old self.new value
+            (λ v. exact.quotient (sum_value v a.now) (sum_value v b.now))) }
+        ensures extends { Extends self.old.atoms self.new.atoms }
+    {
+        self.expect_apart(b)?;
+        let division = self.divided(a, b)?;
+        self.ranged(division.quotient)
+    }
+
+    /// MOD: what a division leaves.
+    fn modulus(&mut self, a: &Term, b: &Term) -> Result<Term, Halt>
+        ensures calculates { IfOk result (λ value. Calculates self.old self.new value
+            (λ v. exact.modulus (sum_value v a.now) (sum_value v b.now))) }
+        ensures extends { Extends self.old.atoms self.new.atoms }
+    {
+        self.expect_apart(b)?;
+        let divisor = self.divisor_of(b)?;
+        let division = self.divided(a, &divisor)?;
+        self.ranged(division.remainder)
+    }
+
+    /// The number of which an atom is the size: it stands for MAX0 of the number and its negative.
+    fn inside_of(&self, part: Part) -> Result<Option<Term>, Halt>
+        ensures { IfOk result (λ made. IfSome made (λ inside. (start : Start) (v : Valuation)
+            → Interprets self.now.atoms start v
+            → unsigned_abs (sum_value v inside) ≡ unsigned_abs (monomial_value v part.monomial))) }
+    {
+        let Monomial::One(atom) = part.monomial else {
+            return Ok(None);
+        };
+        if atom >= self.atoms.table.keys.len() {
+            return Ok(None);
+        }
+        let key = key_at(&self.atoms.table.keys, atom);
+        let Key::Maximum(a, b) = key else {
+            return Ok(None);
+        };
+        if !is_in_order(key, atom) {
+            return Ok(None);
+        }
+        let both = self.combination(1, a, 1, b)?;
+        if !is_constant_zero(&both) {
+            return Ok(None);
+        }
+        Ok(Some(copy(self.alloc, a)?))
+    }
+
+    /// A divisor of the same size without IABS.
+    fn inner_divisor(&self, b: &Term) -> Result<Term, Halt>
+        ensures { IfOk result (λ divisor. (start : Start) (v : Valuation) → Interprets self.now.atoms start v
+            → unsigned_abs (sum_value v divisor) ≡ unsigned_abs (sum_value v b.now)) }
+    {
+        if let Some(part) = alone_in(b) {
+            if let Some(inside) = self.inside_of(part)? {
+                return Ok(inside);
+            }
+        }
+        Ok(copy(self.alloc, b)?)
+    }
+
+    /// A divisor of the same size, which leaves the same: without IABS, and with no sign in front.
+    fn divisor_of(&self, b: &Term) -> Result<Term, Halt>
+        ensures { IfOk result (λ divisor. (start : Start) (v : Valuation) → Interprets self.now.atoms start v
+            → unsigned_abs (sum_value v divisor) ≡ unsigned_abs (sum_value v b.now)) }
+    {
+        let divisor = self.inner_divisor(b)?;
+        if is_turned(&divisor) {
+            return self.plus(-1, &divisor, 0);
+        }
+        Ok(divisor)
+    }
+
+    /// What an operation makes of two numbers.
+    pub(crate) fn calculate(
+        &mut self,
+        operation: Arithmetic,
+        a: &Term,
+        b: &Term,
+    ) -> Result<Term, Halt>
+        ensures calculates { IfOk result (λ value. Calculates self.old self.new value
+            (λ v. calculated operation (sum_value v a.now) (sum_value v b.now))) }
+        ensures extends { Extends self.old.atoms self.new.atoms }
+    {
+        match operation {
+            Arithmetic::Add => {
+                let exact = sum(self.alloc, a, b)?.ok_or(Halt::Unknown)?;
+                self.ranged(exact)
+            }
+            Arithmetic::Subtract => {
+                let exact = difference(self.alloc, a, b)?.ok_or(Halt::Unknown)?;
+                self.ranged(exact)
+            }
+            Arithmetic::Multiply => {
+                let exact = product(self.alloc, a, b)?.ok_or(Halt::Unknown)?;
+                self.ranged(exact)
+            }
+            Arithmetic::Divide => self.quotient(a, b),
+            Arithmetic::Power => self.power_of(a, b),
+            Arithmetic::Modulus => self.modulus(a, b),
+            Arithmetic::Least => self.lesser(a, b),
+            Arithmetic::Greatest => self.greater(a, b),
+        }
+    }
+}

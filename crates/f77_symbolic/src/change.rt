@@ -1,0 +1,49 @@
+//! A program with one statement changed.
+
+ghost use Rattle.std.specs.Prelude.{◌≡◌, ◌<◌, length, slice_set, IfOk};
+ghost use Rattle.f77_symbolic.specs.code.Pairs.{IsReady};
+
+use crate::halt::{Halt, unless_unknown};
+use crate::values::{Slots, dummies_of};
+use f77_actions::Resolved;
+use f77_check::Checked;
+use f77_equivalence::ways::{goes_on_alike, resolved_in, statement_at};
+use f77_tree::Shared;
+use std::alloc::Global;
+
+/// The statements of both programs, and the dummy arguments.
+#[derive(Drop)]
+pub struct Change {
+    /// The statement that is changed. Statements are numbered from 0 here.
+    pub place: usize,
+    pub own: Vec<Shared<Resolved>>,
+    pub statements: Vec<Shared<Resolved>>,
+    pub dummies: Vec<Slots>,
+}
+
+/// The program with this statement in the place of the statement `place`. There is none where control does not go on
+/// from both in one way.
+pub(crate) fn change_of(
+    alloc: Global,
+    checked: &Checked,
+    place: usize,
+    resolved: &Shared<Resolved>,
+) -> Result<Change, Halt>
+    requires { place < length checked.now.statements }
+    ensures ready { IfOk result (λ change. IsReady checked.now change) }
+    ensures place { IfOk result (λ change. change.place ≡ place) }
+    ensures statements { IfOk result (λ change.
+        change.statements.items ≡ slice_set checked.now.statements place resolved.now) }
+{
+    let own = checked.statements();
+    unless_unknown(goes_on_alike(statement_at(own, place), resolved_in(resolved)))?;
+    let mut statements = own.to_vec(alloc)?;
+    statements[place] = resolved.clone()?;
+    let dummies = dummies_of(alloc, checked)?;
+    Ok(Change {
+        place,
+        own: own.to_vec(alloc)?,
+        statements,
+        dummies,
+    })
+}

@@ -1,0 +1,164 @@
+//! Which of two numbers is less, and which item a number chooses. Where a path does not decide it, it may be split.
+
+ghost use Rattle.std.specs.Prelude.{◌≡◌, ◌≤ℤ◌, pos, true, IfOk};
+ghost use Rattle.f77_actions.specs.Number.{is_below, is_same};
+ghost use Rattle.f77_code.specs.Evaluation.{compared, joined};
+ghost use Rattle.f77_terms.specs.Paths.{Holds};
+ghost use Rattle.f77_terms.specs.Terms.{Valuation, sum_value};
+ghost use Rattle.f77_symbolic.specs.code.Evaluation.{HasItem, HasSign};
+
+use crate::evaluator::Evaluator;
+use crate::halt::{Halt, Split, signed};
+use crate::samples::Sign;
+use f77_actions::{Connective, Relation};
+use f77_terms::knowing::{constant_of, is_bounded};
+use f77_terms::paths::{is_apart, is_zero};
+use f77_terms::terms::{Term, copy, is_same_term};
+use std::cmp::Ordering;
+
+impl Evaluator {
+    /// Whether the term is below 0.
+    pub(crate) fn is_negative(&self, term: Term) -> Result<bool, Halt>
+        ensures { IfOk result (λ b. (v : Valuation) → Holds v self.now.path
+            → is_below (sum_value v term) (pos 0) ≡ b) }
+    {
+        if let Some(z) = constant_of(&term) {
+            return Ok(z < 0);
+        }
+        if !self.samples.show(1, &term, 0, Sign::NotNegative)
+            && is_bounded(self.alloc, &self.path, 1, &term, 1)?
+        {
+            return Ok(true);
+        }
+        if !self.samples.show(1, &term, 0, Sign::Negative)
+            && is_bounded(self.alloc, &self.path, -1, &term, 0)?
+        {
+            return Ok(false);
+        }
+        Err(Halt::Split(Split::Sign(term)))
+    }
+
+    /// Whether the term is 0.
+    pub(crate) fn is_nothing(&self, term: Term) -> Result<bool, Halt>
+        ensures { IfOk result (λ b. (v : Valuation) → Holds v self.now.path
+            → is_same (sum_value v term) (pos 0) ≡ b) }
+    {
+        if let Some(z) = constant_of(&term) {
+            return Ok(z == 0);
+        }
+        if !self.samples.show(1, &term, 0, Sign::Zero) && is_apart(self.alloc, &self.path, &term)? {
+            return Ok(false);
+        }
+        if !self.samples.show(1, &term, 0, Sign::NotZero)
+            && is_zero(self.alloc, &self.path, &term)?
+        {
+            return Ok(true);
+        }
+        Err(Halt::Split(Split::Zero(term)))
+    }
+
+    /// Whether the first number is less than the second.
+    fn is_less(&self, a: &Term, b: &Term) -> Result<bool, Halt>
+        ensures { IfOk result (λ c. (v : Valuation) → Holds v self.now.path
+            → is_below (sum_value v a.now) (sum_value v b.now) ≡ c) }
+    {
+        let between = self.combination(1, a, -1, b)?;
+        self.is_negative(between)
+    }
+
+    /// Whether the numbers are equal.
+    fn is_equal(&self, a: &Term, b: &Term) -> Result<bool, Halt>
+        ensures { IfOk result (λ c. (v : Valuation) → Holds v self.now.path
+            → is_same (sum_value v a.now) (sum_value v b.now) ≡ c) }
+    {
+        let between = self.combination(1, a, -1, b)?;
+        self.is_nothing(between)
+    }
+
+    /// Whether the numbers are so related.
+    pub(crate) fn is_related(&self, relation: Relation, a: &Term, b: &Term) -> Result<bool, Halt>
+        ensures { IfOk result (λ c. (v : Valuation) → Holds v self.now.path
+            → compared relation (sum_value v a.now) (sum_value v b.now) ≡ c) }
+    {
+        match relation {
+            Relation::Less => self.is_less(a, b),
+            Relation::LessOrEqual => Ok(!self.is_less(b, a)?),
+            Relation::Equal => self.is_equal(a, b),
+            Relation::NotEqual => Ok(!self.is_equal(a, b)?),
+            Relation::GreaterOrEqual => Ok(!self.is_less(a, b)?),
+            Relation::Greater => self.is_less(b, a),
+        }
+    }
+
+    /// The first number is at most the second. It is false too where the path does not decide it.
+    pub(crate) fn is_at_most(&self, a: &Term, b: &Term) -> Result<bool, Halt>
+        ensures { IfOk result (λ yes. yes ≡ true → (v : Valuation) → Holds v self.now.path
+            → sum_value v a.now ≤ℤ sum_value v b.now) }
+    {
+        let between = self.combination(1, a, -1, b)?;
+        if self.samples.show(1, &between, 0, Sign::Positive) {
+            return Ok(false);
+        }
+        Ok(is_bounded(self.alloc, &self.path, 1, &between, 0)?)
+    }
+
+    /// The numbers are equal. It is false too where the path does not decide it.
+    pub(crate) fn are_equal(&self, a: &Term, b: &Term) -> Result<bool, Halt>
+        ensures { IfOk result (λ yes. yes ≡ true → (v : Valuation) → Holds v self.now.path
+            → sum_value v b.now ≡ sum_value v a.now) }
+    {
+        if is_same_term(a, b) {
+            return Ok(true);
+        }
+        let between = self.combination(1, a, -1, b)?;
+        if self.samples.show(1, &between, 0, Sign::NotZero) {
+            return Ok(false);
+        }
+        Ok(is_zero(self.alloc, &self.path, &between)?)
+    }
+
+    /// The number compared with 0.
+    pub(crate) fn sign_of(&self, number: Term) -> Result<Ordering, Halt>
+        ensures { IfOk result (λ sign. (v : Valuation) → Holds v self.now.path → HasSign sign (sum_value v number)) }
+    {
+        if self.is_nothing(copy(self.alloc, &number)?)? {
+            return Ok(Ordering::Equal);
+        }
+        if self.is_negative(number)? {
+            Ok(Ordering::Less)
+        } else {
+            Ok(Ordering::Greater)
+        }
+    }
+
+    /// Which of so many items a number has. Both ends are tried first, so that most of a path is decided together.
+    pub(crate) fn item_of(&self, number: &Term, count: usize) -> Result<Option<usize>, Halt>
+        ensures { IfOk result (λ item. (v : Valuation) → Holds v self.now.path
+            → HasItem item count (sum_value v number.now)) }
+    {
+        if self.is_negative(self.plus(1, number, -1)?)? {
+            return Ok(None);
+        }
+        if self.is_negative(self.plus(-1, number, signed(count)?)?)? {
+            return Ok(None);
+        }
+        for place in 0..count {
+            if self.is_nothing(self.plus(1, number, -1 - signed(place)?)?)? {
+                return Ok(Some(place));
+            }
+        }
+        Err(Halt::Unknown)
+    }
+}
+
+/// Two truth values connected.
+pub(crate) fn connected(connective: Connective, a: bool, b: bool) -> bool
+    ensures { joined connective a b ≡ result }
+{
+    match connective {
+        Connective::And => a && b,
+        Connective::Or => a || b,
+        Connective::Equivalent => a == b,
+        Connective::NotEquivalent => a != b,
+    }
+}

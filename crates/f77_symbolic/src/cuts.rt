@@ -1,0 +1,222 @@
+//! Cuts: the places from which the program is walked. They are its start, and each place to which control comes on more
+//! than one way: so no loop is without one, and few paths lead from one to the next.
+
+ghost use Rattle.std.specs.Prelude.{◌≡◌, ◌≤ℤ◌, true, length, IfOk, IfSome};
+ghost use Rattle.std.specs.List.{list_any};
+ghost use Rattle.f77_code.specs.declared.control.Place.TheVariants as Place;
+ghost use Rattle.f77_terms.specs.Paths.{Holds};
+ghost use Rattle.f77_terms.specs.Terms.{Valuation, sum_value};
+ghost use Rattle.f77_symbolic.specs.Atoms.{Interprets};
+ghost use Rattle.f77_symbolic.specs.code.Atoms.{Extends};
+ghost use Rattle.f77_symbolic.specs.code.Evaluation.{StaysOn};
+ghost use Rattle.f77_symbolic.specs.Memory.{Start};
+ghost use Rattle.f77_symbolic.specs.Visits.{is_same_place};
+ghost use Rattle.f77_symbolic.specs.code.Visits.{IsFirstVisit, StandsForTurn};
+
+use crate::evaluator::Evaluator;
+use crate::halt::Halt;
+use crate::sides::{Side, SymbolicTurn};
+use crate::visiting::Visit;
+use f77_actions::{Action, Resolved};
+use f77_code::Place;
+use f77_facts::loops::{LoopFact, loop_at};
+use f77_terms::atoms::Key;
+use f77_terms::paths::{add_below, add_range};
+use f77_terms::ranges::Range;
+use f77_terms::terms::{Term, atom_term, constant_term};
+use f77_tree::Shared;
+use std::alloc::{AllocError, Global};
+
+/// No program has so many slots or statements.
+const MOST_SLOTS: usize = 1000000000000;
+
+/// The place is one of the cuts.
+pub(crate) fn is_cut(places: &[Place], place: Place) -> bool
+    ensures { result ≡ list_any (λ other. is_same_place other place) places.now }
+{
+    for other in places {
+        if *other == place {
+            return true;
+        }
+    }
+    false
+}
+
+/// Control may come to the statement of this number once more.
+fn count(comings: &mut [u32], place: usize) {
+    if place < comings.len() {
+        comings[place] = comings[place].saturating_add(1);
+    }
+}
+
+/// Control may go on from a statement at which no DO ends.
+fn count_next(comings: &mut [u32], resolved: &Resolved) {
+    if resolved.ends.len() == 0 {
+        count(comings, resolved.next);
+    }
+}
+
+/// Where control may come to from the action of the statement i. A DO comes to its first statement, and to what is
+/// behind its last, where it begins and where it is incremented.
+fn count_comings(
+    comings: &mut [u32],
+    statements: &[Shared<Resolved>],
+    i: usize,
+    resolved: &Resolved,
+    action: &Action,
+) {
+    match action {
+        Action::Goto(jump) => count(comings, jump.target),
+        Action::ComputedGoto { jumps, .. } => {
+            for jump in jumps {
+                count(comings, jump.target);
+            }
+            count_next(comings, resolved);
+        }
+        Action::ArithmeticIf {
+            negative,
+            zero,
+            positive,
+            ..
+        } => {
+            count(comings, negative.target);
+            count(comings, zero.target);
+            count(comings, positive.target);
+        }
+        Action::LogicalIf { action, .. } => {
+            count_next(comings, resolved);
+            count_comings(comings, statements, i, resolved, action);
+        }
+        Action::Branch { otherwise, .. } => {
+            count_next(comings, resolved);
+            count(comings, *otherwise);
+        }
+        Action::Loop { terminal, .. } => {
+            count(comings, i.saturating_add(1));
+            count(comings, i.saturating_add(1));
+            if *terminal < statements.len() {
+                count(comings, statements[*terminal].next);
+                count(comings, statements[*terminal].next);
+            }
+        }
+        Action::AssignNumber(..) | Action::AssignTruth(..) | Action::Continue => {
+            count_next(comings, resolved);
+        }
+        Action::Return | Action::Stop | Action::Trap | Action::Declaration => {}
+    }
+}
+
+/// On how many ways control may come to each statement.
+fn comings_of(
+    alloc: Global,
+    statements: &[Shared<Resolved>],
+    entry: usize,
+) -> Result<Vec<u32>, AllocError> {
+    let mut comings = vec![in alloc; 0; statements.len()]?;
+    count(&mut comings, entry);
+    for i in 0..statements.len() {
+        let resolved = &statements[i];
+        count_comings(&mut comings, statements, i, resolved, &resolved.action);
+    }
+    Ok(comings)
+}
+
+/// Control comes to the statement of this number on more than one way.
+fn is_join(comings: &[u32], i: usize) -> bool {
+    i < comings.len() && comings[i] > 1
+}
+
+/// The place where runs start, and behind it, where they are asked for, each to which control comes on more ways.
+pub(crate) fn cuts_of(
+    alloc: Global,
+    statements: &[Shared<Resolved>],
+    entry: usize,
+    joins: bool,
+) -> Result<Vec<Place>, AllocError>
+    ensures { IfOk result (λ places.
+        list_any (λ other. is_same_place other (Place.Execute entry)) places.items ≡ true) }
+{
+    let comings = comings_of(alloc, statements, entry)?;
+    let mut places = Vec::new(alloc);
+    places.push(Place::Execute(entry))?;
+    for i in 0..statements.len() {
+        if joins && i != entry && is_join(&comings, i) {
+            places.push(Place::Execute(i))?;
+        }
+    }
+    Ok(places)
+}
+
+impl Evaluator {
+    /// A number from low to high, or from low on: a constant, or what stands behind the slots where the walk starts.
+    fn unknown_number(&mut self, number: usize, low: i64, high: Option<i64>) -> Result<Term, Halt>
+        ensures stands { IfOk result (λ term. (start : Start) (v : Valuation) → Interprets self.new.atoms start v
+            → Holds v self.old.path → low ≤ℤ start.numbers number
+            → IfSome high (λ high. start.numbers number ≤ℤ high)
+            → StaysOn v self.old self.new × (sum_value v term ≡ start.numbers number)) }
+        ensures extends { Extends self.old.atoms self.new.atoms }
+    {
+        if high == Some(low) {
+            return Ok(constant_term(self.alloc, low));
+        }
+        let atom = self.atom_of(Key::Slot(number))?;
+        let term = atom_term(self.alloc, atom)?;
+        if let Some(high) = high {
+            add_range(&mut self.path, atom, Range { low, high })?;
+            return Ok(term);
+        }
+        add_below(self.alloc, &mut self.path, -1, &term, low)?;
+        Ok(term)
+    }
+
+    /// What the DO d has left.
+    fn turn_known(
+        &mut self,
+        d: usize,
+        count: usize,
+        fact: LoopFact,
+    ) -> Result<Option<SymbolicTurn>, Halt>
+        ensures stands { IfOk result (λ turn. StandsForTurn self.old self.new d count fact turn) }
+        ensures extends { Extends self.old.atoms self.new.atoms }
+    {
+        let LoopFact::Active { fewest, most, step } = fact else {
+            return Ok(None);
+        };
+        if self.atoms.facts.len() >= MOST_SLOTS || count >= MOST_SLOTS || d >= MOST_SLOTS {
+            return Err(Halt::Unknown);
+        }
+        // Behind the slots there is whether each holds a value.
+        let first = 2 * self.atoms.facts.len();
+        let low = i64::try_from(fewest).ok().ok_or(Halt::Unknown)?;
+        let passes = self.unknown_number(first + d, low, i64::try_from(most).ok())?;
+        let high = Some(i64::from(step.high));
+        let step = self.unknown_number(first + count + d, i64::from(step.low), high)?;
+        Ok(Some(SymbolicTurn { passes, step }))
+    }
+
+    /// The first visit of a walk from an entry.
+    pub(crate) fn first_visit(
+        &mut self,
+        count: usize,
+        place: Place,
+        loops: &[LoopFact],
+    ) -> Result<Visit, Halt>
+        requires { length loops.now ≡ count }
+        ensures first { IfOk result (λ visit. IsFirstVisit self.old self.new count place loops.now visit) }
+        ensures extends { Extends self.old.atoms self.new.atoms }
+    {
+        let mut turns = Vec::with_capacity(self.alloc, count)?;
+        for d in 0..count {
+            let turn = self.turn_known(d, count, loop_at(loops, d))?;
+            turns.push(turn)?;
+        }
+        Ok(Visit {
+            path: self.taken_path(),
+            side: Side {
+                place,
+                writes: Vec::new(self.alloc),
+                turns,
+            },
+        })
+    }
+}

@@ -1,0 +1,219 @@
+//! What expressions mean, by terms.
+
+ghost use Rattle.std.specs.Prelude.{◌∷◌, ◌+◌, ◌+ℤ◌, ◌-ℤ◌, ◌*ℤ◌, ◌≤ℤ◌, ◌<ℤ◌, ◌≡◌, pos, [], Ok, Option, None, IfOk};
+ghost use Rattle.f77_actions.specs.declared.value.Value.{Value};
+ghost use Rattle.f77_actions.specs.Value as meaning;
+ghost use Rattle.f77_actions.specs.Value.{element, given};
+ghost use Rattle.f77_code.specs.Evaluation.{number_in, slot_in, truth_in};
+ghost use Rattle.f77_terms.specs.Atoms.{slot_behind};
+ghost use Rattle.f77_terms.specs.Terms.{Valuation, sum_value};
+ghost use Rattle.f77_symbolic.specs.code.Atoms.{Extends};
+ghost use Rattle.f77_symbolic.specs.code.Evaluation.{Always, Answers, Calculates, Expects};
+ghost use Rattle.f77_symbolic.specs.code.Evaluation.{YieldsNumber, YieldsSlot, YieldsTruth};
+ghost use Rattle.f77_symbolic.specs.Memory.{IsInside, slot_of, content_of};
+ghost use Rattle.f77_symbolic.specs.code.Memory.{IsLackingFor};
+
+use crate::comparing::connected;
+use crate::evaluator::Evaluator;
+use crate::halt::{Halt, unless_unknown};
+use crate::memory::{Location, Symbolic, Write, fixed};
+use f77_actions::{Condition, Element, Number};
+use f77_terms::knowing::constant_of;
+use f77_terms::terms::{Term, constant_term};
+use std::alloc::Global;
+
+/// The location with this index: a slot of its own where the index is a constant.
+fn located(alloc: Global, first: usize, count: usize, index: Term) -> Result<Location, Halt>
+    ensures { IfOk result (λ location. (v : Valuation) → pos 0 ≤ℤ sum_value v index → sum_value v index <ℤ pos count
+        → IsInside v location × (slot_of v location ≡ slot_behind first (sum_value v index))) }
+{
+    match constant_of(&index) {
+        Some(z) => match usize::try_from(z) {
+            Ok(behind) => Ok(fixed(alloc, first.checked_add(behind).ok_or(Halt::Unknown)?)),
+            Err(_) => Err(Halt::Unknown),
+        },
+        None => Ok(Location {
+            first,
+            count,
+            index,
+        }),
+    }
+}
+
+impl Evaluator {
+    /// There is a fault unless the subscript is from 1 to the bound.
+    fn expect_subscript(&mut self, subscript: &Term, bound: u32) -> Result<(), Halt>
+        ensures expects { IfOk result (λ _. Expects self.old self.new
+            (λ v. (pos 1 ≤ℤ sum_value v subscript.now) × (sum_value v subscript.now ≤ℤ pos bound))) }
+        ensures extends { Extends self.old.atoms self.new.atoms }
+    {
+        self.expect_below(-1, subscript, 1)?;
+        self.expect_below(1, subscript, -i64::from(bound))
+    }
+
+    /// The location of an element of an array of one dimension.
+    fn vector(&mut self, first: usize, bound: u32, subscript: &Term) -> Result<Location, Halt>
+        ensures locates { IfOk result (λ location. Always self.old self.new (λ start v. Answers v self.old self.new
+            (given (element (bound ∷ []) (sum_value v subscript.now ∷ [])) (λ k. Ok (first + k)))
+            (λ k. IsInside v location × (slot_of v location ≡ k)))) }
+        ensures extends { Extends self.old.atoms self.new.atoms }
+    {
+        self.expect_subscript(subscript, bound)?;
+        let index = self.plus(1, subscript, -1)?;
+        located(self.alloc, first, bound as usize, index)
+    }
+
+    /// So far an element of a row and a column lies behind the first one.
+    fn matrix_index(&self, rows: u32, row: &Term, column: &Term) -> Result<Term, Halt>
+        ensures { IfOk result (λ term. (v : Valuation) → sum_value v term
+            ≡ (sum_value v row.now -ℤ pos 1) +ℤ pos rows *ℤ (sum_value v column.now -ℤ pos 1)) }
+    {
+        let height = i64::from(rows);
+        let both = self.combination(1, row, height, column)?;
+        self.plus(1, &both, -1 - height)
+    }
+
+    /// The location of an element of an array of two dimensions.
+    fn matrix(
+        &mut self,
+        first: usize,
+        rows: u32,
+        columns: u32,
+        row: &Term,
+        column: &Term,
+    ) -> Result<Location, Halt>
+        ensures locates { IfOk result (λ location. Always self.old self.new (λ start v. Answers v self.old self.new
+            (given (element (rows ∷ (columns ∷ [])) (sum_value v row.now ∷ (sum_value v column.now ∷ [])))
+            (λ k. Ok (first + k))) (λ k. IsInside v location × (slot_of v location ≡ k)))) }
+        ensures extends { Extends self.old.atoms self.new.atoms }
+    {
+        self.expect_subscript(row, rows)?;
+        self.expect_subscript(column, columns)?;
+        let index = self.matrix_index(rows, row, column)?;
+        located(self.alloc, first, rows as usize * columns as usize, index)
+    }
+
+    /// The location of a reference.
+    #[cycle(values)]
+    pub(crate) fn location_of(&mut self, writes: &[Write], e: &Element) -> Result<Location, Halt>
+        ensures yields { IfOk result (λ location. YieldsSlot self.old self.new writes.now location
+            (λ cells. slot_in cells e.now)) }
+        ensures extends { Extends self.old.atoms self.new.atoms }
+    {
+        match e {
+            Element::Variable(slot) => Ok(fixed(self.alloc, *slot)),
+            Element::Vector {
+                first,
+                bound,
+                subscript,
+            } => {
+                let index = self.number_of(writes, subscript)?;
+                self.vector(*first, *bound, &index)
+            }
+            Element::Matrix {
+                first,
+                rows,
+                columns,
+                row,
+                column,
+            } => {
+                let row = self.number_of(writes, row)?;
+                let column = self.number_of(writes, column)?;
+                self.matrix(*first, *rows, *columns, &row, &column)
+            }
+        }
+    }
+
+    /// The number that a slot holds.
+    pub(crate) fn whole(&self, value: Symbolic) -> Result<Term, Halt>
+        ensures { IfOk result (λ term. Calculates self.now self.now term (λ v. meaning.whole (content_of v value))) }
+    {
+        match value {
+            Symbolic::Number(term) => Ok(term),
+            Symbolic::Nothing | Symbolic::Truth(_) => {
+                unless_unknown(self.own)?;
+                Err(Halt::Fault)
+            }
+        }
+    }
+
+    /// The value of an INTEGER expression.
+    #[cycle(values)]
+    pub(crate) fn number_of(&mut self, writes: &[Write], x: &Number) -> Result<Term, Halt>
+        ensures yields { IfOk result (λ term. YieldsNumber self.old self.new writes.now term
+            (λ cells. number_in cells x.now)) }
+        ensures extends { Extends self.old.atoms self.new.atoms }
+    {
+        match x {
+            Number::Constant(z) => Ok(constant_term(self.alloc, i64::from(*z))),
+            Number::TooLarge => {
+                unless_unknown(self.own)?;
+                Err(Halt::Fault)
+            }
+            Number::Element(e) => {
+                let location = self.location_of(writes, e)?;
+                let value = self.read(writes, &location)?;
+                self.whole(value)
+            }
+            Number::Negated(operand) => {
+                let a = self.number_of(writes, operand)?;
+                self.negated(&a)
+            }
+            Number::Absolute(operand) => {
+                let a = self.number_of(writes, operand)?;
+                self.absolute(&a)
+            }
+            Number::ZeroPush(operand) => {
+                let a = self.number_of(writes, operand)?;
+                self.pushed(a)
+            }
+            Number::Binary(operation, left, right) => {
+                let a = self.number_of(writes, left)?;
+                let b = self.number_of(writes, right)?;
+                self.calculate(*operation, &a, &b)
+            }
+        }
+    }
+
+    /// The truth value that a slot holds.
+    fn logic(&self, value: Symbolic) -> Result<bool, Halt>
+        ensures answers { IfOk result (λ b. Always self.now self.now (λ start v. Answers v self.now self.now
+            (meaning.logic (content_of v value)) (λ c. b ≡ c))) }
+        ensures truth { IfOk result (λ _. (cell : Option Value) → IsLackingFor value cell → cell ≡ None) }
+    {
+        match value {
+            Symbolic::Truth(term) => Ok(!self.is_nothing(term)?),
+            Symbolic::Nothing | Symbolic::Number(_) => {
+                unless_unknown(self.own)?;
+                Err(Halt::Fault)
+            }
+        }
+    }
+
+    /// The value of a LOGICAL expression.
+    pub(crate) fn truth_of(&mut self, writes: &[Write], c: &Condition) -> Result<bool, Halt>
+        ensures yields { IfOk result (λ b. YieldsTruth self.old self.new writes.now b
+            (λ cells. truth_in cells c.now)) }
+        ensures extends { Extends self.old.atoms self.new.atoms }
+    {
+        match c {
+            Condition::Constant(b) => Ok(*b),
+            Condition::Element(e) => {
+                let location = self.location_of(writes, e)?;
+                let value = self.read(writes, &location)?;
+                self.logic(value)
+            }
+            Condition::Not(operand) => Ok(!self.truth_of(writes, operand)?),
+            Condition::Related(relation, left, right) => {
+                let a = self.number_of(writes, left)?;
+                let b = self.number_of(writes, right)?;
+                self.is_related(*relation, &a, &b)
+            }
+            Condition::Connected(connective, left, right) => {
+                let a = self.truth_of(writes, left)?;
+                let b = self.truth_of(writes, right)?;
+                Ok(connected(*connective, a, b))
+            }
+        }
+    }
+}

@@ -1,0 +1,121 @@
+//! What evaluates expressions of a program, where a path holds.
+
+ghost use Rattle.std.specs.Prelude.{◌≡◌, ◌≢◌, ◌+ℤ◌, ◌*ℤ◌, ◌≤ℤ◌, pos, IfOk};
+ghost use Rattle.f77_terms.specs.Atoms.{key_value};
+ghost use Rattle.f77_terms.specs.Paths.{Holds};
+ghost use Rattle.f77_terms.specs.Terms.{Valuation, sum_value};
+ghost use Rattle.f77_symbolic.specs.code.Atoms.{Extends};
+ghost use Rattle.f77_symbolic.specs.code.Evaluation.{AlwaysTells, Expects};
+
+use crate::halt::{Halt, unless_unknown};
+use crate::samples::{Samples, Sign};
+use f77_facts::facts::Fact;
+use f77_terms::atoms::{Key, Table, interned};
+use f77_terms::copying::copied_path;
+use f77_terms::knowing::{
+    constant_of, is_bounded, is_plainly_bounded, know_unequal, plus_constant,
+};
+use f77_terms::paths::{Path, add_below, is_apart};
+use f77_terms::terms::{Term, combined};
+use std::alloc::Global;
+
+/// With so many atoms no more are made.
+const MOST_ATOMS: usize = 2000;
+
+/// What is known of slots where a walk starts, and the atoms that were made so far, which stand for what slots hold
+/// there and for functions of that.
+#[derive(Drop)]
+pub struct Atoms {
+    pub facts: Vec<Fact>,
+    pub table: Table,
+}
+
+/// What is known, and of which program.
+#[derive(Drop)]
+pub struct Evaluator {
+    pub alloc: Global,
+    pub atoms: Atoms,
+    pub path: Path,
+    /// It is the program itself, whose faults are assumed away: where this is so, a fault may be passed over.
+    pub own: bool,
+    /// Samples of the path, by which a question may have its answer at once.
+    pub samples: Samples,
+}
+
+impl Evaluator {
+    /// The path is one like this, and so are the samples.
+    pub(crate) fn come_on(&mut self, path: &Path) -> Result<(), Halt>
+        ensures path { IfOk result (λ _. (v : Valuation) → Holds v path.now → Holds v self.new.path) }
+        ensures own { self.new.own ≡ self.old.own }
+        ensures extends { Extends self.old.atoms self.new.atoms }
+    {
+        self.path = copied_path(self.alloc, path)?;
+        self.samples.choose(&self.path)?;
+        Ok(())
+    }
+
+    /// The atom with a key, unless there are too many.
+    pub(crate) fn atom_of(&mut self, key: Key) -> Result<usize, Halt>
+        ensures made { IfOk result (λ atom. AlwaysTells self.old self.new
+            (λ start v. v atom ≡ key_value start.numbers v key)) }
+        ensures extends { Extends self.old.atoms self.new.atoms }
+    {
+        unless_unknown(self.atoms.table.keys.len() < MOST_ATOMS)?;
+        let atom = interned(&mut self.atoms.table, key)?.ok_or(Halt::Unknown)?;
+        self.samples.learn(&self.atoms.table)?;
+        Ok(atom)
+    }
+
+    /// The first term, m times, and the second, n times.
+    pub(crate) fn combination(&self, m: i64, a: &Term, n: i64, b: &Term) -> Result<Term, Halt>
+        ensures { IfOk result (λ term. (v : Valuation)
+            → sum_value v term ≡ m *ℤ sum_value v a.now +ℤ n *ℤ sum_value v b.now) }
+    {
+        combined(self.alloc, m, a, n, b)?.ok_or(Halt::Unknown)
+    }
+
+    /// A term, m times, and a constant.
+    pub(crate) fn plus(&self, m: i64, term: &Term, constant: i64) -> Result<Term, Halt>
+        ensures { IfOk result (λ sum. (v : Valuation)
+            → sum_value v sum ≡ constant +ℤ m *ℤ sum_value v term.now) }
+    {
+        plus_constant(self.alloc, m, term, constant)?.ok_or(Halt::Unknown)
+    }
+
+    /// There is a fault unless a term, m times, and a constant are at most 0.
+    pub(crate) fn expect_below(&mut self, m: i64, term: &Term, constant: i64) -> Result<(), Halt>
+        ensures expects { IfOk result (λ _. Expects self.old self.new
+            (λ v. (constant +ℤ m *ℤ sum_value v term.now) ≤ℤ pos 0)) }
+        ensures extends { Extends self.old.atoms self.new.atoms }
+    {
+        if !self.own {
+            unless_unknown(!self.samples.show(m, term, constant, Sign::Positive))?;
+            return unless_unknown(is_bounded(self.alloc, &self.path, m, term, constant)?);
+        }
+        if is_plainly_bounded(self.alloc, &self.path, m, term, constant)? {
+            return Ok(());
+        }
+        add_below(self.alloc, &mut self.path, m, term, constant)?;
+        self.samples.keep(m, term, constant, Sign::NotPositive);
+        Ok(())
+    }
+
+    /// There is a fault where a term is 0.
+    pub(crate) fn expect_apart(&mut self, term: &Term) -> Result<(), Halt>
+        ensures expects { IfOk result (λ _. Expects self.old self.new (λ v. sum_value v term.now ≢ pos 0)) }
+        ensures extends { Extends self.old.atoms self.new.atoms }
+    {
+        if let Some(z) = constant_of(term) {
+            if z != 0 {
+                return Ok(());
+            }
+        }
+        if !self.own {
+            unless_unknown(!self.samples.show(1, term, 0, Sign::Zero))?;
+            return unless_unknown(is_apart(self.alloc, &self.path, term)?);
+        }
+        know_unequal(self.alloc, &mut self.path, term)?;
+        self.samples.keep(1, term, 0, Sign::NotZero);
+        Ok(())
+    }
+}

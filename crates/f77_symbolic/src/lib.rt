@@ -1,0 +1,33 @@
+//! Whether a program with one statement changed is equivalent, by symbolic execution of both.
+//!
+//! The program is walked alone from its start. Wherever it comes to the changed statement, both are walked together, as
+//! a product program, until they meet: at one place, where all slots hold the same, with as much room for steps as at
+//! first.
+//! What slots hold are terms over what they held at the start, and what is known is a path condition on these terms.
+//! Read `equivalent::Tours::steps_to_spare` first, then `specs/Walk.antt`, which says why the walk suffices.
+#![tactic(auto)]
+
+mod acting;
+mod arithmetic;
+mod change;
+mod comparing;
+mod cuts;
+mod division;
+pub mod equivalent;
+mod evaluate;
+mod evaluator;
+mod halt;
+pub mod law;
+mod looping;
+mod meeting;
+mod memory;
+mod pairs;
+mod powers;
+mod reading;
+mod samples;
+mod sides;
+mod spans;
+mod stepping;
+mod values;
+pub mod visiting;
+mod walking;

@@ -1,0 +1,184 @@
+//! DOs that begin, and that are incremented.
+
+ghost use Rattle.std.specs.Prelude.{◌≡◌, ℕ, ℤ, Some, slice_set, true, IfOk};
+ghost use Rattle.f77_actions.specs.declared.resolved.Resolved.{Resolved};
+ghost use Rattle.f77_actions.specs.declared.value.Value.TheVariants as held;
+ghost use Rattle.f77_code.specs.Moves as moves;
+ghost use Rattle.f77_code.specs.Moves.{Cells};
+ghost use Rattle.f77_terms.specs.Paths.{Holds};
+ghost use Rattle.f77_terms.specs.Terms.{Valuation, sum_value};
+ghost use Rattle.f77_symbolic.specs.code.Atoms.{Extends};
+ghost use Rattle.f77_symbolic.specs.Memory.{AreInside, cells_of};
+ghost use Rattle.f77_symbolic.specs.Sides.{passes_left, state_of, turn_of, turns_of};
+ghost use Rattle.f77_symbolic.specs.code.Sides.{GoesTo, HasLeft, AlwaysSteps};
+
+use crate::evaluator::Evaluator;
+use crate::halt::{Halt, unless_unknown};
+use crate::memory::{Symbolic, fixed, put};
+use crate::sides::{Side, Step, SymbolicTurn, come_to, go_on, set_turn};
+use f77_actions::{Action, Resolved};
+use f77_equivalence::ways::statement_at;
+use f77_terms::terms::{Term, copy, sum};
+use f77_tree::Shared;
+use std::alloc::Global;
+
+/// The DO d, which ends at this statement, has this left.
+fn pass(side: &mut Side, end: &Resolved, d: usize, turn: Option<SymbolicTurn>) -> Result<Step, Halt>
+    ensures { IfOk result (λ found. (v : Valuation) (passes : ℕ) (step : ℤ) → HasLeft v turn passes step
+        → GoesTo v side.old side.new found (λ cells turns. moves.passing end.now d passes step cells turns)) }
+{
+    let is_done = turn.is_none();
+    set_turn(&mut side.turns, d, turn);
+    if is_done {
+        return Ok(go_on(side, end));
+    }
+    Ok(come_to(side, d.checked_add(1).ok_or(Halt::Unknown)?))
+}
+
+/// The DO variable gets a number, and the DO d, which ends at this statement, has this left.
+fn advance(
+    alloc: Global,
+    side: &mut Side,
+    end: &Resolved,
+    d: usize,
+    variable: usize,
+    number: Term,
+    turn: Option<SymbolicTurn>,
+) -> Result<Step, Halt>
+    ensures { IfOk result (λ found. (start : Cells) (v : Valuation) (passes : ℕ) (step : ℤ)
+        → AreInside v side.old.writes.items → HasLeft v turn passes step
+        → (found ≡ Step.Moves) × AreInside v side.new.writes.items × (moves.passing end.now d passes step
+        (slice_set (cells_of start v side.old.writes.items) variable (Some (held.Number (sum_value v number))))
+        (turns_of v side.old.turns.items) ≡ moves.Goes (state_of start v side.new))) }
+{
+    put(
+        &mut side.writes,
+        fixed(alloc, variable),
+        Symbolic::Number(number),
+    )?;
+    pass(side, end, d, turn)
+}
+
+impl Evaluator {
+    /// What a DO has left with so many passes: nothing where that is below 1.
+    fn turn_with(&self, passes: Term, step: Term) -> Result<Option<SymbolicTurn>, Halt>
+        ensures { IfOk result (λ turn. (v : Valuation) → Holds v self.now.path
+            → HasLeft v turn (passes_left (sum_value v passes)) (sum_value v step)) }
+    {
+        if self.is_negative(self.plus(1, &passes, -1)?)? {
+            return Ok(None);
+        }
+        Ok(Some(SymbolicTurn { passes, step }))
+    }
+
+    /// The DO d begins with these parameters.
+    fn enter(
+        &mut self,
+        side: &mut Side,
+        statements: &[Shared<Resolved>],
+        d: usize,
+        variable: usize,
+        terminal: usize,
+        first: Term,
+        last: &Term,
+        step: Term,
+    ) -> Result<Step, Halt>
+        ensures steps { IfOk result (λ found. AlwaysSteps self.old self.new side.old side.new found
+            (λ v cells turns. Some (moves.begun statements.now d variable terminal
+            (sum_value v first) (sum_value v last.now) (sum_value v step) cells turns))) }
+        ensures extends { Extends self.old.atoms self.new.atoms }
+    {
+        if terminal >= statements.len() {
+            return Err(Halt::Unknown);
+        }
+        if self.is_nothing(copy(self.alloc, &step)?)? {
+            unless_unknown(self.own)?;
+            return Ok(Step::Faults);
+        }
+        let distance = self.combination(1, last, -1, &first)?;
+        let dividend = self.combination(1, &distance, 1, &step)?;
+        let division = self.divided(&dividend, &step)?;
+        let turn = self.turn_with(division.quotient, step)?;
+        advance(
+            self.alloc,
+            side,
+            statement_at(statements, terminal),
+            d,
+            variable,
+            first,
+            turn,
+        )
+    }
+
+    /// The DO d begins.
+    pub(crate) fn begin(
+        &mut self,
+        side: &mut Side,
+        statements: &[Shared<Resolved>],
+        d: usize,
+        action: &Action,
+    ) -> Result<Step, Halt>
+        ensures steps { IfOk result (λ found. (r : Resolved) → AlwaysSteps self.old self.new side.old side.new found
+            (λ v cells turns. Some (moves.acted statements.now d r action.now cells turns))) }
+        ensures extends { Extends self.old.atoms self.new.atoms }
+    {
+        let Action::Loop {
+            variable,
+            first,
+            last,
+            step,
+            terminal,
+        } = action
+        else {
+            return Err(Halt::Unknown);
+        };
+        let first = self.number_of(&side.writes, first)?;
+        let last = self.number_of(&side.writes, last)?;
+        let step = self.number_of(&side.writes, step)?;
+        self.enter(
+            side, statements, d, *variable, *terminal, first, &last, step,
+        )
+    }
+
+    /// The DO d, which has this left, is incremented.
+    pub(crate) fn increment(
+        &mut self,
+        side: &mut Side,
+        statements: &[Shared<Resolved>],
+        d: usize,
+        action: &Action,
+        turn: SymbolicTurn,
+    ) -> Result<Step, Halt>
+        ensures steps { IfOk result (λ found. AlwaysSteps self.old self.new side.old side.new found
+            (λ v cells turns. Some (moves.incremented statements.now d action.now (turn_of v turn) cells turns))) }
+        ensures counts { IfOk result (λ _. moves.is_loop action.now ≡ true) }
+        ensures extends { Extends self.old.atoms self.new.atoms }
+    {
+        let Action::Loop {
+            variable,
+            terminal,
+            ..
+        } = action
+        else {
+            return Err(Halt::Unknown);
+        };
+        if *terminal >= statements.len() {
+            return Err(Halt::Unknown);
+        }
+        let value = self.read(&side.writes, &fixed(self.alloc, *variable))?;
+        let before = self.whole(value)?;
+        let next = sum(self.alloc, &before, &turn.step)?.ok_or(Halt::Unknown)?;
+        let number = self.ranged(next)?;
+        let passes = self.plus(1, &turn.passes, -1)?;
+        let left = self.turn_with(passes, turn.step)?;
+        advance(
+            self.alloc,
+            side,
+            statement_at(statements, *terminal),
+            d,
+            *variable,
+            number,
+            left,
+        )
+    }
+}

@@ -1,0 +1,172 @@
+//! Whether both sides of a pair hold the same.
+
+ghost use Rattle.std.specs.Prelude.{◌≡◌, ◌<◌, ℕ, All, Some, true, false, length, option_map, slice_get, IfOk};
+ghost use Rattle.f77_terms.specs.Paths.{Holds};
+ghost use Rattle.f77_terms.specs.Terms.{Valuation};
+ghost use Rattle.f77_symbolic.specs.Atoms.{Interprets};
+ghost use Rattle.f77_symbolic.specs.code.Atoms.{Extends};
+ghost use Rattle.f77_symbolic.specs.code.Evaluation.{Always, StaysOn};
+ghost use Rattle.f77_symbolic.specs.Memory.{AreInside, IsInside};
+ghost use Rattle.f77_symbolic.specs.code.Memory.{HoldSameIn, IsAsked};
+ghost use Rattle.f77_symbolic.specs.Memory.{Start, cells_of, slot_of, content_of};
+ghost use Rattle.f77_symbolic.specs.Sides.{state_of, turn_of, turns_of};
+
+use crate::evaluator::Evaluator;
+use crate::halt::{Halt, unless_unknown};
+use crate::memory::{Location, Symbolic, Write, write_at};
+use crate::sides::{Side, SymbolicTurn};
+use crate::values::Slots;
+use f77_terms::paths::Path;
+
+/// What a DO has left, by its number.
+fn turn_in(turns: &[Option<SymbolicTurn>], d: usize) -> &Option<SymbolicTurn>
+    requires { d < length turns.now }
+    ensures { slice_get turns.now d ≡ Some result.now }
+{
+    &turns[d]
+}
+
+/// The location may be one of these slots, if some are given.
+fn may_be_of(location: &Location, only: Option<&[Slots]>) -> bool
+    ensures { result ≡ false → (v : Valuation) → IsInside v location.now
+        → ¬ (IsAsked (option_map (λ list. list.now) only.entry) (slot_of v location.now)) }
+{
+    let Some(list) = only else {
+        return true;
+    };
+    for slots in list {
+        let before = location.first < slots.first && slots.first - location.first >= location.count;
+        let behind = slots.first <= location.first && location.first - slots.first >= slots.count;
+        if !before && !behind {
+            return true;
+        }
+    }
+    false
+}
+
+impl Evaluator {
+    /// Both values are the same.
+    fn show_same_value(&self, a: &Symbolic, b: &Symbolic) -> Result<(), Halt>
+        ensures { IfOk result (λ _. (v : Valuation) → Holds v self.now.path → content_of v b.now ≡ content_of v a.now) }
+    {
+        match (a, b) {
+            (Symbolic::Nothing, Symbolic::Nothing) => Ok(()),
+            (Symbolic::Number(x), Symbolic::Number(y)) => unless_unknown(self.are_equal(x, y)?),
+            (Symbolic::Truth(x), Symbolic::Truth(y)) => unless_unknown(self.are_equal(x, y)?),
+            _ => Err(Halt::Unknown),
+        }
+    }
+
+    /// Both sides hold the same in the slot of a location, if that is of the list.
+    fn show_same_at(
+        &mut self,
+        left: &[Write],
+        right: &[Write],
+        location: &Location,
+        only: Option<&[Slots]>,
+    ) -> Result<(), Halt>
+        ensures same { IfOk result (λ _. Always self.old self.new (λ start v. self.old.own ≡ false
+            → AreInside v left.now → AreInside v right.now → IsInside v location.now → StaysOn v self.old self.new
+            × HoldSameIn (option_map (λ list. list.now) only.entry)
+            (cells_of start.cells v left.now) (cells_of start.cells v right.now) (slot_of v location.now))) }
+        ensures extends { Extends self.old.atoms self.new.atoms }
+    {
+        if !may_be_of(location, only) {
+            return Ok(());
+        }
+        let own = self.read(left, location)?;
+        let other = self.read(right, location)?;
+        self.show_same_value(&own, &other)
+    }
+
+    /// Both sides hold the same in the slots of these writes that are of the list.
+    fn show_same_in(
+        &mut self,
+        left: &[Write],
+        right: &[Write],
+        writes: &[Write],
+        only: Option<&[Slots]>,
+    ) -> Result<(), Halt>
+        ensures same { IfOk result (λ _. Always self.old self.new (λ start v. self.old.own ≡ false
+            → AreInside v left.now → AreInside v right.now → AreInside v writes.now → StaysOn v self.old self.new
+            × All (λ write. HoldSameIn (option_map (λ list. list.now) only.entry)
+            (cells_of start.cells v left.now) (cells_of start.cells v right.now)
+            (slot_of v write.location)) writes.now)) }
+        ensures extends { Extends self.old.atoms self.new.atoms }
+    {
+        for k in 0..writes.len() {
+            self.show_same_at(left, right, &write_at(writes, k).location, only)?;
+        }
+        Ok(())
+    }
+
+    /// Both sides hold the same in the slots of the list.
+    pub(crate) fn show_same(
+        &mut self,
+        left: &[Write],
+        right: &[Write],
+        only: Option<&[Slots]>,
+    ) -> Result<(), Halt>
+        ensures same { IfOk result (λ _. Always self.old self.new (λ start v. AreInside v left.now
+            → AreInside v right.now → (slot : ℕ)
+            → HoldSameIn (option_map (λ list. list.now) only.entry)
+            (cells_of start.cells v left.now) (cells_of start.cells v right.now) slot)) }
+        ensures extends { Extends self.old.atoms self.new.atoms }
+    {
+        // What a slot that may hold no value holds is not assumed, but shown.
+        self.own = false;
+        self.show_same_in(left, right, left, only)?;
+        self.show_same_in(left, right, right, only)
+    }
+
+    /// Both DOs have the same left.
+    fn show_same_turn(&self, a: &Option<SymbolicTurn>, b: &Option<SymbolicTurn>) -> Result<(), Halt>
+        ensures { IfOk result (λ _. (v : Valuation) → Holds v self.now.path
+            → option_map (turn_of v) b.now ≡ option_map (turn_of v) a.now) }
+    {
+        match (a, b) {
+            (Some(one), Some(other)) => {
+                unless_unknown(self.are_equal(&one.passes, &other.passes)?)?;
+                unless_unknown(self.are_equal(&one.step, &other.step)?)
+            }
+            (None, None) => Ok(()),
+            _ => Err(Halt::Unknown),
+        }
+    }
+
+    /// All DOs have the same left.
+    fn show_same_turns(
+        &self,
+        a: &[Option<SymbolicTurn>],
+        b: &[Option<SymbolicTurn>],
+    ) -> Result<(), Halt>
+        ensures { IfOk result (λ _. (v : Valuation) → Holds v self.now.path → turns_of v b.now ≡ turns_of v a.now) }
+    {
+        if a.len() != b.len() {
+            return Err(Halt::Unknown);
+        }
+        for d in 0..a.len() {
+            self.show_same_turn(turn_in(a, d), turn_in(b, d))?;
+        }
+        Ok(())
+    }
+
+    /// Where the path holds, both sides are at one place, all slots hold the same, and all DOs have
+    /// the same left.
+    pub(crate) fn show_same_state(
+        &mut self,
+        path: &Path,
+        left: &Side,
+        right: &Side,
+    ) -> Result<(), Halt>
+        ensures same { IfOk result (λ _. (start : Start) (v : Valuation) → Interprets self.new.atoms start v
+            → Holds v path.now → AreInside v left.now.writes.items → AreInside v right.now.writes.items
+            → state_of start.cells v right.now ≡ state_of start.cells v left.now) }
+        ensures extends { Extends self.old.atoms self.new.atoms }
+    {
+        unless_unknown(left.place == right.place)?;
+        self.come_on(path)?;
+        self.show_same_turns(&left.turns, &right.turns)?;
+        self.show_same(&left.writes, &right.writes, None)
+    }
+}

@@ -1,0 +1,149 @@
+//! What slots hold: what they held where the run started, and what was written since.
+
+ghost use Rattle.std.specs.Prelude.{◌≡◌, ◌<◌, length, Some, slice_get, slice_set, Option, IfOk, IfSome};
+ghost use Rattle.f77_actions.specs.declared.value.Value.{Value};
+ghost use Rattle.f77_code.specs.Moves.{Cells};
+ghost use Rattle.f77_meaning.specs.Start as meaning;
+ghost use Rattle.f77_terms.specs.Terms.{Valuation};
+ghost use Rattle.f77_symbolic.specs.Memory.{AreInside, IsInside, cells_of, slot_of, content_of};
+ghost use Rattle.f77_symbolic.specs.code.Memory.{IsWriteTo};
+
+use f77_terms::terms::{Term, constant_term, copy};
+use f77_tree::Constant;
+use std::alloc::{AllocError, Global};
+
+/// One of so many slots from the first one on: it lies so far behind that.
+#[derive(Drop)]
+pub struct Location {
+    pub first: usize,
+    pub count: usize,
+    pub index: Term,
+}
+
+/// What a slot holds.
+#[derive(Drop)]
+pub enum Symbolic {
+    Nothing,
+    Number(Term),
+    /// It is true where the term is not 0.
+    Truth(Term),
+}
+
+/// A value that was put into a slot.
+#[derive(Drop)]
+pub struct Write {
+    pub location: Location,
+    pub value: Symbolic,
+}
+
+/// The location that is this slot.
+pub(crate) fn fixed(alloc: Global, slot: usize) -> Location
+    ensures inside { (v : Valuation) → IsInside v result }
+    ensures slot { (v : Valuation) → slot_of v result ≡ slot }
+{
+    Location {
+        first: slot,
+        count: 1,
+        index: constant_term(alloc, 0),
+    }
+}
+
+/// The location in memory of its own.
+fn copied_location(alloc: Global, location: &Location) -> Result<Location, AllocError>
+    ensures inside { IfOk result (λ copied. (v : Valuation) → IsInside v location.now → IsInside v copied) }
+    ensures slot { IfOk result (λ copied. (v : Valuation) → slot_of v copied ≡ slot_of v location.now) }
+{
+    Ok(Location {
+        first: location.first,
+        count: location.count,
+        index: copy(alloc, &location.index)?,
+    })
+}
+
+/// The value in memory of its own.
+pub(crate) fn copied_value(alloc: Global, value: &Symbolic) -> Result<Symbolic, AllocError>
+    ensures { IfOk result (λ copied. (v : Valuation) → content_of v copied ≡ content_of v value.now) }
+{
+    match value {
+        Symbolic::Nothing => Ok(Symbolic::Nothing),
+        Symbolic::Number(term) => Ok(Symbolic::Number(copy(alloc, term)?)),
+        Symbolic::Truth(term) => Ok(Symbolic::Truth(copy(alloc, term)?)),
+    }
+}
+
+/// The writes in memory of their own.
+pub(crate) fn copied_writes(alloc: Global, writes: &[Write]) -> Result<Vec<Write>, AllocError>
+    ensures cells { IfOk result (λ copied. (start : Cells) (v : Valuation)
+        → cells_of start v copied.items ≡ cells_of start v writes.now) }
+    ensures inside { IfOk result (λ copied. (v : Valuation) → AreInside v writes.now → AreInside v copied.items) }
+{
+    let mut copied = Vec::with_capacity(alloc, writes.len())?;
+    for write in writes {
+        let location = copied_location(alloc, &write.location)?;
+        let value = copied_value(alloc, &write.value)?;
+        copied.push(Write { location, value })?;
+    }
+    Ok(copied)
+}
+
+/// The value of a constant.
+fn constant_value(alloc: Global, constant: Constant) -> Symbolic
+    ensures { (v : Valuation) → content_of v result ≡ Some (meaning.constant_value constant) }
+{
+    match constant {
+        Constant::Number(number) => Symbolic::Number(constant_term(alloc, i64::from(number))),
+        Constant::Truth(truth) => Symbolic::Truth(constant_term(alloc, i64::from(truth))),
+    }
+}
+
+/// The write of this number.
+pub(crate) fn write_at(writes: &[Write], place: usize) -> &Write
+    requires { place < length writes.now }
+    ensures { slice_get writes.now place ≡ Some result.now }
+{
+    &writes[place]
+}
+
+/// The place of a write to this one slot, if there is one.
+fn place_of(writes: &[Write], slot: usize) -> Option<usize>
+    ensures { IfSome result (λ place. IsWriteTo writes.now place slot) }
+{
+    for place in 0..writes.len() {
+        let location = &write_at(writes, place).location;
+        if location.count == 1 && location.first == slot {
+            return Some(place);
+        }
+    }
+    None
+}
+
+/// Leaves out a write to this one slot, which is to be written to again.
+fn forget(writes: &mut Vec<Write>, slot: usize)
+    ensures same { (start : Cells) (v : Valuation) (cell : Option Value) → AreInside v writes.old.items
+        → slice_set (cells_of start v writes.new.items) slot cell
+        ≡ slice_set (cells_of start v writes.old.items) slot cell }
+    ensures inside { (v : Valuation) → AreInside v writes.old.items → AreInside v writes.new.items }
+{
+    if let Some(place) = place_of(writes, slot) {
+        writes.remove(place);
+    }
+}
+
+/// Puts a value into the slot of a location.
+pub(crate) fn put(
+    writes: &mut Vec<Write>,
+    location: Location,
+    value: Symbolic,
+) -> Result<(), AllocError>
+    ensures cells { IfOk result (λ _. (start : Cells) (v : Valuation) → AreInside v writes.old.items
+        → IsInside v location → cells_of start v writes.new.items
+        ≡ slice_set (cells_of start v writes.old.items) (slot_of v location) (content_of v value)) }
+    ensures inside { IfOk result (λ _. (v : Valuation) → AreInside v writes.old.items → IsInside v location
+        → AreInside v writes.new.items) }
+{
+    if location.count == 1 {
+        forget(writes, location.first);
+    }
+    writes.push(Write { location, value })?;
+    Ok(())
+}

@@ -1,0 +1,199 @@
+//! Where the program comes by itself: it is walked alone once, for all its mutants.
+
+ghost use Rattle.std.specs.Prelude.{◌≡◌, length, IfOk};
+ghost use Rattle.f77_equivalence.specs.Alike.{site};
+ghost use Rattle.f77_symbolic.specs.code.Atoms.{Extends};
+ghost use Rattle.f77_symbolic.specs.Visits.{AreVisits, IsTour};
+ghost use Rattle.f77_symbolic.specs.code.Visits.{GivesWayAlone, IsAdded, IsNotedAs, WalksOn};
+
+use crate::cuts::is_cut;
+use crate::evaluator::{Atoms, Evaluator};
+use crate::halt::{Halt, Split, unless_unknown};
+use crate::pairs::path_on;
+use crate::samples::{Samples, first_samples};
+use crate::sides::{Side, Step, copied_side};
+use f77_actions::Resolved;
+use f77_code::Place;
+use f77_facts::entries::{Entry, entry_at};
+use f77_facts::facts::is_inside;
+use f77_terms::atoms::new_table;
+use f77_terms::paths::{Path, new_path};
+use f77_tree::Shared;
+use std::alloc::{AllocError, Global};
+
+/// A state to which the program comes.
+#[derive(Drop)]
+pub struct Visit {
+    pub path: Path,
+    pub side: Side,
+}
+
+/// What a walk of the program from one cut comes to before the next: by statement, the visits there.
+#[derive(Drop)]
+pub struct Visits {
+    pub atoms: Atoms,
+    pub samples: Samples,
+    pub at: Vec<Vec<Visit>>,
+}
+
+/// The walks from all cuts of a program.
+#[derive(Drop)]
+pub struct Tour {
+    pub each: Vec<Visits>,
+}
+
+/// The number of the statement of a place.
+fn statement_of(place: Place) -> usize
+    ensures { result ≡ site place }
+{
+    match place {
+        Place::Execute(i) | Place::Increment(i) => i,
+    }
+}
+
+/// Notes a visit.
+fn note(at: &mut Vec<Vec<Visit>>, visit: Visit) -> Result<(), Halt>
+    ensures { IfOk result (λ _. IsNotedAs visit at.old.items at.new.items) }
+{
+    let i = statement_of(visit.side.place);
+    unless_unknown(i < at.len())?;
+    at[i].push(visit)?;
+    Ok(())
+}
+
+/// Adds the visit on one of the two ways.
+fn add_on(
+    alloc: Global,
+    visit: &Visit,
+    split: &Split,
+    first: bool,
+    todo: &mut Vec<Visit>,
+) -> Result<(), AllocError>
+    ensures { IfOk result (λ _. IsAdded visit.now split.now first todo.old.items todo.new.items) }
+{
+    let path = path_on(alloc, &visit.path, split, first)?;
+    let side = copied_side(alloc, &visit.side)?;
+    Ok(todo.push(Visit { path, side })?)
+}
+
+impl Evaluator {
+    /// The program makes a step alone: the visit is noted, and another one is to come, if the step is no end and leads
+    /// to no cut. Or the visit is split, or its path does not hold.
+    fn step_alone(
+        &mut self,
+        statements: &[Shared<Resolved>],
+        cuts: &[Place],
+        visit: Visit,
+        todo: &mut Vec<Visit>,
+        at: &mut Vec<Vec<Visit>>,
+    ) -> Result<(), Halt>
+        ensures gives { IfOk result (λ _. GivesWayAlone self.new.atoms statements.now cuts.now visit
+            todo.old.items todo.new.items at.old.items at.new.items) }
+        ensures extends { Extends self.old.atoms self.new.atoms }
+    {
+        match self.step_from(&visit.path, true, &visit.side, statements) {
+            Ok((step, side)) => {
+                if step == Step::Moves && !is_cut(cuts, side.place) {
+                    let path = self.taken_path();
+                    todo.push(Visit { path, side })?;
+                }
+                note(at, visit)
+            }
+            Err(halt) => {
+                if let Some(split) = self.split_of(halt, &visit.path)? {
+                    add_on(self.alloc, &visit, &split, true, todo)?;
+                    add_on(self.alloc, &visit, &split, false, todo)?;
+                }
+                Ok(())
+            }
+        }
+    }
+
+    /// The program is walked from a visit on, by the work that is left at most.
+    fn walk_alone(
+        &mut self,
+        statements: &[Shared<Resolved>],
+        cuts: &[Place],
+        first: Visit,
+        work: &mut u64,
+        at: &mut Vec<Vec<Visit>>,
+    ) -> Result<(), Halt>
+        ensures walks { IfOk result (λ _. WalksOn self.new.atoms statements.now cuts.now first at.new.items) }
+        ensures extends { Extends self.old.atoms self.new.atoms }
+    {
+        let mut todo = Vec::new(self.alloc);
+        todo.push(first)?;
+        while *work > 0 {
+            let Some(visit) = todo.pop() else {
+                return Ok(());
+            };
+            *work = work.saturating_sub(self.samples.cost(&visit.path, statements.len()));
+            self.step_alone(statements, cuts, visit, &mut todo, at)?;
+        }
+        Err(Halt::Unknown)
+    }
+}
+
+/// A list without visits for each statement.
+fn no_visits(alloc: Global, count: usize) -> Result<Vec<Vec<Visit>>, AllocError>
+    ensures { IfOk result (λ at. length at.items ≡ count) }
+{
+    let mut at = Vec::with_capacity(alloc, count)?;
+    for _ in 0..count {
+        at.push(Vec::new(alloc))?;
+    }
+    Ok(at)
+}
+
+/// What a walk of the program from an entry comes to.
+fn visits_from(
+    alloc: Global,
+    statements: &[Shared<Resolved>],
+    cuts: &[Place],
+    entry: &Entry,
+    work: &mut u64,
+) -> Result<Visits, Halt>
+    ensures { IfOk result (λ visits. AreVisits statements.now cuts.now entry.now visits) }
+{
+    unless_unknown(entry.loops.len() == statements.len())?;
+    let samples = first_samples(alloc, &entry.facts, statements.len())?;
+    let mut at = no_visits(alloc, statements.len())?;
+    let facts = entry.facts.to_vec(alloc)?;
+    let table = new_table(alloc);
+    let mut evaluator = Evaluator {
+        alloc,
+        atoms: Atoms { facts, table },
+        path: new_path(alloc),
+        own: true,
+        samples,
+    };
+    let first = evaluator.first_visit(statements.len(), entry.place, &entry.loops)?;
+    evaluator.walk_alone(statements, cuts, first, work, &mut at)?;
+    unless_unknown(is_inside(&entry.facts, &evaluator.atoms.facts))?;
+    Ok(Visits {
+        atoms: evaluator.atoms,
+        samples: evaluator.samples,
+        at,
+    })
+}
+
+/// The walks from all entries of these places, by so much work at most.
+pub(crate) fn tour_of(
+    alloc: Global,
+    statements: &[Shared<Resolved>],
+    cuts: &[Place],
+    entries: &[Entry],
+    work: u64,
+) -> Result<Tour, Halt>
+    ensures { IfOk result (λ tour. IsTour statements.now cuts.now entries.now tour.each.items) }
+{
+    let mut left = work;
+    let mut each = Vec::new(alloc);
+    for number in 0..entries.len() {
+        let entry = entry_at(entries, number);
+        if is_cut(cuts, entry.place) {
+            each.push(visits_from(alloc, statements, cuts, entry, &mut left)?)?;
+        }
+    }
+    Ok(Tour { each })
+}

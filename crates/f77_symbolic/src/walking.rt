@@ -1,0 +1,271 @@
+//! The walk of a program and a changed one: pair by pair, each of which gives way to those that its step leads to.
+
+ghost use Rattle.std.specs.Prelude.{◌≡◌, ◌≤ℤ◌, ◌+ℤ◌, negsuc, pos, false, true, IfNone, IfOk, IfSome};
+ghost use Rattle.f77_actions.specs.declared.finish.Finish.{Finish};
+ghost use Rattle.f77_check.specs.Checked.{CheckedFields};
+ghost use Rattle.f77_terms.specs.Paths.{Holds};
+ghost use Rattle.f77_terms.specs.Terms.{Valuation};
+ghost use Rattle.f77_symbolic.specs.Atoms.{Interprets};
+ghost use Rattle.f77_symbolic.specs.code.Atoms.{Extends};
+ghost use Rattle.f77_symbolic.specs.code.Evaluation.{Always};
+ghost use Rattle.f77_symbolic.specs.Memory.{AreInside, Start};
+ghost use Rattle.f77_symbolic.specs.code.Pairs.{AreSettled, EndsSo, GivesWay, IsReady, IsThere, RestsOn};
+ghost use Rattle.f77_symbolic.specs.Sides.{state_of};
+ghost use Rattle.f77_symbolic.specs.code.Sides.{IsEndOf};
+
+use crate::change::Change;
+use crate::evaluator::Evaluator;
+use crate::halt::{Halt, Split, is_shown, unless_unknown};
+use crate::pairs::{Pair, split_pair};
+use crate::samples::Sign;
+use crate::sides::{Side, Step, copied_side};
+use f77_actions::{Action, Resolved};
+use f77_code::Place;
+use f77_terms::paths::{Path, new_path, refuted};
+use f77_terms::terms::Term;
+use f77_tree::Shared;
+use std::mem;
+
+/// The changed program may be so many steps behind at most.
+const MOST_SPARE: i64 = 100;
+
+/// Where a place stands in the text: that of a DO that is incremented behind its last statement, and RETURN and STOP
+/// behind all.
+fn order_of(statements: &[Shared<Resolved>], place: Place) -> usize {
+    match place {
+        Place::Execute(i) if i < statements.len() => match &statements[i].action {
+            Action::Return | Action::Stop => usize::MAX,
+            _ => i.saturating_mul(2),
+        },
+        Place::Increment(d) if d < statements.len() => match &statements[d].action {
+            Action::Loop { terminal, .. } => terminal.saturating_mul(2).saturating_add(1),
+            _ => 0,
+        },
+        _ => 0,
+    }
+}
+
+impl Evaluator {
+    /// The path, in the place of which there is an empty one.
+    pub(crate) fn taken_path(&mut self) -> Path
+        ensures path { result ≡ self.old.path }
+        ensures extends { Extends self.old.atoms self.new.atoms }
+    {
+        mem::replace(&mut self.path, new_path(self.alloc))
+    }
+
+    /// They met, and the changed program made no more steps. It is false too where that is not told.
+    fn is_met(&mut self, pair: &Pair) -> Result<bool, Halt>
+        ensures made { IfOk result (λ yes. yes ≡ true → (pair.now.fresh ≡ false) × (pos 0 ≤ℤ pair.now.credit)) }
+        ensures met { IfOk result (λ yes. yes ≡ true → (start : Start) (v : Valuation)
+            → Interprets self.new.atoms start v → IsThere v pair.now
+            → state_of start.cells v pair.now.right ≡ state_of start.cells v pair.now.left) }
+        ensures extends { Extends self.old.atoms self.new.atoms }
+    {
+        if pair.fresh || pair.credit < 0 {
+            return Ok(false);
+        }
+        Ok(is_shown(self.show_same_state(&pair.path, &pair.left, &pair.right))?)
+    }
+
+    /// Whether the changed program ends as the program does with this step, and the dummy arguments hold the same. It
+    /// is false where it does not end.
+    fn is_end_alike(
+        &mut self,
+        change: &Change,
+        left: &Side,
+        right: &Side,
+        step: Step,
+    ) -> Result<bool, Halt>
+        ensures ends { IfOk result (λ yes. yes ≡ true → (checked : CheckedFields) (finish : Finish)
+            → IsReady checked change.now → IsEndOf step finish → Always self.old self.new (λ start v.
+            AreInside v left.now.writes.items → AreInside v right.now.writes.items
+            → EndsSo checked change.now finish start v left.now right.now)) }
+        ensures extends { Extends self.old.atoms self.new.atoms }
+    {
+        let path = self.taken_path();
+        let (other, _after) = self.step_from(&path, false, right, &change.statements)?;
+        if other == Step::Moves {
+            return Ok(false);
+        }
+        unless_unknown(other == step)?;
+        self.show_same(&left.writes, &right.writes, Some(&change.dummies))?;
+        Ok(true)
+    }
+
+    /// The changed program makes a step, which is no end.
+    fn other_step(&mut self, change: &Change, pair: &Pair) -> Result<Option<Pair>, Halt>
+        ensures rests { IfOk result (λ next. RestsOn self.new.atoms change.now next pair.now) }
+        ensures extends { Extends self.old.atoms self.new.atoms }
+    {
+        unless_unknown(pair.credit > -MOST_SPARE)?;
+        let (step, right) = self.step_from(&pair.path, false, &pair.right, &change.statements)?;
+        match step {
+            Step::Moves => Ok(Some(Pair {
+                path: self.taken_path(),
+                left: copied_side(self.alloc, &pair.left)?,
+                right,
+                credit: pair.credit - 1,
+                fresh: pair.fresh,
+            })),
+            Step::Returns | Step::Stops | Step::Faults => Err(Halt::Unknown),
+        }
+    }
+
+    /// The program makes a step, and the changed one may make one more. Where the program ends and the changed one does
+    /// not, that goes on.
+    fn own_turn(&mut self, change: &Change, pair: &Pair) -> Result<Option<Pair>, Halt>
+        ensures rests { IfOk result (λ next. RestsOn self.new.atoms change.now next pair.now) }
+        ensures extends { Extends self.old.atoms self.new.atoms }
+    {
+        let (step, left) = self.step_from(&pair.path, true, &pair.left, &change.own)?;
+        match step {
+            Step::Moves => Ok(Some(Pair {
+                path: self.taken_path(),
+                left,
+                right: copied_side(self.alloc, &pair.right)?,
+                credit: pair.credit.checked_add(1).ok_or(Halt::Unknown)?,
+                fresh: false,
+            })),
+            Step::Faults => Ok(None),
+            Step::Returns | Step::Stops => {
+                if self.is_end_alike(change, &pair.left, &pair.right, step)? {
+                    return Ok(None);
+                }
+                self.other_step(change, pair)
+            }
+        }
+    }
+
+    /// The changed program makes a step. Where that is its end, the program goes on.
+    fn other_turn(&mut self, change: &Change, pair: &Pair) -> Result<Option<Pair>, Halt>
+        ensures rests { IfOk result (λ next. RestsOn self.new.atoms change.now next pair.now) }
+        ensures extends { Extends self.old.atoms self.new.atoms }
+    {
+        let (step, _after) = self.step_from(&pair.path, false, &pair.right, &change.statements)?;
+        if step == Step::Moves {
+            return self.other_step(change, pair);
+        }
+        self.own_turn(change, pair)
+    }
+
+    /// The program makes a step, and then the changed one, if it did not yet.
+    fn both_turn(&mut self, change: &Change, pair: &Pair) -> Result<Option<Pair>, Halt>
+        ensures rests { IfOk result (λ next. RestsOn self.new.atoms change.now next pair.now) }
+        ensures extends { Extends self.old.atoms self.new.atoms }
+    {
+        let Some(next) = self.own_turn(change, pair)? else {
+            return Ok(None);
+        };
+        if next.credit <= pair.credit {
+            return Ok(Some(next));
+        }
+        self.other_turn(change, &next)
+    }
+
+    /// The pair that the next step leads to, if there is more to show.
+    fn next_pair(&mut self, change: &Change, pair: &Pair) -> Result<Option<Pair>, Halt>
+        ensures rests { IfOk result (λ next. RestsOn self.new.atoms change.now next pair.now) }
+        ensures extends { Extends self.old.atoms self.new.atoms }
+    {
+        if self.is_met(pair)? {
+            return Ok(None);
+        }
+        if pair.left.place == pair.right.place {
+            return self.both_turn(change, pair);
+        }
+        let own = order_of(&change.own, pair.left.place);
+        if own <= order_of(&change.own, pair.right.place) {
+            return self.own_turn(change, pair);
+        }
+        self.other_turn(change, pair)
+    }
+
+    /// A path that is to be split, or that nothing is told of: then it is refuted.
+    pub(crate) fn split_of(&mut self, halt: Halt, path: &Path) -> Result<Option<Split>, Halt>
+        ensures refuted { IfOk result (λ split. IfNone split ((v : Valuation) → ¬ (Holds v path.now))) }
+        ensures extends { Extends self.old.atoms self.new.atoms }
+    {
+        match halt {
+            Halt::Split(split) => {
+                self.show_ways(path, &split)?;
+                Ok(Some(split))
+            }
+            Halt::Unknown => {
+                self.come_on(path)?;
+                unless_unknown(!self.samples.are_any())?;
+                unless_unknown(refuted(self.alloc, path, &[])?)?;
+                Ok(None)
+            }
+            Halt::Fault => Err(Halt::Unknown),
+            Halt::Memory => Err(Halt::Memory),
+        }
+    }
+
+    /// Samples are looked for on both ways of a path that is split.
+    fn show_ways(&mut self, path: &Path, split: &Split) -> Result<(), Halt>
+        ensures extends { Extends self.old.atoms self.new.atoms }
+    {
+        self.come_on(path)?;
+        let (term, one, other) = match split {
+            Split::Sign(term) => (term, Sign::Negative, Sign::NotNegative),
+            Split::Zero(term) => (term, Sign::Zero, Sign::NotZero),
+        };
+        self.look_for(term, one)?;
+        self.look_for(term, other)
+    }
+
+    /// A sample with this sign of a term is looked for, if there is none.
+    fn look_for(&mut self, term: &Term, sign: Sign) -> Result<(), Halt>
+        ensures atoms { self.new.atoms ≡ self.old.atoms }
+    {
+        if !self.samples.show(1, term, 0, sign) {
+            self.samples
+                .mend(self.alloc, &self.path, &self.atoms.table, term, sign)?;
+        }
+        Ok(())
+    }
+
+    /// A pair gives way to those that its next step leads to, or to the two into which it is split. Where nothing is
+    /// told it is settled if its path does not hold.
+    fn give_way(&mut self, change: &Change, pair: Pair, todo: &mut Vec<Pair>) -> Result<(), Halt>
+        ensures gives { IfOk result (λ _. GivesWay self.new.atoms change.now todo.old.items todo.new.items pair) }
+        ensures extends { Extends self.old.atoms self.new.atoms }
+    {
+        match self.next_pair(change, &pair) {
+            Ok(Some(next)) => {
+                todo.push(next)?;
+                Ok(())
+            }
+            Ok(None) => Ok(()),
+            Err(halt) => match self.split_of(halt, &pair.path)? {
+                Some(split) => Ok(split_pair(self.alloc, &pair, &split, todo)?),
+                None => Ok(()),
+            },
+        }
+    }
+
+    /// The pairs are settled, by the work that is left at most. Gives by how many steps at most the changed program was
+    /// behind.
+    pub(crate) fn follow(
+        &mut self,
+        change: &Change,
+        mut todo: Vec<Pair>,
+        work: &mut u64,
+    ) -> Result<i64, Halt>
+        ensures settled { IfOk result (λ behind. AreSettled self.new.atoms change.now behind todo.items) }
+        ensures positive { IfOk result (λ behind. pos 0 ≤ℤ behind) }
+        ensures extends { Extends self.old.atoms self.new.atoms }
+    {
+        let mut behind = 0;
+        while *work > 0 {
+            let Some(pair) = todo.pop() else {
+                return Ok(behind);
+            };
+            behind = behind.max(pair.credit.checked_neg().ok_or(Halt::Unknown)?);
+            *work = work.saturating_sub(self.samples.cost(&pair.path, pair.left.turns.len()));
+            self.give_way(change, pair, &mut todo)?;
+        }
+        Err(Halt::Unknown)
+    }
+}

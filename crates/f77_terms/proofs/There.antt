@@ -1,0 +1,43 @@
+-- One of several is there, where cases are added.
+use Rattle.std.proofs.Common.{arith, ◌≡◌, ◌≢◌, ◌<◌, ◌≤◌, ◌+◌, ◌⊎◌, inl, inr, ℕ, zero, suc, List, [], ◌∷◌, ◌++◌, length, length-append, take, get_or, ap, sym, subst, ◌∙◌}
+use Rattle.std.specs.Prelude.{All, Any}
+use Rattle.std.proofs.lemmas.List.{get_or_append_left, get_or-append-add, take_more, take_all}
+use Rattle.std.proofs.lemmas.Bool.Decides.{eqb_tells}
+
+pub same_or_not : (j k : ℕ) → (j ≡ k) ⊎ (j ≢ k)
+same_or_not j k = elim (eqb_tells j k) [ inl p ↦ inl p.1 | inr p ↦ inr p.1 ]
+
+pub any_before : {X : Type 0} (P : X → Type 0) (xs ys : List X) → Any P xs → Any P (xs ++ ys)
+any_before P xs ys there =
+    let l = there.2 in
+    (there.0, there.1, omega (arith, length-append xs ys, l), get_or_append_left xs ys there.1 there.0 l ∙ there.3, there.4)
+
+pub any_behind : {X : Type 0} (P : X → Type 0) (xs ys : List X) → Any P ys → Any P (xs ++ ys)
+any_behind P xs ys there =
+    let l = there.2 in
+    (length xs + there.0, there.1, omega (arith, length-append xs ys, l), get_or-append-add xs ys there.0 there.1 ∙ there.3, there.4)
+
+any_last : {X : Type 0} (P : X → Type 0) (ys : List X) (y : X) (k : ℕ) (x : X) → k < length (ys ++ y ∷ []) → get_or (ys ++ y ∷ []) k x ≡ x → P x
+    → Any P ys ⊎ P y
+any_last P [] y zero x l is p = inr (subst P (sym is) p)
+any_last P [] y (suc k) x l is p = absurd (omega arith)
+any_last P (a ∷ ys) y zero x l is p = inl (0, x, omega arith, is, p)
+any_last P (a ∷ ys) y (suc k) x l is p =
+    elim (any_last P ys y k x (omega (arith, l)) is p) [ inl h ↦ inl (suc h.0, h.1, omega (arith, h.2), h.3, h.4) | inr q ↦ inr q ]
+
+-- what is there of one more is there of those before, or is the last
+pub any_more : {X : Type 0} (P : X → Type 0) (xs : List X) (i : ℕ) (x : X) → i < length xs → x ≡ get_or xs i x → Any P (take (i + 1) xs)
+    → Any P (take i xs) ⊎ P x
+any_more P xs i x within is there =
+    let cut = take_more xs i x within ∙ ap (λ y. take i xs ++ y ∷ []) (sym is) in
+    let at : Any P (take i xs ++ x ∷ []) = subst (Any P) cut there in
+    any_last P (take i xs) x at.0 at.1 at.2 at.3 at.4
+
+pub any_of_none : {X : Type 0} (P : X → Type 0) → Any P [] → ⊥
+any_of_none P there = let l = there.2 in absurd (omega arith)
+
+pub any_of_all : {X : Type 0} (P : X → Type 0) (xs : List X) (n : ℕ) → length xs ≤ n → Any P xs → Any P (take n xs)
+any_of_all P xs n all there = subst (Any P) (sym (take_all n xs all)) there
+
+pub at_item : {X : Type 0} (P : X → Type 0) (xs : List X) (i : ℕ) (x : X) → i < length xs → x ≡ get_or xs i x → All P xs → P x
+at_item P xs i x within is all = subst P (sym is) (all i x within)

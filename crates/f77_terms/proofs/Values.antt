@@ -1,0 +1,103 @@
+-- The values of terms.
+use Rattle.std.proofs.Common.{arith, ◌≡◌, ◌<◌, ◌≤◌, ℕ, zero, suc, ◌+◌, ◌-◌, List, [], ◌∷◌, ◌++◌, length, length-drop, take, drop, get_or, add-one, ℤ, pos, sym, ap, ◌∙◌}
+use Rattle.std.specs.Prelude.{◌+ℤ◌, ◌*ℤ◌, slice_get, Option, Some, None, IfSome, Result, Ok, Err, IfOk}
+use Rattle.std.specs.List.{insert, remove}
+use Rattle.std.proofs.lemmas.Int.{ints}
+use Rattle.std.proofs.lemmas.List.{take_all}
+use Rattle.f77_terms.proofs.Products.{times_sum, sum_times, times_product, last_swapped}
+use Rattle.std.proofs.Math.IntN.{zero-*ℤ, *ℤ_comm}
+use Rattle.f77_terms.specs.declared.terms.Part.{Part}
+use Rattle.f77_terms.specs.Terms.{Valuation, monomial_value, part_value, parts_value}
+
+pub parts_put : (v : Valuation) (parts : List Part) (place : ℕ) (part : Part) → parts_value v (insert parts place part) ≡ parts_value v parts +ℤ part_value v part
+parts_put v [] zero part = omega (arith, ints)
+parts_put v [] (suc k) part = omega (arith, ints)
+parts_put v (p ∷ ps) zero part = omega (arith, ints)
+parts_put v (p ∷ ps) (suc k) part = let rest = parts_put v ps k part in omega (arith, ints, rest)
+
+pub parts_taken : (v : Valuation) (parts : List Part) (place : ℕ) (part : Part) → place < length parts → part ≡ get_or parts place part
+    → parts_value v parts ≡ parts_value v (remove parts place) +ℤ part_value v part
+parts_taken v [] k part within is = absurd (omega arith)
+parts_taken v (p ∷ ps) zero part within is = rw is (omega (arith, ints))
+parts_taken v (p ∷ ps) (suc k) part within is = let rest = parts_taken v ps k part (omega (arith, within)) is in omega (arith, ints, rest)
+
+pub zero_part : (v : Valuation) (part : Part) → part.factor ≡ pos 0 → part_value v part ≡ pos 0
+zero_part v part nothing = ap (λ z. z *ℤ monomial_value v part.monomial) nothing ∙ zero-*ℤ (monomial_value v part.monomial)
+
+-- a result goes on through a call
+pub some_then : {A : Type 0} {P Q : A → Type 0} (r : Option A) → IfSome r P → ((x : A) → P x → Q x) → IfSome r Q
+some_then (Some x) p each = each x p
+some_then None p each = tt
+
+pub ok_then : {A E : Type 0} {P Q : A → Type 0} (r : Result A E) → IfOk r P → ((x : A) → P x → Q x) → IfOk r Q
+ok_then (Ok x) p each = each x p
+ok_then (Err e) p each = tt
+
+-- one part more
+parts_next : (v : Valuation) (ps : List Part) (i : ℕ) (p : Part) → slice_get ps i ≡ Some p
+    → parts_value v (take (suc i) ps) ≡ parts_value v (take i ps) +ℤ part_value v p
+parts_next v [] i p e = absurd (cc)
+parts_next v (x ∷ xs) zero p e = let same : x ≡ p = cc in let here = ap (part_value v) same in omega (arith, ints, here)
+parts_next v (x ∷ xs) (suc i) p e = let rest = parts_next v xs i p e in omega (arith, ints, rest)
+
+pub parts_more : (v : Valuation) (ps : List Part) (i : ℕ) (p : Part) → slice_get ps i ≡ Some p
+    → parts_value v (take (i + 1) ps) ≡ parts_value v (take i ps) +ℤ part_value v p
+parts_more v ps i p e = rw add-one (parts_next v ps i p e)
+
+pub all_parts : (v : Valuation) (ps : List Part) (i : ℕ) → length ps ≤ i → parts_value v (take i ps) ≡ parts_value v ps
+all_parts v ps i all = ap (parts_value v) (take_all i ps all)
+
+pub times_more : (v : Valuation) (ps : List Part) (i : ℕ) (p : Part) (u : ℤ) → slice_get ps i ≡ Some p
+    → u *ℤ parts_value v (take (i + 1) ps) ≡ u *ℤ parts_value v (take i ps) +ℤ u *ℤ part_value v p
+times_more v ps i p u e = ap (λ z. u *ℤ z) (parts_more v ps i p e) ∙ sum_times u (parts_value v (take i ps)) (part_value v p)
+
+pub more_times : (v : Valuation) (ps : List Part) (i : ℕ) (p : Part) (u : ℤ) → slice_get ps i ≡ Some p
+    → parts_value v (take (i + 1) ps) *ℤ u ≡ parts_value v (take i ps) *ℤ u +ℤ part_value v p *ℤ u
+more_times v ps i p u e = ap (λ z. z *ℤ u) (parts_more v ps i p e) ∙ times_sum (parts_value v (take i ps)) (part_value v p) u
+
+-- a factor, so many times
+pub factor_times : (factor m f h : ℤ) → factor ≡ m *ℤ f → factor *ℤ h ≡ m *ℤ (f *ℤ h)
+factor_times factor m f h e = ap (λ z. z *ℤ h) e ∙ times_product m f h
+
+-- the product of two parts
+pub both_factors : (factor a b s m n : ℤ) → factor ≡ a *ℤ b → s ≡ m *ℤ n → factor *ℤ s ≡ (a *ℤ m) *ℤ (b *ℤ n)
+both_factors factor a b s m n e f =
+    ap (λ z. z *ℤ s) e ∙ ap (λ z. (a *ℤ b) *ℤ z) f ∙ sym (times_product (a *ℤ b) m n)
+    ∙ ap (λ z. z *ℤ n) (last_swapped a b m) ∙ times_product (a *ℤ m) b n
+
+-- the product of a constant and parts, and others
+pub all_products : (a s b t : ℤ) → (a +ℤ s) *ℤ (b +ℤ t) ≡ a *ℤ (b +ℤ t) +ℤ (b *ℤ s +ℤ s *ℤ t)
+all_products a s b t =
+    let whole = times_sum a s (b +ℤ t) in
+    let rest = sum_times s b t in
+    let turned = *ℤ_comm s b in
+    omega (arith, ints, whole, rest, turned)
+
+pub whole_times : (m a s : ℤ) → m *ℤ (a +ℤ s) ≡ m *ℤ a +ℤ m *ℤ s
+whole_times m a s = sum_times m a s
+
+parts_pushed : (v : Valuation) (ps : List Part) (p : Part) → parts_value v (ps ++ p ∷ []) ≡ parts_value v ps +ℤ part_value v p
+parts_pushed v [] p = omega (arith, ints)
+parts_pushed v (x ∷ xs) p = let rest = parts_pushed v xs p in omega (arith, ints, rest)
+
+-- one divided part more
+pub divided_more : (v : Valuation) (old new : List Part) (g p s : ℤ) (part other : Part) → new ≡ old ++ part ∷ [] → s ≡ p +ℤ part_value v other
+    → p ≡ g *ℤ parts_value v old → other.factor ≡ g *ℤ part.factor → other.monomial ≡ part.monomial → s ≡ g *ℤ parts_value v new
+divided_more v old new g p s part other is more before factor same =
+    let value = ap (λ z. z *ℤ monomial_value v other.monomial) factor ∙ ap (λ m. (g *ℤ part.factor) *ℤ monomial_value v m) same
+    ∙ times_product g part.factor (monomial_value v part.monomial) in
+    let whole = ap (λ ps. g *ℤ parts_value v ps) is ∙ ap (λ z. g *ℤ z) (parts_pushed v old part) ∙ sum_times g (parts_value v old) (part_value v part) in
+    omega (arith, ints, more, before, value, whole)
+
+parts_apart : (v : Valuation) (ps : List Part) (k : ℕ) (p : Part) → slice_get ps k ≡ Some p
+    → parts_value v ps ≡ (parts_value v (take k ps) +ℤ parts_value v (drop (suc k) ps)) +ℤ part_value v p
+parts_apart v [] k p e = absurd (cc)
+parts_apart v (x ∷ xs) zero p e = let same : x ≡ p = cc in let here = ap (part_value v) same in omega (arith, ints, here)
+parts_apart v (x ∷ xs) (suc k) p e = let rest = parts_apart v xs k p e in omega (arith, ints, rest)
+
+-- the parts before a place, those behind it, and the one there
+pub parts_round : (v : Valuation) (ps : List Part) (k : ℕ) (p : Part) → slice_get ps k ≡ Some p
+    → parts_value v ps ≡ (parts_value v (take k ps) +ℤ parts_value v (take (length ps - (k + 1)) (drop (k + 1) ps))) +ℤ part_value v p
+parts_round v ps k p e =
+    let all : take (length ps - (k + 1)) (drop (k + 1) ps) ≡ drop (k + 1) ps = take_all (length ps - (k + 1)) (drop (k + 1) ps) (omega (arith, length-drop (k + 1) ps)) in
+    rw all (rw add-one (parts_apart v ps k p e))

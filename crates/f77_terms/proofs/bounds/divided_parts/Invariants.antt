@@ -1,0 +1,7 @@
+use Rattle.std.proofs.Common.{◌≡◌, take}
+use Rattle.std.specs.Prelude.{◌*ℤ◌}
+use Rattle.f77_terms.specs.Terms.{Valuation, parts_value}
+use Rattle.f77_terms.proofs.bounds.divided_parts.Given as goal
+
+abbrev pub invariant-loop-place : goal.invariant-loop-place
+invariant-loop-place l = (v : Valuation) → parts_value v (take l.place l.parts) ≡ l.g *ℤ parts_value v l.divided.items

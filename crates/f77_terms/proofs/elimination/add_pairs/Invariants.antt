@@ -1,0 +1,7 @@
+use Rattle.f77_terms.specs.Terms.{Valuation}
+use Rattle.f77_terms.specs.Bounds.{IsBelow, AreBelow}
+use Rattle.f77_terms.proofs.elimination.add_pairs.Given as goal
+
+abbrev pub invariant-loop-place : goal.invariant-loop-place
+invariant-loop-place l =
+    (v : Valuation) → AreBelow v l.initial.left.items → IsBelow v l.bound → AreBelow v l.bounds → AreBelow v l.left.items

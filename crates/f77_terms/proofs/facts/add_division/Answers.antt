@@ -1,0 +1,17 @@
+use Rattle.std.proofs.Common.{ap, ◌∙◌}
+use Rattle.std.specs.Prelude.{◌+ℤ◌, ◌*ℤ◌, int_div}
+use Rattle.std.proofs.lemmas.Int.{quot-rem}
+use Rattle.f77_terms.specs.Terms.{sum_value}
+use Rattle.f77_terms.proofs.Values.{ok_then}
+use Rattle.f77_terms.proofs.facts.add_division.Goals as goal
+
+pub returns : goal.returns
+returns c =
+    ok_then c.add_choice-2.result c.add_choice-2.ensures
+    (λ x claim v holds q r apart.
+    let n = sum_value v c.args.dividend.now in
+    let d = sum_value v c.args.divisor.now in
+    let quotient = c.in_ok-whole.ensures v ∙ q in
+    let rest = c.in_ok-rest.ensures v ∙ r in
+    let whole = ap (λ z. z *ℤ d +ℤ sum_value v c.in_ok-rest.rest) quotient ∙ ap (λ z. int_div n d *ℤ d +ℤ z) rest ∙ quot-rem n d in
+    claim v (c.in_ok-add_choice.ensures v (c.in_ok-add_whole.ensures v holds whole) (c.in_ok-sizes.ensures v n apart rest)) (c.in_ok-signs.ensures v d rest))

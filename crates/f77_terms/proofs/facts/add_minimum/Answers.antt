@@ -1,0 +1,13 @@
+use Rattle.std.proofs.Common.{◌∙◌}
+use Rattle.f77_terms.specs.Terms.{sum_value}
+use Rattle.f77_terms.proofs.Values.{ok_then}
+use Rattle.f77_terms.proofs.Division.{least_is, either_way}
+use Rattle.f77_terms.proofs.facts.add_minimum.Goals as goal
+
+pub returns : goal.returns
+returns c =
+    ok_then c.add_choice.result c.add_choice.ensures
+    (λ x claim v holds is.
+    let known = least_is (sum_value v c.args.a.now) (sum_value v c.args.b.now) (sum_value v c.in_ok-least.least) (c.in_ok-least.ensures v ∙ is) in
+    claim v (c.in_ok-add_order-2.ensures v (c.in_ok-add_order.ensures v holds known.0) known.1)
+    (c.in_ok-choice.ensures v (either_way (c.in_ok-first.ensures v) (c.in_ok-second.ensures v) known.2)))

@@ -1,0 +1,14 @@
+use Rattle.std.proofs.Common.{arith, inl, inr}
+use Rattle.std.proofs.lemmas.Int.{ints}
+use Rattle.f77_terms.specs.Terms.{sum_value}
+use Rattle.f77_terms.proofs.Values.{ok_then}
+use Rattle.f77_terms.proofs.Division.{signed_alike}
+use Rattle.f77_terms.proofs.facts.sign_cases.Goals as goal
+
+pub returns : goal.returns
+returns c =
+    ok_then c.two_cases.result c.two_cases.ensures
+    (λ choice claim v d is. elim (signed_alike (sum_value v c.args.dividend.now) d) [
+      | inl above ↦ claim v (inl (c.in_ok-above.ensures v above.0 (omega (arith, ints, is, above.1))))
+      | inr below ↦ claim v (inr (c.in_ok-below.ensures v below.0 (omega (arith, ints, is, below.1))))
+    ])

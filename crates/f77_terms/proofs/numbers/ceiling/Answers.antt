@@ -1,0 +1,27 @@
+use Rattle.std.proofs.Common.{arith, SFits, w64, pos}
+use Rattle.std.specs.Prelude.{◌+ℤ◌, ◌<ℤ◌, int_div, int_rem}
+use Rattle.std.proofs.lemmas.Int.{ints, quot-rem, rem_below, quot_is, rem_is, quot_fits, to_z-of_z}
+use Rattle.f77_terms.proofs.Orders.{rounded_up, rounded, rest_above, abs_above, more_fits}
+use Rattle.f77_terms.proofs.numbers.ceiling.Goals as goal
+
+pub returns-then-c-g-gt0 : goal.returns-then-c-g-gt0
+returns-then-c-g-gt0 c s below =
+    let n : SFits w64 c.args.c = c.ranges.c in
+    let g : SFits w64 c.args.g = c.ranges.g in
+    let whole = quot_fits w64 c.args.c c.args.g n c.requires in
+    let quotient = quot_is w64 c.args.c c.args.g n g whole in
+    let rest = rem_is w64 c.args.c c.args.g n g in
+    let r = c.if-c-g-gt0.true in
+    let positive : pos 0 <ℤ int_rem c.args.c c.args.g = omega (arith, ints, rest, r) in
+    let fits = more_fits c.args.c c.args.g (int_div c.args.c c.args.g) (int_rem c.args.c c.args.g) n whole c.requires (quot-rem c.args.c c.args.g) positive in
+    rw (quotient, to_z-of_z w64 (int_div c.args.c c.args.g +ℤ pos 1) fits)
+    (rounded_up c.args.c c.args.g (int_div c.args.c c.args.g) (int_rem c.args.c c.args.g) s c.requires (quot-rem c.args.c c.args.g) positive below)
+
+pub returns-else-c-g-gt0 : goal.returns-else-c-g-gt0
+returns-else-c-g-gt0 c s below =
+    let n : SFits w64 c.args.c = c.ranges.c in
+    let g : SFits w64 c.args.g = c.ranges.g in
+    let quotient = quot_is w64 c.args.c c.args.g n g (quot_fits w64 c.args.c c.args.g n c.requires) in
+    let q = rounded c.args.c c.args.g (int_div c.args.c c.args.g) (int_rem c.args.c c.args.g) s c.requires (quot-rem c.args.c c.args.g)
+    (rest_above (int_rem c.args.c c.args.g) c.args.g c.requires (rem_below c.args.c c.args.g (abs_above c.args.g c.requires))) below in
+    omega (arith, ints, q, quotient)

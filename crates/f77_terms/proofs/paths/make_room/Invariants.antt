@@ -1,0 +1,6 @@
+use Rattle.f77_terms.specs.Terms.{Valuation}
+use Rattle.f77_terms.specs.Ranges.{AreKnown}
+use Rattle.f77_terms.proofs.paths.make_room.Given as goal
+
+abbrev pub invariant-loop : goal.invariant-loop
+invariant-loop l = (v : Valuation) → AreKnown v l.initial.known.items → AreKnown v l.known.items

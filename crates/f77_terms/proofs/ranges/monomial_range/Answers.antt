@@ -1,0 +1,14 @@
+use Rattle.std.proofs.Common.{sym, subst, ap, ◌∙◌, ℤ}
+use Rattle.std.specs.Prelude.{◌*ℤ◌}
+use Rattle.f77_terms.specs.Terms.{monomial_value}
+use Rattle.f77_terms.specs.Ranges.{IsIn}
+use Rattle.f77_terms.proofs.Products.{times_product}
+use Rattle.f77_terms.proofs.Values.{some_then}
+use Rattle.f77_terms.proofs.ranges.monomial_range.Goals as goal
+
+pub returns-in_ok-other-in-Four : goal.returns-in_ok-other-in-Four
+returns-in_ok-other-in-Four c =
+    some_then c.product_range-in-Four.result c.product_range-in-Four.ensures
+    (λ range claim v inside. subst (λ (z : ℤ). IsIn range z)
+    (sym (times_product (v c.in-Four.a *ℤ v c.in-Four.b) (v c.in-Four.c) (v c.in-Four.d)) ∙ ap (monomial_value v) (sym c.in-Four.is))
+    (claim (v c.in-Four.a *ℤ v c.in-Four.b) (v c.in-Four.c *ℤ v c.in-Four.d) (c.in_ok-pair-in-Four.ensures v inside) (c.in_ok-other-in-Four.ensures v inside)))

@@ -1,0 +1,7 @@
+use Rattle.f77_terms.specs.Terms.{Valuation}
+use Rattle.f77_terms.specs.Bounds.{IsBelow}
+use Rattle.f77_terms.specs.Ranges.{AreKnown}
+use Rattle.f77_terms.proofs.ranges.narrow.Given as goal
+
+abbrev pub invariant-loop-place : goal.invariant-loop-place
+invariant-loop-place l = (v : Valuation) → AreKnown v l.initial.known → IsBelow v l.bound → AreKnown v l.known

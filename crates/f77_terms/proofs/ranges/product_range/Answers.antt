@@ -1,0 +1,13 @@
+use Rattle.std.proofs.Common.{rules, SFits, w64}
+use Rattle.std.specs.Prelude.{◌*ℤ◌}
+use Rattle.std.proofs.lemmas.Int.{to_z-of_z}
+use Rattle.f77_terms.proofs.Orders.{between_products}
+use Rattle.f77_terms.proofs.ranges.product_range.Goals as goal
+
+pub returns : goal.returns
+returns c x y first second =
+    let low : SFits w64 c.args.a.low = search rules in
+    let high : SFits w64 c.args.a.high = search rules in
+    between_products c.args.a.low x c.args.a.high y c.hull.result.low c.hull.result.high first.above first.below
+    (c.hull.ensures.first (c.args.a.low *ℤ y) (simp to_z-of_z at (c.in_ok-lows.ensures y second)))
+    (c.hull.ensures.second (c.args.a.high *ℤ y) (simp to_z-of_z at (c.in_ok-highs.ensures y second)))

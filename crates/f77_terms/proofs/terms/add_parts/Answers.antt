@@ -1,0 +1,16 @@
+use Rattle.std.proofs.Common.{arith, rules, SFits, w64}
+use Rattle.std.proofs.lemmas.Int.{ints, to_z-of_z}
+use Rattle.f77_terms.specs.Terms.{monomial_value}
+use Rattle.f77_terms.proofs.Values.{times_more, factor_times}
+use Rattle.f77_terms.proofs.terms.add_parts.Goals as goal
+
+pub loop-place-preserved : goal.loop-place-preserved
+loop-place-preserved c v =
+    let m : SFits w64 c.args.m = c.ranges.m in
+    let old : SFits w64 c.part_at-part.result.factor = search rules in
+    let factor : SFits w64 c.in-Some.factor = search rules in
+    let more = times_more v c.args.parts.now c.loop-place.place c.part_at-part.result c.args.m c.part_at-part.ensures in
+    let before = simp to_z-of_z at (c.loop-place.invariant v) in
+    let product = factor_times c.in-Some.factor c.args.m c.part_at-part.result.factor (monomial_value v c.part_at-part.result.monomial) (simp to_z-of_z at c.in-Some.ensures.1) in
+    let added = simp to_z-of_z at (c.in_ok-added.ensures c.if-not-added.false v) in
+    simp to_z-of_z (omega (arith, ints, more, before, product, added))

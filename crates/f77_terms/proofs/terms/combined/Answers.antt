@@ -1,0 +1,16 @@
+use Rattle.std.proofs.Common.{arith, SFits, w64}
+use Rattle.std.proofs.lemmas.Int.{ints, to_z-of_z}
+use Rattle.f77_terms.proofs.Values.{some_then}
+use Rattle.f77_terms.proofs.terms.combined.Goals as goal
+
+pub returns : goal.returns
+returns c =
+    let m : SFits w64 c.args.m = c.ranges.m in
+    let n : SFits w64 c.args.n = c.ranges.n in
+    some_then c.limited.result c.limited.ensures
+    (λ term claim v.
+    let here = claim v in
+    let start = c.constant_term-term.ensures v in
+    let first = simp to_z-of_z at (c.in_ok-first.ensures c.if-not-first.false v) in
+    let second = simp to_z-of_z at (c.in_ok-second.ensures c.if-not-second.false v) in
+    omega (arith, ints, here, start, first, second))

@@ -1,0 +1,51 @@
+-- The meaning of atoms.
+use Rattle.std.specs.Prelude.{◌≡◌, ◌+◌, ℕ, ℤ, pos, negsuc, List, Some, slice_get, int_div, int_rem}
+use Rattle.std.specs.Int.{int_max, int_min}
+use Rattle.f77_terms.specs.declared.atoms.Key.{Key}
+use Rattle.f77_terms.specs.declared.atoms.Key.TheVariants as key
+use Rattle.f77_terms.specs.declared.atoms.Table.{Table}
+use Rattle.f77_terms.specs.declared.terms.Part.{Part}
+use Rattle.f77_terms.specs.declared.terms.Term.{Term}
+use Rattle.f77_terms.specs.Monomials.{HasAtomsBelow}
+use Rattle.f77_terms.specs.Terms.{Valuation, sum_value}
+
+-- the number that each slot holds
+abbrev pub Numbers : Type 0
+Numbers = ℕ → ℤ
+
+-- the slot that lies so far behind one
+abbrev pub slot_behind : ℕ → ℤ → ℕ
+slot_behind first (pos n) = first + n
+slot_behind first (negsuc n) = first
+
+-- the number that a key means
+abbrev pub key_value : Numbers → Valuation → Key → ℤ
+key_value held v (key.Slot slot) = held slot
+key_value held v (key.Element first index) = held (slot_behind first (sum_value v index))
+key_value held v (key.Quotient a b) = int_div (sum_value v a) (sum_value v b)
+key_value held v (key.Remainder a b) = int_rem (sum_value v a) (sum_value v b)
+key_value held v (key.Minimum a b) = int_min (sum_value v a) (sum_value v b)
+key_value held v (key.Maximum a b) = int_max (sum_value v a) (sum_value v b)
+
+-- each atom of the parts is below this number
+abbrev pub AreOfAtomsBelow : ℕ → List Part → Type 0
+AreOfAtomsBelow n parts =
+    (k : ℕ) (part : Part) → slice_get parts k ≡ Some part → HasAtomsBelow n part.monomial
+
+abbrev pub IsOfAtomsBelow : ℕ → Term → Type 0
+IsOfAtomsBelow n term = AreOfAtomsBelow n term.parts.items
+
+-- each atom of the key's terms is below this number
+abbrev pub IsOfEarlierAtoms : ℕ → Key → Type 0
+IsOfEarlierAtoms n (key.Slot slot) = Unit {0}
+IsOfEarlierAtoms n (key.Element first index) = IsOfAtomsBelow n index
+IsOfEarlierAtoms n (key.Quotient a b) = IsOfAtomsBelow n a × IsOfAtomsBelow n b
+IsOfEarlierAtoms n (key.Remainder a b) = IsOfAtomsBelow n a × IsOfAtomsBelow n b
+IsOfEarlierAtoms n (key.Minimum a b) = IsOfAtomsBelow n a × IsOfAtomsBelow n b
+IsOfEarlierAtoms n (key.Maximum a b) = IsOfAtomsBelow n a × IsOfAtomsBelow n b
+
+-- Each atom has the number that its key means. A key with atoms behind its own means nothing.
+abbrev pub FitsTable : Numbers → Valuation → Table → Type 0
+FitsTable held v table =
+    (k : ℕ) (key : Key) → slice_get table.keys.items k ≡ Some key → IsOfEarlierAtoms k key
+    → v k ≡ key_value held v key

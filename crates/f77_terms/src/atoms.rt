@@ -1,0 +1,146 @@
+//! Atoms: numbers with a meaning.
+
+ghost use Rattle.std.specs.Prelude.{◌≡◌, ◌<◌, true, length, slice_get, Some, IfOk, IfSome};
+ghost use Rattle.f77_terms.specs.Terms.{Valuation};
+ghost use Rattle.f77_terms.specs.Atoms.{AreOfAtomsBelow, FitsTable, IsOfAtomsBelow, IsOfEarlierAtoms, Numbers};
+ghost use Rattle.f77_terms.specs.Atoms.{key_value};
+ghost use Rattle.f77_terms.specs.Monomials.{HasAtomsBelow};
+
+use crate::monomials::Monomial;
+use crate::terms::{Part, Term, is_same_term, part_at};
+use std::alloc::{AllocError, Global};
+
+/// What an atom is.
+#[derive(Debug, Drop)]
+pub enum Key {
+    /// The number that a slot holds.
+    Slot(usize),
+    /// The number that the slot holds which lies so far behind this one.
+    Element(usize, Term),
+    /// The quotient, truncated toward zero.
+    Quotient(Term, Term),
+    /// What a division leaves.
+    Remainder(Term, Term),
+    Minimum(Term, Term),
+    Maximum(Term, Term),
+}
+
+/// The atoms: the number of each is the place of its key.
+#[derive(Debug, Drop)]
+pub struct Table {
+    pub keys: Vec<Key>,
+}
+
+/// A table without atoms.
+pub fn new_table(alloc: Global) -> Table
+    ensures { (held : Numbers) (v : Valuation) → FitsTable held v result }
+{
+    Table {
+        keys: Vec::new(alloc),
+    }
+}
+
+/// The monomial has atoms below this number alone.
+fn has_atoms_below(monomial: Monomial, n: usize) -> bool
+    ensures { result ≡ true → HasAtomsBelow n monomial }
+{
+    match monomial {
+        Monomial::One(a) => a < n,
+        Monomial::Two(a, b) => a < n && b < n,
+        Monomial::Three(a, b, c) => a < n && b < n && c < n,
+        Monomial::Four(a, b, c, d) => a < n && b < n && c < n && d < n,
+    }
+}
+
+/// The parts have atoms below this number alone.
+fn are_within(parts: &[Part], n: usize) -> bool
+    ensures { result ≡ true → AreOfAtomsBelow n parts.now }
+{
+    for place in 0..parts.len() {
+        let part = part_at(parts, place);
+        if !has_atoms_below(part.monomial, n) {
+            return false;
+        }
+    }
+    true
+}
+
+/// The term has atoms below this number alone.
+fn is_within(term: &Term, n: usize) -> bool
+    ensures { result ≡ true → IsOfAtomsBelow n term.now }
+{
+    are_within(&term.parts, n)
+}
+
+/// The terms of the key have atoms below this number alone.
+pub fn is_in_order(key: &Key, n: usize) -> bool
+    ensures { result ≡ true → IsOfEarlierAtoms n key.now }
+{
+    match key {
+        Key::Slot(_) => true,
+        Key::Element(_, index) => is_within(index, n),
+        Key::Quotient(a, b) => is_within(a, n) && is_within(b, n),
+        Key::Remainder(a, b) => is_within(a, n) && is_within(b, n),
+        Key::Minimum(a, b) => is_within(a, n) && is_within(b, n),
+        Key::Maximum(a, b) => is_within(a, n) && is_within(b, n),
+    }
+}
+
+/// Both are the same key.
+fn is_same_key(a: &Key, b: &Key) -> bool
+    ensures { result ≡ true → (held : Numbers) (v : Valuation) → key_value held v a.now ≡ key_value held v b.now }
+{
+    match (a, b) {
+        (Key::Slot(i), Key::Slot(j)) => *i == *j,
+        (Key::Element(i, s), Key::Element(j, t)) => *i == *j && is_same_term(s, t),
+        (Key::Quotient(s, t), Key::Quotient(x, y)) => is_same_term(s, x) && is_same_term(t, y),
+        (Key::Remainder(s, t), Key::Remainder(x, y)) => is_same_term(s, x) && is_same_term(t, y),
+        (Key::Minimum(s, t), Key::Minimum(x, y)) => is_same_term(s, x) && is_same_term(t, y),
+        (Key::Maximum(s, t), Key::Maximum(x, y)) => is_same_term(s, x) && is_same_term(t, y),
+        _ => false,
+    }
+}
+
+/// The key at a place.
+pub fn key_at(keys: &[Key], place: usize) -> &Key
+    requires { place < length keys.now }
+    ensures { slice_get keys.now place ≡ Some result.now }
+{
+    &keys[place]
+}
+
+/// The atom with a key, if there is one.
+fn atom_with(table: &Table, key: &Key) -> Option<usize>
+    ensures { IfSome result (λ atom. (held : Numbers) (v : Valuation) → FitsTable held v table.now
+        → v atom ≡ key_value held v key.now) }
+{
+    for place in 0..table.keys.len() {
+        let other = key_at(&table.keys, place);
+        if is_same_key(other, key) && is_in_order(other, place) {
+            return Some(place);
+        }
+    }
+    None
+}
+
+/// The atom with a key, which is made if there is none, unless a term of the key has atoms that are not of the table.
+pub fn interned(table: &mut Table, key: Key) -> Result<Option<usize>, AllocError>
+    ensures kept { (held : Numbers) (v : Valuation) → FitsTable held v table.new → FitsTable held v table.old }
+    ensures made { IfOk result (λ made. IfSome made (λ atom. (held : Numbers) (v : Valuation)
+        → FitsTable held v table.new → v atom ≡ key_value held v key)) }
+{
+    if let Some(atom) = atom_with(table, &key) {
+        return Ok(Some(atom));
+    }
+    let atom = table.keys.len();
+    if !is_in_order(&key, atom) {
+        return Ok(None);
+    }
+    table.keys.push(key)?;
+    Ok(Some(atom))
+}
+
+/// Whatever slots hold, there is a valuation that fits a table.
+pub fn law_of_atoms(table: &Table)
+    ensures { (held : Numbers) → (v : Valuation) × FitsTable held v table.now }
+{}

@@ -1,0 +1,141 @@
+//! Bounds: terms that are at most 0.
+
+ghost use Rattle.std.specs.Prelude.{◌≡◌, ◌+ℤ◌, ◌*ℤ◌, ◌≤ℤ◌, ℤ, pos, true, IfOk, IfSome};
+ghost use Rattle.f77_terms.specs.Terms.{Valuation, parts_value, sum_value};
+ghost use Rattle.f77_terms.specs.Bounds.{IsBelow, AreBelow};
+
+use crate::numbers::{ceiling, divisor_of};
+use crate::terms::{Part, Term, add_multiple, combined, constant_term, copy, part_at};
+use std::alloc::{AllocError, Global};
+
+/// The parts, each of which is so many times one of these.
+fn divided_parts(alloc: Global, parts: &[Part], g: i64) -> Result<Option<Vec<Part>>, AllocError>
+    ensures { IfOk result (λ made. IfSome made (λ divided. (v : Valuation)
+        → parts_value v parts.now ≡ g *ℤ parts_value v divided.items)) }
+{
+    let mut divided = Vec::new(alloc);
+    for place in 0..parts.len() {
+        let part = part_at(parts, place);
+        let Some(factor) = part.factor.checked_div(g) else {
+            return Ok(None);
+        };
+        let Some(whole) = g.checked_mul(factor) else {
+            return Ok(None);
+        };
+        if whole != part.factor {
+            return Ok(None);
+        }
+        divided.push(Part {
+            factor,
+            monomial: part.monomial,
+        })?;
+    }
+    Ok(Some(divided))
+}
+
+/// The bound without the common divisor of its factors, which is sharper where it does not divide the constant.
+fn tightened(alloc: Global, bound: Term) -> Result<Term, AllocError>
+    ensures { IfOk result (λ tight. (v : Valuation) → IsBelow v bound → IsBelow v tight) }
+{
+    let g = divisor_of(&bound.parts);
+    if g == 1 {
+        return Ok(bound);
+    }
+    match divided_parts(alloc, &bound.parts, g)? {
+        Some(parts) => Ok(Term {
+            constant: ceiling(bound.constant, g),
+            parts,
+        }),
+        None => Ok(bound),
+    }
+}
+
+/// The place of a bound with the same parts, or behind all if there is none.
+fn place_like(bounds: &[Term], bound: &Term) -> usize {
+    for place in 0..bounds.len() {
+        if bounds[place].parts == bound.parts {
+            return place;
+        }
+    }
+    bounds.len()
+}
+
+/// Adds a bound, in place of a weaker one with the same parts.
+pub fn add_tight(alloc: Global, bounds: &mut Vec<Term>, bound: Term) -> Result<(), AllocError>
+    ensures { IfOk result (λ _. (v : Valuation) → AreBelow v bounds.old.items → IsBelow v bound
+        → AreBelow v bounds.new.items) }
+{
+    let tight = tightened(alloc, bound)?;
+    let place = place_like(bounds, &tight);
+    if place < bounds.len() {
+        if bounds[place].constant < tight.constant {
+            bounds[place] = tight;
+        }
+        return Ok(());
+    }
+    bounds.push(tight)?;
+    Ok(())
+}
+
+/// Adds bounds of which these are copies.
+pub fn add_all(alloc: Global, bounds: &mut Vec<Term>, more: &[Term]) -> Result<(), AllocError>
+    ensures { IfOk result (λ _. (v : Valuation) → AreBelow v bounds.old.items → AreBelow v more.now
+        → AreBelow v bounds.new.items) }
+{
+    for bound in more {
+        let copied = copy(alloc, bound)?;
+        add_tight(alloc, bounds, copied)?;
+    }
+    Ok(())
+}
+
+/// Adds that a term, m times, and a constant are at most 0, unless a number gets too large.
+pub fn add_bound(
+    alloc: Global,
+    bounds: &mut Vec<Term>,
+    m: i64,
+    term: &Term,
+    constant: i64,
+) -> Result<(), AllocError>
+    ensures { IfOk result (λ _. (v : Valuation) → AreBelow v bounds.old.items
+        → (constant +ℤ m *ℤ sum_value v term.now) ≤ℤ pos 0 → AreBelow v bounds.new.items) }
+{
+    let mut bound = constant_term(alloc, constant);
+    let added = add_multiple(&mut bound, m, term)?;
+    if !added {
+        return Ok(());
+    }
+    add_tight(alloc, bounds, bound)
+}
+
+/// Adds what follows from two bounds, the first m times and the second n times.
+pub fn add_combined(
+    alloc: Global,
+    bounds: &mut Vec<Term>,
+    m: i64,
+    a: &Term,
+    n: i64,
+    b: &Term,
+) -> Result<(), AllocError>
+    requires first { pos 0 ≤ℤ m }
+    requires second { pos 0 ≤ℤ n }
+    ensures { IfOk result (λ _. (v : Valuation) → AreBelow v bounds.old.items → IsBelow v a.now
+        → IsBelow v b.now → AreBelow v bounds.new.items) }
+{
+    let Some(bound) = combined(alloc, m, a, n, b)? else {
+        return Ok(());
+    };
+    add_tight(alloc, bounds, bound)
+}
+
+/// A constant above 0 would be at most 0.
+pub fn is_refuted(bounds: &[Term]) -> bool
+    ensures { result ≡ true → (v : Valuation) → ¬ (AreBelow v bounds.now) }
+{
+    for bound in bounds {
+        if bound.constant > 0 && bound.parts.len() == 0 {
+            return true;
+        }
+    }
+    false
+}

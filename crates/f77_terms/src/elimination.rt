@@ -1,0 +1,252 @@
+//! Whether bounds contradict each other: one monomial after another is eliminated (Fourier and Motzkin).
+
+ghost use Rattle.std.specs.Prelude.{◌≡◌, ◌≤ℤ◌, pos, true, IfOk};
+ghost use Rattle.f77_terms.specs.Terms.{Valuation};
+ghost use Rattle.f77_terms.specs.Bounds.{IsBelow, AreBelow};
+ghost use Rattle.f77_terms.specs.Ranges.{AreKnown};
+ghost use Rattle.f77_terms.specs.code.Bounds.{Follow};
+
+use crate::bounds::{add_all, add_bound, add_combined, add_tight, is_refuted};
+use crate::monomials::Monomial;
+use crate::numbers::{divisor_of_two, share};
+use crate::ranges::{Range, monomial_range};
+use crate::terms::{Part, Term, copy, factor_of, monomial_term};
+use std::alloc::{AllocError, Global};
+
+/// So many monomials are eliminated, and no more.
+const MOST_MONOMIALS: usize = 24;
+
+/// With more bounds nothing is told.
+const MOST_BOUNDS: usize = 80;
+
+/// What an elimination costs more that may lose whole numbers.
+const LOSS: usize = 1000;
+
+/// In how many bounds a monomial has a factor above 0, and in how many one below, and whether all those are 1 and -1.
+#[derive(Clone, Copy)]
+struct Count {
+    monomial: Monomial,
+    above: usize,
+    below: usize,
+    is_one: bool,
+    is_minus_one: bool,
+}
+
+/// The count with one factor more.
+fn counted(count: Count, factor: i64) -> Count {
+    if factor > 0 {
+        Count {
+            above: count.above.saturating_add(1),
+            is_one: count.is_one && factor == 1,
+            ..count
+        }
+    } else {
+        Count {
+            below: count.below.saturating_add(1),
+            is_minus_one: count.is_minus_one && factor == -1,
+            ..count
+        }
+    }
+}
+
+/// Counts a part.
+fn count_part(counts: &mut Vec<Count>, part: Part) -> Result<(), AllocError> {
+    for place in 0..counts.len() {
+        let count = counts[place];
+        if count.monomial == part.monomial {
+            counts[place] = counted(count, part.factor);
+            return Ok(());
+        }
+    }
+    let none = Count {
+        monomial: part.monomial,
+        above: 0,
+        below: 0,
+        is_one: true,
+        is_minus_one: true,
+    };
+    counts.push(counted(none, part.factor))?;
+    Ok(())
+}
+
+/// What an elimination costs: it loses no whole numbers where the factors of one side are 1, and goes before others.
+fn cost_of(count: Count) -> usize {
+    let pairs = count.above.saturating_mul(count.below);
+    if count.is_one || count.is_minus_one {
+        pairs
+    } else {
+        pairs.saturating_add(LOSS)
+    }
+}
+
+/// The monomial whose elimination costs least.
+fn next_monomial(alloc: Global, bounds: &[Term]) -> Result<Option<Monomial>, AllocError> {
+    let mut counts = Vec::new(alloc);
+    for bound in bounds {
+        for part in &bound.parts {
+            count_part(&mut counts, *part)?;
+        }
+    }
+    let mut least = usize::MAX;
+    let mut next = None;
+    for count in &counts {
+        let cost = cost_of(*count);
+        if cost < least {
+            least = cost;
+            next = Some(count.monomial);
+        }
+    }
+    Ok(next)
+}
+
+/// Adds what is known of a monomial.
+fn add_known(
+    alloc: Global,
+    known: &[Option<Range>],
+    bounds: &mut Vec<Term>,
+    monomial: Monomial,
+) -> Result<(), AllocError>
+    ensures { IfOk result (λ _. (v : Valuation) → AreKnown v known.now → AreBelow v bounds.old.items
+        → AreBelow v bounds.new.items) }
+{
+    let Some(range) = monomial_range(known, monomial) else {
+        return Ok(());
+    };
+    let term = monomial_term(alloc, monomial)?;
+    add_bound(alloc, bounds, -1, &term, range.low)?;
+    if range.high == i64::MIN {
+        return Ok(());
+    }
+    add_bound(alloc, bounds, 1, &term, -range.high)
+}
+
+/// Adds what follows from a bound and another, if the factor of that is below 0.
+fn add_pair(
+    alloc: Global,
+    left: &mut Vec<Term>,
+    bound: &Term,
+    factor: i64,
+    other: &Term,
+    below: i64,
+) -> Result<(), AllocError>
+    requires { pos 0 ≤ℤ factor }
+    ensures { IfOk result (λ _. (v : Valuation) → AreBelow v left.old.items → IsBelow v bound.now
+        → IsBelow v other.now → AreBelow v left.new.items) }
+{
+    if below >= 0 || below == i64::MIN {
+        return Ok(());
+    }
+    let divisor = divisor_of_two(below, factor);
+    add_combined(
+        alloc,
+        left,
+        share(-below, divisor),
+        bound,
+        share(factor, divisor),
+        other,
+    )
+}
+
+/// Adds what follows from a bound and each of those whose factor is below 0.
+fn add_pairs(
+    alloc: Global,
+    left: &mut Vec<Term>,
+    bound: &Term,
+    factor: i64,
+    bounds: &[Term],
+    factors: &[i64],
+) -> Result<(), AllocError>
+    requires { pos 0 ≤ℤ factor }
+    ensures { IfOk result (λ _. (v : Valuation) → AreBelow v left.old.items → IsBelow v bound.now
+        → AreBelow v bounds.now → AreBelow v left.new.items) }
+{
+    for place in 0..bounds.len() {
+        if place < factors.len() {
+            add_pair(alloc, left, bound, factor, &bounds[place], factors[place])?;
+        }
+    }
+    Ok(())
+}
+
+/// Adds what follows from a bound without the monomial, of which it has this factor: itself, or what it leads to with
+/// others.
+fn add_without(
+    alloc: Global,
+    left: &mut Vec<Term>,
+    bound: &Term,
+    factor: i64,
+    bounds: &[Term],
+    factors: &[i64],
+) -> Result<(), AllocError>
+    ensures { IfOk result (λ _. (v : Valuation) → AreBelow v left.old.items → IsBelow v bound.now
+        → AreBelow v bounds.now → AreBelow v left.new.items) }
+{
+    if factor > 0 {
+        return add_pairs(alloc, left, bound, factor, bounds, factors);
+    }
+    if factor < 0 {
+        return Ok(());
+    }
+    let copied = copy(alloc, bound)?;
+    add_tight(alloc, left, copied)
+}
+
+/// The factor of a monomial in each of the bounds.
+fn factors_of(alloc: Global, bounds: &[Term], monomial: Monomial) -> Result<Vec<i64>, AllocError> {
+    let mut factors = Vec::with_capacity(alloc, bounds.len())?;
+    for bound in bounds {
+        factors.push(factor_of(bound, monomial))?;
+    }
+    Ok(factors)
+}
+
+/// What follows from the bounds, without the monomial.
+fn eliminated(alloc: Global, bounds: &[Term], monomial: Monomial) -> Result<Vec<Term>, AllocError>
+    ensures { IfOk result (λ left. Follow bounds.now left.items) }
+{
+    let factors = factors_of(alloc, bounds, monomial)?;
+    let mut left = Vec::new(alloc);
+    for place in 0..bounds.len() {
+        if place < factors.len() {
+            add_without(
+                alloc,
+                &mut left,
+                &bounds[place],
+                factors[place],
+                bounds,
+                &factors,
+            )?;
+        }
+    }
+    Ok(left)
+}
+
+/// Where this is known of atoms, not all of the bounds are at most 0.
+pub fn are_contradictory(
+    alloc: Global,
+    work: &mut u64,
+    known: &[Option<Range>],
+    bounds: &[Term],
+) -> Result<bool, AllocError>
+    ensures { IfOk result (λ yes. yes ≡ true → (v : Valuation) → AreKnown v known.now
+        → ¬ (AreBelow v bounds.now)) }
+{
+    let mut left = Vec::new(alloc);
+    add_all(alloc, &mut left, bounds)?;
+    for _ in 0..MOST_MONOMIALS {
+        if is_refuted(&left) {
+            return Ok(true);
+        }
+        let Some(monomial) = next_monomial(alloc, &left)? else {
+            return Ok(false);
+        };
+        let pairs = (left.len() as u64).saturating_mul(left.len() as u64);
+        *work = work.saturating_sub(pairs);
+        if left.len() > MOST_BOUNDS || *work == 0 {
+            return Ok(false);
+        }
+        add_known(alloc, known, &mut left, monomial)?;
+        left = eliminated(alloc, &left, monomial)?;
+    }
+    Ok(false)
+}

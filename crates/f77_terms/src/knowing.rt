@@ -1,0 +1,180 @@
+//! What is known of terms, and what a path comes to know once.
+
+ghost use Rattle.std.specs.Prelude.{◌≡◌, ◌≢◌, ◌+ℤ◌, ◌*ℤ◌, ◌≤ℤ◌, pos, true, int_div, int_rem, IfOk, IfSome};
+ghost use Rattle.std.specs.Int.{int_max, int_min};
+ghost use Rattle.f77_terms.specs.Bounds.{IsBelow};
+ghost use Rattle.f77_terms.specs.Paths.{Holds, IsUnequal};
+ghost use Rattle.f77_terms.specs.Terms.{IsWorth, Valuation, sum_value};
+
+use crate::facts::{add_division, add_maximum, add_minimum};
+use crate::monomials::Monomial;
+use crate::paths::{Choice, Path, add_unequal, is_below};
+use crate::ranges::term_range;
+use crate::terms::{Term, combined, constant_term, copy, factor_of, is_same_term};
+use std::alloc::{AllocError, Global};
+
+/// The number of a constant term.
+pub fn constant_of(term: &Term) -> Option<i64>
+    ensures { IfSome result (λ z. (v : Valuation) → sum_value v term.now ≡ z) }
+{
+    if term.parts.len() == 0 {
+        return Some(term.constant);
+    }
+    None
+}
+
+/// A term, m times, and a constant, unless a number gets too large.
+pub fn plus_constant(
+    alloc: Global,
+    m: i64,
+    term: &Term,
+    constant: i64,
+) -> Result<Option<Term>, AllocError>
+    ensures { IfOk result (λ made. IsWorth made (λ v. constant +ℤ m *ℤ sum_value v term.now)) }
+{
+    combined(alloc, m, term, 1, &constant_term(alloc, constant))
+}
+
+/// By the ranges of its atoms alone, the term is at most 0.
+fn is_plainly_below(path: &Path, term: &Term) -> bool
+    ensures { result ≡ true → (v : Valuation) → Holds v path.now → IsBelow v term.now }
+{
+    match term_range(&path.known, term) {
+        Some(range) => range.high <= 0,
+        None => false,
+    }
+}
+
+/// By the ranges of its atoms alone, a term, m times, and a constant are at most 0.
+pub fn is_plainly_bounded(
+    alloc: Global,
+    path: &Path,
+    m: i64,
+    term: &Term,
+    constant: i64,
+) -> Result<bool, AllocError>
+    ensures { IfOk result (λ yes. yes ≡ true → (v : Valuation) → Holds v path.now
+        → (constant +ℤ m *ℤ sum_value v term.now) ≤ℤ pos 0) }
+{
+    match plus_constant(alloc, m, term, constant)? {
+        Some(bound) => Ok(is_plainly_below(path, &bound)),
+        None => Ok(false),
+    }
+}
+
+/// Where the path holds, a term, m times, and a constant are at most 0.
+pub fn is_bounded(
+    alloc: Global,
+    path: &Path,
+    m: i64,
+    term: &Term,
+    constant: i64,
+) -> Result<bool, AllocError>
+    ensures { IfOk result (λ yes. yes ≡ true → (v : Valuation) → Holds v path.now
+        → (constant +ℤ m *ℤ sum_value v term.now) ≤ℤ pos 0) }
+{
+    let Some(bound) = plus_constant(alloc, m, term, constant)? else {
+        return Ok(false);
+    };
+    if is_plainly_below(path, &bound) {
+        return Ok(true);
+    }
+    is_below(alloc, path, &bound)
+}
+
+/// The term is among these.
+fn is_among(terms: &[Term], term: &Term) -> bool {
+    for other in terms {
+        if is_same_term(other, term) {
+            return true;
+        }
+    }
+    false
+}
+
+/// Adds that a term is not 0, once.
+pub fn know_unequal(alloc: Global, path: &mut Path, term: &Term) -> Result<(), AllocError>
+    ensures { IfOk result (λ _. (v : Valuation) → Holds v path.old → IsUnequal v term.now → Holds v path.new) }
+{
+    if is_among(&path.unequal, term) {
+        return Ok(());
+    }
+    let apart = copy(alloc, term)?;
+    add_unequal(path, apart)
+}
+
+/// A case of the choice has the atom as a part of its own.
+fn has_case_with(choice: &Choice, atom: usize) -> bool {
+    for case in &choice.cases {
+        for bound in &case.bounds {
+            if factor_of(bound, Monomial::One(atom)) != 0 {
+                return true;
+            }
+        }
+    }
+    false
+}
+
+/// A choice of the path is of the atom: what is known of a quotient, or of the lesser of two numbers.
+fn has_choice_of(path: &Path, atom: usize) -> bool {
+    for choice in &path.choices {
+        if has_case_with(choice, atom) {
+            return true;
+        }
+    }
+    false
+}
+
+/// Adds what is known of a quotient and a remainder, once, where the divisor is not 0.
+pub fn know_division(
+    alloc: Global,
+    path: &mut Path,
+    dividend: &Term,
+    divisor: &Term,
+    quotient: usize,
+    remainder: usize,
+) -> Result<(), AllocError>
+    ensures { IfOk result (λ _. (v : Valuation) → Holds v path.old
+        → v quotient ≡ int_div (sum_value v dividend.now) (sum_value v divisor.now)
+        → v remainder ≡ int_rem (sum_value v dividend.now) (sum_value v divisor.now)
+        → sum_value v divisor.now ≢ pos 0 → Holds v path.new) }
+{
+    if has_choice_of(path, remainder) {
+        return Ok(());
+    }
+    add_division(alloc, path, dividend, divisor, quotient, remainder)
+}
+
+/// Adds what is known of the lesser of two terms, once.
+pub fn know_minimum(
+    alloc: Global,
+    path: &mut Path,
+    a: &Term,
+    b: &Term,
+    minimum: usize,
+) -> Result<(), AllocError>
+    ensures { IfOk result (λ _. (v : Valuation) → Holds v path.old
+        → v minimum ≡ int_min (sum_value v a.now) (sum_value v b.now) → Holds v path.new) }
+{
+    if has_choice_of(path, minimum) {
+        return Ok(());
+    }
+    add_minimum(alloc, path, a, b, minimum)
+}
+
+/// Adds what is known of the greater of two terms, once.
+pub fn know_maximum(
+    alloc: Global,
+    path: &mut Path,
+    a: &Term,
+    b: &Term,
+    maximum: usize,
+) -> Result<(), AllocError>
+    ensures { IfOk result (λ _. (v : Valuation) → Holds v path.old
+        → v maximum ≡ int_max (sum_value v a.now) (sum_value v b.now) → Holds v path.new) }
+{
+    if has_choice_of(path, maximum) {
+        return Ok(());
+    }
+    add_maximum(alloc, path, a, b, maximum)
+}

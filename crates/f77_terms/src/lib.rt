@@ -1,0 +1,20 @@
+//! Terms over atoms, path conditions on them, and whether a path is refuted.
+//!
+//! A term is a polynomial over atoms. A valuation gives each atom a whole number, and it is never extended: what a
+//! clause says of a path it says of each valuation. An atom's key says which number is meant, by terms over earlier
+//! atoms. Read `paths::refuted` first: where it answers true, no valuation fits the path.
+#![tactic(auto)]
+
+pub mod atoms;
+mod bounds;
+pub mod copying;
+mod elimination;
+pub mod facts;
+pub mod knowing;
+pub mod monomials;
+mod near;
+mod numbers;
+pub mod paths;
+pub mod ranges;
+mod splitting;
+pub mod terms;

@@ -1,0 +1,50 @@
+//! Division that rounds up, and common divisors.
+
+ghost use Rattle.std.specs.Prelude.{◌+ℤ◌, ◌*ℤ◌, ◌≤ℤ◌, ◌<ℤ◌, ℤ, pos};
+
+use crate::terms::Part;
+
+/// The quotient, rounded up: what g times a whole number and c at most make 0 says of that number.
+pub fn ceiling(c: i64, g: i64) -> i64
+    requires { pos 0 <ℤ g }
+    ensures { (s : ℤ) → (c +ℤ g *ℤ s) ≤ℤ pos 0 → (result +ℤ s) ≤ℤ pos 0 }
+{
+    let quotient = c / g;
+    if c % g > 0 { quotient + 1 } else { quotient }
+}
+
+/// The greatest common divisor.
+fn common_divisor(a: u64, b: u64) -> u64 {
+    if b == 0 { a } else { common_divisor(b, a % b) }
+}
+
+/// The greatest common divisor of all factors, or 1 if it is too large.
+pub fn divisor_of(parts: &[Part]) -> i64
+    ensures { pos 0 <ℤ result }
+{
+    let mut divisor = 0;
+    for part in parts {
+        divisor = common_divisor(part.factor.unsigned_abs(), divisor);
+    }
+    match i64::try_from(divisor) {
+        Ok(common) if common > 0 => common,
+        _ => 1,
+    }
+}
+
+/// The number divided by a divisor, if it is above 0, or else itself.
+pub fn share(number: i64, divisor: i64) -> i64
+    requires { pos 0 ≤ℤ number }
+    ensures { pos 0 ≤ℤ result }
+{
+    match number.checked_div(divisor) {
+        Some(quotient) if quotient > 0 => quotient,
+        _ => number,
+    }
+}
+
+/// The greatest common divisor of two numbers, or 1 if it is too large.
+pub fn divisor_of_two(a: i64, b: i64) -> i64 {
+    let divisor = common_divisor(a.unsigned_abs(), b.unsigned_abs());
+    i64::try_from(divisor).unwrap_or(1)
+}

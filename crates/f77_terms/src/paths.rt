@@ -1,0 +1,210 @@
+//! Paths: what is known where control comes, and whether that is possible.
+
+ghost use Rattle.std.specs.Prelude.{◌≡◌, ◌+ℤ◌, ◌*ℤ◌, ◌≤ℤ◌, pos, true, IfOk};
+ghost use Rattle.f77_terms.specs.Terms.{Valuation, sum_value};
+ghost use Rattle.f77_terms.specs.Bounds.{IsBelow, AreBelow};
+ghost use Rattle.f77_terms.specs.Ranges.{IsIn, AreKnown};
+ghost use Rattle.f77_terms.specs.Paths.{IsUnequal, IsOneOf, HasCase, Holds};
+
+use crate::bounds::add_bound;
+use crate::near::path_near;
+use crate::ranges::{Range, narrow_all, set_within};
+use crate::splitting::{add_possible, is_none, side_case, split_all, whole_case};
+use crate::terms::Term;
+use std::alloc::{AllocError, Global};
+
+/// So many pairs of bounds are combined for one question at most.
+const MOST_WORK: u64 = 12000;
+
+/// With so many cases no more are split.
+const MOST_CASES: usize = 8;
+
+/// In this case each of the bounds is at most 0.
+#[derive(Drop)]
+pub struct Case {
+    pub bounds: Vec<Term>,
+}
+
+/// One of the cases is there.
+#[derive(Drop)]
+pub struct Choice {
+    pub cases: Vec<Case>,
+}
+
+/// What is known: ranges of atoms, terms at most 0, terms that are not 0, and choices.
+#[derive(Drop)]
+pub struct Path {
+    pub known: Vec<Option<Range>>,
+    pub below: Vec<Term>,
+    pub unequal: Vec<Term>,
+    pub choices: Vec<Choice>,
+}
+
+/// Adds a case.
+pub fn add_case(cases: &mut Vec<Case>, case: Case) -> Result<(), AllocError>
+    ensures kept { IfOk result (λ _. (v : Valuation) → IsOneOf v cases.old.items → IsOneOf v cases.new.items) }
+    ensures added { IfOk result (λ _. (v : Valuation) → AreBelow v case.bounds.items → IsOneOf v cases.new.items) }
+{
+    cases.push(case)?;
+    Ok(())
+}
+
+/// Where the path holds, not all of these terms are at most 0.
+pub fn refuted(alloc: Global, path: &Path, extra: &[Term]) -> Result<bool, AllocError>
+    ensures { IfOk result (λ yes. yes ≡ true → (v : Valuation) → Holds v path.now → ¬ (AreBelow v extra.now)) }
+{
+    if extra.len() == 0 {
+        return is_refuted_whole(alloc, path, extra);
+    }
+    let near = path_near(alloc, path, extra)?;
+    is_refuted_whole(alloc, &near, extra)
+}
+
+/// The same, by all that the path knows.
+fn is_refuted_whole(alloc: Global, path: &Path, extra: &[Term]) -> Result<bool, AllocError>
+    ensures { IfOk result (λ yes. yes ≡ true → (v : Valuation) → Holds v path.now → ¬ (AreBelow v extra.now)) }
+{
+    let mut most = MOST_WORK;
+    let work = &mut most;
+    let whole = whole_case(alloc, path, extra)?;
+    let mut cases = Vec::new(alloc);
+    add_possible(alloc, work, &path.known, &mut cases, whole)?;
+    let items = path.unequal.len().saturating_add(path.choices.len());
+    if items > 1 {
+        cases = split_all(alloc, work, path, cases, 1)?;
+    }
+    for _ in 0..items.min(2) {
+        if is_none(&cases) {
+            return Ok(true);
+        }
+        cases = split_all(alloc, work, path, cases, MOST_CASES)?;
+    }
+    Ok(is_none(&cases))
+}
+
+/// A path on which nothing is known.
+pub fn new_path(alloc: Global) -> Path
+    ensures { (v : Valuation) → Holds v result }
+{
+    Path {
+        known: Vec::new(alloc),
+        below: Vec::new(alloc),
+        unequal: Vec::new(alloc),
+        choices: Vec::new(alloc),
+    }
+}
+
+/// Makes room for what is known of an atom.
+fn make_room(known: &mut Vec<Option<Range>>, atom: usize) -> Result<(), AllocError>
+    ensures { IfOk result (λ _. (v : Valuation) → AreKnown v known.old.items → AreKnown v known.new.items) }
+{
+    for _ in known.len()..atom {
+        known.push(None)?;
+    }
+    if known.len() == atom {
+        known.push(None)?;
+    }
+    Ok(())
+}
+
+/// Adds that an atom is in a range.
+pub fn add_range(path: &mut Path, atom: usize, range: Range) -> Result<(), AllocError>
+    ensures { IfOk result (λ _. (v : Valuation) → Holds v path.old → IsIn range (v atom) → Holds v path.new) }
+{
+    make_room(&mut path.known, atom)?;
+    set_within(&mut path.known, atom, range);
+    Ok(())
+}
+
+/// Adds that a term, m times, and a constant are at most 0.
+pub fn add_below(
+    alloc: Global,
+    path: &mut Path,
+    m: i64,
+    term: &Term,
+    constant: i64,
+) -> Result<(), AllocError>
+    ensures { IfOk result (λ _. (v : Valuation) → Holds v path.old
+        → (constant +ℤ m *ℤ sum_value v term.now) ≤ℤ pos 0 → Holds v path.new) }
+{
+    add_bound(alloc, &mut path.below, m, term, constant)
+}
+
+/// Adds that a term is 0.
+pub fn add_equal(alloc: Global, path: &mut Path, term: &Term) -> Result<(), AllocError>
+    ensures { IfOk result (λ _. (v : Valuation) → Holds v path.old → sum_value v term.now ≡ pos 0
+        → Holds v path.new) }
+{
+    add_below(alloc, path, 1, term, 0)?;
+    add_below(alloc, path, -1, term, 0)
+}
+
+/// Adds that a term is not 0.
+pub fn add_unequal(path: &mut Path, term: Term) -> Result<(), AllocError>
+    ensures { IfOk result (λ _. (v : Valuation) → Holds v path.old → IsUnequal v term → Holds v path.new) }
+{
+    path.unequal.push(term)?;
+    Ok(())
+}
+
+/// Adds that one of the cases is there.
+pub fn add_choice(path: &mut Path, choice: Choice) -> Result<(), AllocError>
+    ensures { IfOk result (λ _. (v : Valuation) → Holds v path.old → HasCase v choice → Holds v path.new) }
+{
+    path.choices.push(choice)?;
+    Ok(())
+}
+
+/// Narrows the ranges of atoms by what is at most 0.
+pub fn settle(path: &mut Path)
+    ensures { (v : Valuation) → Holds v path.old → Holds v path.new }
+{
+    narrow_all(&mut path.known, &path.below);
+}
+
+/// Where the path holds, the term is at most 0.
+pub fn is_below(alloc: Global, path: &Path, term: &Term) -> Result<bool, AllocError>
+    ensures { IfOk result (λ yes. yes ≡ true → (v : Valuation) → Holds v path.now → IsBelow v term.now) }
+{
+    let above = side_case(alloc, -1, term)?;
+    refuted(alloc, path, &above.bounds)
+}
+
+/// Where the path holds, the term is not below 0.
+fn is_above(alloc: Global, path: &Path, term: &Term) -> Result<bool, AllocError>
+    ensures { IfOk result (λ yes. yes ≡ true → (v : Valuation) → Holds v path.now
+        → pos 0 ≤ℤ sum_value v term.now) }
+{
+    let below = side_case(alloc, 1, term)?;
+    refuted(alloc, path, &below.bounds)
+}
+
+/// Where the path holds, the term is 0.
+pub fn is_zero(alloc: Global, path: &Path, term: &Term) -> Result<bool, AllocError>
+    ensures { IfOk result (λ yes. yes ≡ true → (v : Valuation) → Holds v path.now
+        → sum_value v term.now ≡ pos 0) }
+{
+    if !is_below(alloc, path, term)? {
+        return Ok(false);
+    }
+    is_above(alloc, path, term)
+}
+
+/// The bounds that say that the term is 0.
+fn zero_case(alloc: Global, term: &Term) -> Result<Case, AllocError>
+    ensures { IfOk result (λ case. (v : Valuation) → sum_value v term.now ≡ pos 0
+        → AreBelow v case.bounds.items) }
+{
+    let mut bounds = Vec::new(alloc);
+    add_bound(alloc, &mut bounds, 1, term, 0)?;
+    add_bound(alloc, &mut bounds, -1, term, 0)?;
+    Ok(Case { bounds })
+}
+
+/// Where the path holds, the term is not 0.
+pub fn is_apart(alloc: Global, path: &Path, term: &Term) -> Result<bool, AllocError>
+    ensures { IfOk result (λ yes. yes ≡ true → (v : Valuation) → Holds v path.now → IsUnequal v term.now) }
+{
+    let zero = zero_case(alloc, term)?;
+    refuted(alloc, path, &zero.bounds)
+}

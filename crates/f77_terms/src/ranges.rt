@@ -1,0 +1,315 @@
+//! Ranges of atoms, of products and of terms.
+
+ghost use Rattle.std.specs.Prelude.{◌≡◌, ◌<◌, ◌+ℤ◌, ◌*ℤ◌, ◌≤ℤ◌, ℤ, pos, true, length, vec_len};
+ghost use Rattle.std.specs.Prelude.{slice_get, Some, IfSome};
+ghost use Rattle.f77_terms.specs.Terms.{Valuation, monomial_value, part_value, parts_value, sum_value};
+ghost use Rattle.f77_terms.specs.Bounds.{IsBelow, AreBelow};
+ghost use Rattle.f77_terms.specs.Ranges.{IsIn, AreKnown};
+
+use crate::monomials::Monomial;
+use crate::numbers::ceiling;
+use crate::terms::{Part, Term, part_at};
+
+/// The numbers from the low to the high one.
+#[derive(Clone, Copy, Debug, PartialEq, Eq)]
+pub struct Range {
+    pub low: i64,
+    pub high: i64,
+}
+
+/// What is known at a place.
+fn known_at(known: &[Option<Range>], atom: usize) -> Option<Range>
+    requires { atom < length known.now }
+    ensures { slice_get known.now atom ≡ Some result }
+{
+    known[atom]
+}
+
+/// The range of an atom.
+pub fn atom_range(known: &[Option<Range>], atom: usize) -> Option<Range>
+    ensures within { IfSome result (λ range. (v : Valuation) → AreKnown v known.now → IsIn range (v atom)) }
+    ensures told { atom < length known.now → slice_get known.now atom ≡ Some result }
+{
+    if atom < known.len() {
+        known_at(known, atom)
+    } else {
+        None
+    }
+}
+
+/// The range of a number, m times.
+fn multiple_range(range: Range, m: i64) -> Option<Range>
+    ensures { IfSome result (λ r. (x : ℤ) → IsIn range x → IsIn r (m *ℤ x)) }
+{
+    let low = m.checked_mul(range.low)?;
+    let high = m.checked_mul(range.high)?;
+    if m < 0 {
+        Some(Range {
+            low: high,
+            high: low,
+        })
+    } else {
+        Some(Range { low, high })
+    }
+}
+
+/// The least range that has both.
+fn hull(a: Range, b: Range) -> Range
+    ensures first { (x : ℤ) → IsIn a x → IsIn result x }
+    ensures second { (x : ℤ) → IsIn b x → IsIn result x }
+{
+    Range {
+        low: if a.low < b.low { a.low } else { b.low },
+        high: if a.high < b.high { b.high } else { a.high },
+    }
+}
+
+/// The range of products.
+fn product_range(a: Range, b: Range) -> Option<Range>
+    ensures { IfSome result (λ r. (x y : ℤ) → IsIn a x → IsIn b y → IsIn r (x *ℤ y)) }
+{
+    let lows = multiple_range(b, a.low)?;
+    let highs = multiple_range(b, a.high)?;
+    Some(hull(lows, highs))
+}
+
+/// The range of squares.
+fn square_range(a: Range) -> Option<Range>
+    ensures { IfSome result (λ r. (x : ℤ) → IsIn a x → IsIn r (x *ℤ x)) }
+{
+    let range = product_range(a, a)?;
+    Some(Range {
+        low: if range.low < 0 { 0 } else { range.low },
+        high: range.high,
+    })
+}
+
+/// The range of sums.
+fn sum_range(a: Range, b: Range) -> Option<Range>
+    ensures { IfSome result (λ r. (x y : ℤ) → IsIn a x → IsIn b y → IsIn r (x +ℤ y)) }
+{
+    let low = a.low.checked_add(b.low)?;
+    let high = a.high.checked_add(b.high)?;
+    Some(Range { low, high })
+}
+
+/// The range of the product of two atoms.
+fn pair_range(known: &[Option<Range>], a: usize, b: usize) -> Option<Range>
+    ensures { IfSome result (λ range. (v : Valuation) → AreKnown v known.now → IsIn range (v a *ℤ v b)) }
+{
+    let first = atom_range(known, a)?;
+    if a == b {
+        return square_range(first);
+    }
+    let second = atom_range(known, b)?;
+    product_range(first, second)
+}
+
+/// The range of a product of atoms.
+pub fn monomial_range(known: &[Option<Range>], monomial: Monomial) -> Option<Range>
+    ensures { IfSome result (λ range. (v : Valuation) → AreKnown v known.now → IsIn range (monomial_value v monomial)) }
+{
+    match monomial {
+        Monomial::One(a) => atom_range(known, a),
+        Monomial::Two(a, b) => pair_range(known, a, b),
+        Monomial::Three(a, b, c) => {
+            let pair = pair_range(known, a, b)?;
+            let last = atom_range(known, c)?;
+            product_range(pair, last)
+        }
+        Monomial::Four(a, b, c, d) => {
+            let pair = pair_range(known, a, b)?;
+            let other = pair_range(known, c, d)?;
+            product_range(pair, other)
+        }
+    }
+}
+
+/// The range of a part.
+fn part_range(known: &[Option<Range>], part: Part) -> Option<Range>
+    ensures { IfSome result (λ range. (v : Valuation) → AreKnown v known.now → IsIn range (part_value v part)) }
+{
+    let range = monomial_range(known, part.monomial)?;
+    multiple_range(range, part.factor)
+}
+
+/// The range of the sum of parts.
+fn parts_range(known: &[Option<Range>], parts: &[Part]) -> Option<Range>
+    ensures { IfSome result (λ range. (v : Valuation) → AreKnown v known.now → IsIn range (parts_value v parts.now)) }
+{
+    let mut range = Range { low: 0, high: 0 };
+    for place in 0..parts.len() {
+        let next = part_range(known, part_at(parts, place))?;
+        range = sum_range(range, next)?;
+    }
+    Some(range)
+}
+
+/// The range of a term.
+pub fn term_range(known: &[Option<Range>], term: &Term) -> Option<Range>
+    ensures { IfSome result (λ range. (v : Valuation) → AreKnown v known.now → IsIn range (sum_value v term.now)) }
+{
+    let range = parts_range(known, &term.parts)?;
+    let constant = Range {
+        low: term.constant,
+        high: term.constant,
+    };
+    sum_range(constant, range)
+}
+
+/// Sets what is known of an atom.
+fn set_range(known: &mut [Option<Range>], atom: usize, range: Range)
+    requires { atom < length known.old }
+    ensures { (v : Valuation) → AreKnown v known.old → IsIn range (v atom) → AreKnown v known.new }
+{
+    known[atom] = Some(range);
+}
+
+/// Notes that an atom is at least this. It tells whether that is new.
+fn raise(known: &mut [Option<Range>], atom: usize, low: i64) -> bool
+    ensures { (v : Valuation) → AreKnown v known.old → low ≤ℤ v atom → AreKnown v known.new }
+{
+    if let Some(range) = atom_range(known, atom) {
+        if range.low < low && atom < known.len() {
+            set_range(
+                known,
+                atom,
+                Range {
+                    low,
+                    high: range.high,
+                },
+            );
+            return true;
+        }
+    }
+    false
+}
+
+/// Notes that an atom is at most this. It tells whether that is new.
+fn lower(known: &mut [Option<Range>], atom: usize, high: i64) -> bool
+    ensures { (v : Valuation) → AreKnown v known.old → v atom ≤ℤ high → AreKnown v known.new }
+{
+    if let Some(range) = atom_range(known, atom) {
+        if high < range.high && atom < known.len() {
+            set_range(
+                known,
+                atom,
+                Range {
+                    low: range.low,
+                    high,
+                },
+            );
+            return true;
+        }
+    }
+    false
+}
+
+/// Notes what follows for an atom from what it and the rest at least are together.
+fn narrow_part(known: &mut [Option<Range>], part: Part, rest: i64) -> bool
+    ensures { (v : Valuation) → AreKnown v known.old → (rest +ℤ part_value v part) ≤ℤ pos 0 → AreKnown v known.new }
+{
+    let Monomial::One(atom) = part.monomial else {
+        return false;
+    };
+    if part.factor > 0 {
+        let least = ceiling(rest, part.factor);
+        return least != i64::MIN && lower(known, atom, -least);
+    }
+    match part.factor.checked_neg() {
+        Some(size) if size > 0 => raise(known, atom, ceiling(rest, size)),
+        _ => false,
+    }
+}
+
+/// What the parts at least are, but for the one at a place, together with a constant.
+fn rest_low(known: &[Option<Range>], bound: &Term, place: usize) -> Option<i64>
+    requires { place < vec_len bound.now.parts }
+    ensures { IfSome result (λ low. (v : Valuation) (part : Part) → AreKnown v known.now
+        → slice_get bound.now.parts.items place ≡ Some part
+        → (low +ℤ part_value v part) ≤ℤ sum_value v bound.now) }
+{
+    let parts = bound.parts.as_slice();
+    let before = parts_range(known, &parts[..place])?;
+    let behind = parts_range(known, &parts[place + 1..])?;
+    let low = before.low.checked_add(behind.low)?;
+    let whole = low.checked_add(bound.constant)?;
+    Some(whole)
+}
+
+/// Notes what follows for the part at a place.
+fn narrow_at(known: &mut [Option<Range>], bound: &Term, place: usize) -> bool
+    requires { place < vec_len bound.now.parts }
+    ensures { (v : Valuation) → AreKnown v known.old → IsBelow v bound.now → AreKnown v known.new }
+{
+    match rest_low(known, bound, place) {
+        Some(rest) => narrow_part(known, part_at(&bound.parts, place), rest),
+        None => false,
+    }
+}
+
+/// Notes what follows for atoms from a bound. It tells whether something is new.
+fn narrow(known: &mut [Option<Range>], bound: &Term) -> bool
+    ensures { (v : Valuation) → AreKnown v known.old → IsBelow v bound.now → AreKnown v known.new }
+{
+    let mut is_new = false;
+    for place in 0..bound.parts.len() {
+        if narrow_at(known, bound, place) {
+            is_new = true;
+        }
+    }
+    is_new
+}
+
+/// Notes what follows for atoms from each bound. It tells whether something is new.
+pub fn narrow_all(known: &mut [Option<Range>], bounds: &[Term]) -> bool
+    ensures { (v : Valuation) → AreKnown v known.old → AreBelow v bounds.now → AreKnown v known.new }
+{
+    let mut is_new = false;
+    for bound in bounds {
+        if narrow(known, bound) {
+            is_new = true;
+        }
+    }
+    is_new
+}
+
+/// No number is in the range of an atom.
+pub fn is_void(known: &[Option<Range>]) -> bool
+    ensures { result ≡ true → (v : Valuation) → ¬ (AreKnown v known.now) }
+{
+    for atom in 0..known.len() {
+        if let Some(range) = known_at(known, atom) {
+            if range.high < range.low {
+                return true;
+            }
+        }
+    }
+    false
+}
+
+/// A bound would be above 0.
+pub fn is_exceeded(known: &[Option<Range>], bounds: &[Term]) -> bool
+    ensures { result ≡ true → (v : Valuation) → AreKnown v known.now → ¬ (AreBelow v bounds.now) }
+{
+    for bound in bounds {
+        if let Some(range) = term_range(known, bound) {
+            if range.low > 0 {
+                return true;
+            }
+        }
+    }
+    false
+}
+
+/// Notes that an atom is in a range.
+pub fn set_within(known: &mut [Option<Range>], atom: usize, range: Range)
+    ensures { (v : Valuation) → AreKnown v known.old → IsIn range (v atom) → AreKnown v known.new }
+{
+    if atom_range(known, atom).is_some() {
+        raise(known, atom, range.low);
+        lower(known, atom, range.high);
+    } else if atom < known.len() {
+        set_range(known, atom, range);
+    }
+}

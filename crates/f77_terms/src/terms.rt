@@ -1,0 +1,351 @@
+//! Terms: polynomials over atoms.
+
+ghost use Rattle.std.specs.Prelude.{◌≡◌, ◌≤◌, ◌<◌, ◌+◌, ◌+ℤ◌, ◌-ℤ◌, ◌*ℤ◌, ℤ, true, length, vec_len};
+ghost use Rattle.std.specs.Prelude.{slice_get, Some, IfOk, IfSome};
+ghost use Rattle.f77_terms.specs.Terms.{Valuation, monomial_value, part_value, parts_value, sum_value};
+ghost use Rattle.f77_terms.specs.Terms.{IsWorth, AddsIfDone};
+
+use crate::monomials::{Monomial, is_same_monomial, monomial_product};
+use std::alloc::{AllocError, Global};
+
+/// A longer term is given up.
+const MOST_PARTS: usize = 40;
+
+/// A product of atoms, so many times.
+#[derive(Clone, Copy, Debug, PartialEq, Eq)]
+pub struct Part {
+    pub factor: i64,
+    pub monomial: Monomial,
+}
+
+/// A constant and parts: in rising order of their monomials, which differ, and with factors that are not 0.
+#[derive(Debug, Drop)]
+pub struct Term {
+    pub constant: i64,
+    pub parts: Vec<Part>,
+}
+
+/// The term that is this constant.
+pub fn constant_term(alloc: Global, constant: i64) -> Term
+    ensures { (v : Valuation) → sum_value v result ≡ constant }
+{
+    Term {
+        constant,
+        parts: Vec::new(alloc),
+    }
+}
+
+/// The term that is a monomial.
+pub fn monomial_term(alloc: Global, monomial: Monomial) -> Result<Term, AllocError>
+    ensures { IfOk result (λ term. (v : Valuation) → sum_value v term ≡ monomial_value v monomial) }
+{
+    let mut parts = Vec::new(alloc);
+    parts.push(Part {
+        factor: 1,
+        monomial,
+    })?;
+    Ok(Term { constant: 0, parts })
+}
+
+/// The term that is an atom.
+pub fn atom_term(alloc: Global, atom: usize) -> Result<Term, AllocError>
+    ensures { IfOk result (λ term. (v : Valuation) → sum_value v term ≡ v atom) }
+{
+    monomial_term(alloc, Monomial::One(atom))
+}
+
+/// The same term in memory of its own.
+pub fn copy(alloc: Global, term: &Term) -> Result<Term, AllocError>
+    ensures value { IfOk result (λ copied. (v : Valuation) → sum_value v copied ≡ sum_value v term.now) }
+    ensures parts { IfOk result (λ copied. copied.parts.items ≡ term.now.parts.items) }
+{
+    let parts = Vec::from_slice(alloc, &term.parts)?;
+    Ok(Term {
+        constant: term.constant,
+        parts,
+    })
+}
+
+/// The part at a place.
+pub fn part_at(parts: &[Part], place: usize) -> Part
+    requires { place < length parts.now }
+    ensures { slice_get parts.now place ≡ Some result }
+{
+    parts[place]
+}
+
+/// The place of the part with a monomial, or where it is to stand if there is none.
+fn place_of(parts: &[Part], monomial: Monomial) -> usize
+    ensures { result ≤ length parts.now }
+{
+    let count = parts.len();
+    if count > 0 && parts[count - 1].monomial < monomial {
+        return count;
+    }
+    for place in 0..count {
+        if parts[place].monomial >= monomial {
+            return place;
+        }
+    }
+    count
+}
+
+/// How many times the term has a monomial.
+pub fn factor_of(term: &Term, monomial: Monomial) -> i64 {
+    let place = place_of(&term.parts, monomial);
+    if place < term.parts.len() && term.parts[place].monomial == monomial {
+        term.parts[place].factor
+    } else {
+        0
+    }
+}
+
+/// Puts a part at a place.
+fn put(parts: &mut Vec<Part>, place: usize, part: Part) -> Result<(), AllocError>
+    requires { place ≤ vec_len parts.old }
+    ensures { IfOk result (λ _. (v : Valuation)
+        → parts_value v parts.new.items ≡ parts_value v parts.old.items +ℤ part_value v part) }
+{
+    parts.insert(place, part)?;
+    Ok(())
+}
+
+/// Takes the part at a place.
+fn take(parts: &mut Vec<Part>, place: usize) -> Part
+    requires { place < vec_len parts.old }
+    ensures len { vec_len parts.new + 1 ≡ vec_len parts.old }
+    ensures value { (v : Valuation)
+        → parts_value v parts.old.items ≡ parts_value v parts.new.items +ℤ part_value v result }
+{
+    parts.remove(place)
+}
+
+/// The sum of two parts with one monomial, unless the factor gets too large.
+fn joined(a: Part, b: Part) -> Option<Part>
+    ensures { IfSome result (λ part. (v : Valuation) → part_value v part ≡ part_value v a +ℤ part_value v b) }
+{
+    if !is_same_monomial(a.monomial, b.monomial) {
+        return None;
+    }
+    let factor = a.factor.checked_add(b.factor)?;
+    Some(Part {
+        factor,
+        monomial: a.monomial,
+    })
+}
+
+/// Adds to the part at a place, which has the monomial, unless the factor gets too large.
+fn add_there(term: &mut Term, place: usize, part: Part) -> Result<bool, AllocError>
+    requires { place < vec_len term.old.parts }
+    ensures { IfOk result (λ done. AddsIfDone term.old term.new done (λ v. part_value v part)) }
+{
+    let old = take(&mut term.parts, place);
+    let Some(both) = joined(old, part) else {
+        return Ok(false);
+    };
+    if both.factor != 0 {
+        put(&mut term.parts, place, both)?;
+    }
+    Ok(true)
+}
+
+/// Adds a part, unless a factor gets too large.
+fn add_part(term: &mut Term, part: Part) -> Result<bool, AllocError>
+    ensures { IfOk result (λ done. AddsIfDone term.old term.new done (λ v. part_value v part)) }
+{
+    if part.factor == 0 {
+        return Ok(true);
+    }
+    let place = place_of(&term.parts, part.monomial);
+    if place < term.parts.len() && term.parts[place].monomial == part.monomial {
+        return add_there(term, place, part);
+    }
+    put(&mut term.parts, place, part)?;
+    Ok(true)
+}
+
+/// Adds parts, so many times, unless a factor gets too large.
+fn add_parts(term: &mut Term, m: i64, parts: &[Part]) -> Result<bool, AllocError>
+    ensures { IfOk result (λ done. AddsIfDone term.old term.new done (λ v. m *ℤ parts_value v parts.now)) }
+{
+    for place in 0..parts.len() {
+        let part = part_at(parts, place);
+        let Some(factor) = m.checked_mul(part.factor) else {
+            return Ok(false);
+        };
+        let added = add_part(
+            term,
+            Part {
+                factor,
+                monomial: part.monomial,
+            },
+        )?;
+        if !added {
+            return Ok(false);
+        }
+    }
+    Ok(true)
+}
+
+/// Adds a constant, unless it gets too large.
+fn add_constant(term: &mut Term, constant: i64) -> bool
+    ensures { AddsIfDone term.old term.new result (λ v. constant) }
+{
+    let Some(together) = term.constant.checked_add(constant) else {
+        return false;
+    };
+    term.constant = together;
+    true
+}
+
+/// Adds another term, so many times, unless a number gets too large.
+pub fn add_multiple(term: &mut Term, m: i64, addend: &Term) -> Result<bool, AllocError>
+    ensures { IfOk result (λ done. AddsIfDone term.old term.new done (λ v. m *ℤ sum_value v addend.now)) }
+{
+    let Some(constant) = m.checked_mul(addend.constant) else {
+        return Ok(false);
+    };
+    if !add_constant(term, constant) {
+        return Ok(false);
+    }
+    add_parts(term, m, &addend.parts)
+}
+
+/// The product of two parts, unless it gets too large.
+fn part_product(a: Part, b: Part) -> Option<Part>
+    ensures { IfSome result (λ part. (v : Valuation) → part_value v part ≡ part_value v a *ℤ part_value v b) }
+{
+    let factor = a.factor.checked_mul(b.factor)?;
+    let monomial = monomial_product(a.monomial, b.monomial)?;
+    Some(Part { factor, monomial })
+}
+
+/// Adds the product of a part and others, unless it gets too large.
+fn add_part_times(term: &mut Term, part: Part, others: &[Part]) -> Result<bool, AllocError>
+    ensures { IfOk result (λ done. AddsIfDone term.old term.new done
+        (λ v. part_value v part *ℤ parts_value v others.now)) }
+{
+    for place in 0..others.len() {
+        let other = part_at(others, place);
+        let Some(product) = part_product(part, other) else {
+            return Ok(false);
+        };
+        let added = add_part(term, product)?;
+        if !added {
+            return Ok(false);
+        }
+    }
+    Ok(true)
+}
+
+/// Adds the products of parts and others, unless they get too large.
+fn add_products(term: &mut Term, parts: &[Part], others: &[Part]) -> Result<bool, AllocError>
+    ensures { IfOk result (λ done. AddsIfDone term.old term.new done
+        (λ v. parts_value v parts.now *ℤ parts_value v others.now)) }
+{
+    for place in 0..parts.len() {
+        let part = part_at(parts, place);
+        let added = add_part_times(term, part, others)?;
+        if !added {
+            return Ok(false);
+        }
+    }
+    Ok(true)
+}
+
+/// The term, unless it is too long.
+fn limited(term: Term) -> Option<Term>
+    ensures { IsWorth result (λ v. sum_value v term) }
+{
+    if term.parts.len() > MOST_PARTS {
+        None
+    } else {
+        Some(term)
+    }
+}
+
+/// The first term, m times, and the second, n times, unless a number gets too large.
+pub fn combined(
+    alloc: Global,
+    m: i64,
+    a: &Term,
+    n: i64,
+    b: &Term,
+) -> Result<Option<Term>, AllocError>
+    ensures { IfOk result (λ made. IsWorth made (λ v. m *ℤ sum_value v a.now +ℤ n *ℤ sum_value v b.now)) }
+{
+    let mut term = constant_term(alloc, 0);
+    let first = add_multiple(&mut term, m, a)?;
+    if !first {
+        return Ok(None);
+    }
+    let second = add_multiple(&mut term, n, b)?;
+    if !second {
+        return Ok(None);
+    }
+    Ok(limited(term))
+}
+
+/// The sum of two terms.
+pub fn sum(alloc: Global, a: &Term, b: &Term) -> Result<Option<Term>, AllocError>
+    ensures { IfOk result (λ made. IsWorth made (λ v. sum_value v a.now +ℤ sum_value v b.now)) }
+{
+    combined(alloc, 1, a, 1, b)
+}
+
+/// The first term less the second.
+pub fn difference(alloc: Global, a: &Term, b: &Term) -> Result<Option<Term>, AllocError>
+    ensures { IfOk result (λ made. IsWorth made (λ v. sum_value v a.now -ℤ sum_value v b.now)) }
+{
+    combined(alloc, 1, a, -1, b)
+}
+
+/// The product of two terms.
+pub fn product(alloc: Global, a: &Term, b: &Term) -> Result<Option<Term>, AllocError>
+    ensures { IfOk result (λ made. IsWorth made (λ v. sum_value v a.now *ℤ sum_value v b.now)) }
+{
+    let mut term = constant_term(alloc, 0);
+    let first = add_multiple(&mut term, a.constant, b)?;
+    if !first {
+        return Ok(None);
+    }
+    let second = add_parts(&mut term, b.constant, &a.parts)?;
+    if !second {
+        return Ok(None);
+    }
+    let third = add_products(&mut term, &a.parts, &b.parts)?;
+    if !third {
+        return Ok(None);
+    }
+    Ok(limited(term))
+}
+
+/// They are the same term.
+pub fn is_same_term(a: &Term, b: &Term) -> bool
+    ensures { result ≡ true → (v : Valuation) → sum_value v a.now ≡ sum_value v b.now }
+{
+    if a.constant != b.constant || a.parts.len() != b.parts.len() {
+        return false;
+    }
+    are_same_parts(&a.parts, &b.parts)
+}
+
+/// They are the same parts.
+fn are_same_parts(a: &[Part], b: &[Part]) -> bool
+    requires { length a.now ≡ length b.now }
+    ensures { result ≡ true → (v : Valuation) → parts_value v a.now ≡ parts_value v b.now }
+{
+    for place in 0..a.len() {
+        if !is_same_part(part_at(a, place), part_at(b, place)) {
+            return false;
+        }
+    }
+    true
+}
+
+/// They are the same part.
+fn is_same_part(a: Part, b: Part) -> bool
+    ensures { result ≡ true → (v : Valuation) → part_value v a ≡ part_value v b }
+{
+    a.factor == b.factor && is_same_monomial(a.monomial, b.monomial)
+}

@@ -1,0 +1,62 @@
+//! Atoms, and what is known of them.
+
+use crate::made::made;
+use f77_terms::atoms::{Key, interned, new_table};
+use f77_terms::facts::{add_division, add_minimum};
+use f77_terms::monomials::Monomial;
+use f77_terms::paths::{add_below, add_range, is_below, new_path};
+use f77_terms::ranges::Range;
+use f77_terms::terms::{atom_term, constant_term};
+use std::test::Fail;
+
+#[test]
+fn makes_an_atom_once(rt: HostRuntime) -> Result<(), Fail> {
+    let alloc = rt.alloc();
+    let mut table = new_table(alloc);
+    assert_eq!(rt; interned(&mut table, Key::Slot(7))?, Some(0));
+    let half = Key::Quotient(atom_term(alloc, 0)?, constant_term(alloc, 2));
+    assert_eq!(rt; interned(&mut table, half)?, Some(1));
+    assert_eq!(rt; interned(&mut table, Key::Slot(7))?, Some(0));
+    let half = Key::Quotient(atom_term(alloc, 0)?, constant_term(alloc, 2));
+    assert_eq!(rt; interned(&mut table, half)?, Some(1));
+    let rest = Key::Remainder(atom_term(alloc, 0)?, constant_term(alloc, 2));
+    assert_eq!(rt; interned(&mut table, rest)?, Some(2));
+    let later = Key::Element(3, atom_term(alloc, 9)?);
+    assert_eq!(rt; interned(&mut table, later)?, None);
+    Ok(())
+}
+
+#[test]
+fn knows_divisions(rt: HostRuntime) -> Result<(), Fail> {
+    let alloc = rt.alloc();
+    let mut path = new_path(alloc);
+    let dividend = atom_term(alloc, 0)?;
+    let divisor = constant_term(alloc, 4);
+    add_range(&mut path, 0, Range { low: 0, high: 100 })?;
+    add_division(alloc, &mut path, &dividend, &divisor, 1, 2)?;
+    let most = made(alloc, -3, &[(1, Monomial::One(2))])?;
+    assert!(rt; is_below(alloc, &path, &most)?);
+    let most = made(alloc, -2, &[(1, Monomial::One(2))])?;
+    assert!(rt; !is_below(alloc, &path, &most)?);
+    let least = made(alloc, 0, &[(-1, Monomial::One(2))])?;
+    assert!(rt; is_below(alloc, &path, &least)?);
+    let most = made(alloc, -25, &[(1, Monomial::One(1))])?;
+    assert!(rt; is_below(alloc, &path, &most)?);
+    Ok(())
+}
+
+#[test]
+fn knows_minima(rt: HostRuntime) -> Result<(), Fail> {
+    let alloc = rt.alloc();
+    let mut path = new_path(alloc);
+    let first = atom_term(alloc, 0)?;
+    let second = atom_term(alloc, 1)?;
+    add_minimum(alloc, &mut path, &first, &second, 2)?;
+    add_below(alloc, &mut path, -1, &first, 3)?;
+    add_below(alloc, &mut path, -1, &second, 5)?;
+    let least = made(alloc, 3, &[(-1, Monomial::One(2))])?;
+    assert!(rt; is_below(alloc, &path, &least)?);
+    let least = made(alloc, 4, &[(-1, Monomial::One(2))])?;
+    assert!(rt; !is_below(alloc, &path, &least)?);
+    Ok(())
+}

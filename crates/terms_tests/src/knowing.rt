@@ -1,0 +1,124 @@
+//! What a path comes to know, and what it tells at once.
+
+use crate::made::{X, Y, made};
+use f77_terms::copying::copied_path;
+use f77_terms::facts::add_maximum;
+use f77_terms::knowing::{
+    constant_of, is_bounded, is_plainly_bounded, know_division, know_maximum, know_minimum,
+    know_unequal,
+};
+use f77_terms::monomials::Monomial;
+use f77_terms::paths::{Path, add_below, add_range, is_apart, is_below, new_path, refuted, settle};
+use f77_terms::ranges::{Range, atom_range};
+use f77_terms::terms::{atom_term, constant_term, difference};
+use std::alloc::{AllocError, Global};
+use std::test::Fail;
+
+/// X is at most Y, and that is at most 4.
+fn ordered(alloc: Global) -> Result<Path, AllocError> {
+    let mut path = new_path(alloc);
+    let order = made(alloc, 0, &[(1, X), (-1, Y)])?;
+    add_below(alloc, &mut path, 1, &order, 0)?;
+    add_range(&mut path, 1, Range { low: 0, high: 4 })?;
+    Ok(path)
+}
+
+#[test]
+fn tells_constants(rt: HostRuntime) -> Result<(), Fail> {
+    let alloc = rt.alloc();
+    assert_eq!(rt; constant_of(&constant_term(alloc, 5)), Some(5));
+    let x = atom_term(alloc, 0)?;
+    assert_eq!(rt; constant_of(&x), None);
+    let Some(none) = difference(alloc, &x, &x)? else {
+        return Err(Fail::from(AllocError));
+    };
+    assert_eq!(rt; constant_of(&none), Some(0));
+    Ok(())
+}
+
+#[test]
+fn tells_bounds_by_ranges(rt: HostRuntime) -> Result<(), Fail> {
+    let alloc = rt.alloc();
+    let path = ordered(alloc)?;
+    let y = atom_term(alloc, 1)?;
+    assert!(rt; is_plainly_bounded(alloc, &path, 2, &y, -8)?);
+    assert!(rt; !is_plainly_bounded(alloc, &path, 2, &y, -7)?);
+    let x = atom_term(alloc, 0)?;
+    assert!(rt; !is_plainly_bounded(alloc, &path, 1, &x, -4)?);
+    Ok(())
+}
+
+#[test]
+fn tells_bounds_by_refutation(rt: HostRuntime) -> Result<(), Fail> {
+    let alloc = rt.alloc();
+    let path = ordered(alloc)?;
+    let x = atom_term(alloc, 0)?;
+    assert!(rt; is_bounded(alloc, &path, 1, &x, -4)?);
+    assert!(rt; !is_bounded(alloc, &path, 1, &x, -3)?);
+    Ok(())
+}
+
+#[test]
+fn copies_what_is_known(rt: HostRuntime) -> Result<(), Fail> {
+    let alloc = rt.alloc();
+    let path = copied_path(alloc, &ordered(alloc)?)?;
+    let large = made(alloc, 5, &[(-1, X)])?;
+    assert!(rt; refuted(alloc, &path, &[large])?);
+    Ok(())
+}
+
+#[test]
+fn settles_ranges(rt: HostRuntime) -> Result<(), Fail> {
+    let alloc = rt.alloc();
+    let mut path = ordered(alloc)?;
+    add_range(&mut path, 0, Range { low: 1, high: 9 })?;
+    settle(&mut path);
+    let narrowed = Range { low: 1, high: 4 };
+    assert_eq!(rt; atom_range(&path.known, 0), Some(narrowed));
+    assert_eq!(rt; atom_range(&path.known, 1), Some(narrowed));
+    Ok(())
+}
+
+#[test]
+fn knows_maxima(rt: HostRuntime) -> Result<(), Fail> {
+    let alloc = rt.alloc();
+    let mut path = ordered(alloc)?;
+    let x = atom_term(alloc, 0)?;
+    let y = atom_term(alloc, 1)?;
+    add_maximum(alloc, &mut path, &x, &y, 2)?;
+    let most = made(alloc, -4, &[(1, Monomial::One(2))])?;
+    assert!(rt; is_below(alloc, &path, &most)?);
+    let less = made(alloc, -3, &[(1, Monomial::One(2))])?;
+    assert!(rt; !is_below(alloc, &path, &less)?);
+    Ok(())
+}
+
+#[test]
+fn knows_what_is_unequal_once(rt: HostRuntime) -> Result<(), Fail> {
+    let alloc = rt.alloc();
+    let mut path = new_path(alloc);
+    let x = atom_term(alloc, 0)?;
+    know_unequal(alloc, &mut path, &x)?;
+    know_unequal(alloc, &mut path, &x)?;
+    assert!(rt; is_apart(alloc, &path, &x)?);
+    assert_eq!(rt; path.unequal.len(), 1);
+    Ok(())
+}
+
+#[test]
+fn knows_divisions_once(rt: HostRuntime) -> Result<(), Fail> {
+    let alloc = rt.alloc();
+    let mut path = new_path(alloc);
+    let x = atom_term(alloc, 0)?;
+    let y = atom_term(alloc, 1)?;
+    know_division(alloc, &mut path, &x, &y, 2, 3)?;
+    know_division(alloc, &mut path, &x, &y, 2, 3)?;
+    assert_eq!(rt; path.choices.len(), 2);
+    know_minimum(alloc, &mut path, &x, &y, 4)?;
+    know_minimum(alloc, &mut path, &x, &y, 4)?;
+    assert_eq!(rt; path.choices.len(), 3);
+    know_maximum(alloc, &mut path, &x, &y, 5)?;
+    know_maximum(alloc, &mut path, &x, &y, 5)?;
+    assert_eq!(rt; path.choices.len(), 4);
+    Ok(())
+}

@@ -1,0 +1,148 @@
+//! Bounds that contradict each other, and bounds that do not.
+
+use crate::made::{X, Y, Z, made};
+use f77_terms::monomials::Monomial;
+use f77_terms::paths::{
+    Case, Choice, Path, add_below, add_choice, add_equal, add_range, add_unequal, is_apart,
+    is_below, is_zero, new_path, refuted,
+};
+use f77_terms::ranges::Range;
+use f77_terms::terms::{Term, is_same_term, product, sum};
+use std::alloc::{AllocError, Global};
+use std::test::Fail;
+
+fn below(alloc: Global, path: &mut Path, term: &Term) -> Result<(), AllocError> {
+    add_below(alloc, path, 1, term, 0)
+}
+
+fn is_refuted(alloc: Global, bounds: &[Term]) -> Result<bool, AllocError> {
+    let path = new_path(alloc);
+    refuted(alloc, &path, bounds)
+}
+
+#[test]
+fn refutes_orders(rt: HostRuntime) -> Result<(), Fail> {
+    let alloc = rt.alloc();
+    let first = made(alloc, 1, &[(1, X), (-1, Y)])?;
+    let second = made(alloc, 0, &[(1, Y), (-1, X)])?;
+    assert!(rt; is_refuted(alloc, &[first, second])?);
+    let first = made(alloc, 0, &[(1, X), (-1, Y)])?;
+    let second = made(alloc, 0, &[(1, Y), (-1, X)])?;
+    assert!(rt; !is_refuted(alloc, &[first, second])?);
+    Ok(())
+}
+
+#[test]
+fn refutes_halves(rt: HostRuntime) -> Result<(), Fail> {
+    let alloc = rt.alloc();
+    let first = made(alloc, -1, &[(2, X)])?;
+    let second = made(alloc, 1, &[(-2, X)])?;
+    assert!(rt; is_refuted(alloc, &[first, second])?);
+    let first = made(alloc, -2, &[(2, X)])?;
+    let second = made(alloc, 2, &[(-2, X)])?;
+    assert!(rt; !is_refuted(alloc, &[first, second])?);
+    let first = made(alloc, -5, &[(2, X), (4, Y)])?;
+    let second = made(alloc, 5, &[(-2, X), (-4, Y)])?;
+    assert!(rt; is_refuted(alloc, &[first, second])?);
+    Ok(())
+}
+
+#[test]
+fn refutes_by_equations(rt: HostRuntime) -> Result<(), Fail> {
+    let alloc = rt.alloc();
+    let mut path = new_path(alloc);
+    let whole = made(alloc, 0, &[(1, X), (-1, Y), (-1, Z)])?;
+    add_equal(alloc, &mut path, &whole)?;
+    let least = made(alloc, 1, &[(-1, Z)])?;
+    let order = made(alloc, 0, &[(1, X), (-1, Y)])?;
+    assert!(rt; refuted(alloc, &path, &[least, order])?);
+    let order = made(alloc, 0, &[(1, X), (-1, Y)])?;
+    assert!(rt; !refuted(alloc, &path, &[order])?);
+    let same = made(alloc, 0, &[(2, X), (-2, Y), (-2, Z)])?;
+    assert!(rt; is_zero(alloc, &path, &same)?);
+    let other = made(alloc, 1, &[(2, X), (-2, Y), (-2, Z)])?;
+    assert!(rt; is_apart(alloc, &path, &other)?);
+    assert!(rt; !is_zero(alloc, &path, &other)?);
+    Ok(())
+}
+
+#[test]
+fn refutes_what_is_unequal(rt: HostRuntime) -> Result<(), Fail> {
+    let alloc = rt.alloc();
+    let mut path = new_path(alloc);
+    add_unequal(&mut path, made(alloc, 0, &[(1, X), (-1, Y)])?)?;
+    add_unequal(&mut path, made(alloc, 0, &[(1, X), (-1, Z)])?)?;
+    let first = made(alloc, 0, &[(1, X), (-1, Y)])?;
+    let second = made(alloc, -1, &[(1, Y), (-1, X)])?;
+    let third = made(alloc, 1, &[(1, Z), (-1, Y)])?;
+    let fourth = made(alloc, -1, &[(1, Y), (-1, Z)])?;
+    assert!(rt; refuted(alloc, &path, &[first, second, third, fourth])?);
+    let first = made(alloc, 0, &[(1, X), (-1, Y)])?;
+    let second = made(alloc, -2, &[(1, Y), (-1, X)])?;
+    assert!(rt; !refuted(alloc, &path, &[first, second])?);
+    Ok(())
+}
+
+#[test]
+fn refutes_choices(rt: HostRuntime) -> Result<(), Fail> {
+    let alloc = rt.alloc();
+    let mut path = new_path(alloc);
+    let mut low = Vec::new(alloc);
+    low.push(made(alloc, 5, &[(1, X)])?)?;
+    let mut high = Vec::new(alloc);
+    high.push(made(alloc, 5, &[(-1, X)])?)?;
+    let mut cases = Vec::new(alloc);
+    cases.push(Case { bounds: low })?;
+    cases.push(Case { bounds: high })?;
+    add_choice(&mut path, Choice { cases })?;
+    let least = made(alloc, -4, &[(-1, X)])?;
+    let most = made(alloc, -4, &[(1, X)])?;
+    assert!(rt; refuted(alloc, &path, &[least, most])?);
+    let least = made(alloc, -5, &[(-1, X)])?;
+    let most = made(alloc, -4, &[(1, X)])?;
+    assert!(rt; !refuted(alloc, &path, &[least, most])?);
+    Ok(())
+}
+
+#[test]
+fn bounds_products(rt: HostRuntime) -> Result<(), Fail> {
+    let alloc = rt.alloc();
+    let mut path = new_path(alloc);
+    add_range(&mut path, 0, Range { low: 2, high: 5 })?;
+    add_range(&mut path, 1, Range { low: -3, high: 4 })?;
+    let least = made(alloc, -15, &[(-1, Monomial::Two(0, 1))])?;
+    assert!(rt; is_below(alloc, &path, &least)?);
+    let least = made(alloc, -14, &[(-1, Monomial::Two(0, 1))])?;
+    assert!(rt; !is_below(alloc, &path, &least)?);
+    let square = made(alloc, 0, &[(-1, Monomial::Two(1, 1))])?;
+    assert!(rt; is_below(alloc, &path, &square)?);
+    below(alloc, &mut path, &made(alloc, 1, &[(-1, Y)])?)?;
+    let product = made(alloc, 2, &[(-1, Monomial::Two(0, 1))])?;
+    assert!(rt; is_below(alloc, &path, &product)?);
+    Ok(())
+}
+
+#[test]
+fn multiplies_out(rt: HostRuntime) -> Result<(), Fail> {
+    let alloc = rt.alloc();
+    let plus = made(alloc, 3, &[(1, X), (2, Y)])?;
+    let minus = made(alloc, -3, &[(1, X), (2, Y)])?;
+    let Some(squares) = product(alloc, &plus, &minus)? else {
+        return Err(Fail::from(AllocError));
+    };
+    let parts = [
+        (4, Monomial::Two(1, 1)),
+        (1, Monomial::Two(0, 0)),
+        (4, Monomial::Two(0, 1)),
+    ];
+    let expected = made(alloc, -9, &parts)?;
+    assert!(rt; is_same_term(&squares, &expected));
+    let Some(twice) = sum(alloc, &plus, &minus)? else {
+        return Err(Fail::from(AllocError));
+    };
+    let expected = made(alloc, 0, &[(4, Y), (2, X)])?;
+    assert!(rt; is_same_term(&twice, &expected));
+    let large = made(alloc, 0, &[(i64::MAX, X)])?;
+    assert!(rt; sum(alloc, &large, &large)?.is_none());
+    Ok(())
+}
