@@ -1,5 +1,5 @@
 -- A statement in the place of another.
-use Rattle.std.proofs.Common.{arith, ◌≡◌, ◌≢◌, ◌-◌, ◌<◌, ℕ, List, length, map, sym, ap}
+use Rattle.std.proofs.Common.{arith, ◌≡◌, ◌-◌, ◌<◌, ℕ, List, length, map, sym, ap}
 use Rattle.std.specs.Prelude.{option_map, slice_get, slice_set}
 use Rattle.std.proofs.lemmas.Option.{slice_get_within}
 use Rattle.f77_program.specs.Patching.{Fits, patched}
@@ -10,7 +10,6 @@ use Rattle.f77_legal.proofs.Replaced.{other_line}
 use Rattle.f77_check.specs.Checked.{CheckedFields, IsChecked}
 use Rattle.f77_check.specs.Patching.{IsInPlace}
 use Rattle.f77_actions.specs.declared.resolved.Resolved.{Resolved}
-use Rattle.f77_facts.proofs.Slots.{got_other}
 use Rattle.f77_meaning.specs.Reached.{AreSameBut}
 use Rattle.f77_equivalence.specs.Changed.{IsChange}
 
@@ -18,9 +17,6 @@ use Rattle.f77_equivalence.specs.Changed.{IsChange}
 pub same_but : (p : List LineFields) (number : ℕ) (statement : Statement) → AreSameBut (number - 1) p (patched p number statement)
 same_but p number statement j apart =
     ap (option_map (λ (line : LineFields). line.stmt)) (other_line p (number - 1) j statement (λ here. apart (sym here)))
-
-pub agree_but : (statements : List Resolved) (i : ℕ) (new : Resolved) (j : ℕ) → j ≢ i → slice_get statements j ≡ slice_get (slice_set statements i new) j
-agree_but statements i new j apart = sym (got_other statements i j new apart)
 
 -- the program with the statement is a changed one
 pub change_in_place : (checked : CheckedFields) (number : ℕ) (statement : Statement) (new : Resolved) → IsChecked checked

@@ -1,4 +1,3 @@
-pub mod Alike
 pub mod Moving
 pub mod Throughout
 pub mod Ending

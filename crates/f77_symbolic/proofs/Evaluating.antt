@@ -48,9 +48,6 @@ lacks_whole C v old new (symbolic.Truth term) (Some x) own lacks = absurd (cc (l
 lacks_whole C v old new (symbolic.Number term) None own lacks = own
 lacks_whole C v old new (symbolic.Number term) (Some (held.Number z)) own lacks = absurd (cc (lacks))
 lacks_whole C v old new (symbolic.Number term) (Some (held.Truth b)) own lacks = own
-lacks_whole C v old new symbolic.Nothing None own lacks = own
-lacks_whole C v old new symbolic.Nothing (Some (held.Number z)) own lacks = absurd (cc (lacks))
-lacks_whole C v old new symbolic.Nothing (Some (held.Truth b)) own lacks = own
 
 -- nor a truth value where it holds none at all
 pub lacks_logic : (C : Bool → Type 0) (v : Valuation) (old new : Evaluator) (cell : Option Value) → old.own ≡ true → cell ≡ None → Answers v old new (logic cell) C

@@ -51,7 +51,6 @@ AreInside v writes = All (λ write. IsInside v write.location) writes
 
 -- a truth value is true where its term is not 0
 abbrev pub content_of : Valuation → Symbolic → Option Value
-content_of v symbolic.Nothing = None
 content_of v (symbolic.Number term) = Some (held.Number (sum_value v term))
 content_of v (symbolic.Truth term) = Some (held.Truth (not (is_same (sum_value v term) (pos 0))))
 

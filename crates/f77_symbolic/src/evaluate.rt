@@ -15,7 +15,7 @@ ghost use Rattle.f77_symbolic.specs.code.Memory.{IsLackingFor};
 
 use crate::comparing::connected;
 use crate::evaluator::Evaluator;
-use crate::halt::{Halt, unless_unknown};
+use crate::halt::Halt;
 use crate::memory::{Location, Symbolic, Write, fixed};
 use f77_actions::{Condition, Element, Number};
 use f77_terms::knowing::constant_of;
@@ -130,10 +130,7 @@ impl Evaluator {
     {
         match value {
             Symbolic::Number(term) => Ok(term),
-            Symbolic::Nothing | Symbolic::Truth(_) => {
-                unless_unknown(self.own)?;
-                Err(Halt::Fault)
-            }
+            Symbolic::Truth(_) => Err(Halt::Unknown),
         }
     }
 
@@ -146,10 +143,7 @@ impl Evaluator {
     {
         match x {
             Number::Constant(z) => Ok(constant_term(self.alloc, i64::from(*z))),
-            Number::TooLarge => {
-                unless_unknown(self.own)?;
-                Err(Halt::Fault)
-            }
+            Number::TooLarge => Err(Halt::Unknown),
             Number::Element(e) => {
                 let location = self.location_of(writes, e)?;
                 let value = self.read(writes, &location)?;
@@ -183,10 +177,7 @@ impl Evaluator {
     {
         match value {
             Symbolic::Truth(term) => Ok(!self.is_nothing(term)?),
-            Symbolic::Nothing | Symbolic::Number(_) => {
-                unless_unknown(self.own)?;
-                Err(Halt::Fault)
-            }
+            Symbolic::Number(_) => Err(Halt::Unknown),
         }
     }
 

@@ -19,8 +19,6 @@ pub enum Split {
 pub enum Halt {
     /// The path does not decide it, and on each of two ways it may.
     Split(Split),
-    /// The program itself faults, so nothing is to be shown.
-    Fault,
     /// It is not told.
     Unknown,
     /// No memory was left.

@@ -1,9 +1,9 @@
 //! Whether a program with one statement changed is equivalent, by symbolic execution of both.
 //!
-//! The program is walked alone from its start. Wherever it comes to the changed statement, both are walked together, as
-//! a product program, until they meet: at one place, where all slots hold the same, with as much room for steps as at
-//! first.
-//! What slots hold are terms over what they held at the start, and what is known is a path condition on these terms.
+//! The program is walked alone from its start, and from each place to which control comes on more than one way, to the
+//! next such place. Wherever it comes to the changed statement, both are walked together, as a product program, until
+//! they meet: at one place, where all slots hold the same, with as much room for steps as at first.
+//! What slots hold are terms over what they held where the walk starts, and what is known is a path condition on these.
 //! Read `equivalent::Tours::steps_to_spare` first, then `specs/Walk.antt`, which says why the walk suffices.
 #![tactic(auto)]
 
@@ -21,6 +21,7 @@ pub mod law;
 mod looping;
 mod meeting;
 mod memory;
+mod mending;
 mod pairs;
 mod powers;
 mod reading;

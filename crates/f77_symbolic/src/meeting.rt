@@ -50,7 +50,6 @@ impl Evaluator {
         ensures { IfOk result (λ _. (v : Valuation) → Holds v self.now.path → content_of v b.now ≡ content_of v a.now) }
     {
         match (a, b) {
-            (Symbolic::Nothing, Symbolic::Nothing) => Ok(()),
             (Symbolic::Number(x), Symbolic::Number(y)) => unless_unknown(self.are_equal(x, y)?),
             (Symbolic::Truth(x), Symbolic::Truth(y)) => unless_unknown(self.are_equal(x, y)?),
             _ => Err(Halt::Unknown),

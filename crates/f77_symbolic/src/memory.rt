@@ -23,7 +23,6 @@ pub struct Location {
 /// What a slot holds.
 #[derive(Drop)]
 pub enum Symbolic {
-    Nothing,
     Number(Term),
     /// It is true where the term is not 0.
     Truth(Term),
@@ -65,7 +64,6 @@ pub(crate) fn copied_value(alloc: Global, value: &Symbolic) -> Result<Symbolic, 
     ensures { IfOk result (λ copied. (v : Valuation) → content_of v copied ≡ content_of v value.now) }
 {
     match value {
-        Symbolic::Nothing => Ok(Symbolic::Nothing),
         Symbolic::Number(term) => Ok(Symbolic::Number(copy(alloc, term)?)),
         Symbolic::Truth(term) => Ok(Symbolic::Truth(copy(alloc, term)?)),
     }

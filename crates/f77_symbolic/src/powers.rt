@@ -7,7 +7,7 @@ ghost use Rattle.f77_symbolic.specs.code.Atoms.{Extends};
 ghost use Rattle.f77_symbolic.specs.code.Evaluation.{Calculates};
 
 use crate::evaluator::Evaluator;
-use crate::halt::{Halt, unless_unknown};
+use crate::halt::Halt;
 use f77_actions::number::power;
 use f77_terms::knowing::constant_of;
 use f77_terms::terms::{Term, constant_term, copy, product};
@@ -28,10 +28,7 @@ impl Evaluator {
         };
         match power(a, b) {
             Ok(result) => Ok(constant_term(self.alloc, i64::from(result))),
-            Err(_) => {
-                unless_unknown(self.own)?;
-                Err(Halt::Fault)
-            }
+            Err(_) => Err(Halt::Unknown),
         }
     }
 

@@ -16,9 +16,6 @@ use std::alloc::{AllocError, Global};
 /// So many samples are made at first.
 const FIRST_SAMPLES: usize = 24;
 
-/// With so many samples no more are made.
-const MOST_SAMPLES: usize = 160;
-
 /// What a turn costs at least.
 const LEAST_COST: u64 = 4;
 
@@ -27,9 +24,6 @@ const STATEMENTS: u64 = 12;
 
 /// So many times more a turn costs where no sample is on the path.
 const NO_SAMPLE: u64 = 8;
-
-/// So many samples are tried to be changed for one question.
-const MOST_TRIES: usize = 6;
 
 /// The numbers of slots, and the value of each atom, if it has one.
 #[derive(Drop)]
@@ -57,7 +51,7 @@ pub enum Sign {
 }
 
 /// The number has this sign.
-fn has_sign(z: i64, sign: Sign) -> bool {
+pub(crate) fn has_sign(z: i64, sign: Sign) -> bool {
     match sign {
         Sign::Negative => z < 0,
         Sign::Zero => z == 0,
@@ -101,7 +95,7 @@ fn part_value(values: &[Option<i64>], part: Part) -> Option<i64> {
 }
 
 /// The value of a term.
-fn term_value(values: &[Option<i64>], term: &Term) -> Option<i64> {
+pub(crate) fn term_value(values: &[Option<i64>], term: &Term) -> Option<i64> {
     let mut sum = term.constant;
     for part in &term.parts {
         sum = sum.checked_add(part_value(values, *part)?)?;
@@ -116,7 +110,7 @@ fn scaled_value(values: &[Option<i64>], m: i64, term: &Term, constant: i64) -> O
 }
 
 /// The number without a sign.
-fn unsigned(z: i64) -> Option<usize> {
+pub(crate) fn unsigned(z: i64) -> Option<usize> {
     match usize::try_from(z) {
         Ok(number) => Some(number),
         Err(_) => None,
@@ -147,7 +141,7 @@ fn key_value(sample: &Sample, key: &Key) -> Option<i64> {
 }
 
 /// Adds the values of new atoms.
-fn extend(sample: &mut Sample, table: &Table) -> Result<(), AllocError> {
+pub(crate) fn extend(sample: &mut Sample, table: &Table) -> Result<(), AllocError> {
     for place in sample.values.len()..table.keys.len() {
         let value = key_value(sample, &table.keys[place]);
         sample.values.push(value)?;
@@ -180,7 +174,7 @@ fn have_sign(values: &[Option<i64>], terms: &[Term], sign: Sign) -> bool {
 }
 
 /// The sample is on the path.
-fn is_on(sample: &Sample, path: &Path) -> bool {
+pub(crate) fn is_on(sample: &Sample, path: &Path) -> bool {
     let values = &sample.values;
     if !are_in(values, &path.known) || !have_sign(values, &path.unequal, Sign::NotZero) {
         return false;
@@ -293,7 +287,7 @@ fn scaled_in(list: &[Sample], number: usize, m: i64, term: &Term, constant: i64)
 }
 
 /// The number in this place, if there is one.
-fn number_in(on: &[usize], place: usize) -> Option<usize> {
+pub(crate) fn number_in(on: &[usize], place: usize) -> Option<usize> {
     if place < on.len() {
         Some(on[place])
     } else {
@@ -398,144 +392,4 @@ impl Samples {
         }
         self.on.truncate(kept);
     }
-
-    /// A sample like this one, but for the number of one slot, is added if it is on the path and has the sign.
-    fn try_with(
-        &mut self,
-        alloc: Global,
-        number: usize,
-        slot: usize,
-        z: i64,
-        path: &Path,
-        table: &Table,
-        term: &Term,
-        sign: Sign,
-    ) -> Result<bool, AllocError> {
-        if number >= self.list.len() {
-            return Ok(false);
-        }
-        let mut sample = Sample {
-            held: self.list[number].held.to_vec(alloc)?,
-            values: Vec::with_capacity(alloc, table.keys.len())?,
-        };
-        if slot >= sample.held.len() {
-            return Ok(false);
-        }
-        sample.held[slot] = z;
-        extend(&mut sample, table)?;
-        let fits = match term_value(&sample.values, term) {
-            Some(value) => has_sign(value, sign) && is_on(&sample, path),
-            None => false,
-        };
-        if fits {
-            self.on.push(self.list.len())?;
-            self.list.push(sample)?;
-        }
-        Ok(fits)
-    }
-
-    /// A sample is made from another on the path by a change of one slot, so that the term has this sign.
-    pub fn mend(
-        &mut self,
-        alloc: Global,
-        path: &Path,
-        table: &Table,
-        term: &Term,
-        sign: Sign,
-    ) -> Result<bool, AllocError> {
-        if self.list.len() >= MOST_SAMPLES {
-            return Ok(false);
-        }
-        for place in 0..self.on.len().min(MOST_TRIES) {
-            let Some(number) = number_in(&self.on, place) else {
-                continue;
-            };
-            for part in &term.parts {
-                let Some((slot, z)) = wanted_in(&self.list, number, table, term, *part, sign) else {
-                    continue;
-                };
-                if self.try_with(alloc, number, slot, z, path, table, term, sign)? {
-                    return Ok(true);
-                }
-            }
-        }
-        Ok(false)
-    }
-}
-
-/// The slot that an atom is of, in a sample.
-fn slot_of(sample: &Sample, table: &Table, atom: usize) -> Option<usize> {
-    if atom >= table.keys.len() {
-        return None;
-    }
-    match &table.keys[atom] {
-        Key::Slot(slot) => Some(*slot),
-        Key::Element(first, index) => {
-            first.checked_add(unsigned(term_value(&sample.values, index)?)?)
-        }
-        _ => None,
-    }
-}
-
-/// Which number a slot is to hold, so that the term gets this sign.
-fn wanted(
-    sample: &Sample,
-    table: &Table,
-    term: &Term,
-    part: Part,
-    sign: Sign,
-) -> Option<(usize, i64)> {
-    let Monomial::One(atom) = part.monomial else {
-        return None;
-    };
-    let slot = slot_of(sample, table, atom)?;
-    if slot >= sample.held.len() {
-        return None;
-    }
-    let now = term_value(&sample.values, term)?;
-    let target = match sign {
-        Sign::Negative => -1,
-        Sign::Zero | Sign::NotNegative | Sign::NotPositive => 0,
-        Sign::NotZero => now.checked_add(part.factor)?,
-        Sign::Positive => 1,
-    };
-    let distance = target.checked_sub(now)?;
-    let size = if part.factor < 0 {
-        part.factor.checked_neg()?
-    } else {
-        part.factor
-    };
-    let mut by = distance.checked_div(size)?;
-    if by.checked_mul(size)? != distance {
-        by = if distance < 0 {
-            by.checked_sub(1)?
-        } else {
-            by.checked_add(1)?
-        };
-    }
-    let by = if part.factor < 0 {
-        by.checked_neg()?
-    } else {
-        by
-    };
-    let z = sample.held[slot].checked_add(by)?;
-    if z < -2147483648 || z > 2147483647 {
-        return None;
-    }
-    Some((slot, z))
-}
-
-/// The same in the sample of this number.
-fn wanted_in(
-    list: &[Sample],
-    number: usize,
-    table: &Table,
-    term: &Term,
-    part: Part,
-    sign: Sign,
-) -> Option<(usize, i64)> {
-    if number >= list.len() {
-        return None;
-    }
-    wanted(&list[number], table, term, part, sign)
 }

@@ -197,7 +197,6 @@ impl Evaluator {
                 unless_unknown(refuted(self.alloc, path, &[])?)?;
                 Ok(None)
             }
-            Halt::Fault => Err(Halt::Unknown),
             Halt::Memory => Err(Halt::Memory),
         }
     }

@@ -52,7 +52,6 @@ pub record AreValuesAt (facts : List Fact) (slot : ℕ) (values : Values) : Type
 abbrev pub IsLackingFor : Symbolic → Option Value → Type 0
 IsLackingFor (symbolic.Truth term) cell = cell ≡ None
 IsLackingFor (symbolic.Number term) cell = whole cell ≡ Err Undefined
-IsLackingFor symbolic.Nothing cell = whole cell ≡ Err Undefined
 
 -- the write of this number is to this one slot
 abbrev pub IsWriteTo : List Write → ℕ → ℕ → Type 0
