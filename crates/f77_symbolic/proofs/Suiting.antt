@@ -1,5 +1,5 @@
 -- The values that slots may hold.
-use Rattle.std.proofs.Common.{arith, ◌≡◌, inl, inr, ℕ, List, Option, Some, None, true, subst, sym, ◌∙◌, ℤ}
+use Rattle.std.proofs.Common.{arith, ◌≡◌, inl, inr, ℕ, List, Option, Some, None, true, subst, sym, ◌∙◌}
 use Rattle.std.specs.Prelude.{◌≤ℤ◌}
 use Rattle.std.proofs.lemmas.Int.{ints}
 use Rattle.f77_actions.specs.declared.value.Value.{Value}
@@ -7,7 +7,9 @@ use Rattle.f77_actions.specs.declared.value.Value.TheVariants as held
 use Rattle.f77_facts.specs.declared.facts.Fact.{Fact}
 use Rattle.f77_symbolic.specs.declared.values.Values.{Values}
 use Rattle.f77_symbolic.specs.Memory.{kind_of_slot, number_of}
-use Rattle.f77_symbolic.specs.code.Memory.{AreValuesAt, IsLacking, MaySuit, Widen}
+use Rattle.f77_symbolic.specs.code.Memory.{AreValuesAt, IsLacking, MaySuit, SuitsValues, Widen}
+use Rattle.f77_terms.specs.declared.ranges.Range.{Range}
+use Rattle.f77_terms.specs.Ranges.{IsIn}
 
 -- wider bounds allow no less
 pub widen_by : (values wider : Values) → values.kind ≡ wider.kind → wider.low ≤ℤ values.low → values.high ≤ℤ wider.high
@@ -33,3 +35,10 @@ widen_at facts slot values wider widen at = record {
   kind = subst (λ k. kind_of_slot facts slot ≡ Some k) widen.kind at.kind;
   suits = λ cells are. widen.suits _ (at.suits cells are);
 }
+
+-- one of these values has a number between their bounds
+pub in_range : (values : Values) (cell : Option Value) (range : Range) → range.low ≡ values.low → range.high ≡ values.high → SuitsValues values cell
+    → IsIn range (number_of cell)
+in_range values None range low high suits = absurd suits
+in_range values (Some (held.Number z)) range low high suits = rw (low, high) (record { above = suits.1; below = suits.2 })
+in_range values (Some (held.Truth b)) range low high suits = rw (low, high) (record { above = suits.1; below = suits.2 })

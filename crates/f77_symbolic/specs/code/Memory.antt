@@ -1,7 +1,7 @@
 -- What slots hold where some were written to, by terms over what they held at the start.
 -- Private functions and proofs alone cite what stands here.
 use Rattle.std.specs.Prelude.{◌≡◌, ◌≤ℤ◌, ◌≤◌, ◌<◌, ◌+◌, ◌⊎◌, ℕ, true, List, Any}
-use Rattle.std.specs.Prelude.{Option, Some, None, slice_get, ℤ, Err}
+use Rattle.std.specs.Prelude.{Option, Some, None, slice_get, Err}
 use Rattle.f77_actions.specs.declared.finish.Fault.TheVariants.{Undefined}
 use Rattle.f77_actions.specs.declared.value.Value.{Value}
 use Rattle.f77_actions.specs.declared.value.Value.TheVariants as held
