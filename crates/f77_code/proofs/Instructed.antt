@@ -11,9 +11,8 @@ use Rattle.f77_code.specs.declared.instruction.Instruction.{Instruction}
 use Rattle.f77_code.specs.declared.instruction.Operation.{Operation, Next}
 use Rattle.f77_code.specs.declared.term.Term.{Term}
 use Rattle.f77_code.specs.Instructions.{Beginning, beginning, onward, IsLeftDone, IsOperation, StandsForStatement, StandsForIncrement}
-use Rattle.f77_code.specs.code.Compile.{IsTestTerm}
+use Rattle.f77_code.specs.code.Compile.{IsNumberTerm, IsTestTerm}
 use Rattle.f77_code.specs.Compiled.{IsInstruction, IsIncrement}
-use Rattle.f77_code.specs.code.Compiled.{HaveParameters, Advances, IsNext}
 use Rattle.f77_code.specs.code.Compiling.{IsTesting, IsCompiled}
 use Rattle.f77_code.specs.Constants.{BeginsPlan}
 use Rattle.f77_code.specs.code.Constants.{GrowsPlan}
@@ -46,9 +45,10 @@ branch_stands t statements i r x otherwise there next term operation at is on ot
 
 pub do_stands : (t : Constants) (statements : List Resolved) (i : ℕ) (r : Resolved) (slot : ℕ) (x y z : Number) (end next : ℕ) (begun : Beginning)
     (operation : Operation) → slice_get statements i ≡ Some r → r.action ≡ Loop slot x y z end → beginning operation ≡ Some begun → begun.variable ≡ slot
-    → begun.counter ≡ do_rank statements i → begun.body ≡ i + 1 → HaveParameters t x y z begun.parameters → IsLeftDone statements i end next
+    → begun.counter ≡ do_rank statements i → begun.body ≡ i + 1 → IsNumberTerm t x begun.parameters.first → IsNumberTerm t y begun.parameters.last
+    → IsNumberTerm t z begun.parameters.step → IsLeftDone statements i end next
     → IsInstruction t statements i (record { operation = operation; next = next })
-do_stands t statements i r slot x y z end next begun operation at is begins same ranked first h left =
+do_stands t statements i r slot x y z end next begun operation at is begins same ranked body first last step left =
     instructed t statements i r operation next at
     (λ plan b.
     subst (λ act. HasAction plan act → StandsForStatement plan statements i r act operation next) (sym is)
@@ -56,8 +56,8 @@ do_stands t statements i r slot x y z end next begun operation at is begins same
       variable = same;
       slot = has.0;
       counter = ranked;
-      body = first;
-      parameters = record { first = h.first.stands plan b has.1; last = h.last.stands plan b has.2; step = h.step.stands plan b has.3 };
+      body = body;
+      parameters = record { first = first.stands plan b has.1; last = last.stands plan b has.2; step = step.stands plan b has.3 };
       left = left;
     })))
 
@@ -75,23 +75,16 @@ other_stands t statements i r operation next at on h =
     instructed t statements i r operation next at (λ plan b has. plain_stands plan statements i r operation next on r.action (h.stands plan b has))
 
 -- what increments a DO
-advances_operation : (plan : Plan) (statements : List Resolved) (d slot variable end : ℕ) (x y z : Number) (operation : Operation) (next : ℕ) → variable ≡ slot
-    → Advances statements d variable operation → IsLeftDone statements d end next → HasAction plan (Loop slot x y z end)
-    → StandsForIncrement plan statements d (Loop slot x y z end) operation next
-advances_operation plan statements d slot variable end x y z (Next v counter body) next same h left has = (h.0 ∙ same, has.0, h.1, h.2, left)
-advances_operation plan statements d slot variable end x y z _ next same h left has = absurd h
-
-pub increment_stands : (statements : List Resolved) (d : ℕ) (r : Resolved) (slot variable end : ℕ) (x y z : Number) (instruction : Instruction)
-    → slice_get statements d ≡ Some r → r.action ≡ Loop slot x y z end → variable ≡ slot → IsNext statements d variable end instruction
-    → IsIncrement statements d instruction
-increment_stands statements d r slot variable end x y z instruction at is same h =
+pub increment_stands : (statements : List Resolved) (d : ℕ) (r : Resolved) (slot variable counter end next : ℕ) (x y z : Number) → slice_get statements d ≡ Some r
+    → r.action ≡ Loop slot x y z end → variable ≡ slot → counter ≡ do_rank statements d → IsLeftDone statements d end next
+    → IsIncrement statements d (record { operation = Next variable counter (d + 1); next = next })
+increment_stands statements d r slot variable counter end next x y z at is same ranked left =
     record {
       increments = λ plan s found has.
           let one : r ≡ s = same_Some _ _ (sym at ∙ found) in
           let action : s.action ≡ Loop slot x y z end = sym (ap (λ r. r.action) one) ∙ is in
-          subst (λ act. StandsForIncrement plan statements d act instruction.operation instruction.next) (sym action)
-          (advances_operation plan statements d slot variable end x y z instruction.operation instruction.next same h.advances h.left
-          (subst (HasAction plan) action has));
+          let there = subst (HasAction plan) action has in
+          subst (λ act. StandsForIncrement plan statements d act (Next variable counter (d + 1)) next) (sym action) (same, there.0, ranked, refl, left);
     }
 
 -- what stands for a statement by one table does so by a later one

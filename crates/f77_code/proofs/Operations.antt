@@ -6,7 +6,6 @@ use Rattle.f77_tree.specs.declared.tree.Kind.{Kind}
 use Rattle.f77_tree.specs.declared.tree.Kind.TheVariants.{Integer, Logical}
 use Rattle.f77_actions.specs.declared.action.Action.{Action, AssignNumber, AssignTruth, LogicalIf'}
 use Rattle.f77_actions.specs.declared.action.Action as action
-use Rattle.f77_actions.specs.declared.action.Action.TheViews as actions
 use Rattle.f77_actions.specs.declared.action.Jump.{Jump}
 use Rattle.f77_actions.specs.declared.expression.Condition.{Condition, Related}
 use Rattle.f77_actions.specs.declared.expression.Condition as condition
@@ -16,8 +15,6 @@ use Rattle.f77_actions.specs.declared.expression.Number.{Number}
 use Rattle.f77_actions.specs.declared.expression.Relation.{Relation}
 use Rattle.f77_code.specs.declared.constants.Constants.{Constants}
 use Rattle.f77_code.specs.declared.instruction.Operation.{Operation, SetElement, SetMatrix, IfTrue, When'}
-use Rattle.f77_code.specs.declared.instruction.Operation as form
-use Rattle.f77_code.specs.declared.instruction.Operation.TheViews as operations
 use Rattle.f77_code.specs.declared.term.Pair.{Pair}
 use Rattle.f77_code.specs.declared.term.Term.{Term, Register, Compared, Related'}
 use Rattle.f77_code.specs.Instructions.{Comparing, giving, comparing, StandsForAssignment, Tests, IsOperation}

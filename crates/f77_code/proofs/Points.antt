@@ -4,7 +4,7 @@ use Rattle.std.proofs.Common.{ap, ◌∙◌, subst, ◌+◌, ◌-◌, ◌*◌, �
 use lib.Signed.{le_z, lt_z}
 use Rattle.std.specs.Prelude.{Result, Ok, Err, nat_lt, slice_get, slice_set, unwrap_or, if◌then◌else◌, ◌<ℤ◌, ◌≤ℤ◌}
 use Rattle.std.proofs.Math.Dec.{eqb-suc-zero}
-use Rattle.std.proofs.lemmas.Bool.{le-ltb, lt-ltb}
+use Rattle.std.proofs.lemmas.Bool.{lt-ltb}
 use Rattle.std.proofs.lemmas.Int.{ints}
 use Rattle.f77_actions.specs.declared.finish.Fault.{Fault}
 use Rattle.f77_actions.specs.declared.finish.Fault.TheVariants.{BadSubscript, ZeroStep}
@@ -12,12 +12,12 @@ use Rattle.f77_actions.specs.declared.finish.Finish.TheVariants.{Failed}
 use Rattle.f77_code.specs.declared.control.Turn.{Turn}
 use Rattle.f77_code.specs.Choice.{by_sign, item_chosen}
 use Rattle.f77_code.specs.Operation.{Point, point, used_in_code, ended_point, put_in_register, put_at, branch, passed, begun_in_code, one_less}
-use Rattle.f77_code.specs.code.Registers.{IsOffset}
+use Rattle.f77_code.specs.code.Registers.{IsOffset, misplaced_in_matrix}
 use Rattle.f77_code.specs.Registers.{vector_place, matrix_place}
 use Rattle.f77_actions.specs.Number.{fits, is_same, trip_count}
 use Rattle.f77_actions.specs.Encoded.{Encodes, IsValueOrFault, code}
 use Rattle.f77_actions.specs.Value.{given, element}
-use Rattle.f77_actions.proofs.Bounds.{Within, within, at_least, valid_value, encodes_value, encodes_fault, valid_code}
+use Rattle.f77_actions.proofs.Bounds.{Within, within, at_least, valid_value, encodes_value, valid_code}
 use Rattle.f77_code.proofs.Offsets.{vector_within, vector_beyond, matrix_within, row_beyond, column_beyond}
 
 -- the result that a number stands for where it is a value
@@ -125,32 +125,16 @@ matrix_bad rows columns (pos (suc n)) w f e = by (nat_lt n rows) refl
     by true t = let found = rw t at e in column (element (columns ∷ []) (w ∷ [])) refl found
     by false t = let found = rw t at e in cc (found)
 
-not_there : (b : Bool) (r : Result ℕ Fault) → b ≡ false → (if b then r else Err BadSubscript) ≡ Err BadSubscript
-not_there b r e = rw e refl
+-- the fault of subscripts that name no element
+pub vector_misplaced : (x : ℤ) (bound : ℕ) (r : Result ℤ Fault) (f : Fault) → Encodes x (misplaced_in_matrix r r) → vector_place bound r ≡ Err f → Encodes x (Err f)
+vector_misplaced x bound (Ok z) f a e = subst (λ f. Encodes x (Err f)) (vector_bad bound z f e) a
+vector_misplaced x bound (Err g) f a e = let same : g ≡ f = cc (e) in subst (λ f. Encodes x (Err f)) same a
 
-none_within : (w : ℤ) → vector_place 0 (Ok w) ≡ Err BadSubscript
-none_within (pos zero) = refl
-none_within (negsuc n) = refl
-none_within (pos (suc n)) = not_there (nat_lt n 0) (Ok (n + 0 * 0)) (le-ltb n 0 (omega arith))
-
-pub subscript_fault : (s : ℤ) → pos 1099511627776 ≤ℤ s → (bound : ℕ) (r : Result ℤ Fault) (f : Fault) → Encodes s r → vector_place bound r ≡ Err f → Encodes s (Err f)
-subscript_fault s h bound (Ok z) f a e = let w : Within z = within z a.fitting in absurd (omega (arith, ints))
-subscript_fault s h bound (Err g) f a e = let same : g ≡ f = cc (e) in subst (λ f. Encodes s (Err f)) same a
-
-pub subscript_bad : (s : ℤ) → s <ℤ pos 1099511627776 → (bound : ℕ) (r : Result ℤ Fault) (f : Fault) → Encodes s r → vector_place bound r ≡ Err f
-    → Encodes (pos 1099511627778) (Err f)
-subscript_bad s h bound (Ok z) f a e = subst (λ f. Encodes (pos 1099511627778) (Err f)) (vector_bad bound z f e) (encodes_fault BadSubscript)
-subscript_bad s h bound (Err g) f a e = let is : s ≡ pos (code g) = a.is in absurd (omega (arith, ints))
-
-pub row_fault : (s : ℤ) → pos 1099511627776 ≤ℤ s → (rows columns : ℕ) (r q : Result ℤ Fault) (f : Fault) → Encodes s r → matrix_place rows columns r q ≡ Err f → Encodes s (Err f)
-row_fault s h rows columns (Ok z) q f a e = let w : Within z = within z a.fitting in absurd (omega (arith, ints))
-row_fault s h rows columns (Err g) q f a e = let same : g ≡ f = cc (e) in subst (λ f. Encodes s (Err f)) same a
-
-pub column_fault : (s : ℤ) → s <ℤ pos 1099511627776 → (rows columns : ℕ) (r q : Result ℤ Fault) (f : Fault) → Encodes s r → matrix_place rows columns r q ≡ Err f
-    → vector_place 0 q ≡ Err f
-column_fault s h rows columns (Err g) q f a e = let is : s ≡ pos (code g) = a.is in absurd (omega (arith, ints))
-column_fault s h rows columns (Ok z) (Err g) f a e = e
-column_fault s h rows columns (Ok z) (Ok w) f a e = none_within w ∙ ap Err (matrix_bad rows columns z w f e)
+pub matrix_misplaced : (x : ℤ) (rows columns : ℕ) (r q : Result ℤ Fault) (f : Fault) → Encodes x (misplaced_in_matrix r q) → matrix_place rows columns r q ≡ Err f
+    → Encodes x (Err f)
+matrix_misplaced x rows columns (Ok z) (Ok w) f a e = subst (λ f. Encodes x (Err f)) (matrix_bad rows columns z w f e) a
+matrix_misplaced x rows columns (Ok z) (Err g) f a e = let same : g ≡ f = cc (e) in subst (λ f. Encodes x (Err f)) same a
+matrix_misplaced x rows columns (Err g) q f a e = let same : g ≡ f = cc (e) in subst (λ f. Encodes x (Err f)) same a
 
 -- tests of the code
 pub least_from : (y : ℤ) → FitsSigned w64 y → le_z (pos 1099511627776) (to_z w64 (of_z w64 y)) ≡ true → pos 1099511627776 ≤ℤ y

@@ -269,6 +269,15 @@ own_changed statements before after is same own = record {
   within = subst (λ o. IfSome o (λ it. it.place < length after.code.instructions.items)) (sym own.instructions) tt;
 }
 
+pub still_one : (before between after : ChangedCode) → HaveOneOwn before between → HaveOneOwn between after → HaveOneOwn before after
+still_one before between after a b = record {
+  instructions = b.instructions ∙ a.instructions;
+  count = b.count ∙ a.count;
+  slots = b.slots ∙ a.slots;
+  values = b.values ∙ a.values;
+  places = b.places ∙ a.places;
+}
+
 -- another table with the same constants
 compiled_by : (statements : List Resolved) (code : List Instruction) (t u : Constants) → u.slots ≡ t.slots → u.values.items ≡ t.values.items
     → AreCompiled t statements code → AreCompiled u statements code

@@ -1,14 +1,9 @@
 -- Terms stand for expressions when their operands do.
 use Rattle.std.proofs.Common.{◌≡◌, sym, ◌∙◌, subst}
-use Rattle.f77_actions.specs.declared.expression.Element.TheViews as views
-use Rattle.f77_actions.specs.declared.expression.Element as slots
 use Rattle.f77_actions.specs.declared.expression.Number.{Number}
-use Rattle.f77_actions.specs.declared.expression.Number as number
 use Rattle.f77_code.specs.declared.constants.Constants.{Constants}
 use Rattle.f77_code.specs.declared.term.Pair.{Pair}
 use Rattle.f77_code.specs.declared.term.Term.{Term}
-use Rattle.f77_code.specs.declared.term.Term as term
-use Rattle.f77_code.specs.declared.term.Term.TheViews as terms
 use Rattle.f77_code.specs.code.Compile.{IsNumberTerm, ArePair}
 use Rattle.f77_code.specs.Constants.{BeginsPlan}
 use Rattle.f77_code.specs.code.Constants.{GrowsPlan}

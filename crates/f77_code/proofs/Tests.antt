@@ -2,12 +2,10 @@
 use Rattle.std.proofs.Common.{◌≡◌, subst}
 use Rattle.f77_actions.specs.declared.expression.Condition.{Condition}
 use Rattle.f77_actions.specs.declared.expression.Condition as condition
-use Rattle.f77_actions.specs.declared.expression.Condition.TheViews as conditions
 use Rattle.f77_actions.specs.declared.expression.Number.{Number}
 use Rattle.f77_actions.specs.declared.expression.Relation.{Relation}
 use Rattle.f77_code.specs.declared.constants.Constants.{Constants}
 use Rattle.f77_code.specs.declared.term.Term.{Term, Compared, Related'}
-use Rattle.f77_code.specs.declared.term.Term.TheViews as terms
 use Rattle.f77_code.specs.code.Compile.{IsNumberTerm, IsTestTerm, IsRelationOf}
 use Rattle.f77_code.specs.code.Constants.{GrowsPlan}
 use Rattle.f77_code.specs.Holds.{Plan}

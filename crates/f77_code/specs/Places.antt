@@ -1,10 +1,8 @@
 -- The numbers of places: those of the statements come first, then those of the incrementations of
 -- DOs.
-use Rattle.std.specs.Prelude.{◌≡◌, ◌+◌, ◌&&◌, ℕ, Bool, true, nat_lt, List, length, Some, slice_get}
+use Rattle.std.specs.Prelude.{◌≡◌, ◌+◌, ◌&&◌, ℕ, Bool, List, length, Some, slice_get}
 use Rattle.std.specs.List.{list_all}
 use Rattle.f77_actions.specs.declared.resolved.Resolved.{Resolved}
-use Rattle.f77_code.specs.declared.control.Place.{Place}
-use Rattle.f77_code.specs.declared.control.Place.TheVariants.{Execute, Increment}
 use Rattle.f77_code.specs.declared.places.Places.{Places}
 use Rattle.f77_code.specs.Compiling.{is_of_32_bits}
 use Rattle.f77_code.specs.Holds.{do_rank}
@@ -25,8 +23,3 @@ has_places n r = is_of_32_bits r.next && are_below n r.ends.items
 -- each statement has its places
 abbrev pub have_places : List Resolved → Bool
 have_places statements = list_all (has_places (length statements)) statements
-
--- if the place is an incrementation, its DO is among the first n statements
-abbrev pub is_place_among : ℕ → Place → Bool
-is_place_among n (Execute i) = true
-is_place_among n (Increment d) = nat_lt d n

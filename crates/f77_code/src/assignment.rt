@@ -3,16 +3,14 @@
 ghost use Rattle.std.specs.Prelude.{◌≡◌, ◌≤◌, ◌<◌, ◌+◌, ◌*◌, true, length, slice_set, List, ℤ, Result};
 ghost use Rattle.f77_actions.specs.declared.finish.Fault.{Fault};
 ghost use Rattle.f77_code.specs.declared.control.Turn.{Turn};
-ghost use Rattle.f77_code.specs.declared.instruction.Operation as operation;
 ghost use Rattle.f77_code.specs.Operation as meaning;
-ghost use Rattle.f77_code.specs.Operation.{point, ran};
 ghost use Rattle.f77_code.specs.Registers.{are_held, vector_place, matrix_place};
 ghost use Rattle.f77_code.specs.Term.{term_value, term_within};
 ghost use Rattle.f77_actions.specs.Encoded.{Encodes, IsValueOrFault};
 
-use crate::ending::{failed, off_matrix, off_vector};
-use crate::evaluate::{difference_at, element_of, operand, product_at, sum_at};
-use crate::registers::{matrix_offset, offset, read};
+use crate::ending::failed;
+use crate::evaluate::operand;
+use crate::registers::{matrix_offset, misplaced, offset};
 use crate::term::{Pair, Term};
 use f77_actions::encoded::UNDEFINED;
 
@@ -27,12 +25,12 @@ pub(crate) fn write(registers: &mut [i64], to: usize, x: i64)
 /// Writes a number into a register and goes on; or ends the run, where the number stands for a fault.
 #[inline(always)]
 #[tactic(auto, using(crate::proofs::Points::least_from))]
-fn put(to: usize, x: i64, next: u32, registers: &mut [i64]) -> usize
+pub(crate) fn put(to: usize, x: i64, next: u32, registers: &mut [i64]) -> usize
     requires to { to < length registers.old }
     requires x { IsValueOrFault x }
     requires held { are_held registers.old ≡ true }
     ensures runs { (r : Result ℤ Fault) (turns : List Turn) → Encodes x r
-        → point result registers.new turns ≡ meaning.put_in_register to r next registers.old turns }
+        → meaning.point result registers.new turns ≡ meaning.put_in_register to r next registers.old turns }
     ensures held { are_held registers.new ≡ true }
 {
     if UNDEFINED <= x {
@@ -40,95 +38,6 @@ fn put(to: usize, x: i64, next: u32, registers: &mut [i64]) -> usize
     }
     write(registers, to, x);
     next as usize
-}
-
-#[inline(always)]
-pub(crate) fn set(to: u32, term: &Term, next: u32, registers: &mut [i64]) -> usize
-    requires held { are_held registers.old ≡ true }
-    requires to { to < length registers.old }
-    requires within { term_within (length registers.old) term.now ≡ true }
-    ensures runs { (turns : List Turn) → point result registers.new turns
-        ≡ meaning.put_in_register to (term_value registers.old term.now) next registers.old turns }
-    ensures held { are_held registers.new ≡ true }
-{
-    let x = operand(term, registers);
-    put(to as usize, x, next, registers)
-}
-
-#[inline(always)]
-pub(crate) fn copy(to: u32, from: u32, next: u32, registers: &mut [i64]) -> usize
-    requires held { are_held registers.old ≡ true }
-    requires to { to < length registers.old }
-    requires from { from < length registers.old }
-    ensures runs { (turns : List Turn) → point result registers.new turns
-        ≡ ran (operation.Move to from) next registers.old turns }
-    ensures held { are_held registers.new ≡ true }
-{
-    let x = read(registers, from);
-    put(to as usize, x, next, registers)
-}
-
-#[inline(always)]
-pub(crate) fn add(to: u32, left: u32, right: u32, next: u32, registers: &mut [i64]) -> usize
-    requires held { are_held registers.old ≡ true }
-    requires to { to < length registers.old }
-    requires left { left < length registers.old }
-    requires right { right < length registers.old }
-    ensures runs { (turns : List Turn) → point result registers.new turns
-        ≡ ran (operation.Add to left right) next registers.old turns }
-    ensures held { are_held registers.new ≡ true }
-{
-    let x = sum_at(registers, left, right);
-    put(to as usize, x, next, registers)
-}
-
-#[inline(always)]
-pub(crate) fn subtract(to: u32, left: u32, right: u32, next: u32, registers: &mut [i64]) -> usize
-    requires held { are_held registers.old ≡ true }
-    requires to { to < length registers.old }
-    requires left { left < length registers.old }
-    requires right { right < length registers.old }
-    ensures runs { (turns : List Turn) → point result registers.new turns
-        ≡ ran (operation.Subtract to left right) next registers.old turns }
-    ensures held { are_held registers.new ≡ true }
-{
-    let x = difference_at(registers, left, right);
-    put(to as usize, x, next, registers)
-}
-
-#[inline(always)]
-pub(crate) fn multiply(to: u32, left: u32, right: u32, next: u32, registers: &mut [i64]) -> usize
-    requires held { are_held registers.old ≡ true }
-    requires to { to < length registers.old }
-    requires left { left < length registers.old }
-    requires right { right < length registers.old }
-    ensures runs { (turns : List Turn) → point result registers.new turns
-        ≡ ran (operation.Multiply to left right) next registers.old turns }
-    ensures held { are_held registers.new ≡ true }
-{
-    let x = product_at(registers, left, right);
-    put(to as usize, x, next, registers)
-}
-
-#[inline(always)]
-pub(crate) fn load(
-    to: u32,
-    first: u32,
-    bound: u32,
-    subscript: u32,
-    next: u32,
-    registers: &mut [i64],
-) -> usize
-    requires held { are_held registers.old ≡ true }
-    requires to { to < length registers.old }
-    requires array { first + bound ≤ length registers.old }
-    requires subscript { subscript < length registers.old }
-    ensures runs { (turns : List Turn) → point result registers.new turns
-        ≡ ran (operation.Load to first bound subscript) next registers.old turns }
-    ensures held { are_held registers.new ≡ true }
-{
-    let x = element_of(registers, first, bound, subscript);
-    put(to as usize, x, next, registers)
 }
 
 #[inline(never)]
@@ -143,7 +52,7 @@ pub(crate) fn set_element(
     requires array { first + bound ≤ length registers.old }
     requires left { term_within (length registers.old) pair.now.left ≡ true }
     requires right { term_within (length registers.old) pair.now.right ≡ true }
-    ensures runs { (turns : List Turn) → point result registers.new turns
+    ensures runs { (turns : List Turn) → meaning.point result registers.new turns
         ≡ meaning.put_at first (vector_place bound (term_value registers.old pair.now.left))
         (term_value registers.old pair.now.right) next
         registers.old turns }
@@ -152,7 +61,7 @@ pub(crate) fn set_element(
     let subscript = operand(&pair.left, registers);
     let offset = offset(subscript);
     if u64::from(bound) <= offset {
-        return off_vector(subscript);
+        return failed(misplaced(subscript, subscript));
     }
     let x = operand(&pair.right, registers);
     put(first as usize + offset as usize, x, next, registers)
@@ -173,7 +82,7 @@ pub(crate) fn set_matrix(
     requires left { term_within (length registers.old) pair.now.left ≡ true }
     requires right { term_within (length registers.old) pair.now.right ≡ true }
     requires within { term_within (length registers.old) term.now ≡ true }
-    ensures runs { (turns : List Turn) → point result registers.new turns
+    ensures runs { (turns : List Turn) → meaning.point result registers.new turns
         ≡ meaning.put_at first
         (matrix_place rows columns (term_value registers.old pair.now.left) (term_value registers.old pair.now.right))
         (term_value registers.old term.now) next registers.old turns }
@@ -183,11 +92,11 @@ pub(crate) fn set_matrix(
     let column = operand(&pair.right, registers);
     let down = offset(row);
     if u64::from(rows) <= down {
-        return off_matrix(row, column);
+        return failed(misplaced(row, column));
     }
     let across = offset(column);
     if u64::from(columns) <= across {
-        return off_matrix(row, column);
+        return failed(misplaced(row, column));
     }
     let place = matrix_offset(rows, columns, down, across);
     let x = operand(term, registers);

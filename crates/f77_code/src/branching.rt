@@ -4,25 +4,21 @@ ghost use Rattle.std.specs.Prelude.{◌≡◌, ◌<◌, ◌+◌, ◌≤ℤ◌, p
 ghost use Rattle.f77_actions.specs.declared.finish.Fault.{Fault};
 ghost use Rattle.f77_code.specs.Choice as choice;
 ghost use Rattle.f77_code.specs.declared.control.Turn.{Turn};
-ghost use Rattle.f77_code.specs.declared.instruction.Operation as operation;
 ghost use Rattle.f77_code.specs.Operation as meaning;
-ghost use Rattle.f77_code.specs.Operation.{point, ran, used_in_code};
+ghost use Rattle.f77_code.specs.Operation.{point, used_in_code};
 ghost use Rattle.f77_code.specs.Registers.{are_held};
-ghost use Rattle.f77_code.specs.Term.{related_number, term_value, term_within};
+ghost use Rattle.f77_code.specs.Term.{term_value, term_within};
 ghost use Rattle.f77_actions.specs.Encoded.{Encodes, IsValueOrFault};
-ghost use Rattle.f77_actions.specs.Value.{both};
 
 use crate::ending::failed;
-use crate::evaluate::{compared_at, operand};
-use crate::operators::compared;
-use crate::term::{Pair, Term};
-use f77_actions::Relation;
+use crate::evaluate::operand;
+use crate::term::Term;
 use f77_actions::encoded::UNDEFINED;
 
 /// The place to which a truth value leads: `there` for true, `next` for false.
 #[inline(always)]
 #[tactic(auto, using(crate::proofs::Points::least_from))]
-fn branch(x: i64, there: u32, next: u32) -> usize
+pub(crate) fn branch(x: i64, there: u32, next: u32) -> usize
     requires { IsValueOrFault x }
     ensures { (r : Result ℤ Fault) (registers : List ℤ) (turns : List Turn) → Encodes x r
         → point result registers turns ≡ meaning.branch r there next registers turns }
@@ -34,57 +30,6 @@ fn branch(x: i64, there: u32, next: u32) -> usize
         return next as usize;
     }
     there as usize
-}
-
-#[inline(always)]
-pub(crate) fn if_true(there: u32, term: &Term, next: u32, registers: &[i64]) -> usize
-    requires held { are_held registers.now ≡ true }
-    requires within { term_within (length registers.now) term.now ≡ true }
-    ensures { (turns : List Turn) → point result registers.now turns
-        ≡ meaning.branch (term_value registers.now term.now) there next registers.now turns }
-{
-    branch(operand(term, registers), there, next)
-}
-
-#[inline(always)]
-pub(crate) fn if_related(
-    relation: Relation,
-    there: u32,
-    pair: &Pair,
-    next: u32,
-    registers: &[i64],
-) -> usize
-    requires held { are_held registers.now ≡ true }
-    requires left { term_within (length registers.now) pair.now.left ≡ true }
-    requires right { term_within (length registers.now) pair.now.right ≡ true }
-    ensures { (turns : List Turn) → point result registers.now turns
-        ≡ meaning.branch (both (related_number relation) (term_value registers.now pair.now.left)
-        (term_value registers.now pair.now.right)) there next
-        registers.now turns }
-{
-    let x = operand(&pair.left, registers);
-    let y = operand(&pair.right, registers);
-    branch(compared(relation, x, y), there, next)
-}
-
-/// The place to which a comparison of two registers leads.
-#[inline(always)]
-pub(crate) fn compare(
-    relation: Relation,
-    left: u32,
-    right: u32,
-    there: u32,
-    next: u32,
-    registers: &[i64],
-) -> usize
-    requires held { are_held registers.now ≡ true }
-    requires left { left < length registers.now }
-    requires right { right < length registers.now }
-    ensures { (turns : List Turn)
-        → point result registers.now turns
-        ≡ ran (operation.IfCompared relation left right there) next registers.now turns }
-{
-    branch(compared_at(registers, relation, left, right), there, next)
 }
 
 /// One of three places, by the sign of a value.

@@ -1,24 +1,20 @@
 //! The code of a program, and its making.
 
-ghost use Rattle.std.specs.Prelude.{◌≡◌, ◌<◌, ◌+◌, List, length, true, Some, slice_get, IfOk};
-ghost use Rattle.f77_code.specs.Compiled.{is_ready, are_ready};
+ghost use Rattle.std.specs.Prelude.{◌≡◌, ◌<◌, ◌+◌, length, true, IfOk};
+ghost use Rattle.f77_code.specs.Compiled.{are_ready};
 ghost use Rattle.f77_code.specs.code.Compiled.{AreExecuted, AreFollowed};
 ghost use Rattle.f77_code.specs.declared.constants.Constants.{Constants};
 ghost use Rattle.f77_actions.specs.declared.resolved.Resolved.{Resolved};
-ghost use Rattle.f77_code.specs.Instructions.{place_at};
-ghost use Rattle.f77_code.specs.Places.{ArePlaces, have_places, is_place_among};
+ghost use Rattle.f77_code.specs.Places.{ArePlaces, have_places};
 ghost use Rattle.f77_code.specs.Program.{IsCode};
 
 use crate::compile::register_of;
 use crate::constants::Constants;
-use crate::control::Place;
-use crate::fault::CodeFault;
-use crate::instruction::Instruction;
-use crate::instructions::increment;
+use crate::instruction::{Instruction, Operation};
 use crate::places::Places;
 use f77_actions::{Action, Resolved};
 use f77_tree::Shared;
-use std::alloc::Global;
+use std::alloc::{AllocError, Global};
 
 /// The code of a program: an instruction for each statement, behind these one for the incrementation of each DO, and
 /// the constants that they name.
@@ -35,7 +31,7 @@ fn executed(
     places: &Places,
     statements: &[Shared<Resolved>],
     constants: &mut Constants,
-) -> Result<Vec<Instruction>, CodeFault>
+) -> Result<Vec<Instruction>, AllocError>
     requires places { ArePlaces statements.now places.now }
     requires have { have_places statements.now ≡ true }
     requires few { length statements.now < 2147483648 }
@@ -52,39 +48,40 @@ fn executed(
     Ok(list)
 }
 
-/// Adds the incrementation of statement `d`, if that is a DO.
+/// Adds the incrementation of statement `d`, if that is a DO (11.10.7).
 fn add_increment(
     alloc: Global,
     slots: u32,
     places: &Places,
     statements: &[Shared<Resolved>],
     d: usize,
-    resolved: &Resolved,
     list: &mut Vec<Instruction>,
-) -> Result<(), CodeFault>
+) -> Result<(), AllocError>
     requires places { ArePlaces statements.now places.now }
     requires have { have_places statements.now ≡ true }
     requires few { length statements.now < 2147483648 }
     requires d { d < length statements.now }
-    requires is { slice_get statements.now d ≡ Some resolved.now }
-    requires ready { is_ready slots (length statements.now) resolved.now.action ≡ true }
+    requires ready { are_ready slots statements.now ≡ true }
     ensures { (table : Constants) → IfOk result
         (λ _. AreFollowed table statements.now d list.old.items
         → AreFollowed table statements.now (d + 1) list.new.items) }
 {
-    match &resolved.action {
-        Action::Loop {
-            variable,
-            terminal,
-            ..
-        } => {
-            let variable = register_of(*variable, slots);
-            let next = increment(places, statements, d, variable, *terminal);
-            list.push(next)?;
-            Ok(())
-        }
-        _ => Ok(()),
+    if let Action::Loop {
+        variable,
+        terminal,
+        ..
+    } = &statements[d].action
+    {
+        list.push(Instruction {
+            operation: Operation::Next {
+                variable: register_of(*variable, slots),
+                counter: places.counter(d),
+                body: d as u32 + 1,
+            },
+            next: places.left(statements, d, *terminal),
+        })?;
     }
+    Ok(())
 }
 
 /// The code of a program with this number of slots. Memory is also reported where registers have more numbers than 32
@@ -93,7 +90,7 @@ pub fn compiled(
     alloc: Global,
     slots: u32,
     statements: &[Shared<Resolved>],
-) -> Result<Code, CodeFault>
+) -> Result<Code, AllocError>
     requires have { have_places statements.now ≡ true }
     requires few { length statements.now < 2147483648 }
     requires ready { are_ready slots statements.now ≡ true }
@@ -104,15 +101,7 @@ pub fn compiled(
     let mut constants = Constants::new(alloc, slots);
     let mut instructions = executed(alloc, &places, statements, &mut constants)?;
     for d in 0..statements.len() {
-        add_increment(
-            alloc,
-            slots,
-            &places,
-            statements,
-            d,
-            &statements[d],
-            &mut instructions,
-        )?;
+        add_increment(alloc, slots, &places, statements, d, &mut instructions)?;
     }
     Ok(Code {
         instructions,
@@ -135,18 +124,5 @@ impl Code {
         ensures { result.now ≡ self.now.constants }
     {
         &self.constants
-    }
-
-    /// The number of a place: that of its statement, or, behind those of all statements, that of the incrementation of
-    /// its DO.
-    pub fn place(&self, place: Place) -> usize
-        requires { is_place_among (length self.now.places.increments.items) place ≡ true }
-        ensures { (statements : List Resolved)
-            → ArePlaces statements self.now.places → result ≡ place_at statements place }
-    {
-        match place {
-            Place::Execute(i) => i,
-            Place::Increment(d) => self.places.increment(d) as usize,
-        }
     }
 }

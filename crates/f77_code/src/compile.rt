@@ -8,10 +8,9 @@ ghost use Rattle.f77_code.specs.Evaluation.{element_within, number_within, condi
 ghost use Rattle.f77_actions.specs.Encoded as meaning;
 
 use crate::constants::Constants;
-use crate::fault::CodeFault;
 use crate::term::{Pair, Term};
 use f77_actions::{Arithmetic, Condition, Element, Number, Relation};
-use std::alloc::Global;
+use std::alloc::{AllocError, Global};
 
 /// A truth value as a number: 1 or 0.
 fn truth(value: bool) -> i32
@@ -30,7 +29,7 @@ pub(crate) fn register_of(slot: usize, slots: u32) -> u32
 }
 
 /// Puts two terms in one box.
-pub(crate) fn paired(alloc: Global, left: Term, right: Term) -> Result<Box<Pair>, CodeFault>
+pub(crate) fn paired(alloc: Global, left: Term, right: Term) -> Result<Box<Pair>, AllocError>
     ensures left { IfOk result (λ pair. pair.value.left ≡ left) }
     ensures right { IfOk result (λ pair. pair.value.right ≡ right) }
 {
@@ -38,7 +37,7 @@ pub(crate) fn paired(alloc: Global, left: Term, right: Term) -> Result<Box<Pair>
 }
 
 /// An element of an array of one dimension. It needs no box where its subscript is a register.
-fn vector(alloc: Global, first: u32, bound: u32, subscript: Term) -> Result<Term, CodeFault>
+fn vector(alloc: Global, first: u32, bound: u32, subscript: Term) -> Result<Term, AllocError>
     ensures { IfOk result (λ term. IsVectorOf first bound subscript term) }
 {
     match &subscript {
@@ -63,7 +62,7 @@ fn matrix(
     columns: u32,
     row: Term,
     column: Term,
-) -> Result<Term, CodeFault>
+) -> Result<Term, AllocError>
     ensures { IfOk result (λ term. IsMatrixOf first rows columns row column term) }
 {
     match (&row, &column) {
@@ -88,30 +87,10 @@ fn calculated_at(operation: Arithmetic, left: u32, right: u32) -> Option<Term>
     ensures { IfSome result (λ term. IsCalculationOf operation (Term.Register left) (Term.Register right) term) }
 {
     match operation {
-        Arithmetic::Add => Some(Term::Sum { left, right }),
-        Arithmetic::Subtract => Some(Term::Difference { left, right }),
-        Arithmetic::Multiply => Some(Term::Product { left, right }),
-        Arithmetic::Divide
-        | Arithmetic::Power
-        | Arithmetic::Modulus
-        | Arithmetic::Least
-        | Arithmetic::Greatest => None,
-    }
-}
-
-/// An operation on any two numbers.
-fn calculated_of(operation: Arithmetic, pair: Box<Pair>) -> Term
-    ensures { IsCalculationOf operation pair.value.left pair.value.right result }
-{
-    match operation {
-        Arithmetic::Add => Term::Add(pair),
-        Arithmetic::Subtract => Term::Subtract(pair),
-        Arithmetic::Multiply => Term::Multiply(pair),
-        Arithmetic::Divide
-        | Arithmetic::Power
-        | Arithmetic::Modulus
-        | Arithmetic::Least
-        | Arithmetic::Greatest => Term::Calculated { operation, pair },
+        Arithmetic::Add => Some(Term::Sum(left, right)),
+        Arithmetic::Subtract => Some(Term::Difference(left, right)),
+        Arithmetic::Multiply => Some(Term::Product(left, right)),
+        _ => None,
     }
 }
 
@@ -121,7 +100,7 @@ fn calculated(
     operation: Arithmetic,
     left: Term,
     right: Term,
-) -> Result<Term, CodeFault>
+) -> Result<Term, AllocError>
     ensures { IfOk result (λ term. IsCalculationOf operation left right term) }
 {
     if let (Term::Register(left), Term::Register(right)) = (&left, &right)
@@ -129,30 +108,31 @@ fn calculated(
     {
         return Ok(term);
     }
-    Ok(calculated_of(operation, paired(alloc, left, right)?))
+    let pair = paired(alloc, left, right)?;
+    Ok(match operation {
+        Arithmetic::Add => Term::Add(pair),
+        Arithmetic::Subtract => Term::Subtract(pair),
+        Arithmetic::Multiply => Term::Multiply(pair),
+        _ => Term::Calculated(operation, pair),
+    })
 }
 
 /// A relation of two numbers. It has a form without operands to evaluate where both are registers.
-fn related(alloc: Global, relation: Relation, left: Term, right: Term) -> Result<Term, CodeFault>
+fn related(alloc: Global, relation: Relation, left: Term, right: Term) -> Result<Term, AllocError>
     ensures { IfOk result (λ term. IsRelationOf relation left right term) }
 {
     match (&left, &right) {
-        (Term::Register(left), Term::Register(right)) => Ok(Term::Compared {
-            relation,
-            left: *left,
-            right: *right,
-        }),
-        _ => Ok(Term::Related {
-            relation,
-            pair: paired(alloc, left, right)?,
-        }),
+        (Term::Register(left), Term::Register(right)) => Ok(Term::Compared(
+            relation, *left, *right,
+        )),
+        _ => Ok(Term::Related(relation, paired(alloc, left, right)?)),
     }
 }
 
 impl Constants {
     /// The term of a variable or an array element.
     #[cycle(numbers)]
-    pub(crate) fn element(&mut self, alloc: Global, element: &Element) -> Result<Term, CodeFault>
+    pub(crate) fn element(&mut self, alloc: Global, element: &Element) -> Result<Term, AllocError>
         requires { element_within self.old.slots element.now ≡ true }
         ensures reads { IfOk result (λ term. IsReadTerm self.new element.now term) }
         ensures grown { GrowsPlan self.old self.new }
@@ -185,7 +165,7 @@ impl Constants {
 
     /// The term of an INTEGER expression.
     #[cycle(numbers)]
-    pub(crate) fn number(&mut self, alloc: Global, number: &Number) -> Result<Term, CodeFault>
+    pub(crate) fn number(&mut self, alloc: Global, number: &Number) -> Result<Term, AllocError>
         requires { number_within self.old.slots number.now ≡ true }
         ensures stands { IfOk result (λ term. IsNumberTerm self.new number.now term) }
         ensures grown { GrowsPlan self.old self.new }
@@ -207,7 +187,7 @@ impl Constants {
 
     /// The term of an INTEGER expression, on the heap.
     #[cycle(numbers)]
-    pub(crate) fn boxed(&mut self, alloc: Global, number: &Number) -> Result<Box<Term>, CodeFault>
+    pub(crate) fn boxed(&mut self, alloc: Global, number: &Number) -> Result<Box<Term>, AllocError>
         requires { number_within self.old.slots number.now ≡ true }
         ensures stands { IfOk result (λ term. IsNumberTerm self.new number.now term.value) }
         ensures grown { GrowsPlan self.old self.new }
@@ -216,12 +196,11 @@ impl Constants {
     }
 
     /// The term of a LOGICAL expression. Its value is 0 or 1.
-    #[cycle(conditions)]
     pub(crate) fn condition(
         &mut self,
         alloc: Global,
         condition: &Condition,
-    ) -> Result<Term, CodeFault>
+    ) -> Result<Term, AllocError>
         requires { condition_within self.old.slots condition.now ≡ true }
         ensures tests { IfOk result (λ term. IsTestTerm self.new condition.now term) }
         ensures grown { GrowsPlan self.old self.new }
@@ -229,7 +208,10 @@ impl Constants {
         match condition {
             Condition::Constant(value) => Ok(Term::Register(self.register(truth(*value))?)),
             Condition::Element(element) => self.element(alloc, element),
-            Condition::Not(operand) => Ok(Term::Not(self.boxed_condition(alloc, operand)?)),
+            Condition::Not(operand) => Ok(Term::Not(Box::new(
+                alloc,
+                self.condition(alloc, operand)?,
+            )?)),
             Condition::Related(relation, left, right) => {
                 let left = self.number(alloc, left)?;
                 let right = self.number(alloc, right)?;
@@ -238,25 +220,8 @@ impl Constants {
             Condition::Connected(connective, left, right) => {
                 let left = self.condition(alloc, left)?;
                 let right = self.condition(alloc, right)?;
-                Ok(Term::Connected {
-                    connective: *connective,
-                    pair: paired(alloc, left, right)?,
-                })
+                Ok(Term::Connected(*connective, paired(alloc, left, right)?))
             }
         }
-    }
-
-    /// The term of a LOGICAL expression, on the heap.
-    #[cycle(conditions)]
-    pub(crate) fn boxed_condition(
-        &mut self,
-        alloc: Global,
-        condition: &Condition,
-    ) -> Result<Box<Term>, CodeFault>
-        requires { condition_within self.old.slots condition.now ≡ true }
-        ensures tests { IfOk result (λ term. IsTestTerm self.new condition.now term.value) }
-        ensures grown { GrowsPlan self.old self.new }
-    {
-        Ok(Box::new(alloc, self.condition(alloc, condition)?)?)
     }
 }

@@ -9,11 +9,10 @@ ghost use Rattle.f77_code.specs.Evaluation.{element_within, condition_within};
 
 use crate::compile::{paired, register_of};
 use crate::constants::Constants;
-use crate::fault::CodeFault;
 use crate::instruction::Operation;
 use crate::term::Term;
 use f77_actions::{Action, Condition, Element, Jump};
-use std::alloc::Global;
+use std::alloc::{AllocError, Global};
 
 /// The place of a statement: its number.
 #[inline]
@@ -25,36 +24,24 @@ pub(crate) fn place_of(statement: usize) -> u32
 }
 
 /// The operation that gives a register the value of a term.
-fn given(alloc: Global, to: u32, term: Term) -> Result<Operation, CodeFault>
+fn given(alloc: Global, to: u32, term: Term) -> Result<Operation, AllocError>
     ensures { IfOk result (λ operation. IsGiving to term operation) }
 {
-    match &term {
-        Term::Register(from) => Ok(Operation::Move { to, from: *from }),
+    match term {
+        Term::Register(from) => Ok(Operation::Move { to, from }),
         Term::Element {
             first,
             bound,
             subscript,
         } => Ok(Operation::Load {
             to,
-            first: *first,
-            bound: *bound,
-            subscript: *subscript,
+            first,
+            bound,
+            subscript,
         }),
-        Term::Sum { left, right } => Ok(Operation::Add {
-            to,
-            left: *left,
-            right: *right,
-        }),
-        Term::Difference { left, right } => Ok(Operation::Subtract {
-            to,
-            left: *left,
-            right: *right,
-        }),
-        Term::Product { left, right } => Ok(Operation::Multiply {
-            to,
-            left: *left,
-            right: *right,
-        }),
+        Term::Sum(left, right) => Ok(Operation::Add { to, left, right }),
+        Term::Difference(left, right) => Ok(Operation::Subtract { to, left, right }),
+        Term::Product(left, right) => Ok(Operation::Multiply { to, left, right }),
         _ => Ok(Operation::Set {
             to,
             term: Box::new(alloc, term)?,
@@ -63,21 +50,17 @@ fn given(alloc: Global, to: u32, term: Term) -> Result<Operation, CodeFault>
 }
 
 /// The operation that goes to the place `then` if a term is true.
-pub(crate) fn tested(alloc: Global, then: u32, term: Term) -> Result<Operation, CodeFault>
+pub(crate) fn tested(alloc: Global, then: u32, term: Term) -> Result<Operation, AllocError>
     ensures { IfOk result (λ operation. IsTesting then term operation) }
 {
     match term {
-        Term::Compared {
-            relation,
-            left,
-            right,
-        } => Ok(Operation::IfCompared {
+        Term::Compared(relation, left, right) => Ok(Operation::IfCompared {
             relation,
             left,
             right,
             then,
         }),
-        Term::Related { relation, pair } => Ok(Operation::IfRelated {
+        Term::Related(relation, pair) => Ok(Operation::IfRelated {
             relation,
             then,
             pair,
@@ -90,7 +73,7 @@ pub(crate) fn tested(alloc: Global, then: u32, term: Term) -> Result<Operation, 
 }
 
 /// The places to which jumps go, in order.
-fn targets(alloc: Global, jumps: &[Jump]) -> Result<Vec<u32>, CodeFault>
+fn targets(alloc: Global, jumps: &[Jump]) -> Result<Vec<u32>, AllocError>
     requires { list_all (λ jump. is_of_32_bits jump.target) jumps.now ≡ true }
     ensures { IfOk result (λ places. places.items ≡ map (λ jump. jump.target) jumps.now) }
 {
@@ -108,7 +91,7 @@ impl Constants {
         alloc: Global,
         target: &Element,
         term: Term,
-    ) -> Result<Operation, CodeFault>
+    ) -> Result<Operation, AllocError>
         requires { element_within self.old.slots target.now ≡ true }
         ensures assigns { IfOk result (λ operation. IsAssigning self.new target.now term operation) }
         ensures grown { GrowsPlan self.old self.new }
@@ -156,7 +139,7 @@ impl Constants {
         alloc: Global,
         condition: &Condition,
         action: &Action,
-    ) -> Result<Operation, CodeFault>
+    ) -> Result<Operation, AllocError>
         requires condition { condition_within self.old.slots condition.now ≡ true }
         requires action { can_compile self.old.slots action.now ≡ true }
         ensures stands { IfOk result (λ operation. IsConditional self.new condition.now action.now operation) }
@@ -179,7 +162,7 @@ impl Constants {
         &mut self,
         alloc: Global,
         action: &Action,
-    ) -> Result<Operation, CodeFault>
+    ) -> Result<Operation, AllocError>
         requires { can_compile self.old.slots action.now ≡ true }
         ensures stands { IfOk result (λ operation. IsCompiled self.new action.now operation) }
         ensures grown { GrowsPlan self.old self.new }

@@ -5,8 +5,7 @@
 
 ghost use Rattle.std.specs.Prelude.{◌≡◌, ◌≤◌, ◌<◌, [], length, take, Some, IfOk, slice_get};
 
-use crate::fault::CodeFault;
-use std::alloc::Global;
+use std::alloc::{AllocError, Global};
 
 /// A table of constants: the number of slots, which have the first registers, and the constants in the registers behind
 /// them.
@@ -30,8 +29,7 @@ fn place(values: &[i32], value: i32) -> usize
 }
 
 impl Constants {
-    ghost use Rattle.f77_code.specs.code.Constants.{HasRegister};
-    ghost use Rattle.f77_code.specs.code.Constants.{GrowsPlan};
+    ghost use Rattle.f77_code.specs.code.Constants.{HasRegister, GrowsPlan};
 
     /// A table without constants, for this number of slots.
     pub fn new(alloc: Global, slots: u32) -> Constants
@@ -59,17 +57,6 @@ impl Constants {
         &self.values
     }
 
-    /// A copy: the same constants in the same registers.
-    pub(crate) fn copied(&self, alloc: Global) -> Result<Constants, CodeFault>
-        ensures slots { IfOk result (λ copy. copy.slots ≡ self.now.slots) }
-        ensures values { IfOk result (λ copy. copy.values.items ≡ self.now.values.items) }
-    {
-        Ok(Constants {
-            slots: self.slots,
-            values: self.values.to_vec(alloc)?,
-        })
-    }
-
     /// Keeps the first `count` constants alone.
     pub(crate) fn forget(&mut self, count: usize)
         ensures slots { self.new.slots ≡ self.old.slots }
@@ -79,7 +66,7 @@ impl Constants {
     }
 
     /// The register of a constant. If it has none, it gets a new one.
-    pub(crate) fn register(&mut self, value: i32) -> Result<u32, CodeFault>
+    pub(crate) fn register(&mut self, value: i32) -> Result<u32, AllocError>
         ensures kept { IfOk result (λ r. HasRegister self.new r value) }
         ensures grown { GrowsPlan self.old self.new }
     {
@@ -89,7 +76,7 @@ impl Constants {
         }
         match u32::try_from(self.slots as usize + place) {
             Ok(register) => Ok(register),
-            Err(_) => Err(CodeFault::Memory),
+            Err(_) => Err(AllocError),
         }
     }
 }

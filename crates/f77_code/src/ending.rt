@@ -31,38 +31,6 @@ pub(crate) fn failed(x: i64) -> usize
     ENDS + (x - UNDEFINED) as usize
 }
 
-/// The place of an end by a subscript that names no element: by the fault of the subscript, or else by BadSubscript.
-#[cold]
-#[inline(never)]
-#[tactic(auto, using(crate::proofs::Points::bad_code_valid, crate::proofs::Points::least_from))]
-pub(crate) fn off_vector(subscript: i64) -> usize
-    requires { IsValueOrFault subscript }
-    ensures { (bound : ℕ) (r : Result ℤ Fault) (fault : Fault)
-        → Encodes subscript r → vector_place bound r ≡ Err fault
-        → result ≡ meaning.ended_point (Failed fault) }
-{
-    if UNDEFINED <= subscript {
-        return failed(subscript);
-    }
-    failed(BAD_SUBSCRIPT)
-}
-
-/// The place of an end by two subscripts that name no element. The fault of the row comes first.
-#[cold]
-#[inline(never)]
-#[tactic(auto, using(crate::proofs::Points::least_from))]
-pub(crate) fn off_matrix(row: i64, column: i64) -> usize
-    requires row { IsValueOrFault row }
-    requires column { IsValueOrFault column }
-    ensures { (rows columns : ℕ) (r q : Result ℤ Fault) (fault : Fault) → Encodes row r → Encodes column q
-        → matrix_place rows columns r q ≡ Err fault → result ≡ meaning.ended_point (Failed fault) }
-{
-    if UNDEFINED <= row {
-        return failed(row);
-    }
-    off_vector(column)
-}
-
 /// The fault with this number, from 0.
 fn fault_of(number: usize) -> Fault
     ensures { (fault : Fault) → number ≡ fault_number fault → result ≡ fault }

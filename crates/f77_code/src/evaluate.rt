@@ -28,20 +28,6 @@ pub(crate) fn element_of(registers: &[i64], first: u32, bound: u32, subscript: u
 }
 
 #[inline(always)]
-fn matrix_at(registers: &[i64], first: u32, rows: u32, columns: u32, row: u32, column: u32) -> i64
-    requires held { are_held registers.now ≡ true }
-    requires array { first + rows * columns ≤ length registers.now }
-    requires row { row < length registers.now }
-    requires column { column < length registers.now }
-    ensures { Encodes result (element_at registers.now first
-        (matrix_place rows columns (register registers.now row) (register registers.now column))) }
-{
-    let row = read(registers, row);
-    let column = read(registers, column);
-    matrix_element(registers, first, rows, columns, row, column)
-}
-
-#[inline(always)]
 pub(crate) fn sum_at(registers: &[i64], left: u32, right: u32) -> i64
     requires held { are_held registers.now ≡ true }
     requires left { left < length registers.now }
@@ -107,15 +93,15 @@ pub(crate) fn evaluated(term: &Term, registers: &[i64]) -> i64
             columns,
             row,
             column,
-        } => matrix_at(registers, *first, *rows, *columns, *row, *column),
-        Term::Sum { left, right } => sum_at(registers, *left, *right),
-        Term::Difference { left, right } => difference_at(registers, *left, *right),
-        Term::Product { left, right } => product_at(registers, *left, *right),
-        Term::Compared {
-            relation,
-            left,
-            right,
-        } => compared_at(registers, *relation, *left, *right),
+        } => {
+            let row = read(registers, *row);
+            let column = read(registers, *column);
+            matrix_element(registers, *first, *rows, *columns, row, column)
+        }
+        Term::Sum(left, right) => sum_at(registers, *left, *right),
+        Term::Difference(left, right) => difference_at(registers, *left, *right),
+        Term::Product(left, right) => product_at(registers, *left, *right),
+        Term::Compared(relation, left, right) => compared_at(registers, *relation, *left, *right),
         Term::TooLarge => OVERFLOW,
         Term::Vector {
             first,
@@ -131,12 +117,12 @@ pub(crate) fn evaluated(term: &Term, registers: &[i64]) -> i64
         Term::Add(pair) => sum_of(pair, registers),
         Term::Subtract(pair) => difference_of(pair, registers),
         Term::Multiply(pair) => product_of(pair, registers),
-        Term::Calculated { operation, pair } => calculated_of(*operation, pair, registers),
+        Term::Calculated(operation, pair) => calculated_of(*operation, pair, registers),
         Term::Negated(operand) => negated_of(operand, registers),
         Term::Absolute(operand) => absolute_of(operand, registers),
         Term::ZeroPush(operand) => pushed_of(operand, registers),
-        Term::Related { relation, pair } => related_of(*relation, pair, registers),
-        Term::Connected { connective, pair } => connected_of(*connective, pair, registers),
+        Term::Related(relation, pair) => related_of(*relation, pair, registers),
+        Term::Connected(connective, pair) => connected_of(*connective, pair, registers),
         Term::Not(operand) => not_of(operand, registers),
     }
 }
@@ -168,11 +154,7 @@ pub(crate) fn condition(term: &Term, registers: &[i64]) -> i64
     ensures { Encodes result (term_value registers.now term.now) }
 {
     match term {
-        Term::Compared {
-            relation,
-            left,
-            right,
-        } => compared_at(registers, *relation, *left, *right),
+        Term::Compared(relation, left, right) => compared_at(registers, *relation, *left, *right),
         _ => evaluated(term, registers),
     }
 }

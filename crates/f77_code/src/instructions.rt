@@ -1,49 +1,22 @@
 //! Compiling statements to instructions.
 
-ghost use Rattle.std.specs.Prelude.{◌≡◌, ◌<◌, ◌+◌, List, length, true, Some, slice_get, IfOk};
+ghost use Rattle.std.specs.Prelude.{◌≡◌, ◌<◌, List, length, true, Some, slice_get, IfOk};
 ghost use Rattle.f77_actions.specs.declared.resolved.Resolved.{Resolved};
 ghost use Rattle.f77_code.specs.Compiled.{is_ready, IsInstruction};
-ghost use Rattle.f77_code.specs.code.Compiled.{HaveParameters, HaveSameFrames, IsNext};
+ghost use Rattle.f77_code.specs.code.Compiled.{HaveSameFrames};
 ghost use Rattle.f77_code.specs.code.Constants.{GrowsPlan};
 ghost use Rattle.f77_code.specs.Instructions.{beginning};
-ghost use Rattle.f77_code.specs.Evaluation.{number_within};
 ghost use Rattle.f77_code.specs.Places.{ArePlaces, has_places, have_places};
 
 use crate::compile::register_of;
 use crate::compiling::{place_of, tested};
 use crate::constants::Constants;
-use crate::fault::CodeFault;
 use crate::instruction::{Instruction, Operation, Parameters};
 use crate::places::Places;
 use crate::term::Term;
-use f77_actions::{Action, Number, Resolved};
+use f77_actions::{Action, Resolved};
 use f77_tree::Shared;
-use std::alloc::Global;
-
-/// The incrementation of the DO `d`, with this variable and this terminal statement (11.10.7).
-pub(crate) fn increment(
-    places: &Places,
-    statements: &[Shared<Resolved>],
-    d: usize,
-    variable: u32,
-    terminal: usize,
-) -> Instruction
-    requires places { ArePlaces statements.now places.now }
-    requires have { have_places statements.now ≡ true }
-    requires few { length statements.now < 2147483648 }
-    requires d { d < length statements.now }
-    requires terminal { terminal < length statements.now }
-    ensures { IsNext statements.now d variable terminal result }
-{
-    Instruction {
-        operation: Operation::Next {
-            variable,
-            counter: places.counter(d),
-            body: d as u32 + 1,
-        },
-        next: places.left(statements, d, terminal),
-    }
-}
+use std::alloc::{AllocError, Global};
 
 /// The operation that begins a DO. It needs no box where its parameters are registers.
 fn beginning_operation(
@@ -52,7 +25,7 @@ fn beginning_operation(
     counter: u32,
     body: u32,
     parameters: Parameters,
-) -> Result<Operation, CodeFault>
+) -> Result<Operation, AllocError>
     ensures { IfOk result (λ operation. beginning operation ≡ Some
         (record { variable = variable; counter = counter; body = body; parameters = parameters })) }
 {
@@ -77,27 +50,6 @@ fn beginning_operation(
 }
 
 impl Constants {
-    /// The terms of the parameters of a DO (11.10.3).
-    fn parameters(
-        &mut self,
-        alloc: Global,
-        first: &Number,
-        last: &Number,
-        step: &Number,
-    ) -> Result<Parameters, CodeFault>
-        requires first { number_within self.old.slots first.now ≡ true }
-        requires last { number_within self.old.slots last.now ≡ true }
-        requires step { number_within self.old.slots step.now ≡ true }
-        ensures stand { IfOk result
-            (λ parameters. HaveParameters self.new first.now last.now step.now parameters) }
-        ensures grown { GrowsPlan self.old self.new }
-    {
-        let first = self.number(alloc, first)?;
-        let last = self.number(alloc, last)?;
-        let step = self.number(alloc, step)?;
-        Ok(Parameters { first, last, step })
-    }
-
     /// The instruction of the statement `resolved` as number `i`. It serves in each program of the same frame that has
     /// this statement there.
     pub(crate) fn instruction(
@@ -107,7 +59,7 @@ impl Constants {
         statements: &[Shared<Resolved>],
         i: usize,
         resolved: &Resolved,
-    ) -> Result<Instruction, CodeFault>
+    ) -> Result<Instruction, AllocError>
         requires places { ArePlaces statements.now places.now }
         requires have { have_places statements.now ≡ true }
         requires few { length statements.now < 2147483648 }
@@ -139,14 +91,16 @@ impl Constants {
                 terminal,
             } => {
                 let variable = register_of(*variable, self.slots());
-                let parameters = self.parameters(alloc, first, last, step)?;
+                let first = self.number(alloc, first)?;
+                let last = self.number(alloc, last)?;
+                let step = self.number(alloc, step)?;
                 Ok(Instruction {
                     operation: beginning_operation(
                         alloc,
                         variable,
                         places.counter(i),
                         i as u32 + 1,
-                        parameters,
+                        Parameters { first, last, step },
                     )?,
                     next: places.left(statements, i, *terminal),
                 })

@@ -6,7 +6,7 @@ ghost use Rattle.f77_code.specs.declared.control.Turn.{Turn};
 ghost use Rattle.f77_code.specs.declared.instruction.Operation as operation;
 ghost use Rattle.f77_code.specs.Operation as meaning;
 ghost use Rattle.f77_code.specs.Operation.{point, ran};
-ghost use Rattle.f77_code.specs.Registers.{are_held, register};
+ghost use Rattle.f77_code.specs.Registers.{are_held};
 ghost use Rattle.f77_code.specs.Term.{term_value, term_within};
 ghost use Rattle.f77_actions.specs.Number as exact;
 ghost use Rattle.f77_actions.specs.Encoded.{Encodes, IsValueOrFault, HasValue};
@@ -67,7 +67,7 @@ fn passes_within(first: i64, last: i64, step: i64) -> u64
 /// Begins a DO with these parameters, or ends the run by the first of them that stands for a fault.
 #[inline(always)]
 #[tactic(auto, using(crate::proofs::Points::zero_code_valid, crate::proofs::Points::least_from))]
-fn begun(
+pub(crate) fn begun(
     variable: u32,
     counter: u32,
     body: u32,
@@ -131,39 +131,6 @@ pub(crate) fn begin(
     let first = operand(&parameters.first, registers);
     let last = operand(&parameters.last, registers);
     let step = operand(&parameters.step, registers);
-    begun(
-        variable, counter, body, first, last, step, next, registers, turns,
-    )
-}
-
-/// Begins a DO whose parameters are registers. This is a form of its own: mutants that count without end often come to
-/// a DO without a pass.
-#[inline(always)]
-pub(crate) fn count(
-    variable: u32,
-    counter: u32,
-    body: u32,
-    first: u32,
-    last: u32,
-    step: u32,
-    next: u32,
-    registers: &mut [i64],
-    turns: &mut [Turn],
-) -> usize
-    requires held { are_held registers.old ≡ true }
-    requires variable { variable < length registers.old }
-    requires counter { counter < length turns.old }
-    requires first { first < length registers.old }
-    requires last { last < length registers.old }
-    requires step { step < length registers.old }
-    ensures runs { let before = registers.old in point result registers.new turns.new
-        ≡ meaning.begun_with variable counter body next (register before first) (register before last)
-        (register before step) before turns.old }
-    ensures held { are_held registers.new ≡ true }
-{
-    let first = read(registers, first);
-    let last = read(registers, last);
-    let step = read(registers, step);
     begun(
         variable, counter, body, first, last, step, next, registers, turns,
     )

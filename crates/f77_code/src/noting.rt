@@ -5,18 +5,17 @@
 
 ghost use Rattle.std.specs.Prelude.{◌≡◌, ◌≤◌, ◌+◌, drop, length, true, IfOk, OnOk};
 ghost use Rattle.f77_code.specs.Block.{one, code_after, code_within};
-ghost use Rattle.f77_code.specs.Follow.{AreNone, ArePassed, HaveSizes, numbers_of, numbers_kept};
+ghost use Rattle.f77_code.specs.Follow.{AreNone, ArePassed, HaveSizes, numbers_kept};
 ghost use Rattle.f77_code.specs.Frame.{AllWriteBelow};
 ghost use Rattle.f77_code.specs.Operation.{point};
 ghost use Rattle.f77_code.specs.Registers.{are_held};
-ghost use Rattle.f77_code.specs.code.Follow.{NotesList, NotesStep};
+ghost use Rattle.f77_code.specs.code.Follow.{NotesList};
 
 use crate::blocks::{Stand, block};
 use crate::control::Turn;
-use crate::fault::CodeFault;
 use crate::instruction::Instruction;
 use crate::kept_step::KeptStep;
-use std::alloc::Global;
+use std::alloc::{AllocError, Global};
 
 /// The times at which control was at an instruction.
 #[derive(Drop)]
@@ -26,9 +25,9 @@ pub struct Passed {
     pub more: bool,
 }
 
-/// Makes one step from `place`, where `made` steps were made before. The time is kept if none is and if there is room
-/// for its numbers.
-fn noted(
+/// Makes one step from `place`, where `made` steps were made before. Where the list has an entry for the instruction,
+/// the time is kept if none is and if there is room for its numbers.
+fn stepped(
     alloc: Global,
     code: &[Instruction],
     registers: &mut [i64],
@@ -36,19 +35,23 @@ fn noted(
     slots: usize,
     place: usize,
     made: u32,
-    passed: &mut Passed,
+    list: &mut Vec<Passed>,
     room: &mut usize,
-) -> Result<usize, CodeFault>
+) -> Result<usize, AllocError>
     requires held { are_held registers.old ≡ true }
     requires within { code_within (length registers.old) (length turns.old) code.now ≡ true }
     requires slots { slots ≤ length registers.old }
     ensures step { IfOk result (λ next. point next registers.new turns.new
         ≡ one code.now (point place registers.old turns.old)) }
-    ensures noted { IfOk result (λ next. NotesStep slots made (point place registers.old turns.old)
-        (point next registers.new turns.new) passed.old passed.new) }
-    ensures room { OnOk result (room.new + numbers_of passed.new.first ≡ room.old + numbers_of passed.old.first) }
+    ensures noted { IfOk result (λ next. NotesList slots made (point place registers.old turns.old)
+        (point next registers.new turns.new) list.old.items list.new.items) }
+    ensures room { OnOk result (room.new + numbers_kept list.new.items ≡ room.old + numbers_kept list.old.items) }
     ensures held { OnOk result (are_held registers.new ≡ true) }
 {
+    if list.len() <= place {
+        return Ok(block(code, registers, turns, place, 1).place);
+    }
+    let passed = &mut list[place];
     // Once before the step, and once behind it.
     let size = slots.saturating_add(turns.len());
     if passed.more || passed.first.is_some() || *room / 2 < size {
@@ -72,44 +75,6 @@ fn noted(
     Ok(next)
 }
 
-/// Makes one step, and notes its time if the list has an entry for the instruction.
-fn stepped(
-    alloc: Global,
-    code: &[Instruction],
-    registers: &mut [i64],
-    turns: &mut [Turn],
-    slots: usize,
-    place: usize,
-    made: u32,
-    list: &mut Vec<Passed>,
-    room: &mut usize,
-) -> Result<usize, CodeFault>
-    requires held { are_held registers.old ≡ true }
-    requires within { code_within (length registers.old) (length turns.old) code.now ≡ true }
-    requires slots { slots ≤ length registers.old }
-    ensures step { IfOk result (λ next. point next registers.new turns.new
-        ≡ one code.now (point place registers.old turns.old)) }
-    ensures noted { IfOk result (λ next. NotesList slots made (point place registers.old turns.old)
-        (point next registers.new turns.new) list.old.items list.new.items) }
-    ensures room { OnOk result (room.new + numbers_kept list.new.items ≡ room.old + numbers_kept list.old.items) }
-    ensures held { OnOk result (are_held registers.new ≡ true) }
-{
-    if place < list.len() {
-        return noted(
-            alloc,
-            code,
-            registers,
-            turns,
-            slots,
-            place,
-            made,
-            &mut list[place],
-            room,
-        );
-    }
-    Ok(block(code, registers, turns, place, 1).place)
-}
-
 /// Makes at most `steps` steps from the place `start` on. For each of the first instructions, as many as `list` is
 /// long, it notes the first time at which control is there, while there is room for the numbers. `room` counts numbers,
 /// and falls by those that are kept.
@@ -123,7 +88,7 @@ pub fn follow(
     list: &mut Vec<Passed>,
     steps: u32,
     room: &mut usize,
-) -> Result<Stand, CodeFault>
+) -> Result<Stand, AllocError>
     requires held { are_held registers.old ≡ true }
     requires within { code_within (length registers.old) (length turns.old) code.now ≡ true }
     requires slots { slots ≤ length registers.old }

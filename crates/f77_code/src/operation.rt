@@ -7,13 +7,17 @@ ghost use Rattle.f77_code.specs.Registers.{are_held};
 ghost use Rattle.f77_code.specs.Term.{term_value, term_within};
 ghost use Rattle.f77_actions.specs.Number.{is_same};
 
-use crate::assignment::{add, copy, load, multiply, set, set_element, set_matrix, subtract};
-use crate::branching::{compare, if_related, if_true, select, sign};
+use crate::assignment::{put, set_element, set_matrix};
+use crate::branching::{branch, select, sign};
 use crate::control::Turn;
 use crate::ending::{RETURNED, STOPPED, TRAPPED, failed};
-use crate::evaluate::condition;
+use crate::evaluate::{
+    compared_at, condition, difference_at, element_of, operand, product_at, sum_at,
+};
 use crate::instruction::Operation;
-use crate::looping::{begin, count, increment};
+use crate::looping::{begin, begun, increment};
+use crate::operators::compared;
+use crate::registers::read;
 use crate::term::Term;
 use f77_actions::encoded::UNDEFINED;
 
@@ -33,7 +37,7 @@ pub(crate) fn perform(
     ensures held { are_held registers.new ≡ true }
 {
     match operation {
-        Operation::Set { to, term } => set(*to, term, next, registers),
+        Operation::Set { to, term } => put(*to as usize, operand(term, registers), next, registers),
         Operation::SetElement { first, bound, pair } => set_element(
             *first, *bound, pair, next, registers,
         ),
@@ -44,18 +48,25 @@ pub(crate) fn perform(
             pair,
             term,
         } => set_matrix(*first, *rows, *columns, pair, term, next, registers),
-        Operation::IfTrue { then, term } => if_true(*then, term, next, registers),
+        Operation::IfTrue { then, term } => branch(operand(term, registers), *then, next),
         Operation::IfRelated {
             relation,
             then,
             pair,
-        } => if_related(*relation, *then, pair, next, registers),
+        } => {
+            let x = operand(&pair.left, registers);
+            let y = operand(&pair.right, registers);
+            branch(compared(*relation, x, y), *then, next)
+        }
         Operation::IfCompared {
             relation,
             left,
             right,
             then,
-        } => compare(*relation, *left, *right, *then, next, registers),
+        } => {
+            let x = compared_at(registers, *relation, *left, *right);
+            branch(x, *then, next)
+        }
         Operation::Do {
             variable,
             counter,
@@ -71,9 +82,14 @@ pub(crate) fn perform(
             first,
             last,
             step,
-        } => count(
-            *variable, *counter, *body, *first, *last, *step, next, registers, turns,
-        ),
+        } => {
+            let first = read(registers, *first);
+            let last = read(registers, *last);
+            let step = read(registers, *step);
+            begun(
+                *variable, *counter, *body, first, last, step, next, registers, turns,
+            )
+        }
         Operation::Next {
             variable,
             counter,
@@ -92,16 +108,28 @@ pub(crate) fn perform(
         Operation::Return => RETURNED,
         Operation::Stop => STOPPED,
         Operation::Trap => TRAPPED,
-        Operation::Move { to, from } => copy(*to, *from, next, registers),
-        Operation::Add { to, left, right } => add(*to, *left, *right, next, registers),
-        Operation::Subtract { to, left, right } => subtract(*to, *left, *right, next, registers),
-        Operation::Multiply { to, left, right } => multiply(*to, *left, *right, next, registers),
+        Operation::Move { to, from } => put(*to as usize, read(registers, *from), next, registers),
+        Operation::Add { to, left, right } => {
+            let x = sum_at(registers, *left, *right);
+            put(*to as usize, x, next, registers)
+        }
+        Operation::Subtract { to, left, right } => {
+            let x = difference_at(registers, *left, *right);
+            put(*to as usize, x, next, registers)
+        }
+        Operation::Multiply { to, left, right } => {
+            let x = product_at(registers, *left, *right);
+            put(*to as usize, x, next, registers)
+        }
         Operation::Load {
             to,
             first,
             bound,
             subscript,
-        } => load(*to, *first, *bound, *subscript, next, registers),
+        } => {
+            let x = element_of(registers, *first, *bound, *subscript);
+            put(*to as usize, x, next, registers)
+        }
     }
 }
 

@@ -3,17 +3,14 @@
 ghost use Rattle.std.specs.Prelude.{◌≡◌, ◌<◌, ◌+◌, if◌then◌else◌, List, length, true, IfOk};
 ghost use Rattle.f77_actions.specs.declared.resolved.Resolved.{Resolved};
 ghost use Rattle.f77_code.specs.Instructions as meaning;
-ghost use Rattle.f77_code.specs.Instructions.{IsLeftDone};
 ghost use Rattle.f77_code.specs.Compiling.{is_of_32_bits};
 ghost use Rattle.f77_code.specs.Holds as counts;
 ghost use Rattle.f77_code.specs.Moves as moves;
-ghost use Rattle.f77_code.specs.Moves.{are_below};
 
 use crate::compiling::place_of;
-use crate::fault::CodeFault;
 use f77_actions::{Action, Resolved};
 use f77_tree::Shared;
-use std::alloc::Global;
+use std::alloc::{AllocError, Global};
 
 /// The places of the incrementations of DOs: the number of statements, and for each statement the place of its
 /// incrementation, or the next one where it is no DO.
@@ -51,7 +48,7 @@ impl Places {
     ghost use Rattle.f77_code.specs.Places.{ArePlaces, have_places};
 
     /// The places of the incrementations of these statements.
-    pub(crate) fn new(alloc: Global, statements: &[Shared<Resolved>]) -> Result<Places, CodeFault>
+    pub(crate) fn new(alloc: Global, statements: &[Shared<Resolved>]) -> Result<Places, AllocError>
         requires { length statements.now < 2147483648 }
         ensures { IfOk result (λ places. ArePlaces statements.now places) }
     {
@@ -65,15 +62,6 @@ impl Places {
         Ok(Places { first, increments })
     }
 
-    /// The place of the incrementation of the DO `d`.
-    pub(crate) fn increment(&self, d: usize) -> u32
-        requires { d < length self.now.increments.items }
-        ensures { (statements : List Resolved)
-            → ArePlaces statements self.now → result ≡ length statements + counts.do_rank statements d }
-    {
-        self.increments[d]
-    }
-
     /// The number of the counter of the DO `d`, from 0.
     pub(crate) fn counter(&self, d: usize) -> u32
         requires { d < length self.now.increments.items }
@@ -85,14 +73,14 @@ impl Places {
     /// The place behind a statement that ends these DOs, the innermost first: the incrementation of the innermost, or
     /// the statement `next` where there is none.
     pub(crate) fn onward(&self, ends: &[usize], next: usize) -> u32
-        requires ends { are_below (length self.now.increments.items) ends.now ≡ true }
+        requires ends { moves.are_below (length self.now.increments.items) ends.now ≡ true }
         requires next { is_of_32_bits next ≡ true }
         ensures { (statements : List Resolved)
             → ArePlaces statements self.now → result ≡ meaning.onward statements ends.now next }
     {
         match ends {
             [] => place_of(next),
-            [d, ..] => self.increment(*d),
+            [d, ..] => self.increments[*d],
         }
     }
 
@@ -101,7 +89,7 @@ impl Places {
         requires places { ArePlaces statements.now self.now }
         requires have { have_places statements.now ≡ true }
         requires terminal { terminal < length statements.now }
-        ensures { IsLeftDone statements.now d terminal result }
+        ensures { meaning.IsLeftDone statements.now d terminal result }
     {
         let end = &statements[terminal];
         self.onward(round(&end.ends, d), end.next)

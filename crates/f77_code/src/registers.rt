@@ -1,10 +1,9 @@
 //! Reading registers, and the elements of arrays in them.
 
-ghost use Rattle.std.specs.Prelude.{◌≡◌, ◌≤◌, ◌<◌, ◌+◌, ◌*◌, true, length, ℤ, Result};
+ghost use Rattle.std.specs.Prelude.{◌≡◌, ◌≤◌, ◌<◌, ◌+◌, ◌*◌, ◌≤ℤ◌, true, length, pos, ℤ, Result};
 ghost use Rattle.f77_actions.specs.declared.finish.Fault.{Fault};
 ghost use Rattle.f77_code.specs.code.Registers as meaning;
 ghost use Rattle.f77_code.specs.Registers.{are_held, register, vector_place, matrix_place, element_at};
-ghost use Rattle.f77_code.specs.code.Registers.{IsOffset};
 ghost use Rattle.f77_actions.specs.Encoded.{Encodes, IsValueOrFault};
 
 use f77_actions::encoded::{BAD_SUBSCRIPT, UNDEFINED};
@@ -35,7 +34,7 @@ fn read_at(registers: &[i64], first: u32, place: usize) -> i64
 #[tactic(auto, using(crate::proofs::Reading::offset_is))]
 pub(crate) fn offset(subscript: i64) -> u64
     requires { IsValueOrFault subscript }
-    ensures { IsOffset subscript result }
+    ensures { meaning.IsOffset subscript result }
 {
     (subscript - 1).cast_unsigned()
 }
@@ -74,9 +73,13 @@ pub(crate) fn matrix_offset(rows: u32, columns: u32, row: u64, column: u64) -> u
 /// The fault of two subscripts that name no element: that of the row, else that of the column, else BadSubscript.
 #[cold]
 #[inline(never)]
-#[tactic(auto, using(crate::proofs::Reading::bad_row, crate::proofs::Reading::bad_column, crate::proofs::Reading::bad_neither))]
+#[tactic(auto, using(crate::proofs::Reading::bad_row, crate::proofs::Reading::bad_column, crate::proofs::Reading::bad_neither, crate::proofs::Points::least_from, crate::proofs::Points::bad_code_valid))]
 pub(crate) fn misplaced(row: i64, column: i64) -> i64
-    ensures { (r q : Result ℤ Fault)
+    requires row { IsValueOrFault row }
+    requires column { IsValueOrFault column }
+    ensures valid { IsValueOrFault result }
+    ensures fault { pos 1099511627776 ≤ℤ result }
+    ensures is { (r q : Result ℤ Fault)
         → Encodes row r → Encodes column q → Encodes result (meaning.misplaced_in_matrix r q) }
 {
     if UNDEFINED <= row {

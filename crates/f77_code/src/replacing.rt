@@ -9,11 +9,10 @@ ghost use Rattle.f77_code.specs.Program.{IsCode};
 ghost use Rattle.f77_code.specs.Together.{AgreeButAt};
 
 use crate::code::Code;
-use crate::fault::CodeFault;
 use crate::instruction::Instruction;
 use f77_actions::Resolved;
 use f77_tree::Shared;
-use std::alloc::Global;
+use std::alloc::{AllocError, Global};
 use std::mem;
 
 /// An instruction of the program, while another one stands in its place.
@@ -68,39 +67,6 @@ impl ChangedCode {
         self.code.constants.forget(self.own);
     }
 
-    /// Puts the instruction of another statement in the place `i`. If memory runs out, all instructions are the
-    /// program's own, and there may be constants that are not.
-    fn put(
-        &mut self,
-        alloc: Global,
-        statements: &[Shared<Resolved>],
-        i: usize,
-        resolved: &Resolved,
-    ) -> Result<(), CodeFault>
-        requires is { IsChangedCode statements.now self.old }
-        requires own { IsAllOwn self.old }
-        requires have { have_places statements.now ≡ true }
-        requires few { length statements.now < 2147483648 }
-        requires all { are_ready self.old.code.constants.slots statements.now ≡ true }
-        requires i { i < length statements.now }
-        requires may { IfSome (slice_get statements.now i) (λ r. MayReplace r resolved.now) }
-        requires here { has_places (length statements.now) resolved.now ≡ true }
-        requires ready { is_ready self.old.code.constants.slots (length statements.now) resolved.now.action ≡ true }
-        ensures is { IsChangedCode statements.now self.new }
-        ensures same { HaveOneOwn self.old self.new }
-        ensures code { OnOk result (IsCode (slice_set statements.now i resolved.now) self.new.code) }
-        ensures others { OnOk result (AgreeButAt i (own_instructions self.old) self.new.code.instructions.items) }
-    {
-        let places = &self.code.places;
-        let instruction = self
-            .code
-            .constants
-            .instruction(alloc, places, statements, i, resolved)?;
-        let own = mem::replace(&mut self.code.instructions[i], instruction);
-        self.replaced = Some(OwnInstruction { place: i, own });
-        Ok(())
-    }
-
     /// Puts the instruction of another statement in the place `i`; each other instruction is the program's own. If
     /// memory runs out, none is replaced.
     pub fn replace(
@@ -109,7 +75,7 @@ impl ChangedCode {
         statements: &[Shared<Resolved>],
         i: usize,
         resolved: &Resolved,
-    ) -> Result<(), CodeFault>
+    ) -> Result<(), AllocError>
         requires is { IsChangedCode statements.now self.old }
         requires have { have_places statements.now ≡ true }
         requires few { length statements.now < 2147483648 }
@@ -125,10 +91,14 @@ impl ChangedCode {
         ensures none { OnErr result (IsAllOwn self.new) }
     {
         self.restore();
-        let put = self.put(alloc, statements, i, resolved);
-        if put.is_err() {
+        let places = &self.code.places;
+        let constants = &mut self.code.constants;
+        let Ok(instruction) = constants.instruction(alloc, places, statements, i, resolved) else {
             self.restore();
-        }
-        put
+            return Err(AllocError);
+        };
+        let own = mem::replace(&mut self.code.instructions[i], instruction);
+        self.replaced = Some(OwnInstruction { place: i, own });
+        Ok(())
     }
 }

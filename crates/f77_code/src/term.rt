@@ -23,26 +23,13 @@ pub enum Term {
         column: u32,
     },
     /// The sum of two registers.
-    Sum {
-        left: u32,
-        right: u32,
-    },
+    Sum(u32, u32),
     /// The difference of two registers.
-    Difference {
-        left: u32,
-        right: u32,
-    },
+    Difference(u32, u32),
     /// The product of two registers.
-    Product {
-        left: u32,
-        right: u32,
-    },
+    Product(u32, u32),
     /// A relation of two registers.
-    Compared {
-        relation: Relation,
-        left: u32,
-        right: u32,
-    },
+    Compared(Relation, u32, u32),
     /// A constant above 2147483647: its value is Overflow.
     TooLarge,
     /// An element of an array of one dimension with any subscript.
@@ -65,10 +52,7 @@ pub enum Term {
     /// A product.
     Multiply(Box<Pair>),
     /// Any other operation on two numbers.
-    Calculated {
-        operation: Arithmetic,
-        pair: Box<Pair>,
-    },
+    Calculated(Arithmetic, Box<Pair>),
     /// A minus before its operand.
     Negated(Box<Term>),
     /// IABS.
@@ -76,15 +60,9 @@ pub enum Term {
     /// ZPUSH(e), which only mutants have: the value of e, but Trapped where that is 0.
     ZeroPush(Box<Term>),
     /// A relation of two numbers.
-    Related {
-        relation: Relation,
-        pair: Box<Pair>,
-    },
+    Related(Relation, Box<Pair>),
     /// A logical operator on two truth values.
-    Connected {
-        connective: Connective,
-        pair: Box<Pair>,
-    },
+    Connected(Connective, Box<Pair>),
     /// `.NOT.` before its operand.
     Not(Box<Term>),
 }

@@ -5,7 +5,6 @@ ghost use Rattle.f77_meaning.specs.declared.outcome.RunFault.TheVariants as faul
 
 use crate::argument::Arg;
 use crate::values::Values;
-use f77_code::CodeFault;
 use std::alloc::{AllocError, AllocFailed};
 use thiserror::Error;
 
@@ -61,14 +60,6 @@ impl<T: Drop> From<AllocFailed<T>> for RunFault {
     ghost from_gives = { λ _ f. f ≡ fault.Memory };
 
     fn from(_e: AllocFailed<T>) -> RunFault {
-        RunFault::Memory
-    }
-}
-
-impl From<CodeFault> for RunFault {
-    ghost from_gives = { λ _ f. f ≡ fault.Memory };
-
-    fn from(_e: CodeFault) -> RunFault {
         RunFault::Memory
     }
 }

@@ -1,34 +1,12 @@
 -- Instructions and code that stand for statements in each plan that begins with a table of constants.
 -- Private functions and proofs alone cite what stands here.
 use Rattle.std.specs.Prelude.{◌≡◌, ◌≢◌, ◌<◌, ◌+◌, ℕ, true, List, length, Some, slice_get}
-use Rattle.f77_actions.specs.declared.expression.Number.{Number}
 use Rattle.f77_actions.specs.declared.resolved.Resolved.{Resolved}
 use Rattle.f77_code.specs.declared.constants.Constants.{Constants}
 use Rattle.f77_code.specs.declared.instruction.Instruction.{Instruction}
-use Rattle.f77_code.specs.declared.instruction.Operation.{Operation, Next}
-use Rattle.f77_code.specs.declared.instruction.Parameters.{Parameters}
-use Rattle.f77_code.specs.Instructions.{IsLeftDone}
-use Rattle.f77_code.specs.code.Compile.{IsNumberTerm}
 use Rattle.f77_code.specs.Holds.{Plan, do_rank, is_loop_at}
 use Rattle.f77_code.specs.Typing.{HasAction}
 use Rattle.f77_code.specs.Compiled.{HasOneFrame, IsInstruction, IsIncrement}
-
--- the terms stand for the parameters of a DO
-pub record HaveParameters (table : Constants) (from to by : Number) (parameters : Parameters) : Type 0 where
-  pub first : IsNumberTerm table from parameters.first
-  pub last : IsNumberTerm table to parameters.last
-  pub step : IsNumberTerm table by parameters.step
-
--- the operation increments the DO d with this variable
-abbrev pub Advances : List Resolved → ℕ → ℕ → Operation → Type 0
-Advances statements d variable (Next slot counter body) =
-    (slot ≡ variable) × (counter ≡ do_rank statements d) × (body ≡ d + 1)
-Advances statements d variable _ = ⊥
-
--- the instruction increments the DO d with this variable, which ends at statement t
-pub record IsNext (statements : List Resolved) (d variable t : ℕ) (instruction : Instruction) : Type 0 where
-  pub advances : Advances statements d variable instruction.operation
-  pub left : IsLeftDone statements d t instruction.next
 
 -- the list has the instructions of the first n statements
 pub record AreExecuted (table : Constants) (statements : List Resolved) (n : ℕ) (list : List Instruction) : Type 0 where

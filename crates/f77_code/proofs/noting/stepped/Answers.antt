@@ -1,31 +1,59 @@
-use Rattle.std.proofs.Common.{arith, ◌≡◌, ◌+◌, ◌<◌, ◌≤◌, length, refl}
-use Rattle.std.specs.Prelude.{slice_set}
+use Rattle.std.proofs.Common.{arith, ◌<◌, ◌∙◌, length, ap, refl, sym}
+use Rattle.std.proofs.lemmas.List.{length-take}
 use Rattle.std.proofs.lemmas.Option.{slice_get_read}
-use Rattle.std.proofs.lemmas.Result.{IfOk-weaker}
-use Rattle.f77_code.specs.Follow.{numbers_kept}
-use Rattle.f77_code.specs.code.Follow.{NotesList}
-use Rattle.f77_code.proofs.Following.{set_numbers}
+use Rattle.f77_code.specs.Follow.{numbers_of}
+use Rattle.f77_code.specs.code.Follow.{NotesList, NotesStep}
+use Rattle.f77_code.proofs.Following.{none_of, set_numbers}
 use Rattle.f77_code.proofs.noting.stepped.Goals as goal
 
-pub returns-then-place-len-clause-noted : goal.returns-then-place-len-clause-noted
-returns-then-place-len-clause-noted c =
-    let items = c.args.list.now.items in
-    let below : c.args.place < length items = omega (arith, c.if-place-len.true, c.len.ensures, c.args.list.now.ok.0) in
-    IfOk-weaker c.noted.result _ _
-    (λ next notes. NotesList.noted c.index_mut.result.now c.noted.new.passed
-    (slice_get_read items (length items) c.args.place c.index_mut.result.now refl below c.index_mut.ensures.value) refl notes)
-    c.noted.ensures.noted
+pub returns-then-len-place-clause-noted : goal.returns-then-len-place-clause-noted
+returns-then-len-place-clause-noted c = NotesList.beyond (omega (arith, c.if-len-place.true, c.len.ensures, c.args.list.now.ok.0)) refl
 
-pub returns-then-place-len-clause-room : goal.returns-then-place-len-clause-room
-returns-then-place-len-clause-room c =
-    let items = c.args.list.now.items in
-    let below : c.args.place < length items = omega (arith, c.if-place-len.true, c.len.ensures, c.args.list.now.ok.0) in
-    IfOk-weaker c.noted.result _ (λ next. c.noted.new.room + numbers_kept (slice_set items c.args.place c.noted.new.passed) ≡ c.args.room.now + numbers_kept items)
-    (λ next room. set_numbers items c.args.place c.index_mut.result.now c.noted.new.passed
-    (slice_get_read items (length items) c.args.place c.index_mut.result.now refl below c.index_mut.ensures.value) c.args.room.now c.noted.new.room room)
-    c.noted.ensures.room
+pub returns-then-passed-clause-noted : goal.returns-then-passed-clause-noted
+returns-then-passed-clause-noted c =
+    let below : c.args.place < length c.args.list.now.items = omega (arith, c.if-len-place.false, c.len.ensures, c.args.list.now.ok.0) in
+    NotesList.noted c.index_mut-passed.result.now _
+    (slice_get_read c.args.list.now.items _ c.args.place c.index_mut-passed.result.now refl below c.index_mut-passed.ensures.value) refl (NotesStep.left_out refl refl)
+
+pub returns-then-passed-clause-room : goal.returns-then-passed-clause-room
+returns-then-passed-clause-room c =
+    let below : c.args.place < length c.args.list.now.items = omega (arith, c.if-len-place.false, c.len.ensures, c.args.list.now.ok.0) in
+    set_numbers c.args.list.now.items c.args.place c.index_mut-passed.result.now _
+    (slice_get_read c.args.list.now.items _ c.args.place c.index_mut-passed.result.now refl below c.index_mut-passed.ensures.value) c.args.room.now c.args.room.now refl
 
 pub returns-clause-noted : goal.returns-clause-noted
 returns-clause-noted c =
-    let past : length c.args.list.now.items ≤ c.args.place = omega (arith, c.if-place-len.false, c.len.ensures, c.args.list.now.ok.0) in
-    NotesList.beyond past refl
+    let below : c.args.place < length c.args.list.now.items = omega (arith, c.if-len-place.false, c.len.ensures, c.args.list.now.ok.0) in
+    NotesList.noted c.index_mut-passed.result.now _
+    (slice_get_read c.args.list.now.items _ c.args.place c.index_mut-passed.result.now refl below c.index_mut-passed.ensures.value) refl
+    (NotesStep.is_kept _ (none_of c.index_mut-passed.result.now.first (sym c.is_some.ensures ∙ c.if-is_some.false)) c.if-passed.false c.if-passed.false refl
+    (record {
+      made = refl;
+      slots = c.in_ok-slots_before.ensures.items_if_clones_equal (λ x y is. is);
+      turns = c.in_ok-turns_before.ensures.items_if_clones_equal (λ x y is. is);
+      place = refl;
+      slots_after = c.in_ok-slots_after.ensures.items_if_clones_equal (λ x y is. is);
+      turns_after = c.in_ok-turns_after.ensures.items_if_clones_equal (λ x y is. is);
+    }))
+
+pub returns-clause-room : goal.returns-clause-room
+returns-clause-room c =
+    let below : c.args.place < length c.args.list.now.items = omega (arith, c.if-len-place.false, c.len.ensures, c.args.list.now.ok.0) in
+    let none = none_of c.index_mut-passed.result.now.first (sym c.is_some.ensures ∙ c.if-is_some.false) in
+    set_numbers c.args.list.now.items c.args.place c.index_mut-passed.result.now _
+    (slice_get_read c.args.list.now.items _ c.args.place c.index_mut-passed.result.now refl below c.index_mut-passed.ensures.value) c.args.room.now _
+    (omega (
+      arith,
+      ap numbers_of none,
+      c.requires.slots,
+      c.in_ok-slots_before.ensures.len,
+      c.in_ok-turns_before.ensures.len,
+      c.in_ok-slots_after.ensures.len,
+      c.in_ok-turns_after.ensures.len,
+      c.saturating_add-size.ensures,
+      c.if-room-size.false,
+      c.block-next.auto.registers,
+      c.block-next.auto.turns,
+      length-take c.args.slots c.args.registers.now,
+      length-take c.args.slots c.block-next.new.registers,
+    ))

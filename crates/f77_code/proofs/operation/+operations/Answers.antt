@@ -21,6 +21,15 @@ perform-when-requires t c =
     let parts = and_parts first second within in
     (omega (arith, c.decreases, deep, same), (c.requires.held, (rw c.deref-in-When.ensures parts.0, rw c.deref-in-When-2.ensures parts.1)))
 
+pub perform-branch-compared-requires : goal.perform-branch-compared-requires
+perform-branch-compared-requires t c =
+    let fx : FitsSigned w64 c.operand-x.result = search rules in
+    let fy : FitsSigned w64 c.operand-y.result = search rules in
+    let fz : FitsSigned w64 c.compared.result = search rules in
+    let encodes = c.compared.ensures (term_value c.args.registers.now c.deref-in-IfRelated.result.now.left)
+    (term_value c.args.registers.now c.deref-in-IfRelated-2.result.now.right) (simp to_z-of_z c.operand-x.ensures) (simp to_z-of_z c.operand-y.ensures) in
+    simp to_z-of_z encodes.valid
+
 pub perform-returns-in-Sign-clause-runs : goal.perform-returns-in-Sign-clause-runs
 perform-returns-in-Sign-clause-runs t c = rw c.in-Sign.is (rw c.deref-in-Sign.ensures at (c.sign.ensures c.args.turns.now))
 

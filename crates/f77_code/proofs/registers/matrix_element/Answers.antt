@@ -12,7 +12,7 @@ returns-then-from-down c = λ r q a b.
     let above : c.args.rows ≤ c.offset-down.result = omega arith in
     simp to_z-of_z
     (matrix_above c.args.registers.now c.args.first c.args.rows c.args.columns c.offset-down.result c.args.row c.args.column o c.misplaced.result above r q a b
-    (c.misplaced.ensures r q (simp to_z-of_z a) (simp to_z-of_z b)))
+    (c.misplaced.ensures.is r q (simp to_z-of_z a) (simp to_z-of_z b)))
 
 pub returns-then-from-across : goal.returns-then-from-across
 returns-then-from-across c = λ r q a b.
@@ -27,7 +27,7 @@ returns-then-from-across c = λ r q a b.
     simp to_z-of_z
     (matrix_beyond c.args.registers.now c.args.first c.args.rows c.args.columns c.offset-down.result c.args.row c.args.column o c.offset-across.result
     c.misplaced-then-from-across.result p inside small above r q a b
-    (c.misplaced-then-from-across.ensures r q (simp to_z-of_z a) (simp to_z-of_z b)))
+    (c.misplaced-then-from-across.ensures.is r q (simp to_z-of_z a) (simp to_z-of_z b)))
 
 pub returns : goal.returns
 returns c = λ r q a b.

@@ -1,10 +1,10 @@
 use Rattle.std.proofs.lemmas.Result.{IfOk-weaker}
 use Rattle.f77_code.specs.code.Compile.{IsTestTerm, IsRelationOf}
 use Rattle.f77_code.proofs.Tests.{related_test}
-use Rattle.f77_code.proofs.constants.Constants.+conditions.Goals as goal
+use Rattle.f77_code.proofs.constants.Constants.+condition.Goals as goal
 
-pub condition-returns-in_ok-right-in-Related-clause-tests : goal.condition-returns-in_ok-right-in-Related-clause-tests
-condition-returns-in_ok-right-in-Related-clause-tests t c =
+pub returns-in_ok-right-in-Related-clause-tests : goal.returns-in_ok-right-in-Related-clause-tests
+returns-in_ok-right-in-Related-clause-tests t c =
     IfOk-weaker c.related.result (IsRelationOf c.in-Related.relation c.in_ok-left-in-Related.left c.in_ok-right-in-Related.right)
     (IsTestTerm c.number-in-Related.new.self c.args.condition.now)
     (λ made is. related_test c.number.new.self c.number-in-Related.new.self c.args.condition.now c.in-Related.relation c.in-Related.left c.in-Related.right
