@@ -4,8 +4,7 @@ ghost use Rattle.std.specs.Prelude.{◌≡◌, ◌≤◌, ◌<◌, ◌+◌, ◌*
 ghost use Rattle.f77_actions.specs.declared.expression.Arithmetic.TheVariants as arithmetic;
 ghost use Rattle.f77_code.specs.Evaluation as meaning;
 ghost use Rattle.f77_code.specs.Registers.{are_held, register, vector_place, matrix_place, element_at};
-ghost use Rattle.f77_code.specs.Term as terms;
-ghost use Rattle.f77_code.specs.Term.{term_value, term_within};
+ghost use Rattle.f77_code.specs.Term.{connected_number, related_number, term_value, term_within};
 ghost use Rattle.f77_actions.specs.Number.{fits, in_range, negated, without_sign};
 ghost use Rattle.f77_actions.specs.Encoded.{Encodes, negation};
 ghost use Rattle.f77_actions.specs.Value.{given, both, pushed};
@@ -66,7 +65,7 @@ pub(crate) fn compared_at(registers: &[i64], relation: Relation, left: u32, righ
     requires left { left < length registers.now }
     requires right { right < length registers.now }
     ensures { Encodes result
-        (both (terms.related_number relation) (register registers.now left) (register registers.now right)) }
+        (both (related_number relation) (register registers.now left) (register registers.now right)) }
 {
     compared(relation, read(registers, left), read(registers, right))
 }
@@ -249,7 +248,7 @@ fn related_of(relation: Relation, pair: &Pair, registers: &[i64]) -> i64
     requires held { are_held registers.now ≡ true }
     requires left { term_within (length registers.now) pair.now.left ≡ true }
     requires right { term_within (length registers.now) pair.now.right ≡ true }
-    ensures { Encodes result (both (terms.related_number relation) (term_value registers.now pair.now.left)
+    ensures { Encodes result (both (related_number relation) (term_value registers.now pair.now.left)
         (term_value registers.now pair.now.right)) }
 {
     let left = operand(&pair.left, registers);
@@ -263,7 +262,7 @@ fn connected_of(connective: Connective, pair: &Pair, registers: &[i64]) -> i64
     requires held { are_held registers.now ≡ true }
     requires left { term_within (length registers.now) pair.now.left ≡ true }
     requires right { term_within (length registers.now) pair.now.right ≡ true }
-    ensures { Encodes result (both (terms.connected_number connective) (term_value registers.now pair.now.left)
+    ensures { Encodes result (both (connected_number connective) (term_value registers.now pair.now.left)
         (term_value registers.now pair.now.right)) }
 {
     let left = operand(&pair.left, registers);

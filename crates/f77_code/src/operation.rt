@@ -1,8 +1,7 @@
 //! The execution of an operation.
 
 ghost use Rattle.std.specs.Prelude.{◌≡◌, ◌==◌, true, length, if◌then◌else◌, pos};
-ghost use Rattle.f77_code.specs.Operation as meaning;
-ghost use Rattle.f77_code.specs.Operation.{operation_within, point, used_in_code};
+ghost use Rattle.f77_code.specs.Operation.{operation_within, point, ran, used_in_code};
 ghost use Rattle.f77_code.specs.Registers.{are_held};
 ghost use Rattle.f77_code.specs.Term.{term_value, term_within};
 ghost use Rattle.f77_actions.specs.Number.{is_same};
@@ -33,7 +32,7 @@ pub(crate) fn perform(
 ) -> usize
     requires held { are_held registers.old ≡ true }
     requires within { operation_within (length registers.old) (length turns.old) operation.now ≡ true }
-    ensures runs { point result registers.new turns.new ≡ meaning.ran operation.now next registers.old turns.old }
+    ensures runs { point result registers.new turns.new ≡ ran operation.now next registers.old turns.old }
     ensures held { are_held registers.new ≡ true }
 {
     match operation {
@@ -149,7 +148,7 @@ fn when(
     requires inner { operation_within (length registers.old) (length turns.old) inner.now ≡ true }
     ensures runs { let before = registers.old in let counters = turns.old in point result registers.new turns.new
         ≡ used_in_code (term_value before term.now) before counters
-        (λ z. if is_same z (pos 0) then point next before counters else meaning.ran inner.now next before counters) }
+        (λ z. if is_same z (pos 0) then point next before counters else ran inner.now next before counters) }
     ensures held { are_held registers.new ≡ true }
 {
     let x = condition(term, registers);
@@ -174,7 +173,7 @@ fn perform_inner(
 ) -> usize
     requires held { are_held registers.old ≡ true }
     requires within { operation_within (length registers.old) (length turns.old) operation.now ≡ true }
-    ensures runs { point result registers.new turns.new ≡ meaning.ran operation.now next registers.old turns.old }
+    ensures runs { point result registers.new turns.new ≡ ran operation.now next registers.old turns.old }
     ensures held { are_held registers.new ≡ true }
 {
     perform(operation, next, registers, turns)
