@@ -42,10 +42,7 @@ fn given(alloc: Global, to: u32, term: Term) -> Result<Operation, AllocError>
         Term::Sum(left, right) => Ok(Operation::Add { to, left, right }),
         Term::Difference(left, right) => Ok(Operation::Subtract { to, left, right }),
         Term::Product(left, right) => Ok(Operation::Multiply { to, left, right }),
-        _ => Ok(Operation::Set {
-            to,
-            term: Box::new(alloc, term)?,
-        }),
+        _ => Ok(Operation::Set(to, Box::new(alloc, term)?)),
     }
 }
 
@@ -60,15 +57,8 @@ pub(crate) fn tested(alloc: Global, then: u32, term: Term) -> Result<Operation, 
             right,
             then,
         }),
-        Term::Related(relation, pair) => Ok(Operation::IfRelated {
-            relation,
-            then,
-            pair,
-        }),
-        _ => Ok(Operation::IfTrue {
-            then,
-            term: Box::new(alloc, term)?,
-        }),
+        Term::Related(relation, pair) => Ok(Operation::IfRelated(relation, then, pair)),
+        _ => Ok(Operation::IfTrue(then, Box::new(alloc, term)?)),
     }
 }
 
@@ -150,10 +140,7 @@ impl Constants {
             return tested(alloc, place_of(jump.target), term);
         }
         let inner = self.operation(alloc, action)?;
-        Ok(Operation::When {
-            term: Box::new(alloc, term)?,
-            inner: Box::new(alloc, inner)?,
-        })
+        Ok(Operation::When(Box::new(alloc, term)?, Box::new(alloc, inner)?))
     }
 
     /// The operation of an action that is no DO, block IF or ELSE IF.
@@ -176,10 +163,10 @@ impl Constants {
                 let term = self.condition(alloc, value)?;
                 self.assignment(alloc, target, term)
             }
-            Action::ComputedGoto { value, jumps } => Ok(Operation::Select {
-                term: self.boxed(alloc, value)?,
-                places: targets(alloc, jumps)?,
-            }),
+            Action::ComputedGoto { value, jumps } => Ok(Operation::Select(
+                self.boxed(alloc, value)?,
+                targets(alloc, jumps)?,
+            )),
             Action::ArithmeticIf {
                 value,
                 negative,
@@ -192,9 +179,7 @@ impl Constants {
                 term: self.boxed(alloc, value)?,
             }),
             Action::LogicalIf { condition, action } => self.logical(alloc, condition, action),
-            Action::Goto(jump) => Ok(Operation::Goto {
-                then: place_of(jump.target),
-            }),
+            Action::Goto(jump) => Ok(Operation::Goto(place_of(jump.target))),
             Action::Declaration => Ok(Operation::Continue),
             Action::Continue => Ok(Operation::Continue),
             Action::Return => Ok(Operation::Return),

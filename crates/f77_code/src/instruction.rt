@@ -8,10 +8,7 @@ use f77_actions::Relation;
 #[derive(Drop)]
 pub enum Operation {
     /// Gives a register the value of a term (10.1, 10.2).
-    Set {
-        to: u32,
-        term: Box<Term>,
-    },
+    Set(u32, Box<Term>),
     /// Gives a value to an element of an array of one dimension. The pair is its subscript and the value.
     SetElement {
         first: u32,
@@ -26,17 +23,10 @@ pub enum Operation {
         pair: Box<Pair>,
         term: Box<Term>,
     },
-    /// Goes to `then` if the term is true (11.5 to 11.7).
-    IfTrue {
-        then: u32,
-        term: Box<Term>,
-    },
-    /// Goes to `then` if the relation holds.
-    IfRelated {
-        relation: Relation,
-        then: u32,
-        pair: Box<Pair>,
-    },
+    /// Goes to the place if the term is true (11.5 to 11.7).
+    IfTrue(u32, Box<Term>),
+    /// Goes to the place if the relation holds.
+    IfRelated(Relation, u32, Box<Pair>),
     /// `IfRelated` of two registers.
     IfCompared {
         relation: Relation,
@@ -75,21 +65,13 @@ pub enum Operation {
         term: Box<Term>,
     },
     /// Goes to the place with this number, counted from 1, if there is one (11.2).
-    Select {
-        term: Box<Term>,
-        places: Vec<u32>,
-    },
+    Select(Box<Term>, Vec<u32>),
     /// Does another operation if the term is true (11.5).
-    When {
-        term: Box<Term>,
-        inner: Box<Operation>,
-    },
+    When(Box<Term>, Box<Operation>),
     /// Goes on.
     Continue,
-    /// Goes to `then` (11.1).
-    Goto {
-        then: u32,
-    },
+    /// Goes to the place (11.1).
+    Goto(u32),
     /// RETURN, or END (11.14, 15.8).
     Return,
     /// STOP (11.12).

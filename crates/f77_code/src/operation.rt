@@ -36,7 +36,7 @@ pub(crate) fn perform(
     ensures held { are_held registers.new ≡ true }
 {
     match operation {
-        Operation::Set { to, term } => put(*to as usize, operand(term, registers), next, registers),
+        Operation::Set(to, term) => put(*to as usize, operand(term, registers), next, registers),
         Operation::SetElement { first, bound, pair } => set_element(
             *first, *bound, pair, next, registers,
         ),
@@ -47,12 +47,8 @@ pub(crate) fn perform(
             pair,
             term,
         } => set_matrix(*first, *rows, *columns, pair, term, next, registers),
-        Operation::IfTrue { then, term } => branch(operand(term, registers), *then, next),
-        Operation::IfRelated {
-            relation,
-            then,
-            pair,
-        } => {
+        Operation::IfTrue(then, term) => branch(operand(term, registers), *then, next),
+        Operation::IfRelated(relation, then, pair) => {
             let x = operand(&pair.left, registers);
             let y = operand(&pair.right, registers);
             branch(compared(*relation, x, y), *then, next)
@@ -100,10 +96,10 @@ pub(crate) fn perform(
             positive,
             term,
         } => sign(*negative, *zero, *positive, term, registers),
-        Operation::Select { term, places } => select(term, places, next, registers),
-        Operation::When { term, inner } => when(term, inner, next, registers, turns),
+        Operation::Select(term, places) => select(term, places, next, registers),
+        Operation::When(term, inner) => when(term, inner, next, registers, turns),
         Operation::Continue => next as usize,
-        Operation::Goto { then } => *then as usize,
+        Operation::Goto(then) => *then as usize,
         Operation::Return => RETURNED,
         Operation::Stop => STOPPED,
         Operation::Trap => TRAPPED,
