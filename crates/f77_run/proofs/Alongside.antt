@@ -2,7 +2,6 @@
 use Rattle.std.proofs.Common.{arith, ◌≡◌, ◌∙◌, ◌+◌, ◌-◌, ◌≤◌, ◌<◌, ◌⊎◌, ◌++◌, ◌&&◌, ℕ, suc, ℤ, Bool, true, false, List, [], ◌∷◌, drop, length, map, inl, inr}
 use Rattle.std.proofs.Common.{refl, sym, ap, subst, append_assoc, length-append}
 use Rattle.std.specs.Prelude.{Some, None, IfSome, slice_get}
-use Rattle.std.specs.Bool.{Decides}
 use Rattle.std.proofs.Math.Seq.{drop-append_seam}
 use Rattle.std.proofs.lemmas.Bool.{and_parts}
 use Rattle.std.proofs.lemmas.List.Folds.{list_all-append}
@@ -30,16 +29,17 @@ use Rattle.f77_code.proofs.Writes.{writes_slots}
 use Rattle.f77_meaning.specs.declared.outcome.Outcome.{Outcome}
 use Rattle.f77_meaning.specs.Interpreter.{IsOutcomeOf, Reports}
 use Rattle.f77_meaning.specs.Site.{held}
+use Rattle.f77_meaning.specs.code.Typed.{IsTyped}
 use Rattle.f77_meaning.proofs.OneAnswer.{one_answer}
 use Rattle.f77_run.specs.declared.registers.Registers.{Registers}
 use Rattle.f77_run.specs.Registers.{AreLoaded, loaded}
 use Rattle.f77_run.specs.code.Registers.{shown_as, shown_cells}
 use Rattle.f77_run.specs.Visits.{AreAtStart, cells_at_start}
-use Rattle.f77_run.specs.code.Ends.{RunOf, ReportsOf}
+use Rattle.f77_run.specs.code.Ends.{RunOf, ShowsEnd}
 use Rattle.f77_run.specs.code.Diverging.{IsDivergence, Divergence}
 use Rattle.f77_run.specs.code.Running.{CameBack}
 use Rattle.f77_run.specs.code.Runs.{HasCode}
-use Rattle.f77_run.specs.code.Site.{HoldDummies, shown_by}
+use Rattle.f77_run.specs.code.Site.{shown_by}
 use Rattle.f77_run.proofs.Ends as ends
 use Rattle.f77_run.proofs.Finished.{finish_of, finish_ended, finish_limit}
 use Rattle.f77_run.proofs.Loaded.{loaded_count, loaded_room}
@@ -234,9 +234,9 @@ module _ (divergence : Divergence) (code : Code) (image : Registers) (is : IsDiv
       divergence.steps divergence.steps last.place last.registers last.turns last_is (omega arith) (λ less. absurd (omega (arith, less)))
       finish (finish_ended last.place) (finish_limit last.place)
 
-  own_dummies : HoldDummies checked (shown_by checked last.registers)
-  own_dummies =
-      ends.dummies own_run checked.statements is.own own_compiled is.start.registers is.start.turns is.starts.begins
+  own_typed : IsTyped p (held checked (shown_by checked last.registers))
+  own_typed =
+      ends.typed_here own_run checked.statements is.own own_compiled is.start.registers is.start.turns is.starts.begins
       divergence.steps divergence.steps last.place last.registers last.turns last_is (omega arith) (λ less. absurd (omega (arith, less)))
       finish (finish_ended last.place) (finish_limit last.place)
 
@@ -249,7 +249,7 @@ module _ (divergence : Divergence) (code : Code) (image : Registers) (is : IsDiv
   -- the outcome of the program reports this end
   outcome_reports : (outcome : Outcome) → IsOutcomeOf p run.arguments divergence.steps outcome → Reports p finish (held checked (shown_by checked last.registers)) outcome
   outcome_reports outcome given =
-      let some = some_outcome p finish (held checked (shown_by checked last.registers)) own_dummies.typed in
+      let some = some_outcome p finish (held checked (shown_by checked last.registers)) own_typed in
       subst (Reports p finish (held checked (shown_by checked last.registers)))
       (one_answer p run.arguments divergence.steps some.0 outcome (own_reports some.0 some.1) given) some.1
 
@@ -276,12 +276,11 @@ module _ (divergence : Divergence) (code : Code) (image : Registers) (is : IsDiv
         (outcome_reports outcome given))
 
     pub same_outcome : (program : CheckedFields) → run.checked ≡ program → (steps : ℕ) → steps ≡ divergence.steps → (outcome : Outcome)
-        → IsOutcomeOf (map line_of program.program) run.arguments steps outcome
-        → (other : Outcome) × IsOutcomeOf run.program run.arguments steps other × Decides true (outcome ≡ other)
+        → IsOutcomeOf (map line_of program.program) run.arguments steps outcome → IsOutcomeOf run.program run.arguments steps outcome
     same_outcome program is_it steps many outcome given =
         let here = subst (λ n. IsOutcomeOf p run.arguments n outcome) many
         (subst (λ (program : CheckedFields). IsOutcomeOf (map line_of program.program) run.arguments steps outcome) (sym is_it) given) in
-        (outcome, subst (λ n. IsOutcomeOf run.program run.arguments n outcome) (sym many) (comes_to_same outcome here), (λ e. refl, λ e. refl))
+        subst (λ n. IsOutcomeOf run.program run.arguments n outcome) (sym many) (comes_to_same outcome here)
 
   -- a step was made from the first time that is kept, and the changed code went on from there
   module _ (kept : KeptStep) (more : Bool) (first : divergence.passed.first ≡ Some kept) (once : divergence.passed.more ≡ more) (place : ℕ) (place_is : place ≡ divergence.place)
@@ -339,17 +338,9 @@ module _ (divergence : Divergence) (code : Code) (image : Registers) (is : IsDiv
     few_of_all : before + 1 + made ≤ divergence.steps
     few_of_all = omega (arith, few, below, steps_are)
 
-    -- the registers show how the run has ended
-    pub shown : (length checked.start.kinds.items ≤ length registers) × HoldDummies checked (shown_by checked registers)
-        × ((answer : Outcome) (same : Bool) → Decides same (ReportsOf run finish registers answer)
-        → (other : Outcome) × IsOutcomeOf run.program run.arguments steps other × Decides same (answer ≡ other))
-    shown = (
-      ends.room run is.statements code is.compiled start.registers start.turns begun
-          divergence.steps (before + 1 + made) place registers turns stands_so few_of_all rest_of_all finish at_end limit,
-      ends.dummies run is.statements code is.compiled start.registers start.turns begun
-          divergence.steps (before + 1 + made) place registers turns stands_so few_of_all rest_of_all finish at_end limit,
-      λ answer same decided.
-          subst (λ n. (other : Outcome) × IsOutcomeOf run.program run.arguments n other × Decides same (answer ≡ other)) (sym steps_are)
-          (ends.decides run is.statements code is.compiled start.registers start.turns begun
-          divergence.steps (before + 1 + made) place registers turns stands_so few_of_all rest_of_all finish at_end limit answer same decided),
-    )
+    -- the registers show how the run ends
+    pub shown : are_held registers ≡ true → ShowsEnd run steps finish registers
+    shown valid =
+        subst (λ n. ShowsEnd run n finish registers) (sym steps_are)
+        (ends.shows run is.statements code is.compiled start.registers start.turns begun
+        divergence.steps (before + 1 + made) place registers turns stands_so few_of_all rest_of_all finish at_end limit valid)

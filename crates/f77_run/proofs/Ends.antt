@@ -43,7 +43,7 @@ use Rattle.f77_meaning.proofs.Unreached.{starts_same, reports_same}
 use Rattle.f77_run.specs.Registers.{counters_of}
 use Rattle.f77_run.specs.code.Registers.{shown_cells}
 use Rattle.f77_run.specs.Visits.{AreAtStart, cells_at_start}
-use Rattle.f77_run.specs.code.Ends.{HasEnded, RunOf, ReportsOf}
+use Rattle.f77_run.specs.code.Ends.{HasEnded, RunOf, ReportsOf, ShowsEnd}
 use Rattle.f77_run.specs.code.Running.{CameBack}
 use Rattle.f77_run.specs.code.Runs.{HasCode, IsRun, site_in}
 use Rattle.f77_run.specs.code.Site.{HoldDummies, shown_by}
@@ -187,22 +187,27 @@ module _ (run : RunOf) (statements : List Resolved) (code : Code) (is : HasCode 
         (going.room_then (site_in run) statements (begins run statements is.of) (running run statements is.of) slots_of (kinds_there run statements is.of) code
         is.code_is many registers begun.loaded.items begun.loaded.held begun.loaded.values begun.loaded.numbers turns counts made)
 
-    pub dummies : HoldDummies run.checked (shown_by run.checked after_registers)
-    dummies = record {
+    pub typed_here : IsTyped (map line_of run.checked.program) (held run.checked (shown_by run.checked after_registers))
+    typed_here = own_typed run statements is.of (held run.checked (shown_cells slots_of after_registers))
+        (subst (IsTyped program) (same_held run statements is.of (shown_cells slots_of after_registers))
+        (typed_in_both program end.values (values_at (site_in run) (shown_cells slots_of after_registers)) end.dummies typed))
+
+    pub dummies : are_held after_registers ≡ true → HoldDummies run.checked after_registers
+    dummies valid = record {
+      valid = valid;
+      room = room;
       count = shown_count slots_of after_registers room ∙ many_cells run statements is.of;
-      typed = own_typed run statements is.of (held run.checked (shown_cells slots_of after_registers))
-          (subst (IsTyped program) (same_held run statements is.of (shown_cells slots_of after_registers))
-          (typed_in_both program end.values (values_at (site_in run) (shown_cells slots_of after_registers)) end.dummies typed));
+      typed = typed_here;
     }
 
     -- an outcome that reports the registers reports the end of the run
-    reports_of_run : (answer : Outcome) → ReportsOf run finish after_registers answer → Reports program finish end.values answer
+    reports_of_run : (answer : Outcome) → ReportsOf run.checked finish after_registers answer → Reports program finish end.values answer
     reports_of_run answer reports =
         reports_in_both program finish (values_at (site_in run) (shown_cells slots_of after_registers)) end.values answer (λ name among. sym (end.dummies name among))
         (reports_there run statements is.of (shown_cells slots_of after_registers) finish answer reports)
 
     -- whether an outcome reports the registers says whether it is that of the run
-    pub decides : (answer : Outcome) (same : Bool) → Decides same (ReportsOf run finish after_registers answer)
+    decides : (answer : Outcome) (same : Bool) → Decides same (ReportsOf run.checked finish after_registers answer)
         → (other : Outcome) × IsOutcomeOf run.program run.arguments steps other × Decides same (answer ≡ other)
     decides answer same decided =
         same_shown program run.arguments steps (stands_for (site_in run) (begins run statements is.of)) made finish end.values
@@ -210,7 +215,11 @@ module _ (run : RunOf) (statements : List Resolved) (code : Code) (is : HasCode 
         (decided_of same decided (reports_there run statements is.of (shown_cells slots_of after_registers) finish answer)
         (reports_here run statements is.of (shown_cells slots_of after_registers) finish answer))
 
-    pub reports : (answer : Outcome) → ReportsOf run finish after_registers answer → IsOutcomeOf run.program run.arguments steps answer
+    -- the registers show how the run ends
+    pub shows : are_held after_registers ≡ true → ShowsEnd run steps finish after_registers
+    shows valid = record { dummies = dummies valid; decides = decides }
+
+    pub reports : (answer : Outcome) → ReportsOf run.checked finish after_registers answer → IsOutcomeOf run.program run.arguments steps answer
     reports answer is_reported = record {
       start = stands_for (site_in run) (begins run statements is.of);
       starts = starts run statements is.of;
@@ -220,7 +229,7 @@ module _ (run : RunOf) (statements : List Resolved) (code : Code) (is : HasCode 
       reports = reports_within program steps (stands_for (site_in run) (begins run statements is.of)) made finish end.values answer end.ends (reports_of_run answer is_reported);
     }
 
-    pub sooner : (answer : Outcome) → ReportsOf run finish after_registers answer → IsOutcomeOf run.program run.arguments made answer
+    pub sooner : (answer : Outcome) → ReportsOf run.checked finish after_registers answer → IsOutcomeOf run.program run.arguments made answer
     sooner answer is_reported = record {
       start = stands_for (site_in run) (begins run statements is.of);
       starts = starts run statements is.of;
@@ -239,11 +248,8 @@ module _ (run : RunOf) (statements : List Resolved) (code : Code) (is : HasCode 
       (finish : Finish) (at_end : (f : Finish) → place ≡ ended_point f → finish ≡ f) (limit : place < 4294967296 → finish ≡ StepLimit) where
     pub ended : HasEnded run steps made finish after_registers
     ended = record {
-      held = all_held;
-      room = room steps made place after_registers after_turns stands few rest finish at_end limit;
-      dummies = dummies steps made place after_registers after_turns stands few rest finish at_end limit;
+      shows = shows steps made place after_registers after_turns stands few rest finish at_end limit all_held;
       within = few;
-      decides = decides steps made place after_registers after_turns stands few rest finish at_end limit;
       reports = reports steps made place after_registers after_turns stands few rest finish at_end limit;
       sooner = sooner steps made place after_registers after_turns stands few rest finish at_end limit;
       unended = λ n below.

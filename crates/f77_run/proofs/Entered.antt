@@ -2,15 +2,13 @@
 use Rattle.std.proofs.Common.{arith, ◌≡◌, ℕ, zero, suc, ◌+◌, ◌<◌, ◌≤◌, ℤ, Bool, true, List, [], ◌∷◌, ◌++◌, drop, take, length, map, get_or, Option, Some, None}
 use Rattle.std.proofs.Common.{refl, sym, ap, subst, ◌∙◌}
 use Rattle.std.specs.Prelude.{slice_get, slice_set}
-use Rattle.std.specs.Bool.{Decides}
 use Rattle.std.specs.List.{list_all, zip}
 use Rattle.std.proofs.lemmas.Bool.{and_from, and_parts}
-use Rattle.std.proofs.lemmas.List.{drop_all, drop_more, get_or-map, length-map, length-set, set-append_left}
-use Rattle.std.proofs.lemmas.Option.{same_Some, slice_get-get_or}
-use Rattle.std.proofs.lemmas.Simd.{map-map}
+use Rattle.std.proofs.lemmas.List.{drop_all, drop_more, get_or-map, length-set, map-append, set-append_left, take_all, take_more}
+use Rattle.std.proofs.lemmas.Option.{get_or_from_slice_get, same_Some, slice_get-get_or, slice_get_within}
 use Rattle.f77_tree.specs.declared.tree.Kind.{Kind}
+use Rattle.f77_legal.specs.Blocks.{first_numbers}
 use Rattle.f77_actions.specs.declared.value.Value.{Value}
-use Rattle.f77_actions.specs.declared.value.Value.TheVariants as held
 use Rattle.f77_actions.specs.Encoded.{coded, is_fitting}
 use Rattle.f77_code.specs.Evaluation.{held_in}
 use Rattle.f77_code.specs.Holds.{read_as}
@@ -23,7 +21,6 @@ use Rattle.f77_run.specs.code.Registers.{shown_as, shown_cells}
 use Rattle.f77_meaning.specs.code.Spans.{span}
 use Rattle.f77_meaning.specs.Spans.{all_filled, filled}
 use Rattle.f77_meaning.proofs.Cells.{get_or-table}
-use Rattle.f77_run.proofs.Held.{decided_of}
 use Rattle.f77_run.proofs.Loaded.{loaded_count, shown_at}
 
 -- a member put in the place of another keeps what holds of each
@@ -91,34 +88,36 @@ module _ (kinds : List Kind) (whole rest : Cells → Cells) (old now : List ℤ)
   all_changed none begun = begun now (λ cells constants was. subst (λ cells. AreLoaded kinds cells constants now) (sym (none cells)) was)
 
 -- values that are put one after another
-module _ {A : Type 0} (f : A → Value) (xs : List A) (kinds : List Kind) (first : ℕ) (old : List ℤ) where
+module _ (xs : List Value) (kinds : List Kind) (first : ℕ) (old : List ℤ) where
   abbrev with_all : Cells → Cells
-  with_all cells = filled cells first (map f xs)
+  with_all cells = filled cells first xs
 
   abbrev with_rest : ℕ → Cells → Cells
-  with_rest k cells = filled cells (first + k) (map f (drop k xs))
+  with_rest k cells = filled cells (first + k) (drop k xs)
 
-  abbrev with_one : ℕ → A → Cells → Cells
-  with_one k x cells = slice_set cells (first + k) (Some (f x))
+  abbrev with_one : ℕ → Value → Cells → Cells
+  with_one k x cells = slice_set cells (first + k) (Some x)
 
   -- all are put where those from this one on are put too
   abbrev pub AreBegun : ℕ → List ℤ → Type 0
   AreBegun k now = IsBegun kinds with_all (with_rest k) old now
 
   -- one value more is put
-  pub value_put : (k : ℕ) (d : A) (now new : List ℤ) → k < length xs → IsChanged kinds (with_one k (get_or xs k d)) now new → AreBegun k now → AreBegun (k + 1) new
-  value_put k d now new below put begun = more_changed kinds with_all (with_rest k) old now (with_one k (get_or xs k d)) (with_rest (k + 1)) new same put begun
+  pub value_put : (k : ℕ) (x : Value) (now new : List ℤ) → slice_get xs k ≡ Some x → IsChanged kinds (with_one k x) now new → AreBegun k now
+      → AreBegun (k + 1) new
+  value_put k x now new at put begun = more_changed kinds with_all (with_rest k) old now (with_one k x) (with_rest (k + 1)) new same put begun
     where
-      same : (cells : Cells) → with_rest k cells ≡ with_rest (k + 1) (with_one k (get_or xs k d) cells)
+      same : (cells : Cells) → with_rest k cells ≡ with_rest (k + 1) (with_one k x cells)
       same cells =
           let next : first + k + 1 ≡ first + (k + 1) = omega arith in
-          ap (λ list. filled cells (first + k) (map f list)) (drop_more xs k d below)
-          ∙ ap (λ n. filled (with_one k (get_or xs k d) cells) n (map f (drop (k + 1) xs))) next
+          ap (λ list. filled cells (first + k) list) (drop_more xs k x (slice_get_within xs k x at))
+          ∙ ap (λ v. filled (slice_set cells (first + k) (Some v)) (first + k + 1) (drop (k + 1) xs)) (get_or_from_slice_get xs k x x at)
+          ∙ ap (λ n. filled (with_one k x cells) n (drop (k + 1) xs)) next
 
   -- no value is left
   pub values_put : (k : ℕ) (now : List ℤ) → length xs ≤ k → AreBegun k now → IsChanged kinds with_all old now
   values_put k now past begun =
-      all_changed kinds with_all (with_rest k) old now (λ cells. ap (λ list. filled cells (first + k) (map f list)) (drop_all k xs past)) begun
+      all_changed kinds with_all (with_rest k) old now (λ cells. ap (λ list. filled cells (first + k) list) (drop_all k xs past)) begun
 
 -- arguments that are put one after another
 module _ (dummies : List ℕ) (arguments : List Arg) (kinds : List Kind) (old : List ℤ) where
@@ -151,25 +150,31 @@ slot_shown kinds registers k d e room below =
     let at : slice_get registers k ≡ Some (get_or registers k e) = slice_get-get_or registers k e (omega (arith, room, below)) in
     shown_at kinds registers room k (get_or kinds k d) (slice_get-get_or kinds k d below) ∙ ap (λ number. shown_as (get_or kinds k d) (decoded_at number)) at
 
-module _ {A : Type 0} (f : A → Value) (xs : List A) (cells : Cells) (first : ℕ) where
+module _ (xs : List Value) (cells : Cells) (first : ℕ) where
   -- the slots have the first k of the values
   abbrev pub AreSame : ℕ → Type 0
-  AreSame k = map (λ x. Some (f x)) (take k xs) ≡ span first k cells
+  AreSame k = map (λ v. Some v) (take k xs) ≡ span first k cells
+
+  -- the slots have one value more
+  pub one_same : (k : ℕ) (x : Value) → slice_get xs k ≡ Some x → Some x ≡ held_in cells (first + k) → AreSame k → AreSame (k + 1)
+  one_same k x at here same =
+      let next : suc k ≡ k + 1 = omega arith in
+      ap (map (λ v. Some v)) (take_more xs k x (slice_get_within xs k x at))
+      ∙ map-append (λ v. Some v) (take k xs) (get_or xs k x ∷ [])
+      ∙ (λ i. same i ++ (ap (λ v. Some v) (get_or_from_slice_get xs k x x at) ∙ here) i ∷ [])
+      ∙ sym (map-append (λ k. held_in cells (first + k)) (first_numbers k) (k ∷ []))
+      ∙ ap (λ n. span first n cells) next
 
   -- the slots have all of the values
-  abbrev pub AllSame : Type 0
-  AllSame = map (λ x. Some (f x)) xs ≡ span first (length xs) cells
+  pub all_same : (k : ℕ) → length xs ≤ k → k ≤ length xs → AreSame k → map (λ v. Some v) xs ≡ span first (length xs) cells
+  all_same k past within same =
+      let all : k ≡ length xs = omega (arith, past, within) in
+      sym (ap (map (λ v. Some v)) (take_all k xs past)) ∙ same ∙ ap (λ n. span first n cells) all
 
   -- the slots do not have all the values where one of them has another
-  pub one_other : (k : ℕ) (d : A) → k < length xs → (Some (f (get_or xs k d)) ≡ held_in cells (first + k) → ⊥) → AllSame → ⊥
-  one_other k d below other same =
-      other (sym (get_or-map (λ x. Some (f x)) xs k d None below)
+  pub one_other : (k : ℕ) (x : Value) → slice_get xs k ≡ Some x → (Some x ≡ held_in cells (first + k) → ⊥)
+      → map (λ v. Some v) xs ≡ span first (length xs) cells → ⊥
+  one_other k x at other same =
+      other (sym (ap (λ v. Some v) (get_or_from_slice_get xs k x x at)) ∙ sym (get_or-map (λ v. Some v) xs k x None (slice_get_within xs k x at))
       ∙ (ap (λ list. get_or list k None) same
-      ∙ get_or-table (λ k. held_in cells (first + k)) (length xs) k None below))
-
-  -- the elements of an array
-  pub array_same : (r : Bool) → Decides r AllSame → Decides r (map (λ v. Some v) (map f xs) ≡ span first (length (map f xs)) cells)
-  array_same r decides =
-      let values : map (λ v. Some v) (map f xs) ≡ map (λ x. Some (f x)) xs = map-map (λ v. Some v) f xs in
-      let count : span first (length xs) cells ≡ span first (length (map f xs)) cells = ap (λ n. span first n cells) (sym (length-map xs f)) in
-      decided_of r decides (λ same. values ∙ same ∙ count) (λ same. sym values ∙ same ∙ sym count)
+      ∙ get_or-table (λ k. held_in cells (first + k)) (length xs) k None (slice_get_within xs k x at)))

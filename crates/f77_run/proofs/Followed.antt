@@ -12,6 +12,7 @@ use Rattle.f77_code.specs.Block.{code_after, code_within}
 use Rattle.f77_code.specs.Follow.{ArePassed, HaveSizes}
 use Rattle.f77_code.specs.Frame.{AllWriteBelow}
 use Rattle.f77_code.specs.Operation.{Point, point, ended_point}
+use Rattle.f77_code.specs.Registers.{are_held}
 use Rattle.f77_code.specs.Program.{IsCode}
 use Rattle.f77_code.proofs.Writes.{writes_slots}
 use Rattle.f77_meaning.specs.declared.argument.Arg.{Arg}
@@ -77,7 +78,7 @@ module _ (checked : CheckedFields) (is : IsChecked checked) (arguments : List Ar
       stands_there : point place after_registers after_turns ≡ code_after code.instructions.items steps (point checked.start.entry registers turns)
       stands_there = stands ∙ (λ i. code_after (instructions_are i) steps (start_is i))
 
-      pub dummies_there : HoldDummies checked (shown_by checked after_registers)
+      pub dummies_there : are_held after_registers ≡ true → HoldDummies checked after_registers
       dummies_there =
           ends.dummies run checked.statements code compiled registers turns begun steps steps place after_registers after_turns stands_there
           (omega arith) (λ less. absurd (omega (arith, less))) finish at_end limit

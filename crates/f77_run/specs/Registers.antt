@@ -5,7 +5,6 @@ use Rattle.std.specs.List.{flat_map, list_all, zip}
 use Rattle.f77_tree.specs.declared.tree.Kind.{Kind}
 use Rattle.f77_actions.specs.declared.resolved.Resolved.{Resolved}
 use Rattle.f77_check.specs.Checked.{CheckedFields}
-use Rattle.f77_actions.specs.declared.value.Value.TheVariants as held
 use Rattle.f77_actions.specs.Number.{fits}
 use Rattle.f77_actions.specs.Encoded.{coded, is_fitting}
 use Rattle.f77_code.specs.declared.control.Turn.{Turn}

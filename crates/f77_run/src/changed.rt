@@ -18,10 +18,11 @@ ghost use Rattle.f77_run.specs.code.Changing.{BeginsImage, CanReplace};
 ghost use Rattle.f77_run.specs.Registers.{IsImage};
 ghost use Rattle.f77_run.specs.Visits.{IsFollowed};
 
-use crate::diverging::keeps_outcome;
+use crate::diverging::end_beside;
+use crate::ending::is_outcome_for;
 use crate::registers::{Registers, add_constants};
 use crate::visits::Visits;
-use crate::workspace::{Workspace, code_of};
+use crate::workspace::{Workspace, prepared};
 use f77_check::{Checked, Resolved};
 use f77_code::ChangedCode;
 use f77_meaning::{Arg, Outcome, RunFault};
@@ -51,25 +52,13 @@ pub struct ChangedRunner<'a> {
 
 impl<'a> Model for ChangedRunner<'a> {
     ghost use Rattle.std.specs.Coded.{codes};
-    ghost use Rattle.f77_tree.specs.contracts.tree.Expr as expr;
     ghost use Rattle.f77_tree.specs.contracts.statement.Stmt as stmt;
-    ghost use Rattle.f77_actions.specs.contracts.action.Action as action;
-    ghost use Rattle.f77_actions.specs.contracts.expression.Condition as condition;
-    ghost use Rattle.f77_actions.specs.contracts.expression.Element as element;
-    ghost use Rattle.f77_actions.specs.contracts.expression.Number as number;
+    ghost use Rattle.f77_check.specs.contracts.checked.Checked as legal;
     ghost use Rattle.f77_run.specs.Changed.{ChangedFields, IsChanged, changed_fields};
 
     ghost Value = { ChangedFields };
 
-    ghost coded = { Prim.hlevel (
-      codes,
-      expr.the_row.coded,
-      stmt.the_row.coded,
-      element.the_row.coded,
-      number.the_row.coded,
-      condition.the_row.coded,
-      action.the_row.coded,
-    ) };
+    ghost coded = { Prim.hlevel (codes, stmt.the_row.coded, legal.the_row.coded) };
 
     ghost view = { λ runner. changed_fields runner.checked.now runner.change };
 
@@ -118,9 +107,9 @@ fn put(
     let own = code.code().constants().values().len();
     code.replace(alloc, checked.statements(), place, resolved)?;
     let constants = &code.code().constants().values()[own..];
-    if let Err(fault) = add_constants(&mut image.items, constants) {
+    if add_constants(&mut image.items, constants).is_err() {
         restore(checked, code, image);
-        return Err(fault);
+        return Err(RunFault::Memory);
     }
     Ok(())
 }
@@ -133,8 +122,7 @@ impl<'a> ChangedRunner<'a> {
         ensures unchanged { IfOk result (λ runner. runner.stmt ≡ None) }
         ensures memory { IfErr result (λ e. e ≡ fault.Memory) }
     {
-        let code = code_of(alloc, checked)?;
-        let space = Workspace::of(alloc, checked, &code)?;
+        let (code, space) = prepared(alloc, checked)?;
         Ok(ChangedRunner {
             alloc,
             checked,
@@ -165,18 +153,10 @@ impl<'a> ChangedRunner<'a> {
             return Err(RunFault::Memory);
         };
         let image = &mut self.space.image;
-        put(
-            self.alloc,
-            self.checked,
-            &mut self.code,
-            image,
-            place,
-            &resolved,
-        )?;
-        self.change = Some(Change {
-            place,
-            stmt: Snapshot::of(stmt),
-        });
+        let code = &mut self.code;
+        put(self.alloc, self.checked, code, image, place, &resolved)?;
+        let stmt = Snapshot::of(stmt);
+        self.change = Some(Change { place, stmt });
         Ok(())
     }
 
@@ -202,8 +182,9 @@ impl<'a> ChangedRunner<'a> {
         let Some(change) = &self.change else {
             return Ok(true);
         };
-        keeps_outcome(
-            self.checked,
+        let checked = self.checked;
+        let end = end_beside(
+            checked,
             self.code.code(),
             &mut self.space,
             change,
@@ -211,7 +192,9 @@ impl<'a> ChangedRunner<'a> {
             arguments,
             visits.made,
             steps,
-            outcome,
-        )
+        )?;
+        let Some(finish) = end else { return Ok(true) };
+        let registers = &self.space.registers.items;
+        Ok(is_outcome_for(checked, finish, registers, outcome, true))
     }
 }

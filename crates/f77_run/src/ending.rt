@@ -1,16 +1,14 @@
 //! The outcome for an end of a run, and whether a given outcome is the one for an end.
 
-ghost use Rattle.std.specs.Prelude.{◌≡◌, ◌⊎◌, ◌≤◌, List, length, map, option_map, true, IfOk, IfErr, IfSome};
+ghost use Rattle.std.specs.Prelude.{◌≡◌, map, IfOk, IfSome};
 ghost use Rattle.std.specs.Bool.{Decides};
-ghost use Rattle.f77_program.specs.Program.{LineFields, line_of};
-ghost use Rattle.f77_code.specs.Registers.{are_held};
+ghost use Rattle.f77_program.specs.Program.{line_of};
 ghost use Rattle.f77_meaning.specs.Interpreter as meaning;
-ghost use Rattle.f77_meaning.specs.Interpreter.{AreArguments, AreFitting, Reports};
+ghost use Rattle.f77_meaning.specs.Interpreter.{AreArguments, AreFitting};
 ghost use Rattle.f77_meaning.specs.Site.{held};
-ghost use Rattle.f77_meaning.specs.Value.{Store};
-ghost use Rattle.f77_meaning.specs.declared.outcome.RunFault.TheVariants as fault;
+ghost use Rattle.f77_run.specs.code.Ending.{outcome_values};
+ghost use Rattle.f77_run.specs.code.Ends.{ReportsOf};
 ghost use Rattle.f77_run.specs.code.Site.{HoldDummies, shown_by};
-ghost use Rattle.f77_run.specs.code.Ending as code;
 
 use crate::entering::have_arguments;
 use crate::fitting::are_fitting;
@@ -18,15 +16,13 @@ use crate::passing::arguments as held_arguments;
 use crate::registers::shown;
 use f77_actions::{Fault, Finish};
 use f77_check::Checked;
-use f77_meaning::{Arg, Outcome, RunFault, Values};
-use std::alloc::Global;
+use f77_meaning::{Arg, Outcome, Values};
+use std::alloc::{AllocError, Global};
 
 /// Whether the registers of the dummy arguments have these values. `fit` says whether the values fit these.
 fn have_dummies(checked: &Checked, registers: &[i64], arguments: &[Arg], fit: bool) -> bool
     requires fit { Decides fit (AreFitting checked.now.arguments arguments.now) }
-    requires held { are_held registers.now ≡ true }
-    requires room { length checked.now.start.kinds.items ≤ length registers.now }
-    requires dummies { HoldDummies checked.now (shown_by checked.now registers.now) }
+    requires dummies { HoldDummies checked.now registers.now }
     ensures { Decides result (AreArguments (map line_of checked.now.program)
         (held checked.now (shown_by checked.now registers.now)) arguments.now) }
 {
@@ -37,31 +33,16 @@ fn have_dummies(checked: &Checked, registers: &[i64], arguments: &[Arg], fit: bo
     have_arguments(registers, &start.kinds, &start.dummies, arguments)
 }
 
-/// The values of the dummy arguments that the outcome has, if it has any.
-fn outcome_values(outcome: &Outcome) -> Option<&[Arg]>
-    ensures { option_map (λ arguments. arguments.now) result ≡ code.outcome_values outcome.now }
-{
-    match outcome {
-        Outcome::Returned(arguments) | Outcome::Stopped(arguments) => Some(arguments.as_slice()),
-        Outcome::Overflow
-        | Outcome::DivideByZero
-        | Outcome::ZeroPower
-        | Outcome::BadSubscript
-        | Outcome::ZeroStep
-        | Outcome::Undefined
-        | Outcome::Trapped
-        | Outcome::StepLimit => None,
-    }
-}
-
 /// Whether the values that the outcome has fit the dummy arguments. True where it has none. It takes no memory.
 pub(crate) fn has_fitting_values(checked: &Checked, outcome: &Outcome) -> bool
-    ensures { IfSome (code.outcome_values outcome.now)
+    ensures { IfSome (outcome_values outcome.now)
         (λ arguments. Decides result (AreFitting checked.now.arguments arguments)) }
 {
-    match outcome_values(outcome) {
-        Some(arguments) => are_fitting(checked.arguments(), arguments),
-        None => true,
+    match outcome {
+        Outcome::Returned(arguments) | Outcome::Stopped(arguments) => {
+            are_fitting(checked.arguments(), arguments.as_slice())
+        }
+        _ => true,
     }
 }
 
@@ -81,22 +62,6 @@ fn is_fault(fault: Fault, outcome: &Outcome) -> bool
     }
 }
 
-/// Whether this is the outcome for an end. `held` says whether the dummy arguments have the values that the outcome
-/// has.
-fn is_outcome_where(held: bool, finish: Finish, outcome: &Outcome) -> bool
-    ensures { (program : List LineFields) (store : Store)
-        → IfSome (code.outcome_values outcome.now)
-        (λ arguments. Decides held (AreArguments program store arguments))
-        → Decides result (Reports program finish store outcome.now) }
-{
-    match (finish, outcome) {
-        (Finish::Returned, Outcome::Returned(_)) | (Finish::Stopped, Outcome::Stopped(_)) => held,
-        (Finish::Failed(fault), outcome) => is_fault(fault, outcome),
-        (Finish::StepLimit, Outcome::StepLimit) => true,
-        (Finish::Returned | Finish::Stopped | Finish::StepLimit, _) => false,
-    }
-}
-
 /// Whether this is the outcome for an end with these registers. `fit` says whether its values fit the dummy arguments:
 /// those of an outcome of the program do. It takes no memory.
 pub(crate) fn is_outcome_for(
@@ -106,19 +71,20 @@ pub(crate) fn is_outcome_for(
     outcome: &Outcome,
     fit: bool,
 ) -> bool
-    requires fit { IfSome (code.outcome_values outcome.now)
+    requires fit { IfSome (outcome_values outcome.now)
         (λ arguments. Decides fit (AreFitting checked.now.arguments arguments)) }
-    requires held { are_held registers.now ≡ true }
-    requires room { length checked.now.start.kinds.items ≤ length registers.now }
-    requires dummies { HoldDummies checked.now (shown_by checked.now registers.now) }
-    ensures { Decides result (Reports (map line_of checked.now.program) finish
-        (held checked.now (shown_by checked.now registers.now)) outcome.now) }
+    requires dummies { HoldDummies checked.now registers.now }
+    ensures { Decides result (ReportsOf checked.now finish registers.now outcome.now) }
 {
-    let held = match outcome_values(outcome) {
-        Some(arguments) => have_dummies(checked, registers, arguments, fit),
-        None => false,
-    };
-    is_outcome_where(held, finish, outcome)
+    match (finish, outcome) {
+        (Finish::Returned, Outcome::Returned(arguments))
+        | (Finish::Stopped, Outcome::Stopped(arguments)) => {
+            have_dummies(checked, registers, arguments.as_slice(), fit)
+        }
+        (Finish::Failed(fault), outcome) => is_fault(fault, outcome),
+        (Finish::StepLimit, Outcome::StepLimit) => true,
+        (Finish::Returned | Finish::Stopped | Finish::StepLimit, _) => false,
+    }
 }
 
 /// The outcome of a run that failed with this fault.
@@ -137,12 +103,10 @@ fn fault_outcome(fault: Fault) -> Outcome
 }
 
 /// The values of the dummy arguments, from the registers.
-fn dummies(alloc: Global, checked: &Checked, registers: &[i64]) -> Result<Values<Arg>, RunFault>
-    requires held { are_held registers.now ≡ true }
-    requires dummies { HoldDummies checked.now (shown_by checked.now registers.now) }
+fn dummies(alloc: Global, checked: &Checked, registers: &[i64]) -> Result<Values<Arg>, AllocError>
+    requires dummies { HoldDummies checked.now registers.now }
     ensures arguments { IfOk result (λ arguments. AreArguments (map line_of checked.now.program)
         (held checked.now (shown_by checked.now registers.now)) arguments) }
-    ensures memory { IfErr result (λ e. e ≡ fault.Memory) }
 {
     let start = checked.start();
     let cells = shown(alloc, &start.kinds, registers)?;
@@ -155,13 +119,9 @@ pub(crate) fn answer(
     checked: &Checked,
     finish: Finish,
     registers: &[i64],
-) -> Result<Outcome, RunFault>
-    requires held { are_held registers.now ≡ true }
-    requires dummies { HoldDummies checked.now (shown_by checked.now registers.now) }
-    ensures reports { IfOk result (λ outcome. Reports (map line_of checked.now.program) finish
-        (held checked.now (shown_by checked.now registers.now)) outcome) }
-    ensures memory { IfErr result (λ e. e ≡ fault.Memory) }
-    ensures only { IfErr result (λ _. (finish ≡ Finish.Returned) ⊎ (finish ≡ Finish.Stopped)) }
+) -> Result<Outcome, AllocError>
+    requires dummies { HoldDummies checked.now registers.now }
+    ensures reports { IfOk result (λ outcome. ReportsOf checked.now finish registers.now outcome) }
 {
     match finish {
         Finish::Returned => Ok(Outcome::Returned(dummies(alloc, checked, registers)?)),

@@ -7,8 +7,9 @@ ghost use Rattle.f77_meaning.specs.declared.outcome.Outcome.{Outcome};
 ghost use Rattle.f77_meaning.specs.declared.outcome.Outcome.TheVariants as outcomes;
 ghost use Rattle.f77_meaning.specs.declared.outcome.RunFault.TheVariants as fault;
 
+use crate::ending::answer;
 use crate::fitting::fit;
-use crate::runner::Runner;
+use crate::workspace::prepared;
 use f77_check::Checked;
 use f77_meaning::{Arg, Outcome, RunFault};
 use std::alloc::Global;
@@ -32,13 +33,11 @@ pub fn counted_run(
     ensures refused { IfSome (refusal checked.now.arguments arguments.now) (λ e. result ≡ Err e) }
     ensures fault { IfErr result (λ e. (e ≡ fault.Memory) ⊎ (refusal checked.now.arguments arguments.now ≡ Some e)) }
 {
-    match fit(checked.arguments(), arguments) {
-        Ok(()) => {
-            let mut runner = Runner::of(alloc, checked)?;
-            runner.run(alloc, arguments, steps)
-        }
-        Err(fault) => Err(fault),
-    }
+    fit(checked.arguments(), arguments)?;
+    let (code, mut space) = prepared(alloc, checked)?;
+    let end = space.end_of(checked, &code, arguments, 0, steps)?;
+    let outcome = answer(alloc, checked, end.finish, &space.registers.items)?;
+    Ok((outcome, end.made))
 }
 
 /// Runs a program with these values of its dummy arguments, in order, and gives its outcome within the limit `steps`.
@@ -58,8 +57,6 @@ pub fn run(
     ensures refused { IfSome (refusal checked.now.arguments arguments.now) (λ e. result ≡ Err e) }
     ensures fault { IfErr result (λ e. (e ≡ fault.Memory) ⊎ (refusal checked.now.arguments arguments.now ≡ Some e)) }
 {
-    match counted_run(alloc, checked, arguments, steps) {
-        Ok((outcome, _made)) => Ok(outcome),
-        Err(fault) => Err(fault),
-    }
+    let (outcome, _made) = counted_run(alloc, checked, arguments, steps)?;
+    Ok(outcome)
 }

@@ -1,20 +1,19 @@
 //! The values of dummy arguments, from those of their slots.
 
-ghost use Rattle.std.specs.Prelude.{◌≡◌, ◌+◌, ◌≤◌, true, length, map, Some, IfOk, IfErr};
+ghost use Rattle.std.specs.Prelude.{◌≡◌, ◌+◌, ◌≤◌, true, length, map, Some, IfOk};
 ghost use Rattle.std.specs.List.{list_all, zip};
 ghost use Rattle.f77_tree.specs.declared.tree.Kind.TheVariants as kind;
 ghost use Rattle.f77_meaning.specs.Interpreter.{AreFitting, has_shape, values_in};
 ghost use Rattle.f77_meaning.specs.code.Spans.{AllHold, AreWithin, span};
 ghost use Rattle.f77_meaning.specs.Spans.{size_of};
 ghost use Rattle.f77_meaning.specs.code.Typed.{HasValues, has_kind};
-ghost use Rattle.f77_meaning.specs.declared.outcome.RunFault.TheVariants as fault;
 ghost use Rattle.f77_actions.specs.declared.value.Value.TheVariants as held;
 
 use f77_actions::Value;
 use f77_check::Shape;
-use f77_meaning::{Arg, RunFault, Values};
+use f77_meaning::{Arg, Values};
 use f77_tree::Kind;
-use std::alloc::Global;
+use std::alloc::{AllocError, Global};
 
 fn number(cell: Option<Value>) -> i32
     requires { has_kind kind.Integer cell ≡ true }
@@ -36,10 +35,9 @@ fn truth(cell: Option<Value>) -> bool
     }
 }
 
-fn numbers(alloc: Global, cells: &[Option<Value>]) -> Result<Vec<i32>, RunFault>
+fn numbers(alloc: Global, cells: &[Option<Value>]) -> Result<Vec<i32>, AllocError>
     requires { list_all (has_kind kind.Integer) cells.now ≡ true }
     ensures values { IfOk result (λ numbers. map (λ z. Some (held.Number z)) numbers.items ≡ cells.now) }
-    ensures memory { IfErr result (λ e. e ≡ fault.Memory) }
 {
     let mut numbers = Vec::with_capacity(alloc, cells.len())?;
     for cell in cells {
@@ -48,10 +46,9 @@ fn numbers(alloc: Global, cells: &[Option<Value>]) -> Result<Vec<i32>, RunFault>
     Ok(numbers)
 }
 
-fn truths(alloc: Global, cells: &[Option<Value>]) -> Result<Vec<bool>, RunFault>
+fn truths(alloc: Global, cells: &[Option<Value>]) -> Result<Vec<bool>, AllocError>
     requires { list_all (has_kind kind.Logical) cells.now ≡ true }
     ensures values { IfOk result (λ truths. map (λ b. Some (held.Truth b)) truths.items ≡ cells.now) }
-    ensures memory { IfErr result (λ e. e ≡ fault.Memory) }
 {
     let mut truths = Vec::with_capacity(alloc, cells.len())?;
     for cell in cells {
@@ -66,13 +63,12 @@ pub(crate) fn argument(
     shape: &Shape,
     first: usize,
     cells: &[Option<Value>],
-) -> Result<Arg, RunFault>
+) -> Result<Arg, AllocError>
     requires within { first + size_of shape.now ≤ length cells.now }
     requires holds { HasValues shape.now.kind (size_of shape.now) (span first (size_of shape.now) cells.now) }
     ensures shape { IfOk result (λ argument. has_shape shape.now argument ≡ true) }
     ensures values { IfOk result
         (λ argument. map (λ v. Some v) (values_in argument) ≡ span first (size_of shape.now) cells.now) }
-    ensures memory { IfErr result (λ e. e ≡ fault.Memory) }
 {
     match (shape.kind, shape.elements) {
         (Kind::Integer, None) => Ok(Arg::Int(number(cells[first]))),
@@ -94,14 +90,13 @@ pub(crate) fn arguments(
     shapes: &[Shape],
     dummies: &[usize],
     cells: &[Option<Value>],
-) -> Result<Values<Arg>, RunFault>
+) -> Result<Values<Arg>, AllocError>
     requires long { length dummies.now ≡ length shapes.now }
     requires within { AreWithin (length cells.now) (zip shapes.now dummies.now) }
     requires hold { AllHold cells.now (zip shapes.now dummies.now) }
     ensures fitting { IfOk result (λ arguments. AreFitting shapes.now arguments) }
     ensures values { IfOk result (λ arguments. map (λ argument. map (λ v. Some v) (values_in argument)) arguments
         ≡ map (λ pair. span pair.1 (size_of pair.0) cells.now) (zip shapes.now dummies.now)) }
-    ensures memory { IfErr result (λ e. e ≡ fault.Memory) }
 {
     let mut arguments = Vec::new(alloc);
     for (shape, first) in shapes.iter().zip(dummies) {

@@ -1,7 +1,7 @@
 //! The registers and counters of a run.
 
 ghost use Rattle.std.specs.Prelude.{◌≡◌, ◌≢◌, ◌≤◌, ◌++◌, drop, length, map, option_map, take, true, Some};
-ghost use Rattle.std.specs.Prelude.{IfOk, IfErr, OnOk, IfNone, IfSome};
+ghost use Rattle.std.specs.Prelude.{IfOk, OnOk, IfNone, IfSome};
 ghost use Rattle.std.specs.Bool.{Decides};
 ghost use Rattle.std.specs.List.{list_all};
 ghost use Rattle.f77_code.specs.Holds.{read_as};
@@ -12,7 +12,6 @@ ghost use Rattle.f77_run.specs.Registers.{IsImage, loaded, values_fit};
 ghost use Rattle.f77_run.specs.code.Registers.{shown_cells};
 ghost use Rattle.f77_run.specs.code.Running.{stands_at};
 ghost use Rattle.f77_meaning.specs.Start.{constant_value};
-ghost use Rattle.f77_meaning.specs.declared.outcome.RunFault.TheVariants as fault;
 ghost use Rattle.f77_actions.specs.Number.{fits};
 ghost use Rattle.f77_actions.specs.Encoded.{coded, is_fitting};
 
@@ -20,9 +19,8 @@ use f77_actions::Value;
 use f77_actions::encoded::UNDEFINED;
 use f77_check::Checked;
 use f77_code::{Code, Turn};
-use f77_meaning::RunFault;
 use f77_tree::{Constant, Kind};
-use std::alloc::Global;
+use std::alloc::{AllocError, Global};
 
 /// A register for each slot and behind them for each constant of the code, and a counter for each DO, all in order.
 #[derive(Drop)]
@@ -95,13 +93,12 @@ fn add_slots(
     registers: &mut Vec<i64>,
     kinds: &[Kind],
     constants: &[Option<Constant>],
-) -> Result<(), RunFault>
+) -> Result<(), AllocError>
     ensures items { OnOk result (registers.new.items
         ≡ registers.old.items ++ loaded kinds.now (map (option_map constant_value) constants.now)) }
     ensures held { OnOk result (are_held (loaded kinds.now (map (option_map constant_value) constants.now)) ≡ true) }
     ensures fitting { OnOk result
         (values_fit kinds.now (map (option_map constant_value) constants.now) ≡ true) }
-    ensures memory { IfErr result (λ e. e ≡ fault.Memory) }
 {
     for (kind, constant) in kinds.iter().zip(constants) {
         registers.push(number(*kind, initial(*constant)))?;
@@ -110,12 +107,11 @@ fn add_slots(
 }
 
 /// Adds a register for each constant.
-pub(crate) fn add_constants(registers: &mut Vec<i64>, constants: &[i32]) -> Result<(), RunFault>
+pub(crate) fn add_constants(registers: &mut Vec<i64>, constants: &[i32]) -> Result<(), AllocError>
     ensures items { OnOk result (registers.new.items ≡ registers.old.items ++ constants.now) }
     ensures kept { take (length registers.old.items) registers.new.items ≡ registers.old.items }
     ensures held { OnOk result (are_held constants.now ≡ true) }
     ensures fitting { OnOk result (list_all fits constants.now ≡ true) }
-    ensures memory { IfErr result (λ e. e ≡ fault.Memory) }
 {
     for constant in constants {
         registers.push(i64::from(*constant))?;
@@ -128,10 +124,9 @@ pub(crate) fn shown(
     alloc: Global,
     kinds: &[Kind],
     registers: &[i64],
-) -> Result<Vec<Option<Value>>, RunFault>
+) -> Result<Vec<Option<Value>>, AllocError>
     requires { are_held registers.now ≡ true }
     ensures cells { IfOk result (λ cells. cells.items ≡ shown_cells kinds.now registers.now) }
-    ensures memory { IfErr result (λ e. e ≡ fault.Memory) }
 {
     let mut cells = Vec::with_capacity(alloc, kinds.len())?;
     for (kind, register) in kinds.iter().zip(registers) {
@@ -141,21 +136,16 @@ pub(crate) fn shown(
 }
 
 /// Makes a list equal to another. It takes memory if their lengths differ.
-fn copy_items<T: Copy>(list: &mut Vec<T>, other: &[T]) -> Result<(), RunFault>
+fn copy_items<T: Copy>(list: &mut Vec<T>, other: &[T]) -> Result<(), AllocError>
     ensures items { OnOk result (list.new.items ≡ other.now) }
-    ensures memory { IfErr result (λ e. e ≡ fault.Memory) }
 {
-    // Most programs have no DO, and copying nothing would still be a call.
-    if other.is_empty() {
+    if list.len() != other.len() {
         list.clear();
-        return Ok(());
-    }
-    if list.len() == other.len() {
+        list.extend_from_slice(other)?;
+    } else if !other.is_empty() {
+        // Most programs have no DO, and copying nothing would still be a call.
         list.copy_from_slice(other);
-        return Ok(());
     }
-    list.clear();
-    list.extend_from_slice(other)?;
     Ok(())
 }
 
@@ -187,10 +177,9 @@ impl Registers {
         alloc: Global,
         checked: &Checked,
         code: &Code,
-    ) -> Result<Registers, RunFault>
+    ) -> Result<Registers, AllocError>
         requires code { IsCode checked.now.statements code.now }
         ensures image { IfOk result (IsImage checked.now code.now.constants.values.items) }
-        ensures memory { IfErr result (λ e. e ≡ fault.Memory) }
     {
         let start = checked.start();
         let mut items = Vec::with_capacity(alloc, start.kinds.len())?;
@@ -202,10 +191,9 @@ impl Registers {
     }
 
     /// Makes these registers equal to others.
-    pub(crate) fn copy_from(&mut self, other: &Registers) -> Result<(), RunFault>
+    pub(crate) fn copy_from(&mut self, other: &Registers) -> Result<(), AllocError>
         ensures items { OnOk result (self.new.items.items ≡ other.now.items.items) }
         ensures counters { OnOk result (self.new.counters.items ≡ other.now.counters.items) }
-        ensures memory { IfErr result (λ e. e ≡ fault.Memory) }
     {
         copy_items(&mut self.items, &other.items)?;
         copy_items(&mut self.counters, &other.counters)
@@ -213,12 +201,11 @@ impl Registers {
 
     /// Makes the registers behind the first `slots` equal to others. It does not say what is in the slots and counters;
     /// there are as many as in the others.
-    pub(crate) fn copy_behind(&mut self, slots: usize, other: &Registers) -> Result<(), RunFault>
+    pub(crate) fn copy_behind(&mut self, slots: usize, other: &Registers) -> Result<(), AllocError>
         requires { slots ≤ length other.now.items.items }
         ensures behind { OnOk result (drop slots self.new.items.items ≡ drop slots other.now.items.items) }
         ensures many { OnOk result (length self.new.items.items ≡ length other.now.items.items) }
         ensures counters { OnOk result (length self.new.counters.items ≡ length other.now.counters.items) }
-        ensures memory { IfErr result (λ e. e ≡ fault.Memory) }
     {
         if self.items.len() != other.items.len() || self.counters.len() != other.counters.len() {
             return self.copy_from(other);

@@ -1,21 +1,18 @@
 //! Runs of one program, one after another, in the same memory.
 
-ghost use Rattle.std.specs.Prelude.{◌≡◌, ◌⊎◌, ◌≤◌, ◌<◌, ◌+◌, ℕ, map, Some, Err, IfOk, IfErr, IfSome};
+ghost use Rattle.std.specs.Prelude.{◌≡◌, ◌⊎◌, ◌+◌, map, Some, Err, IfOk, IfErr, IfSome};
 ghost use Rattle.std.specs.Bool.{Decides};
 ghost use Rattle.f77_program.specs.Program.{line_of};
 ghost use Rattle.f77_code.specs.Follow.{numbers_kept};
-ghost use Rattle.f77_code.specs.Program.{IsCode};
-ghost use Rattle.f77_meaning.specs.Interpreter.{AreFitting, IsOutcomeOf, refusal};
+ghost use Rattle.f77_meaning.specs.Interpreter.{IsOutcomeOf, refusal};
 ghost use Rattle.f77_meaning.specs.declared.outcome.Outcome.{Outcome};
-ghost use Rattle.f77_meaning.specs.declared.outcome.Outcome.TheVariants as outcomes;
 ghost use Rattle.f77_meaning.specs.declared.outcome.RunFault.TheVariants as fault;
-ghost use Rattle.f77_run.specs.Registers.{IsImage};
 ghost use Rattle.f77_run.specs.Visits.{IsFollowed};
 
 use crate::ending::{answer, has_fitting_values, is_outcome_for};
 use crate::fitting::fit;
 use crate::visits::Visits;
-use crate::workspace::{Workspace, code_of};
+use crate::workspace::{Workspace, prepared};
 use f77_check::Checked;
 use f77_code::{Code, finish_at, follow};
 use f77_meaning::{Arg, Outcome, RunFault};
@@ -41,28 +38,14 @@ pub struct Runner<'a> {
 
 impl<'a> Model for Runner<'a> {
     ghost use Rattle.std.specs.Prelude.{◌≡◌};
-    ghost use Rattle.std.specs.Coded.{codes};
-    ghost use Rattle.f77_tree.specs.contracts.tree.Expr as expr;
-    ghost use Rattle.f77_tree.specs.contracts.statement.Stmt as stmt;
     ghost use Rattle.f77_check.specs.Checked.{CheckedFields, IsChecked};
-    ghost use Rattle.f77_actions.specs.contracts.action.Action as action;
-    ghost use Rattle.f77_actions.specs.contracts.expression.Condition as condition;
-    ghost use Rattle.f77_actions.specs.contracts.expression.Element as element;
-    ghost use Rattle.f77_actions.specs.contracts.expression.Number as number;
+    ghost use Rattle.f77_check.specs.contracts.checked.Checked as legal;
     ghost use Rattle.f77_code.specs.Program.{IsCode};
     ghost use Rattle.f77_run.specs.Registers.{IsImage};
 
     ghost Value = { CheckedFields };
 
-    ghost coded = { Prim.hlevel (
-      codes,
-      expr.the_row.coded,
-      stmt.the_row.coded,
-      element.the_row.coded,
-      number.the_row.coded,
-      condition.the_row.coded,
-      action.the_row.coded,
-    ) };
+    ghost coded = { legal.the_row.coded };
 
     ghost view = { λ runner. runner.checked.now };
 
@@ -72,46 +55,6 @@ impl<'a> Model for Runner<'a> {
         × IsImage runner.checked.now runner.code.constants.values.items runner.space.image };
 }
 
-/// The trace of the run with arguments that fit.
-fn trace_of(
-    alloc: Global,
-    checked: &Checked,
-    code: &Code,
-    space: &mut Workspace,
-    arguments: &[Arg],
-    steps: u32,
-    room: &mut usize,
-) -> Result<Trace, RunFault>
-    requires code { IsCode checked.now.statements code.now }
-    requires slots { code.now.constants.slots ≡ checked.now.slots }
-    requires image { IsImage checked.now code.now.constants.values.items space.old.image }
-    requires fitting { AreFitting checked.now.arguments arguments.now }
-    ensures outcome { IfOk result
-        (λ trace. IsOutcomeOf (map line_of checked.now.program) arguments.now steps trace.outcome) }
-    ensures visits { IfOk result (λ trace. IsFollowed checked.now arguments.now steps trace.visits) }
-    ensures room { IfOk result (λ trace. room.new + numbers_kept trace.visits.list.items ≡ room.old) }
-    ensures image { space.new.image ≡ space.old.image }
-    ensures memory { IfErr result (λ e. e ≡ fault.Memory) }
-{
-    space.restart(checked, arguments)?;
-    let mut visits = Visits::none(alloc, checked.count())?;
-    let stand = follow(
-        alloc,
-        code.instructions(),
-        &mut space.registers.items,
-        &mut space.registers.counters,
-        checked.slots(),
-        checked.start().entry,
-        &mut visits.list,
-        steps,
-        room,
-    )?;
-    visits.made = stand.made;
-    let finish = finish_at(stand.place);
-    let outcome = answer(alloc, checked, finish, &space.registers.items)?;
-    Ok(Trace { outcome, visits })
-}
-
 impl<'a> Runner<'a> {
     /// A runner for this program, which is compiled here. It takes all memory that its runs need, apart from that for a
     /// trace, that for registers, which the first run takes, and that for a state that is kept in a long run.
@@ -119,46 +62,12 @@ impl<'a> Runner<'a> {
         ensures program { IfOk result (λ runner. runner ≡ checked.now) }
         ensures memory { IfErr result (λ e. e ≡ fault.Memory) }
     {
-        let code = code_of(alloc, checked)?;
-        let space = Workspace::of(alloc, checked, &code)?;
+        let (code, space) = prepared(alloc, checked)?;
         Ok(Runner {
             checked,
             code,
             space,
         })
-    }
-
-    /// Runs the program with these values of the dummy arguments, in order, and gives its outcome within the limit
-    /// `steps`, with the number of steps after which the outcome was known.
-    ///
-    /// N2 and N3 are reported before any step. Memory (N1) may be reported in place of any answer.
-    pub(crate) fn run(
-        &mut self,
-        alloc: Global,
-        arguments: &[Arg],
-        steps: u32,
-    ) -> Result<(Outcome, u32), RunFault>
-        ensures program { self.new ≡ self.old }
-        ensures outcome { IfOk result
-            (λ found. IsOutcomeOf (map line_of self.old.program) arguments.now steps found.0) }
-        ensures made { IfOk result (λ found. (found.1 ≤ steps)
-            × IsOutcomeOf (map line_of self.old.program) arguments.now found.1 found.0) }
-        ensures unended { IfOk result (λ ran. (n : ℕ) → n < ran.1
-            → IsOutcomeOf (map line_of self.old.program) arguments.now n outcomes.StepLimit) }
-        ensures refused { IfSome (refusal self.old.arguments arguments.now) (λ e. result ≡ Err e) }
-        ensures fault { IfErr result (λ e. (e ≡ fault.Memory) ⊎ (refusal self.old.arguments arguments.now ≡ Some e)) }
-    {
-        match fit(self.checked.arguments(), arguments) {
-            Ok(()) => {
-                let end = self
-                    .space
-                    .end_of(self.checked, &self.code, arguments, 0, steps)?;
-                let registers = &self.space.registers.items;
-                let outcome = answer(alloc, self.checked, end.finish, registers)?;
-                Ok((outcome, end.made))
-            }
-            Err(fault) => Err(fault),
-        }
     }
 
     /// Whether the run with these values of the dummy arguments, in order, has this outcome within the limit `steps`.
@@ -177,17 +86,12 @@ impl<'a> Runner<'a> {
         ensures refused { IfSome (refusal self.old.arguments arguments.now) (λ e. result ≡ Err e) }
         ensures fault { IfErr result (λ e. (e ≡ fault.Memory) ⊎ (refusal self.old.arguments arguments.now ≡ Some e)) }
     {
-        match fit(self.checked.arguments(), arguments) {
-            Ok(()) => {
-                let end = self
-                    .space
-                    .end_of(self.checked, &self.code, arguments, 0, steps)?;
-                let registers = &self.space.registers.items;
-                let fit = has_fitting_values(self.checked, outcome);
-                Ok(is_outcome_for(self.checked, end.finish, registers, outcome, fit))
-            }
-            Err(fault) => Err(fault),
-        }
+        let checked = self.checked;
+        fit(checked.arguments(), arguments)?;
+        let end = self.space.end_of(checked, &self.code, arguments, 0, steps)?;
+        let registers = &self.space.registers.items;
+        let fit = has_fitting_values(checked, outcome);
+        Ok(is_outcome_for(checked, end.finish, registers, outcome, fit))
     }
 
     /// Runs the program once with these values of the dummy arguments, in order, within the limit `steps`, and keeps
@@ -213,17 +117,24 @@ impl<'a> Runner<'a> {
         ensures refused { IfSome (refusal self.old.arguments arguments.now) (λ e. result ≡ Err e) }
         ensures fault { IfErr result (λ e. (e ≡ fault.Memory) ⊎ (refusal self.old.arguments arguments.now ≡ Some e)) }
     {
-        match fit(self.checked.arguments(), arguments) {
-            Ok(()) => trace_of(
-                alloc,
-                self.checked,
-                &self.code,
-                &mut self.space,
-                arguments,
-                steps,
-                room,
-            ),
-            Err(fault) => Err(fault),
-        }
+        let checked = self.checked;
+        fit(checked.arguments(), arguments)?;
+        self.space.restart(checked, arguments)?;
+        let mut visits = Visits::none(alloc, checked.count())?;
+        let stand = follow(
+            alloc,
+            self.code.instructions(),
+            &mut self.space.registers.items,
+            &mut self.space.registers.counters,
+            checked.slots(),
+            checked.start().entry,
+            &mut visits.list,
+            steps,
+            room,
+        )?;
+        visits.made = stand.made;
+        let finish = finish_at(stand.place);
+        let outcome = answer(alloc, checked, finish, &self.space.registers.items)?;
+        Ok(Trace { outcome, visits })
     }
 }

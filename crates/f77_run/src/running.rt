@@ -1,14 +1,13 @@
 //! Steps up to a limit, with cycle detection (Brent's): a run that comes back to a state that was kept never ends.
 
-ghost use Rattle.std.specs.Prelude.{◌≡◌, ◌⊎◌, ◌≤◌, ◌<◌, ℕ, length, true, IfOk, IfErr, OnOk};
+ghost use Rattle.std.specs.Prelude.{◌≡◌, ◌⊎◌, ◌≤◌, ◌<◌, ℕ, length, true, IfNone, IfOk, IfSome, OnOk};
 ghost use Rattle.f77_code.specs.Block.{code_after};
 ghost use Rattle.f77_code.specs.Registers.{are_held};
 ghost use Rattle.f77_run.specs.code.Running.{CameBack, Leads, stands_at, within_registers};
-ghost use Rattle.f77_meaning.specs.declared.outcome.RunFault.TheVariants as fault;
 
 use crate::registers::Registers;
 use f77_code::{Instruction, Stand, block, block_to};
-use f77_meaning::RunFault;
+use std::alloc::AllocError;
 
 /// The number of steps before a state is first kept. A run that ends within them pays nothing.
 const FIRST: u32 = 64;
@@ -20,49 +19,29 @@ const LEAST: u32 = 512;
 /// In a long run the kept state is looked for during one step in this many, since looking takes half as long as a step.
 const PART: u32 = 32;
 
-/// Makes at most `steps` steps from the place `start` on.
-fn steps_from(code: &[Instruction], registers: &mut Registers, start: usize, steps: u32) -> Stand
-    requires held { are_held registers.old.items.items ≡ true }
-    requires within { within_registers code.now registers.old ≡ true }
-    ensures leads { Leads code.now (stands_at start registers.old) result.made (stands_at result.place registers.new) }
-    ensures made { result.made ≤ steps }
-    ensures ends { result.made < steps → length code.now ≤ result.place }
-    ensures held { are_held registers.new.items.items ≡ true }
-    ensures within { within_registers code.now registers.new ≡ true }
-{
-    block(
-        code,
-        &mut registers.items,
-        &mut registers.counters,
-        start,
-        steps,
-    )
-}
-
-/// Makes at most `steps` steps from the place `start` on, until control next comes to the place `watched`.
-fn steps_to(
+/// Makes at most `steps` steps from the place `start` on, or until control next comes to the place `watched`.
+fn steps_from(
     code: &[Instruction],
     registers: &mut Registers,
     start: usize,
     steps: u32,
-    watched: usize,
+    watched: Option<usize>,
 ) -> Stand
     requires held { are_held registers.old.items.items ≡ true }
     requires within { within_registers code.now registers.old ≡ true }
     ensures leads { Leads code.now (stands_at start registers.old) result.made (stands_at result.place registers.new) }
     ensures made { result.made ≤ steps }
-    ensures some { start < length code.now → 0 < steps → 0 < result.made }
+    ensures some { IfSome watched (λ _. start < length code.now → 0 < steps → 0 < result.made) }
+    ensures ends { IfNone watched (result.made < steps → length code.now ≤ result.place) }
     ensures held { are_held registers.new.items.items ≡ true }
     ensures within { within_registers code.now registers.new ≡ true }
 {
-    block_to(
-        code,
-        &mut registers.items,
-        &mut registers.counters,
-        start,
-        steps,
-        watched,
-    )
+    let items = &mut registers.items;
+    let turns = &mut registers.counters;
+    match watched {
+        Some(watched) => block_to(code, items, turns, start, steps, watched),
+        None => block(code, items, turns, start, steps),
+    }
 }
 
 /// Makes at most `steps` steps from the place `start` on, until the code is again in the state in which it was at
@@ -90,7 +69,7 @@ fn look_for(
     };
     let mut apart = 0;
     'looks: while at.place < code.len() && at.made < steps {
-        let more = steps_to(code, registers, at.place, steps - at.made, start);
+        let more = steps_from(code, registers, at.place, steps - at.made, Some(start));
         at.place = more.place;
         at.made += more.made;
         if at.place == start && registers.are(kept, &mut apart) {
@@ -108,7 +87,7 @@ fn steps_with_looks(
     start: usize,
     kept: &mut Registers,
     steps: u32,
-) -> Result<Stand, RunFault>
+) -> Result<Stand, AllocError>
     requires held { are_held registers.old.items.items ≡ true }
     requires within { within_registers code.now registers.old ≡ true }
     ensures leads { IfOk result (λ stand.
@@ -118,7 +97,6 @@ fn steps_with_looks(
         → (length code.now ≤ stand.place) ⊎ CameBack code.now (stands_at start registers.old) stand.made) }
     ensures held { OnOk result (are_held registers.new.items.items ≡ true) }
     ensures within { OnOk result (within_registers code.now registers.new ≡ true) }
-    ensures memory { IfErr result (λ e. e ≡ fault.Memory) }
 {
     kept.copy_from(registers)?;
     let looks = (steps / PART).max(LEAST).min(steps);
@@ -126,7 +104,7 @@ fn steps_with_looks(
     if found.made < looks {
         return Ok(found);
     }
-    let rest = steps_from(code, registers, found.place, steps - looks);
+    let rest = steps_from(code, registers, found.place, steps - looks, None);
     Ok(Stand {
         place: rest.place,
         made: looks + rest.made,
@@ -146,7 +124,7 @@ pub(crate) fn advance(
     kept: &mut Registers,
     first: u32,
     steps: u32,
-) -> Result<Stand, RunFault>
+) -> Result<Stand, AllocError>
     requires held { are_held registers.old.items.items ≡ true }
     requires within { within_registers code.now registers.old ≡ true }
     ensures stands { IfOk result (λ stand. stands_at stand.place registers.new
@@ -157,9 +135,9 @@ pub(crate) fn advance(
     ensures ends { IfOk result (λ stand. stand.made < steps
         → (length code.now ≤ stand.place) ⊎ CameBack code.now (stands_at start registers.old) stand.made) }
     ensures held { OnOk result (are_held registers.new.items.items ≡ true) }
-    ensures memory { IfErr result (λ e. e ≡ fault.Memory) }
 {
-    let mut at = steps_from(code, registers, start, first.max(FIRST).min(steps));
+    let first = first.max(FIRST).min(steps);
+    let mut at = steps_from(code, registers, start, first, None);
     'rounds: while at.place < code.len() && at.made < steps {
         // As many again as were made.
         let most = at.made.min(steps - at.made);

@@ -1,12 +1,10 @@
 //! The first visit of each statement in a run, with the step made then.
 
-ghost use Rattle.std.specs.Prelude.{◌≡◌, length, IfOk, IfErr};
+ghost use Rattle.std.specs.Prelude.{◌≡◌, length, IfOk};
 ghost use Rattle.f77_code.specs.Follow.{AreNone};
-ghost use Rattle.f77_meaning.specs.declared.outcome.RunFault.TheVariants as fault;
 
 use f77_code::Passed;
-use f77_meaning::RunFault;
-use std::alloc::Global;
+use std::alloc::{AllocError, Global};
 
 /// For each statement, in order, the first time at which control was there, with the step made then.
 ///
@@ -21,10 +19,9 @@ pub struct Visits {
 
 impl Visits {
     /// Visits of this many statements, with nothing noted.
-    pub(crate) fn none(alloc: Global, count: usize) -> Result<Visits, RunFault>
+    pub(crate) fn none(alloc: Global, count: usize) -> Result<Visits, AllocError>
         ensures count { IfOk result (λ visits. length visits.list.items ≡ count) }
         ensures none { IfOk result (λ visits. AreNone visits.list.items) }
-        ensures memory { IfErr result (λ e. e ≡ fault.Memory) }
     {
         let mut list = Vec::with_capacity(alloc, count)?;
         for _statement in 0..count {

@@ -1,7 +1,7 @@
 //! What runs need, in memory that is taken once. The registers at the start (the values of DATA, and the constants
 //! behind the slots) are filled once. A run begins as a copy of them, into which its arguments are put.
 
-ghost use Rattle.std.specs.Prelude.{◌≡◌, List, length, true, ℤ, IfOk, IfErr, OnOk};
+ghost use Rattle.std.specs.Prelude.{◌≡◌, List, length, true, ℤ, IfErr, IfOk, OnOk};
 ghost use Rattle.f77_check.specs.Checked.{IsChecked};
 ghost use Rattle.f77_actions.specs.declared.resolved.Resolved.{Resolved};
 ghost use Rattle.f77_code.specs.Program.{IsCode};
@@ -20,7 +20,7 @@ use f77_actions::Finish;
 use f77_check::Checked;
 use f77_code::{Code, compiled, finish_at};
 use f77_meaning::{Arg, RunFault};
-use std::alloc::Global;
+use std::alloc::{AllocError, Global};
 
 /// How a run ends, and the number of steps after which that was known.
 #[derive(Clone, Copy)]
@@ -38,39 +38,32 @@ pub(crate) struct Workspace {
     pub(crate) kept: Registers,
 }
 
-/// The code of a program.
-pub(crate) fn code_of(alloc: Global, checked: &Checked) -> Result<Code, RunFault>
+/// The code of a program, and the workspace of its runs. The registers of a run take memory when the first run begins.
+pub(crate) fn prepared(alloc: Global, checked: &Checked) -> Result<(Code, Workspace), RunFault>
     ensures checked { IsChecked checked.now }
-    ensures code { IfOk result (λ code. IsCode checked.now.statements code) }
-    ensures slots { IfOk result (λ code. code.constants.slots ≡ checked.now.slots) }
+    ensures code { IfOk result (λ made. IsCode checked.now.statements made.0) }
+    ensures slots { IfOk result (λ made. made.0.constants.slots ≡ checked.now.slots) }
+    ensures image { IfOk result (λ made. IsImage checked.now made.0.constants.values.items made.1.image) }
     ensures memory { IfErr result (λ e. e ≡ fault.Memory) }
 {
-    Ok(compiled(alloc, checked.slots() as u32, checked.statements())?)
+    let code = compiled(alloc, checked.slots() as u32, checked.statements())?;
+    let space = Workspace {
+        image: Registers::at_start(alloc, checked, &code)?,
+        registers: Registers::new(alloc),
+        kept: Registers::new(alloc),
+    };
+    Ok((code, space))
 }
 
 impl Workspace {
-    /// The workspace of a program. The registers of a run take memory when the first run begins.
-    pub(crate) fn of(alloc: Global, checked: &Checked, code: &Code) -> Result<Workspace, RunFault>
-        requires code { IsCode checked.now.statements code.now }
-        ensures image { IfOk result (λ space. IsImage checked.now code.now.constants.values.items space.image) }
-        ensures memory { IfErr result (λ e. e ≡ fault.Memory) }
-    {
-        Ok(Workspace {
-            image: Registers::at_start(alloc, checked, code)?,
-            registers: Registers::new(alloc),
-            kept: Registers::new(alloc),
-        })
-    }
-
     /// Puts the registers at the start of a run with arguments that fit.
-    pub(crate) fn restart(&mut self, checked: &Checked, arguments: &[Arg]) -> Result<(), RunFault>
+    pub(crate) fn restart(&mut self, checked: &Checked, arguments: &[Arg]) -> Result<(), AllocError>
         requires image { (constants : List ℤ) × IsImage checked.now constants self.old.image }
         requires fitting { AreFitting checked.now.arguments arguments.now }
         ensures image { self.new.image ≡ self.old.image }
         ensures starts { OnOk result ((constants : List ℤ) → IsImage checked.now constants self.old.image
             → AreAtStart checked.now arguments.now constants
             self.new.registers.items.items self.new.registers.counters.items) }
-        ensures memory { IfErr result (λ e. e ≡ fault.Memory) }
     {
         self.registers.copy_from(&self.image)?;
         let start = checked.start();
@@ -92,7 +85,7 @@ impl Workspace {
         arguments: &[Arg],
         patience: u32,
         steps: u32,
-    ) -> Result<End, RunFault>
+    ) -> Result<End, AllocError>
         requires image { IsImage checked.now code.now.constants.values.items self.old.image }
         requires runs { (run : RunOf) × (statements : List Resolved) × HasCode run statements code.now
             × (run.checked ≡ checked.now) × (run.arguments ≡ arguments.now) }
@@ -100,7 +93,6 @@ impl Workspace {
         ensures ends { IfOk result (λ end. (run : RunOf) (statements : List Resolved)
             → HasCode run statements code.now → run.checked ≡ checked.now → run.arguments ≡ arguments.now
             → HasEnded run steps end.made end.finish self.new.registers.items.items) }
-        ensures memory { IfErr result (λ e. e ≡ fault.Memory) }
     {
         self.restart(checked, arguments)?;
         let entry = checked.start().entry;

@@ -28,21 +28,23 @@ arguments-requires-2-clause-hold c =
     rw (cells, slots, c.arguments.ensures)
     (dummies_hold checked c.start-start.ensures.checked (shown_by checked c.args.registers.now) c.requires.dummies.count c.requires.dummies.typed)
 
-pub returns-clause-arguments : goal.returns-clause-arguments
-returns-clause-arguments c =
+pub returns : goal.returns
+returns c =
     let checked = c.args.checked.now in
     let start = c.start-start.ensures.start in
     let kinds = c.deref.ensures.value ∙ ap (λ s. s.kinds.items) start in
     let slots : c.deref-2.result.now ≡ checked.start.dummies.items = c.deref-2.ensures.value ∙ ap (λ s. s.dummies.items) start in
     let cells : c.deref-3.result.now ≡ shown_by checked c.args.registers.now
     = c.deref-3.ensures.value ∙ c.in_ok-cells.ensures.cells ∙ ap (λ kinds. shown_cells kinds c.args.registers.now) kinds in
-    both_ok
-    (λ arguments. AreFitting c.arguments.result.now arguments)
-    (λ arguments. map (λ argument. map (λ v. Some v) (values_in argument)) arguments
-    ≡ map (λ pair. span pair.1 (size_of pair.0) c.deref-3.result.now) (zip c.arguments.result.now c.deref-2.result.now))
-    _
-    c.arguments-2.result c.arguments-2.ensures.fitting c.arguments-2.ensures.values
-    (λ arguments fits values.
-    dummies_read checked c.start-start.ensures.checked (shown_by checked c.args.registers.now) c.requires.dummies.count c.requires.dummies.typed arguments
-    (subst (λ list. AreFitting list arguments) c.arguments.ensures fits)
-    (values ∙ (λ i. map (λ pair. span pair.1 (size_of pair.0) (cells i)) (zip (c.arguments.ensures i) (slots i)))))
+    record {
+      arguments = both_ok
+          (λ arguments. AreFitting c.arguments.result.now arguments)
+          (λ arguments. map (λ argument. map (λ v. Some v) (values_in argument)) arguments
+          ≡ map (λ pair. span pair.1 (size_of pair.0) c.deref-3.result.now) (zip c.arguments.result.now c.deref-2.result.now))
+          _
+          c.arguments-2.result c.arguments-2.ensures.fitting c.arguments-2.ensures.values
+          (λ arguments fits values.
+          dummies_read checked c.start-start.ensures.checked (shown_by checked c.args.registers.now) c.requires.dummies.count c.requires.dummies.typed arguments
+          (subst (λ list. AreFitting list arguments) c.arguments.ensures fits)
+          (values ∙ (λ i. map (λ pair. span pair.1 (size_of pair.0) (cells i)) (zip (c.arguments.ensures i) (slots i)))));
+    }

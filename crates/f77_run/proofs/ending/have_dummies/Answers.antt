@@ -14,12 +14,12 @@ have_arguments-requires c =
     let checked = c.args.checked.now in
     let kinds = c.deref.ensures.value ∙ ap (λ s. s.kinds.items) c.start-start.ensures.start in
     let slots = c.deref-2.ensures.value ∙ ap (λ s. s.dummies.items) c.start-start.ensures.start in
-    let count = shown_count checked.start.kinds.items c.args.registers.now c.requires.room in
+    let count = shown_count checked.start.kinds.items c.args.registers.now c.requires.dummies.room in
     let room = dummies_room checked c.start-start.ensures.checked (shown_by checked c.args.registers.now) c.requires.dummies.count c.requires.dummies.typed c.args.arguments.now
     (c.requires.fit.0 c.if-not-fit.false) in
     rw (kinds, slots) (record {
-      held = c.requires.held;
-      room = c.requires.room;
+      held = c.requires.dummies.valid;
+      room = c.requires.dummies.room;
       slots = subst (λ n. HaveRoom n (zip checked.start.dummies.items c.args.arguments.now)) count room;
     })
 

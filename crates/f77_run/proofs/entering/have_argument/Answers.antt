@@ -1,14 +1,55 @@
-use Rattle.f77_actions.specs.declared.value.Value.TheVariants as held
-use Rattle.f77_run.specs.code.Registers.{shown_cells}
-use Rattle.f77_run.proofs.Entered.{array_same}
+use Rattle.std.proofs.Common.{rules, arith, ◌≡◌, ◌+◌, ◌<◌, ◌≤◌, ◌∙◌, ap, get_or, length, pos, refl, subst, sym, true≢false, w64, FitsSigned, Some}
+use Rattle.std.proofs.lemmas.Int.{to_z-of_z}
+use Rattle.std.proofs.lemmas.Option.{slice_get_within}
+use Rattle.std.specs.Bool.{Decides}
+use Rattle.f77_tree.specs.declared.tree.Kind.TheVariants.{Integer}
+use Rattle.f77_code.specs.Evaluation.{held_in}
+use Rattle.f77_code.specs.Registers.{decoded}
+use Rattle.f77_meaning.specs.Interpreter.{values_in}
+use Rattle.f77_run.specs.code.Registers.{shown_as, shown_cells}
+use Rattle.f77_run.proofs.Entered.{all_same, one_other, one_same, slot_shown}
+use Rattle.f77_run.proofs.Held.{decided_not}
 use Rattle.f77_run.proofs.entering.have_argument.Goals as goal
 
-pub returns-in-Ints : goal.returns-in-Ints
-returns-in-Ints c =
-    rw c.in-Ints.is (array_same (λ z. held.Number z) c.in-Ints.numbers (shown_cells c.args.kinds.now c.args.registers.now) c.args.first c.have_numbers.result
-    (rw c.as_slice.ensures at c.have_numbers.ensures))
+pub returns-then-not-is_value : goal.returns-then-not-is_value
+returns-then-not-is_value c =
+    let kinds = c.args.kinds.now in
+    let registers = c.args.registers.now in
+    let cells = shown_cells kinds registers in
+    let values = values_in c.args.argument.now in
+    let k = c.loop-place.place in
+    let slot = c.args.first + k in
+    let x = c.value.result in
+    let within : k < length values = slice_get_within values k x c.value.ensures in
+    let z = get_or registers slot (pos 0) in
+    let wide : FitsSigned w64 z = search rules in
+    let shown = slot_shown kinds registers slot Integer (pos 0) c.requires.room (omega (arith, within, c.requires.slots)) in
+    let own = ap (λ z. shown_as (get_or kinds slot Integer) (decoded z)) (to_z-of_z w64 z wide) in
+    let has : Decides c.is_value.result (Some x ≡ held_in cells slot) = subst (λ cell. Decides c.is_value.result (Some x ≡ cell)) (own ∙ sym shown) c.is_value.ensures in
+    decided_not (one_other values cells c.args.first k x c.value.ensures (λ same. true≢false (sym (has.1 same) ∙ c.if-not-is_value.true)))
 
-pub returns-in-Truths : goal.returns-in-Truths
-returns-in-Truths c =
-    rw c.in-Truths.is (array_same (λ b. held.Truth b) c.in-Truths.truths (shown_cells c.args.kinds.now c.args.registers.now) c.args.first c.have_truths.result
-    (rw c.as_slice-in-Truths.ensures at c.have_truths.ensures))
+pub loop-place-preserved : goal.loop-place-preserved
+loop-place-preserved c =
+    let kinds = c.args.kinds.now in
+    let registers = c.args.registers.now in
+    let cells = shown_cells kinds registers in
+    let values = values_in c.args.argument.now in
+    let k = c.loop-place.place in
+    let slot = c.args.first + k in
+    let x = c.value.result in
+    let within : k < length values = slice_get_within values k x c.value.ensures in
+    let z = get_or registers slot (pos 0) in
+    let wide : FitsSigned w64 z = search rules in
+    let shown = slot_shown kinds registers slot Integer (pos 0) c.requires.room (omega (arith, within, c.requires.slots)) in
+    let own = ap (λ z. shown_as (get_or kinds slot Integer) (decoded z)) (to_z-of_z w64 z wide) in
+    let has : Decides c.is_value.result (Some x ≡ held_in cells slot) = subst (λ cell. Decides c.is_value.result (Some x ≡ cell)) (own ∙ sym shown) c.is_value.ensures in
+    one_same values cells c.args.first k x c.value.ensures (has.0 c.if-not-is_value.false) c.loop-place.invariant
+
+pub returns : goal.returns
+returns c =
+    let k = c.loop-place.place in
+    let values = values_in c.args.argument.now in
+    let same = all_same values (shown_cells c.args.kinds.now c.args.registers.now) c.args.first k
+    (subst (λ n. n ≤ k) c.count-place-end.ensures c.loop-place-test.false)
+    (subst (λ n. k ≤ n) c.count-place-end.ensures c.loop-place.auto.place-end) c.loop-place.invariant in
+    (λ e. same, λ all. refl)

@@ -41,10 +41,12 @@ loop-kind-preserved c =
     (mapped_more kinds registers (λ pair. shown_as pair.0 (decoded pair.1)) i (kind.now, register.now) c.loop-kind.cells.items c.push.new.self.items
     (shown_cells kinds registers) step (c.in_ok-push.ensures.items ∙ ap (λ x. c.loop-kind.cells.items ++ (x ∷ [])) value) c.loop-kind.invariant)
 
-pub returns-clause-cells : goal.returns-clause-cells
-returns-clause-cells c =
+pub returns : goal.returns
+returns c =
     let kinds = c.args.kinds.now in
     let registers = c.args.registers.now in
     let end = zip_end kinds registers c.loop-kind.yielded _ c.loop-kind.kind-iterator c.next.new.self c.next.result (cc) (cc) c.loop-kind.yielded_by c.in-None.is c.next.ensures.steps in
-    mapped_all kinds registers (λ pair. shown_as pair.0 (decoded pair.1)) (length c.loop-kind.yielded) c.loop-kind.cells.items (shown_cells kinds registers) end
-    c.loop-kind.invariant
+    record {
+      cells = mapped_all kinds registers (λ pair. shown_as pair.0 (decoded pair.1)) (length c.loop-kind.yielded) c.loop-kind.cells.items (shown_cells kinds registers) end
+          c.loop-kind.invariant;
+    }

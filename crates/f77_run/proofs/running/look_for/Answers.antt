@@ -15,34 +15,34 @@ looks-init c = record {
 
 pub are-requires : goal.are-requires
 are-requires c =
-    as_many c.args.code.now (stands_at c.looks.at.place c.looks.registers) c.steps_to-more.result.made
-    (stands_at c.steps_to-more.result.place c.steps_to-more.new.registers) c.steps_to-more.ensures.leads ∙ c.looks.invariant.registers
+    as_many c.args.code.now (stands_at c.looks.at.place c.looks.registers) c.steps_from-more.result.made
+    (stands_at c.steps_from-more.result.place c.steps_from-more.new.registers) c.steps_from-more.ensures.leads ∙ c.looks.invariant.registers
 
 pub returns-then-are-clause-leads : goal.returns-then-are-clause-leads
 returns-then-are-clause-leads c =
     leads_on c.args.code.now (stands_at c.args.start c.args.registers.now) c.looks.at.made (stands_at c.looks.at.place c.looks.registers) c.looks.invariant.leads
-    c.steps_to-more.result.made (stands_at c.steps_to-more.result.place c.steps_to-more.new.registers) c.steps_to-more.ensures.leads
+    c.steps_from-more.result.made (stands_at c.steps_from-more.result.place c.steps_from-more.new.registers) c.steps_from-more.ensures.leads
 
 -- the code is in the state in which it was at first
 pub returns-then-are-clause-ends : goal.returns-then-are-clause-ends
 returns-then-are-clause-ends c =
     let begin = stands_at c.args.start c.args.registers.now in
-    let here = stands_at c.steps_to-more.result.place c.steps_to-more.new.registers in
+    let here = stands_at c.steps_from-more.result.place c.steps_from-more.new.registers in
     let leads = leads_on c.args.code.now begin c.looks.at.made (stands_at c.looks.at.place c.looks.registers) c.looks.invariant.leads
-    c.steps_to-more.result.made here c.steps_to-more.ensures.leads in
+    c.steps_from-more.result.made here c.steps_from-more.ensures.leads in
     let left : 0 < c.args.steps - c.looks.at.made = omega (arith, c.if-at-steps.true) in
-    let some = c.steps_to-more.ensures.some c.looks-test.true left in
+    let some = c.steps_from-more.ensures.some c.looks-test.true left in
     let same = c.are.ensures.0 c.if-are.true in
     let back : here ≡ begin = (λ k. point (c.if-at-start.true k) (same k).registers (same k).turns) ∙ sym c.requires.kept in
-    λ _. inr (came_back c.args.code.now begin (c.looks.at.made + c.steps_to-more.result.made) here leads (omega (arith, some)) back)
+    λ _. inr (came_back c.args.code.now begin (c.looks.at.made + c.steps_from-more.result.made) here leads (omega (arith, some)) back)
 
 pub looks-preserved : goal.looks-preserved
 looks-preserved c = record {
   leads = leads_on c.args.code.now (stands_at c.args.start c.args.registers.now) c.looks.at.made (stands_at c.looks.at.place c.looks.registers)
-      c.looks.invariant.leads c.steps_to-more.result.made (stands_at c.steps_to-more.result.place c.steps_to-more.new.registers) c.steps_to-more.ensures.leads;
-  held = c.steps_to-more.ensures.held;
-  within = c.steps_to-more.ensures.within;
-  registers = as_many c.args.code.now (stands_at c.looks.at.place c.looks.registers) c.steps_to-more.result.made
-      (stands_at c.steps_to-more.result.place c.steps_to-more.new.registers) c.steps_to-more.ensures.leads ∙ c.looks.invariant.registers;
-  made = omega (arith, c.steps_to-more.ensures.made, c.looks.invariant.made);
+      c.looks.invariant.leads c.steps_from-more.result.made (stands_at c.steps_from-more.result.place c.steps_from-more.new.registers) c.steps_from-more.ensures.leads;
+  held = c.steps_from-more.ensures.held;
+  within = c.steps_from-more.ensures.within;
+  registers = as_many c.args.code.now (stands_at c.looks.at.place c.looks.registers) c.steps_from-more.result.made
+      (stands_at c.steps_from-more.result.place c.steps_from-more.new.registers) c.steps_from-more.ensures.leads ∙ c.looks.invariant.registers;
+  made = omega (arith, c.steps_from-more.ensures.made, c.looks.invariant.made);
 }

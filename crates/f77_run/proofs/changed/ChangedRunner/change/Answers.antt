@@ -54,6 +54,6 @@ invariant_of-self-2 c =
     let in_place : IsInPlace runner.checked.now c.args.number stmt made = search rules in
     let compiled : IsCode (slice_set runner.checked.now.statements place made) code.code = search rules in
     let others : AgreeButAt place (own_instructions code) code.code.instructions.items = search rules in
-    put_in_place runner.checked.now is.checked c.args.number stmt fit made legal in_place code c.put.new.image c.of.result.value
-    (ap statement_of c.of.ensures) c.put.ensures.code (c.put.ensures.same.slots ∙ c.restore.ensures.same.slots ∙ is.slots) c.put.ensures.image
+    put_in_place runner.checked.now is.checked c.args.number stmt fit made legal in_place code c.put.new.image c.of-stmt.result.value
+    (ap statement_of c.of-stmt.ensures) c.put.ensures.code (c.put.ensures.same.slots ∙ c.restore.ensures.same.slots ∙ is.slots) c.put.ensures.image
     compiled others

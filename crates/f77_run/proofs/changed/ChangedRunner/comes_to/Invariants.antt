@@ -1,5 +1,5 @@
 use Rattle.f77_run.specs.code.Diverging.{divergence_of}
 use Rattle.f77_run.proofs.changed.ChangedRunner.comes_to.Given as goal
 
-abbrev pub ghost-keeps_outcome : goal.ghost-keeps_outcome
-ghost-keeps_outcome a = divergence_of a.checked.now a.change.now a.arguments.now a.steps a.passed.now
+abbrev pub ghost-end_beside : goal.ghost-end_beside
+ghost-end_beside a = divergence_of a.checked.now a.change.now a.arguments.now a.steps a.passed.now

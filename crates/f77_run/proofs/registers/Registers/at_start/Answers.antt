@@ -21,8 +21,8 @@ overflow_sub-loops c =
     let count = c.count.ensures in
     omega (arith, many, lines, count)
 
-pub returns-clause-image : goal.returns-clause-image
-returns-clause-image c =
+pub returns : goal.returns
+returns c =
     let checked = c.args.checked.now in
     let start = c.start-start.ensures.start in
     let kinds = c.deref.ensures.value ∙ ap (λ s. s.kinds.items) start in
@@ -36,16 +36,18 @@ returns-clause-image c =
     let count = c.count.ensures in
     let loops : length c.instructions.result.now - c.count.result ≡ loop_count checked.statements = omega (arith, many, lines, count) in
     record {
-      registers = record {
-        count = initial_counted checked c.start-start.ensures.checked;
-        items = items;
-        held = ap are_held items
-            ∙ list_all-append is_held (loaded checked.start.kinds.items (map (option_map constant_value) checked.start.initial.items)) c.args.code.now.constants.values.items
-            ∙ and_from _ _ (sym (λ i. are_held (loaded (kinds i) (cells i))) ∙ c.in_ok-add_slots.ensures.held) (sym (ap are_held constants) ∙ c.in_ok-add_constants.ensures.held);
-        values = sym (λ i. values_fit (kinds i) (cells i)) ∙ c.in_ok-add_slots.ensures.fitting;
-        numbers = sym (ap (list_all fits) constants) ∙ c.in_ok-add_constants.ensures.fitting;
+      image = record {
+        registers = record {
+          count = initial_counted checked c.start-start.ensures.checked;
+          items = items;
+          held = ap are_held items
+              ∙ list_all-append is_held (loaded checked.start.kinds.items (map (option_map constant_value) checked.start.initial.items)) c.args.code.now.constants.values.items
+              ∙ and_from _ _ (sym (λ i. are_held (loaded (kinds i) (cells i))) ∙ c.in_ok-add_slots.ensures.held) (sym (ap are_held constants) ∙ c.in_ok-add_constants.ensures.held);
+          values = sym (λ i. values_fit (kinds i) (cells i)) ∙ c.in_ok-add_slots.ensures.fitting;
+          numbers = sym (ap (list_all fits) constants) ∙ c.in_ok-add_constants.ensures.fitting;
+        };
+        counters = c.in_ok-counters.ensures.items_if_clones_equal (λ y e. e)
+            ∙ ap (λ n. replicate n idle) loops
+            ∙ sym (idle_counters checked.statements (length checked.program) (sym lines));
       };
-      counters = c.in_ok-counters.ensures.items_if_clones_equal (λ y e. e)
-          ∙ ap (λ n. replicate n idle) loops
-          ∙ sym (idle_counters checked.statements (length checked.program) (sym lines));
     }

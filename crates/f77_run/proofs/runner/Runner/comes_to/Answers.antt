@@ -1,13 +1,12 @@
-use Rattle.std.proofs.Common.{◌≡◌, ◌≤◌, true, List, ℤ, length, map, refl, sym, subst}
+use Rattle.std.proofs.Common.{◌≡◌, List, ℤ, map, refl, sym, subst}
 use Rattle.std.specs.Bool.{Decides}
 use Rattle.f77_program.specs.Program.{line_of}
 use Rattle.f77_check.specs.Checked.{CheckedFields}
 use Rattle.f77_check.specs.declared.checked.Shape.{Shape}
-use Rattle.f77_code.specs.Registers.{are_held}
 use Rattle.f77_meaning.specs.Interpreter.{AreFitting, IsOutcomeOf}
 use Rattle.f77_meaning.specs.declared.outcome.Outcome.{Outcome}
 use Rattle.f77_run.specs.code.Ends.{ReportsOf}
-use Rattle.f77_run.specs.code.Site.{HoldDummies, shown_by}
+use Rattle.f77_run.specs.code.Site.{HoldDummies}
 use Rattle.f77_run.proofs.Starting.{own_run, own_compiled}
 use Rattle.f77_run.proofs.runner.Runner.comes_to.Goals as goal
 
@@ -15,7 +14,7 @@ pub end_of-requires : goal.end_of-requires
 end_of-requires c =
     let checked = c.self.inside.checked.now in
     let is = c.self.invariant in
-    let fits = subst (λ (list : List Shape). AreFitting list c.args.arguments.now) c.arguments.ensures c.in-Ok.ensures.fitting in
+    let fits = subst (λ (list : List Shape). AreFitting list c.args.arguments.now) c.arguments.ensures c.in_ok-fit.ensures.fitting in
     record {
       image = is.3;
       runs = (
@@ -31,27 +30,21 @@ pub is_outcome_for-requires : goal.is_outcome_for-requires
 is_outcome_for-requires c =
     let checked = c.self.inside.checked.now in
     let is = c.self.invariant in
-    let fits = subst (λ (list : List Shape). AreFitting list c.args.arguments.now) c.arguments.ensures c.in-Ok.ensures.fitting in
-    let end = c.in_ok-end-in-Ok.ensures.ends (own_run checked is.0 c.args.arguments.now fits) checked.statements
+    let fits = subst (λ (list : List Shape). AreFitting list c.args.arguments.now) c.arguments.ensures c.in_ok-fit.ensures.fitting in
+    let end = c.in_ok-end.ensures.ends (own_run checked is.0 c.args.arguments.now fits) checked.statements
     (own_compiled checked is.0 c.args.arguments.now fits c.self.inside.code is.1 is.2) refl refl in
-    let registers = sym c.deref.ensures.value in
-    record {
-      fit = c.has_fitting_values-fit.ensures;
-      held = subst (λ (list : List ℤ). are_held list ≡ true) registers end.held;
-      room = subst (λ (list : List ℤ). length checked.start.kinds.items ≤ length list) registers end.room;
-      dummies = subst (λ (list : List ℤ). HoldDummies checked (shown_by checked list)) registers end.dummies;
-    }
+    record { fit = c.has_fitting_values-fit.ensures; dummies = subst (HoldDummies checked) (sym c.deref.ensures.value) end.shows.dummies }
 
-pub returns-in_ok-end-in-Ok-clause-outcome : goal.returns-in_ok-end-in-Ok-clause-outcome
-returns-in_ok-end-in-Ok-clause-outcome c =
+pub returns-clause-outcome : goal.returns-clause-outcome
+returns-clause-outcome c =
     let checked = c.self.inside.checked.now in
     let is = c.self.invariant in
-    let fits = subst (λ (list : List Shape). AreFitting list c.args.arguments.now) c.arguments.ensures c.in-Ok.ensures.fitting in
-    let run = own_run checked is.0 c.args.arguments.now fits in
-    let end = c.in_ok-end-in-Ok.ensures.ends run checked.statements (own_compiled checked is.0 c.args.arguments.now fits c.self.inside.code is.1 is.2) refl refl in
+    let fits = subst (λ (list : List Shape). AreFitting list c.args.arguments.now) c.arguments.ensures c.in_ok-fit.ensures.fitting in
+    let end = c.in_ok-end.ensures.ends (own_run checked is.0 c.args.arguments.now fits) checked.statements
+    (own_compiled checked is.0 c.args.arguments.now fits c.self.inside.code is.1 is.2) refl refl in
     let decided
-    = subst (λ (list : List ℤ). Decides c.is_outcome_for.result (ReportsOf run c.in_ok-end-in-Ok.end.finish list c.args.outcome.now)) c.deref.ensures.value c.is_outcome_for.ensures in
+    = subst (λ (list : List ℤ). Decides c.is_outcome_for.result (ReportsOf checked c.in_ok-end.end.finish list c.args.outcome.now)) c.deref.ensures.value c.is_outcome_for.ensures in
     subst
     (λ (checked : CheckedFields). (other : Outcome)
     × IsOutcomeOf (map line_of checked.program) c.args.arguments.now c.args.steps other × Decides c.is_outcome_for.result (c.args.outcome.now ≡ other))
-    c.self.view_is (end.decides c.args.outcome.now c.is_outcome_for.result decided)
+    c.self.view_is (end.shows.decides c.args.outcome.now c.is_outcome_for.result decided)

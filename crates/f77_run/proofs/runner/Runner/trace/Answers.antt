@@ -1,23 +1,112 @@
-use Rattle.std.proofs.Common.{◌≡◌, map, subst}
-use Rattle.std.specs.Prelude.{IfOk}
+use Rattle.std.proofs.Common.{rules, ◌≡◌, ◌∙◌, List, ℤ, length, map, sym, ap, subst}
+use Rattle.std.proofs.lemmas.List.{with_items_is}
 use Rattle.f77_program.specs.Program.{line_of}
 use Rattle.f77_check.specs.Checked.{CheckedFields}
-use Rattle.f77_meaning.specs.Interpreter.{IsOutcomeOf}
-use Rattle.f77_meaning.specs.declared.outcome.Outcome.{Outcome}
-use Rattle.f77_meaning.proofs.Beginning.{both_ok}
+use Rattle.f77_check.specs.declared.checked.Shape.{Shape}
+use Rattle.f77_code.specs.declared.control.Turn.{Turn}
+use Rattle.f77_meaning.specs.Interpreter.{AreFitting, IsOutcomeOf}
 use Rattle.f77_meaning.proofs.OneAnswer.{one_answer}
+use Rattle.f77_run.specs.declared.visits.Visits.{Visits}
+use Rattle.f77_run.specs.Visits.{AreAtStart, IsFollowed}
+use Rattle.f77_run.specs.code.Ends.{ReportsOf}
+use Rattle.f77_run.specs.code.Site.{HoldDummies}
+use Rattle.f77_run.proofs.Followed.{dummies_there, followed, names_within, outcome_there, slots_within, statements_within, writes_below}
 use Rattle.f77_run.proofs.runner.Runner.trace.Goals as goal
 
-pub returns-in-Ok-clause-only : goal.returns-in-Ok-clause-only
-returns-in-Ok-clause-only c =
-    let program = map line_of c.self.inside.checked.now.program in
-    let only = both_ok
-    (λ trace. IsOutcomeOf program c.args.arguments.now c.args.steps trace.outcome)
-    (λ trace. IsOutcomeOf program c.args.arguments.now c.args.steps trace.outcome)
-    (λ trace. (other : Outcome) → IsOutcomeOf program c.args.arguments.now c.args.steps other → other ≡ trace.outcome)
-    c.trace_of.result c.trace_of.ensures.outcome c.trace_of.ensures.outcome
-    (λ trace is also other comes. one_answer program c.args.arguments.now c.args.steps other trace.outcome comes is) in
-    subst
-    (λ (checked : CheckedFields). IfOk c.trace_of.result
-    (λ trace. (other : Outcome) → IsOutcomeOf (map line_of checked.program) c.args.arguments.now c.args.steps other → other ≡ trace.outcome))
-    c.self.view_is only
+pub follow-requires : goal.follow-requires
+follow-requires c =
+    let checked = c.self.inside.checked.now in
+    let is = c.self.invariant.0 in
+    let given = c.args.arguments.now in
+    let fits = subst (λ (list : List Shape). AreFitting list given) c.arguments.ensures c.in_ok-fit.ensures.fitting in
+    let code = c.self.inside.code in
+    let registers = c.deref_mut.result.now in
+    let turns = c.deref_mut-2.result.now in
+    let begun
+    = subst (λ (pair : List ℤ × List Turn). AreAtStart checked given code.constants.values.items pair.0 pair.1)
+    (λ i. (sym c.deref_mut.ensures.value i, sym c.deref_mut-2.ensures.value i))
+    (c.in_ok-restart.ensures.starts code.constants.values.items c.self.invariant.3) in
+    record {
+      held = begun.loaded.held;
+      within = names_within checked is given fits code c.self.invariant.1 c.self.invariant.2 registers turns begun c.instructions.result.now c.instructions.ensures;
+      slots = slots_within checked is given fits code c.self.invariant.1 c.self.invariant.2 registers turns begun
+          c.instructions.result.now c.instructions.ensures c.slots.result c.slots.ensures.slots;
+      writes = writes_below checked is given fits code c.self.invariant.1 c.self.invariant.2 registers turns begun
+          c.instructions.result.now c.instructions.ensures c.slots.result c.slots.ensures.slots;
+      none = c.in_ok-visits.ensures.none;
+      list = statements_within checked is given fits code c.self.invariant.1 c.self.invariant.2 registers turns begun
+          c.instructions.result.now c.instructions.ensures _ (c.in_ok-visits.ensures.count ∙ c.count.ensures);
+    }
+
+pub answer-requires : goal.answer-requires
+answer-requires c =
+    let checked = c.self.inside.checked.now in
+    let is = c.self.invariant.0 in
+    let given = c.args.arguments.now in
+    let fits = subst (λ (list : List Shape). AreFitting list given) c.arguments.ensures c.in_ok-fit.ensures.fitting in
+    let code = c.self.inside.code in
+    let registers = c.deref_mut.result.now in
+    let turns = c.deref_mut-2.result.now in
+    let begun
+    = subst (λ (pair : List ℤ × List Turn). AreAtStart checked given code.constants.values.items pair.0 pair.1)
+    (λ i. (sym c.deref_mut.ensures.value i, sym c.deref_mut-2.ensures.value i))
+    (c.in_ok-restart.ensures.starts code.constants.values.items c.self.invariant.3) in
+    let old = c.restart.new.self.registers.items in
+    let full : length old.items ≡ old.len = search rules in
+    let same : length c.follow.new.registers ≡ length old.items = c.follow.auto.registers ∙ ap length c.deref_mut.ensures.value in
+    let back : c.deref.result.now ≡ c.follow.new.registers = c.deref.ensures.value ∙ with_items_is old c.follow.new.registers (same ∙ full) in
+    record {
+      dummies = subst (HoldDummies checked) (sym back)
+          (dummies_there checked is given fits code c.self.invariant.1 c.self.invariant.2 registers turns begun c.instructions.result.now c.instructions.ensures
+          c.start.result.now.entry (ap (λ s. s.entry) c.start.ensures.start) c.args.steps c.in_ok-stand.stand.place c.follow.new.registers c.follow.new.turns
+          c.in_ok-stand.ensures.after c.finish_at-finish.result c.finish_at-finish.ensures.ended c.finish_at-finish.ensures.limit c.in_ok-stand.ensures.held);
+    }
+
+pub returns-clause-outcome : goal.returns-clause-outcome
+returns-clause-outcome c =
+    let checked = c.self.inside.checked.now in
+    let is = c.self.invariant.0 in
+    let given = c.args.arguments.now in
+    let fits = subst (λ (list : List Shape). AreFitting list given) c.arguments.ensures c.in_ok-fit.ensures.fitting in
+    let code = c.self.inside.code in
+    let registers = c.deref_mut.result.now in
+    let turns = c.deref_mut-2.result.now in
+    let begun
+    = subst (λ (pair : List ℤ × List Turn). AreAtStart checked given code.constants.values.items pair.0 pair.1)
+    (λ i. (sym c.deref_mut.ensures.value i, sym c.deref_mut-2.ensures.value i))
+    (c.in_ok-restart.ensures.starts code.constants.values.items c.self.invariant.3) in
+    let old = c.restart.new.self.registers.items in
+    let full : length old.items ≡ old.len = search rules in
+    let same : length c.follow.new.registers ≡ length old.items = c.follow.auto.registers ∙ ap length c.deref_mut.ensures.value in
+    let back : c.deref.result.now ≡ c.follow.new.registers = c.deref.ensures.value ∙ with_items_is old c.follow.new.registers (same ∙ full) in
+    let outcome = c.in_ok-outcome.outcome in
+    subst (λ (checked : CheckedFields). IsOutcomeOf (map line_of checked.program) given c.args.steps outcome) c.self.view_is
+    (outcome_there checked is given fits code c.self.invariant.1 c.self.invariant.2 registers turns begun c.instructions.result.now c.instructions.ensures
+    c.start.result.now.entry (ap (λ s. s.entry) c.start.ensures.start) c.args.steps c.in_ok-stand.stand.place c.follow.new.registers c.follow.new.turns
+    c.in_ok-stand.ensures.after c.finish_at-finish.result c.finish_at-finish.ensures.ended c.finish_at-finish.ensures.limit outcome
+    (subst (λ (list : List ℤ). ReportsOf checked c.finish_at-finish.result list outcome) back c.in_ok-outcome.ensures.reports))
+
+pub returns-clause-only : goal.returns-clause-only
+returns-clause-only c = λ other also. one_answer _ _ _ other _ also (returns-clause-outcome c)
+
+pub returns-clause-visits : goal.returns-clause-visits
+returns-clause-visits c =
+    let checked = c.self.inside.checked.now in
+    let is = c.self.invariant.0 in
+    let given = c.args.arguments.now in
+    let fits = subst (λ (list : List Shape). AreFitting list given) c.arguments.ensures c.in_ok-fit.ensures.fitting in
+    let code = c.self.inside.code in
+    let registers = c.deref_mut.result.now in
+    let turns = c.deref_mut-2.result.now in
+    let begun
+    = subst (λ (pair : List ℤ × List Turn). AreAtStart checked given code.constants.values.items pair.0 pair.1)
+    (λ i. (sym c.deref_mut.ensures.value i, sym c.deref_mut-2.ensures.value i))
+    (c.in_ok-restart.ensures.starts code.constants.values.items c.self.invariant.3) in
+    let visits : Visits = record { list = c.follow.new.list; made = c.in_ok-stand.stand.made } in
+    subst (λ (checked : CheckedFields). IsFollowed checked given c.args.steps visits) c.self.view_is
+    (followed checked is given fits code c.self.invariant.1 c.self.invariant.2 registers turns begun c.instructions.result.now c.instructions.ensures
+    c.start.result.now.entry (ap (λ s. s.entry) c.start.ensures.start) c.args.steps c.slots.result c.slots.ensures.slots visits
+    (c.in_ok-stand.ensures.count ∙ c.in_ok-visits.ensures.count ∙ c.count.ensures) c.in_ok-stand.ensures.passed c.in_ok-stand.ensures.kept)
+
+pub returns-clause-room : goal.returns-clause-room
+returns-clause-room c = c.in_ok-stand.ensures.room

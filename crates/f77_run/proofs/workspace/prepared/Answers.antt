@@ -4,7 +4,7 @@ use Rattle.f77_actions.specs.declared.resolved.Resolved.{Resolved}
 use Rattle.f77_code.specs.Compiled.{are_ready}
 use Rattle.f77_code.specs.Places.{have_places}
 use Rattle.f77_run.proofs.Readiness.{few_statements, have_all_places, all_ready}
-use Rattle.f77_run.proofs.workspace.code_of.Goals as goal
+use Rattle.f77_run.proofs.workspace.prepared.Goals as goal
 
 pub compiled-requires : goal.compiled-requires
 compiled-requires c =
