@@ -78,7 +78,7 @@ impl Flaws {
         ensures flaws { Adds self.old self.new (has_name names.now name.now) true
             (subscripts == length (array_bounds names.now name.now)) }
     {
-        match names.facts.get(name) {
+        match names.said_of(name) {
             Some(facts) => {
                 self.check_bounds(subscripts == facts.bounds.len());
                 facts.kind

@@ -4,9 +4,9 @@ ghost use Rattle.std.specs.Prelude.{◌≡◌, ◌-◌, ◌^◌, ◌||◌, List,
 ghost use Rattle.std.specs.Prelude.{slice_get, option_map, is_some, length, false, IfOk, IfErr};
 ghost use Rattle.std.specs.List.{find};
 ghost use Rattle.std.specs.Map.Iter.{deref_pair};
-ghost use Rattle.std.specs.Option.{option_map_or};
+ghost use Rattle.std.specs.Option.{option_copied, option_map_or};
 ghost use Rattle.std.specs.Str.{bytes_eq};
-ghost use Rattle.indexmap.specs.IndexMap.{values};
+ghost use Rattle.indexmap.specs.IndexMap.{get, index_of, values};
 ghost use Rattle.f77_tree.specs.Intrinsic.{function_named};
 ghost use Rattle.f77_program.specs.Program.{LineFields, line_of};
 ghost use Rattle.f77_legal.specs.declared.fault.CheckFault.TheVariants as fault;
@@ -24,6 +24,9 @@ use f77_program::Line;
 use f77_tree::{Intrinsic, Kind, Name, Shared};
 use indexmap::IndexMap;
 use std::alloc::Global;
+
+/// The most names of a table that is searched from its head: to compare a few names is quicker than to hash one.
+const FEW: usize = 12;
 
 /// How often something was said of a name. Clauses ask for none, one or more, so more is not counted.
 #[derive(Clone, Copy, Debug, PartialEq, Eq)]
@@ -141,11 +144,31 @@ impl Names {
         Ok(names)
     }
 
+    /// The place of a name in the table, from 0.
+    pub fn place(&self, name: &Name) -> Option<usize>
+        ensures { result ≡ index_of bytes_eq self.now.facts name.now }
+    {
+        if self.facts.len() > FEW {
+            return self.facts.get_index_of(name);
+        }
+        self.facts.keys().position(|own| name == own)
+    }
+
+    /// What the program says of a name; None where it is not in the table.
+    pub(crate) fn said_of(&self, name: &Name) -> Option<&Facts>
+        ensures { option_copied result ≡ get bytes_eq self.now.facts name.now }
+    {
+        match self.facts.get_index(self.place(name)?) {
+            Some((_, facts)) => Some(facts),
+            None => None,
+        }
+    }
+
     /// The kind of a name: INTEGER where no type statement gives one.
     pub fn kind(&self, name: &Name) -> Kind
         ensures { result ≡ kind_at self.now name.now }
     {
-        match self.facts.get(name) {
+        match self.said_of(name) {
             Some(facts) => facts.kind,
             None => Kind::Integer,
         }
@@ -155,7 +178,7 @@ impl Names {
     pub fn bounds(&self, name: &Name) -> &[u32]
         ensures { result.now ≡ array_bounds self.now name.now }
     {
-        match self.facts.get(name) {
+        match self.said_of(name) {
             Some(facts) => &facts.bounds,
             None => &[],
         }
@@ -165,7 +188,7 @@ impl Names {
     pub(crate) fn is_dummy(&self, name: &Name) -> bool
         ensures { result ≡ dummy_at self.now name.now }
     {
-        match self.facts.get(name) {
+        match self.said_of(name) {
             Some(facts) => !facts.dummy.is_never(),
             None => false,
         }
