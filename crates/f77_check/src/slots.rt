@@ -42,7 +42,7 @@ impl Slots {
         requires kept { is_kept names.now name.now ≡ true }
         ensures { first_slot (array_bounds names.now) (keys names.now.facts) name.now ≡ Some result }
     {
-        match names.facts.get_index_of(name) {
+        match names.place(name) {
             Some(n) => self.first[n],
             None => unreachable!(),
         }
