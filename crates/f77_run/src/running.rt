@@ -14,7 +14,7 @@ const FIRST: u32 = 64;
 
 /// A kept state is looked for during this many steps at least. A run that comes back within them is found as soon as if
 /// each step were looked at.
-const LEAST: u32 = 512;
+const LEAST: u32 = 256;
 
 /// In a long run the kept state is looked for during one step in this many, since looking takes half as long as a step.
 const PART: u32 = 32;
