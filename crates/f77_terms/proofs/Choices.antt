@@ -7,13 +7,10 @@ use Rattle.f77_terms.specs.declared.paths.Case.{Case}
 use Rattle.f77_terms.specs.Terms.{Valuation}
 use Rattle.f77_terms.specs.Bounds.{AreBelow}
 use Rattle.f77_terms.specs.Paths.{IsOneOf}
-use Rattle.f77_terms.proofs.There.{any_before, any_behind}
+use Rattle.f77_terms.proofs.There.{any_before}
 
 pub stays : (v : Valuation) (old new more : List Case) → new ≡ old ++ more → IsOneOf v old → IsOneOf v new
 stays v old new more is there = subst (IsOneOf v) (sym is) (any_before (λ case. AreBelow v case.bounds.items) old more there)
-
-pub comes : (v : Valuation) (old new more : List Case) → new ≡ old ++ more → IsOneOf v more → IsOneOf v new
-comes v old new more is there = subst (IsOneOf v) (sym is) (any_behind (λ case. AreBelow v case.bounds.items) old more there)
 
 pub pushed_there : (v : Valuation) (old new : List Case) (case : Case) → new ≡ old ++ case ∷ [] → AreBelow v case.bounds.items → IsOneOf v new
 pushed_there v old new case is there = subst (IsOneOf v) (sym is) (Any-push (λ case. AreBelow v case.bounds.items) old case there)

@@ -1,7 +1,7 @@
 -- One of several is there, where cases are added.
 use Rattle.std.proofs.Common.{arith, ◌≡◌, ◌≢◌, ◌<◌, ◌≤◌, ◌+◌, ◌⊎◌, inl, inr, ℕ, zero, suc, List, [], ◌∷◌, ◌++◌, length, length-append, take, get_or, ap, sym, subst, ◌∙◌}
 use Rattle.std.specs.Prelude.{All, Any}
-use Rattle.std.proofs.lemmas.List.{get_or_append_left, get_or-append-add, take_more, take_all}
+use Rattle.std.proofs.lemmas.List.{get_or_append_left, take_more, take_all}
 use Rattle.std.proofs.lemmas.Bool.Decides.{eqb_tells}
 
 pub same_or_not : (j k : ℕ) → (j ≡ k) ⊎ (j ≢ k)
@@ -11,11 +11,6 @@ pub any_before : {X : Type 0} (P : X → Type 0) (xs ys : List X) → Any P xs �
 any_before P xs ys there =
     let l = there.2 in
     (there.0, there.1, omega (arith, length-append xs ys, l), get_or_append_left xs ys there.1 there.0 l ∙ there.3, there.4)
-
-pub any_behind : {X : Type 0} (P : X → Type 0) (xs ys : List X) → Any P ys → Any P (xs ++ ys)
-any_behind P xs ys there =
-    let l = there.2 in
-    (length xs + there.0, there.1, omega (arith, length-append xs ys, l), get_or-append-add xs ys there.0 there.1 ∙ there.3, there.4)
 
 any_last : {X : Type 0} (P : X → Type 0) (ys : List X) (y : X) (k : ℕ) (x : X) → k < length (ys ++ y ∷ []) → get_or (ys ++ y ∷ []) k x ≡ x → P x
     → Any P ys ⊎ P y

@@ -13,7 +13,7 @@ use crate::terms::{Term, copy};
 use std::alloc::{AllocError, Global};
 
 /// The terms in memory of their own.
-fn copied_terms(alloc: Global, terms: &[Term]) -> Result<Vec<Term>, AllocError>
+pub(crate) fn copied_terms(alloc: Global, terms: &[Term]) -> Result<Vec<Term>, AllocError>
     ensures below { IfOk result (λ copied. (v : Valuation) → AreBelow v terms.now → AreBelow v copied.items) }
     ensures unequal { IfOk result (λ copied. (v : Valuation) → All (IsUnequal v) terms.now
         → All (IsUnequal v) copied.items) }

@@ -6,7 +6,8 @@ ghost use Rattle.f77_terms.specs.Bounds.{IsBelow, AreBelow};
 ghost use Rattle.f77_terms.specs.Ranges.{AreKnown};
 ghost use Rattle.f77_terms.specs.code.Bounds.{Follow};
 
-use crate::bounds::{add_all, add_bound, add_combined, add_tight, is_refuted};
+use crate::bounds::{add_bound, add_combined, add_tight, is_refuted};
+use crate::copying::copied_terms;
 use crate::monomials::Monomial;
 use crate::numbers::{divisor_of_two, share};
 use crate::ranges::{Range, monomial_range};
@@ -21,6 +22,13 @@ const MOST_BOUNDS: usize = 80;
 
 /// What an elimination costs more that may lose whole numbers.
 const LOSS: usize = 1000;
+
+/// A monomial that was eliminated, and from which bounds.
+#[derive(Drop)]
+pub struct Level {
+    pub monomial: Monomial,
+    pub bounds: Vec<Term>,
+}
 
 /// In how many bounds a monomial has a factor above 0, and in how many one below, and whether all those are 1 and -1.
 #[derive(Clone, Copy)]
@@ -221,18 +229,18 @@ fn eliminated(alloc: Global, bounds: &[Term], monomial: Monomial) -> Result<Vec<
     Ok(left)
 }
 
-/// Where this is known of atoms, not all of the bounds are at most 0.
+/// Where this is known of atoms, not all of the bounds are at most 0. It tells which monomials were eliminated.
 pub fn are_contradictory(
     alloc: Global,
     work: &mut u64,
     known: &[Option<Range>],
     bounds: &[Term],
+    levels: &mut Vec<Level>,
 ) -> Result<bool, AllocError>
     ensures { IfOk result (λ yes. yes ≡ true → (v : Valuation) → AreKnown v known.now
         → ¬ (AreBelow v bounds.now)) }
 {
-    let mut left = Vec::new(alloc);
-    add_all(alloc, &mut left, bounds)?;
+    let mut left = copied_terms(alloc, bounds)?;
     for _ in 0..MOST_MONOMIALS {
         if is_refuted(&left) {
             return Ok(true);
@@ -246,7 +254,12 @@ pub fn are_contradictory(
             return Ok(false);
         }
         add_known(alloc, known, &mut left, monomial)?;
-        left = eliminated(alloc, &left, monomial)?;
+        let without = eliminated(alloc, &left, monomial)?;
+        levels.push(Level {
+            monomial,
+            bounds: left,
+        })?;
+        left = without;
     }
     Ok(false)
 }

@@ -5,6 +5,7 @@
 //! atoms. Read `paths::refuted` first: where it answers true, no valuation fits the path.
 #![tactic(auto)]
 
+mod assignment;
 pub mod atoms;
 mod bounds;
 pub mod copying;

@@ -9,15 +9,15 @@ ghost use Rattle.f77_terms.specs.Paths.{IsUnequal, IsOneOf, HasCase, Holds};
 use crate::bounds::add_bound;
 use crate::near::path_near;
 use crate::ranges::{Range, narrow_all, set_within};
-use crate::splitting::{add_possible, is_none, side_case, split_all, whole_case};
+use crate::splitting::{is_refuted_with, joint_bounds, side_case};
 use crate::terms::Term;
 use std::alloc::{AllocError, Global};
 
 /// So many pairs of bounds are combined for one question at most.
 const MOST_WORK: u64 = 12000;
 
-/// With so many cases no more are split.
-const MOST_CASES: usize = 8;
+/// So many times a case is split at most.
+const MOST_SPLITS: usize = 24;
 
 /// In this case each of the bounds is at most 0.
 #[derive(Drop)]
@@ -64,22 +64,9 @@ pub fn refuted(alloc: Global, path: &Path, extra: &[Term]) -> Result<bool, Alloc
 fn is_refuted_whole(alloc: Global, path: &Path, extra: &[Term]) -> Result<bool, AllocError>
     ensures { IfOk result (λ yes. yes ≡ true → (v : Valuation) → Holds v path.now → ¬ (AreBelow v extra.now)) }
 {
-    let mut most = MOST_WORK;
-    let work = &mut most;
-    let whole = whole_case(alloc, path, extra)?;
-    let mut cases = Vec::new(alloc);
-    add_possible(alloc, work, &path.known, &mut cases, whole)?;
-    let items = path.unequal.len().saturating_add(path.choices.len());
-    if items > 1 {
-        cases = split_all(alloc, work, path, cases, 1)?;
-    }
-    for _ in 0..items.min(2) {
-        if is_none(&cases) {
-            return Ok(true);
-        }
-        cases = split_all(alloc, work, path, cases, MOST_CASES)?;
-    }
-    Ok(is_none(&cases))
+    let mut work = MOST_WORK;
+    let bounds = joint_bounds(alloc, &path.below, extra)?;
+    is_refuted_with(alloc, &mut work, path, &bounds, 0, MOST_SPLITS)
 }
 
 /// A path on which nothing is known.

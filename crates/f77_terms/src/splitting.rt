@@ -1,13 +1,15 @@
-//! Cases of a path: which are possible, and how one splits by what is not 0 and by choices.
+//! Cases of a path: whether one is possible, and how it splits by what is not 0 and by choices.
 
-ghost use Rattle.std.specs.Prelude.{◌≡◌, ◌+ℤ◌, ◌*ℤ◌, ◌≤ℤ◌, All, pos, true, IfOk};
+ghost use Rattle.std.specs.Prelude.{◌≡◌, ◌+ℤ◌, ◌*ℤ◌, ◌≤ℤ◌, pos, true, IfOk, IfSome};
 ghost use Rattle.f77_terms.specs.Terms.{Valuation, sum_value};
 ghost use Rattle.f77_terms.specs.Bounds.{AreBelow};
 ghost use Rattle.f77_terms.specs.Ranges.{AreKnown};
 ghost use Rattle.f77_terms.specs.Paths.{IsUnequal, IsOneOf, HasCase, Holds};
 
+use crate::assignment::Assignment;
 use crate::bounds::{add_all, add_bound};
-use crate::elimination::are_contradictory;
+use crate::copying::{copied_choice, copied_terms};
+use crate::elimination::{Level, are_contradictory};
 use crate::paths::{Case, Choice, Path, add_case};
 use crate::ranges::{Range, is_exceeded, is_void, narrow_all};
 use crate::terms::Term;
@@ -16,25 +18,14 @@ use std::alloc::{AllocError, Global};
 /// So often each bound narrows the ranges of atoms.
 const MOST_ROUNDS: usize = 6;
 
-/// Where this is known of atoms, not all of the bounds are at most 0: by ranges, and else by elimination.
+/// Where this is known of atoms, not all of the bounds are at most 0: by ranges, which are narrowed, and else by
+/// elimination.
 fn is_impossible(
-    alloc: Global,
-    work: &mut u64,
-    known: &[Option<Range>],
-    bounds: &[Term],
-) -> Result<bool, AllocError>
-    ensures { IfOk result (λ yes. yes ≡ true → (v : Valuation) → AreKnown v known.now → ¬ (AreBelow v bounds.now)) }
-{
-    let mut ranges = Vec::from_slice(alloc, known)?;
-    is_impossible_in(alloc, work, &mut ranges, bounds)
-}
-
-/// The same, where the ranges may be narrowed.
-fn is_impossible_in(
     alloc: Global,
     work: &mut u64,
     ranges: &mut [Option<Range>],
     bounds: &[Term],
+    levels: &mut Vec<Level>,
 ) -> Result<bool, AllocError>
     ensures { IfOk result (λ yes. yes ≡ true → (v : Valuation) → AreKnown v ranges.old → ¬ (AreBelow v bounds.now)) }
 {
@@ -47,119 +38,20 @@ fn is_impossible_in(
             return Ok(true);
         }
         if !is_new {
-            return are_contradictory(alloc, work, ranges, bounds);
+            return are_contradictory(alloc, work, ranges, bounds, levels);
         }
     }
-    are_contradictory(alloc, work, ranges, bounds)
+    are_contradictory(alloc, work, ranges, bounds, levels)
 }
 
-/// Adds cases.
-fn add_cases(cases: &mut Vec<Case>, mut more: Vec<Case>) -> Result<(), AllocError>
-    ensures kept { IfOk result (λ _. (v : Valuation) → IsOneOf v cases.old.items → IsOneOf v cases.new.items) }
-    ensures added { IfOk result (λ _. (v : Valuation) → IsOneOf v more.items → IsOneOf v cases.new.items) }
+/// The bounds of two cases.
+pub fn joint_bounds(alloc: Global, a: &[Term], b: &[Term]) -> Result<Vec<Term>, AllocError>
+    ensures { IfOk result (λ bounds. (v : Valuation) → AreBelow v a.now → AreBelow v b.now
+        → AreBelow v bounds.items) }
 {
-    cases.append(&mut more)?;
-    Ok(())
-}
-
-/// Adds a case, unless it is impossible.
-pub fn add_possible(
-    alloc: Global,
-    work: &mut u64,
-    known: &[Option<Range>],
-    cases: &mut Vec<Case>,
-    case: Case,
-) -> Result<(), AllocError>
-    ensures kept { IfOk result (λ _. (v : Valuation) → IsOneOf v cases.old.items → IsOneOf v cases.new.items) }
-    ensures added { IfOk result (λ _. (v : Valuation) → AreKnown v known.now → AreBelow v case.bounds.items
-        → IsOneOf v cases.new.items) }
-{
-    let never = is_impossible(alloc, work, known, &case.bounds)?;
-    if never {
-        return Ok(());
-    }
-    add_case(cases, case)
-}
-
-/// The case in which the bounds of both are at most 0.
-fn joint_case(alloc: Global, a: &Case, b: &Case) -> Result<Case, AllocError>
-    ensures { IfOk result (λ case. (v : Valuation) → AreBelow v a.now.bounds.items → AreBelow v b.now.bounds.items
-        → AreBelow v case.bounds.items) }
-{
-    let mut bounds = Vec::new(alloc);
-    add_all(alloc, &mut bounds, &a.bounds)?;
-    add_all(alloc, &mut bounds, &b.bounds)?;
-    Ok(Case { bounds })
-}
-
-/// The same case in memory of its own.
-fn copied_case(alloc: Global, case: &Case) -> Result<Case, AllocError>
-    ensures { IfOk result (λ copied. (v : Valuation) → AreBelow v case.now.bounds.items
-        → AreBelow v copied.bounds.items) }
-{
-    let mut bounds = Vec::new(alloc);
-    add_all(alloc, &mut bounds, &case.bounds)?;
-    Ok(Case { bounds })
-}
-
-/// Those of the choice's cases that are possible together with this one.
-fn possible_cases(
-    alloc: Global,
-    work: &mut u64,
-    known: &[Option<Range>],
-    case: &Case,
-    choice: &[Case],
-) -> Result<Vec<Case>, AllocError>
-    ensures { IfOk result (λ left. (v : Valuation) → AreKnown v known.now → AreBelow v case.now.bounds.items
-        → IsOneOf v choice.now → IsOneOf v left.items) }
-{
-    let mut left = Vec::new(alloc);
-    for other in choice {
-        let both = joint_case(alloc, case, other)?;
-        add_possible(alloc, work, known, &mut left, both)?;
-    }
-    Ok(left)
-}
-
-/// Adds the cases that a case splits into by a choice, or the case itself where they are too many.
-fn add_split(
-    alloc: Global,
-    work: &mut u64,
-    known: &[Option<Range>],
-    cases: &mut Vec<Case>,
-    case: &Case,
-    choice: &[Case],
-    most: usize,
-) -> Result<(), AllocError>
-    ensures kept { IfOk result (λ _. (v : Valuation) → IsOneOf v cases.old.items → IsOneOf v cases.new.items) }
-    ensures added { IfOk result (λ _. (v : Valuation) → AreKnown v known.now → AreBelow v case.now.bounds.items
-        → IsOneOf v choice.now → IsOneOf v cases.new.items) }
-{
-    let left = possible_cases(alloc, work, known, case, choice)?;
-    if left.len() > 1 && left.len() > most.saturating_sub(cases.len()) {
-        let whole = copied_case(alloc, case)?;
-        return add_case(cases, whole);
-    }
-    add_cases(cases, left)
-}
-
-/// The cases, each split by a choice.
-fn split_cases(
-    alloc: Global,
-    work: &mut u64,
-    known: &[Option<Range>],
-    cases: &[Case],
-    choice: &[Case],
-    most: usize,
-) -> Result<Vec<Case>, AllocError>
-    ensures { IfOk result (λ left. (v : Valuation) → AreKnown v known.now → IsOneOf v cases.now
-        → IsOneOf v choice.now → IsOneOf v left.items) }
-{
-    let mut left = Vec::new(alloc);
-    for case in cases {
-        add_split(alloc, work, known, &mut left, case, choice, most)?;
-    }
-    Ok(left)
+    let mut bounds = copied_terms(alloc, a)?;
+    add_all(alloc, &mut bounds, b)?;
+    Ok(bounds)
 }
 
 /// The case where a term, m times, and 1 are at most 0.
@@ -173,90 +65,82 @@ pub fn side_case(alloc: Global, m: i64, term: &Term) -> Result<Case, AllocError>
 }
 
 /// A term that is not 0 is below it or above it.
-fn sides(alloc: Global, term: &Term) -> Result<Vec<Case>, AllocError>
-    ensures { IfOk result (λ cases. (v : Valuation) → IsUnequal v term.now → IsOneOf v cases.items) }
+fn sides(alloc: Global, term: &Term) -> Result<Choice, AllocError>
+    ensures { IfOk result (λ choice. (v : Valuation) → IsUnequal v term.now → HasCase v choice) }
 {
     let below = side_case(alloc, 1, term)?;
     let above = side_case(alloc, -1, term)?;
     let mut cases = Vec::new(alloc);
     add_case(&mut cases, below)?;
     add_case(&mut cases, above)?;
-    Ok(cases)
+    Ok(Choice { cases })
 }
 
-/// The cases, each split by what is not 0.
-fn split_by_sides(
-    alloc: Global,
-    work: &mut u64,
-    known: &[Option<Range>],
-    cases: Vec<Case>,
-    unequal: &[Term],
-    most: usize,
-) -> Result<Vec<Case>, AllocError>
-    ensures { IfOk result (λ left. (v : Valuation) → AreKnown v known.now → IsOneOf v cases.items
-        → All (IsUnequal v) unequal.now → IsOneOf v left.items) }
+/// A choice of the path: the sides of what is not 0 come before its choices.
+fn choice_at(alloc: Global, path: &Path, place: usize) -> Result<Option<Choice>, AllocError>
+    ensures { IfOk result (λ found. IfSome found (λ choice. (v : Valuation) → Holds v path.now → HasCase v choice)) }
 {
-    let mut left = cases;
-    for term in unequal {
-        if *work == 0 {
-            return Ok(left);
-        }
-        let choice = sides(alloc, term)?;
-        left = split_cases(alloc, work, known, &left, &choice, most)?;
+    if place < path.unequal.len() {
+        return Ok(Some(sides(alloc, &path.unequal[place])?));
     }
-    Ok(left)
-}
-
-/// The cases, each split by the choices.
-fn split_by_choices(
-    alloc: Global,
-    work: &mut u64,
-    known: &[Option<Range>],
-    cases: Vec<Case>,
-    choices: &[Choice],
-    most: usize,
-) -> Result<Vec<Case>, AllocError>
-    ensures { IfOk result (λ left. (v : Valuation) → AreKnown v known.now → IsOneOf v cases.items
-        → All (HasCase v) choices.now → IsOneOf v left.items) }
-{
-    let mut left = cases;
-    for choice in choices {
-        if *work == 0 {
-            return Ok(left);
-        }
-        left = split_cases(alloc, work, known, &left, &choice.cases, most)?;
+    let behind = place - path.unequal.len();
+    if behind < path.choices.len() {
+        return Ok(Some(copied_choice(alloc, &path.choices[behind])?));
     }
-    Ok(left)
+    Ok(None)
 }
 
-/// The case of the path, where these terms are at most 0 too.
-pub fn whole_case(alloc: Global, path: &Path, extra: &[Term]) -> Result<Case, AllocError>
-    ensures { IfOk result (λ case. (v : Valuation) → Holds v path.now → AreBelow v extra.now
-        → AreBelow v case.bounds.items) }
-{
-    let mut bounds = Vec::new(alloc);
-    add_all(alloc, &mut bounds, &path.below)?;
-    add_all(alloc, &mut bounds, extra)?;
-    Ok(Case { bounds })
-}
-
-/// The cases, each split by all that the path knows.
-pub fn split_all(
+/// Where the path holds, not all of the bounds are at most 0. Cases are split so many times, one in another; `next` is
+/// what is to split a case where numbers do not tell it.
+#[cycle(refuting)]
+pub fn is_refuted_with(
     alloc: Global,
     work: &mut u64,
     path: &Path,
-    cases: Vec<Case>,
-    most: usize,
-) -> Result<Vec<Case>, AllocError>
-    ensures { IfOk result (λ left. (v : Valuation) → Holds v path.now → IsOneOf v cases.items → IsOneOf v left.items) }
+    bounds: &[Term],
+    next: usize,
+    splits: usize,
+) -> Result<bool, AllocError>
+    ensures { IfOk result (λ yes. yes ≡ true → (v : Valuation) → Holds v path.now → ¬ (AreBelow v bounds.now)) }
 {
-    let first = split_by_sides(alloc, work, &path.known, cases, &path.unequal, most)?;
-    split_by_choices(alloc, work, &path.known, first, &path.choices, most)
+    let mut ranges = Vec::from_slice(alloc, &path.known)?;
+    let mut levels = Vec::new(alloc);
+    if is_impossible(alloc, work, &mut ranges, bounds, &mut levels)? {
+        return Ok(true);
+    }
+    if splits == 0 {
+        return Ok(false);
+    }
+    let assignment = Assignment::of(alloc, ranges, &levels)?;
+    let Some(place) = assignment.split_of(path, bounds, next) else {
+        return Ok(false);
+    };
+    let Some(choice) = choice_at(alloc, path, place)? else {
+        return Ok(false);
+    };
+    let after = next.saturating_add(usize::from(place == next));
+    are_refuted_with(alloc, work, path, bounds, &choice.cases, after, splits - 1)
 }
 
-/// There is no case.
-pub fn is_none(cases: &[Case]) -> bool
-    ensures { result ≡ true → (v : Valuation) → ¬ (IsOneOf v cases.now) }
+/// Where the path holds and the bounds are at most 0, none of the cases is there.
+#[cycle(refuting)]
+fn are_refuted_with(
+    alloc: Global,
+    work: &mut u64,
+    path: &Path,
+    bounds: &[Term],
+    cases: &[Case],
+    next: usize,
+    splits: usize,
+) -> Result<bool, AllocError>
+    ensures { IfOk result (λ yes. yes ≡ true → (v : Valuation) → Holds v path.now → AreBelow v bounds.now
+        → ¬ (IsOneOf v cases.now)) }
 {
-    cases.len() == 0
+    for case in cases {
+        let both = joint_bounds(alloc, bounds, &case.bounds)?;
+        if !is_refuted_with(alloc, work, path, &both, next, splits)? {
+            return Ok(false);
+        }
+    }
+    Ok(true)
 }

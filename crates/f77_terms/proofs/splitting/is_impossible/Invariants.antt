@@ -1,7 +1,7 @@
 use Rattle.f77_terms.specs.Terms.{Valuation}
 use Rattle.f77_terms.specs.Bounds.{AreBelow}
 use Rattle.f77_terms.specs.Ranges.{AreKnown}
-use Rattle.f77_terms.proofs.splitting.is_impossible_in.Given as goal
+use Rattle.f77_terms.proofs.splitting.is_impossible.Given as goal
 
 abbrev pub invariant-loop : goal.invariant-loop
 invariant-loop l = (v : Valuation) → AreKnown v l.initial.ranges → AreBelow v l.bounds → AreKnown v l.ranges

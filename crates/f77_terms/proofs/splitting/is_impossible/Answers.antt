@@ -1,6 +1,6 @@
 use Rattle.f77_terms.proofs.Values.{ok_then}
-use Rattle.f77_terms.proofs.splitting.is_impossible_in.Goals as goal
-use Rattle.f77_terms.proofs.splitting.is_impossible_in.Goals.{then-is_void-via-then-is_void, then-is_void-via-else-is_void+then-is_exceeded}
+use Rattle.f77_terms.proofs.splitting.is_impossible.Goals as goal
+use Rattle.f77_terms.proofs.splitting.is_impossible.Goals.{then-is_void-via-then-is_void, then-is_void-via-else-is_void+then-is_exceeded}
 
 pub returns-then-is_void : goal.returns-then-is_void
 returns-then-is_void c e v known below =

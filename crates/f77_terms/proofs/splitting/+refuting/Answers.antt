@@ -1,0 +1,24 @@
+use Rattle.std.proofs.Common.{arith, inl, inr}
+use Rattle.f77_terms.specs.Bounds.{AreBelow}
+use Rattle.f77_terms.proofs.There.{any_more, any_of_all}
+use Rattle.f77_terms.proofs.Values.{ok_then}
+use Rattle.f77_terms.proofs.splitting.+refuting.Goals as goal
+
+pub are_refuted_with-loop-case-preserved : goal.are_refuted_with-loop-case-preserved
+are_refuted_with-loop-case-preserved t c v holds below there =
+    elim (any_more (λ case. AreBelow v case.bounds.items) c.args.cases.now c.loop-case.case-index c.case-item.result (omega arith) c.case-item.is there) [
+      | inl before ↦ c.loop-case.invariant v holds below before
+      | inr last ↦
+          (rw c.deref-in-loop-case.ensures.value at c.in_ok-is_refuted_with.ensures) c.if-not-branch.false v holds
+          ((rw c.deref.ensures.value at c.in_ok-both.ensures) v below last)
+    ]
+
+pub are_refuted_with-returns : goal.are_refuted_with-returns
+are_refuted_with-returns t c e v holds below there =
+    c.loop-case.invariant v holds below
+    (any_of_all (λ case. AreBelow v case.bounds.items) c.args.cases.now c.loop-case.case-index (omega arith) there)
+
+pub is_refuted_with-returns : goal.is_refuted_with-returns
+is_refuted_with-returns t c =
+    ok_then c.are_refuted_with.result c.are_refuted_with.ensures
+    (λ yes claim e v holds below. (rw c.deref-3.ensures.value at claim) e v holds below ((rw c.in-Some-2.is at c.in_ok-choice.ensures) v holds))

@@ -1,0 +1,15 @@
+use Rattle.std.proofs.Common.{◌+◌, suc, take}
+use Rattle.f77_terms.specs.Terms.{Valuation}
+use Rattle.f77_terms.specs.Bounds.{AreBelow}
+use Rattle.f77_terms.specs.Paths.{IsOneOf, Holds}
+use Rattle.f77_terms.proofs.splitting.+refuting.Given as goal
+
+abbrev pub decreases-are_refuted_with : goal.decreases-are_refuted_with
+decreases-are_refuted_with l = suc (l.splits + l.splits)
+
+abbrev pub decreases-is_refuted_with : goal.decreases-is_refuted_with
+decreases-is_refuted_with l = l.splits + l.splits
+
+abbrev pub invariant-are_refuted_with-loop-case : goal.invariant-are_refuted_with-loop-case
+invariant-are_refuted_with-loop-case l =
+    (v : Valuation) → Holds v l.path → AreBelow v l.bounds → ¬ (IsOneOf v (take l.case-index l.cases))

@@ -1,0 +1,10 @@
+use Rattle.std.proofs.Common.{arith, ◌-◌}
+use Rattle.f77_terms.specs.Paths.{HasCase}
+use Rattle.f77_terms.proofs.There.{at_item}
+use Rattle.f77_terms.proofs.splitting.choice_at.Goals as goal
+
+pub returns-then-behind-len : goal.returns-then-behind-len
+returns-then-behind-len c v holds =
+    let is = c.index-then-behind-len.ensures in
+    c.in_ok-copied_choice.ensures v
+    (at_item (HasCase v) c.args.path.now.choices.items (c.args.place - c.len-2.result) c.index-then-behind-len.result.now (omega arith) is holds.choices)
