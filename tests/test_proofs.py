@@ -6,16 +6,21 @@ import unittest
 from pathlib import Path
 from unittest import mock
 
-from running import LEAST, Folder, has
-from mutants.declarations.proofs import NO_PROOFS, Proofs, assert_listed, killed_later, proofs_of, wrongly_proved
+from running import LEAST, Folder, has, holds
+from mutants.declarations import proving
+from mutants.declarations.proofs import (
+    NO_PROOFS, Proofs, assert_listed, decided_text, killed_later, proofs_of, wrongly_proved,
+)  # fmt: skip
 from mutants.declarations.proving import NOT_FOUND, NO_PROVER, Prover
 from mutants.declarations.said import Said
 from mutants.pages.declared import proved_part
 from mutants.program import finding
+from mutants.program.calling import Fault
+from mutants.statuses import FAULT, WORDS
 from mutants.texts.jobs import Job, declared_text
 from mutants.texts.lines import Mutant
-from mutants.texts.proofs import Answer, Proof, meaning_of, read_proofs
-from mutants.texts.reports import Row
+from mutants.texts.proofs import Answer, Candidate, Proof, meaning_of, read_proofs
+from mutants.texts.reports import Count, Row
 
 LINES = """\
 EQUIVALENT ABS 2 4 LINE 7 K=IABS(I)
@@ -23,6 +28,7 @@ SPARE 3 SDL 1 1 LINE 9 CONTINUE
 PROVED 2 OF 9
 """
 UNFINISHED = LINES.replace("OF 9", "OF 9, 7 NOT FINISHED")
+ROWS = LINES.replace("PROVED", "ROW ABS 3 5 [1,-2,false,[3,4]]\nROW ABS 3 5 []\nPROVED")
 
 
 class Reading(unittest.TestCase):
@@ -32,6 +38,11 @@ class Reading(unittest.TestCase):
         self.assertEqual(read_proofs(UNFINISHED), Answer([Proof(first), Proof(second, 3)], 7))
         self.assertEqual(read_proofs("PROVED 0 OF 0\n"), Answer([]))
         self.assertEqual(read_proofs("PROVED 0 OF 10, 10 NOT FINISHED\n"), Answer([], 10))
+
+    def test_a_row_has_its_mutant_and_a_test(self) -> None:
+        candidates = [Candidate("ABS", 3, 5, [1, -2, False, [3, 4]]), Candidate("ABS", 3, 5, [])]
+        self.assertEqual(read_proofs(ROWS), Answer(read_proofs(LINES).proofs, 0, candidates))
+        self.assertEqual(proofs_of(read_proofs(ROWS)).candidates, candidates)
 
     def test_a_mutant_with_steps_to_spare_is_told_apart(self) -> None:
         found = proofs_of(read_proofs(LINES))
@@ -65,6 +76,12 @@ class Reading(unittest.TestCase):
             (LINES.replace("ABS 2 4", "ABS 2"), "is none"), ("FAULT S2 1\n", "is a fault"),
             ("EQUIVALENT ABS 1 1 LINE 1 K=I\n" * 2 + "PROVED 2 OF 2\n", "twice"), ("ABS 1\nTOTAL 1\n", "is none"),
             ("EQUIVALENT ABS 1 1 LINE 1 K=I\nSPARE 1 ABS 1 1 LINE 1 K=I\nPROVED 2 OF 2\n", "twice"),
+            (ROWS.replace("[]", "[1"), "row that is none"), (ROWS.replace("[]", "[null]"), "row that is none"),
+            (ROWS.replace("[]", "[1.5]"), "row that is none"), (ROWS.replace("[]", "[[1,true]]"), "row that is none"),
+            (ROWS.replace("[]", "[[]]"), "row that is none"), (ROWS.replace("[]", "[[[1]]]"), "row that is none"),
+            (ROWS.replace("[]", "7"), "row that is none"), (ROWS.replace("ABS 3 5", "ABS 3"), "row that is none"),
+            (ROWS.replace("ROW ABS 3 5 []", "SPARE 1 SDL 2 2 LINE 9 CONTINUE"), "row that is none"),
+            (ROWS.replace("ABS 3 5", "SDL 1 1"), "a row of a mutant that they name"),
         ):  # fmt: skip
             with self.subTest(text[:40]), self.assertRaisesRegex(ValueError, told):
                 read_proofs(text)
@@ -104,7 +121,49 @@ class Finding(Folder):
         self.assertEqual(NO_PROVER.proofs([], Job(LEAST, []), []).left_open(), "")
 
 
+class Asking(Folder):
+    """What the program is asked, and how often."""
+
+    def setUp(self) -> None:
+        super().setUp()
+        self.asked: list[list[str]] = []
+        self.prover = Prover(str(self.put_program("prover", "#!/bin/sh\n")), rows=3)
+        self.refused = 0
+        holds(self, mock.patch.dict(os.environ, {"XDG_CACHE_HOME": str(self.folder / "caches")}))
+        holds(self, mock.patch.object(proving, "plain_answer", self.answer))
+
+    def answer(self, name: str, program: str, words: list[str], job: bytes, seconds: float | None) -> str:
+        self.asked.append(words)
+        if "--rows" in words and self.refused:
+            raise Fault("", "unexpected", self.refused, name)
+        return ROWS if "--rows" in words else LINES
+
+    def test_an_answer_with_rows_is_kept_apart_from_one_without(self) -> None:
+        without = self.prover._replace(rows=0)
+        for prover, candidates, count in ((self.prover, 2, 1), (without, 0, 2), (self.prover, 2, 2), (without, 0, 2)):
+            answer = prover.proved(["--ops", "SDL"], Job(LEAST, []))
+            self.assertEqual((len(answer.candidates), len(self.asked)), (candidates, count))
+        self.assertEqual(self.asked, [["--ops", "SDL", "--rows", "3"], ["--ops", "SDL"]])
+
+    def test_a_program_that_gives_no_rows_is_asked_without(self) -> None:
+        self.refused = WORDS
+        self.assertEqual(self.prover.proved([], Job(LEAST, [])), read_proofs(LINES))
+        self.assertEqual(self.asked, [["--rows", "3"], []])
+        self.refused = FAULT
+        with self.assertRaises(Fault):
+            self.prover.proved([], Job(LEAST, []))
+
+    def test_of_many_tests_the_first_ones_alone_have_rows(self) -> None:
+        self.assertEqual(len(self.prover.proved([], Job(LEAST, [[1, 2, 3]] * 300)).candidates), 2)
+        self.assertEqual(self.asked, [["--rows", "3"], ["--ops", "SDL"]])
+
+
 class Values(unittest.TestCase):
+    def test_how_many_are_decided(self) -> None:
+        count, proofs = Count(9, 4, 3), proofs_of(Answer([]))
+        self.assertEqual(decided_text(count, 2, proofs), "Of 8 mutants: 4 killed, 2 proved equivalent, 2 undecided.")
+        self.assertEqual((decided_text(count, 2, NO_PROOFS), decided_text(Count(1, 0, 1), 0, proofs)), ("", ""))
+
     def test_what_is_declared_by_a_proof_alone(self) -> None:
         found = Proofs({"ROR 1": 0, "ABS 2": 0}, {"ROR 1"})
         self.assertEqual((found.names, found.is_alone("ROR 1"), found.is_alone("SDL 1")), (["ABS 2"], False, False))

@@ -95,6 +95,11 @@ def words_of_ops(asked: Asked) -> list[str]:
     return ["--ops", ",".join(ops)] if len(ops) < len(NAMES) else []
 
 
+def words_of_proofs(asked: Asked, means: Means) -> list[str]:
+    """The words for the program equivalents: the operators, and the limit on steps."""
+    return [*words_of_ops(asked), *means.step_words]
+
+
 def changed_of(program: str, asked: Asked, job: Job, printed: Sequence[str]) -> tuple[set[int], str]:
     """The lines that the older version does not have, and why the others are left out."""
     path = asked.old or asked.program
@@ -173,7 +178,7 @@ def check(asked: Asked, given: Given, means: Means, name: str, prover: Prover = 
         outcomes = asked_outcomes(job, means, name)
     with naming(expected.path):
         unexpected = differences(expected.texts, outcomes, names)
-    job, said = with_proofs([*words_of_ops(asked), *means.step_words], job, said, listed, prover, name)
+    job, said = with_proofs(words_of_proofs(asked, means), job, said, listed, prover, name)
     said = said._replace(boxes=kept_boxes(program, job.source, int(means.steps or STEPS)))
     is_whole, begun = len(choice.listed) == len(listed), time.monotonic()
     whole = ran(job, printed, totals if is_whole else totals_of(totals, choice.listed), means, name)

@@ -3,7 +3,7 @@
 import argparse
 from typing import NamedTuple
 
-from mutants.checks.checking import Asked, Checked, Given, check
+from mutants.checks.checking import Asked, Checked, Given, check, words_of_proofs
 from mutants.checks.running import Means
 from mutants.declarations.files import NONE_MEANT, Meant
 from mutants.declarations.proving import Prover, prover_of
@@ -13,6 +13,7 @@ from mutants.jobs.making import Made, made_of, meant_for, wish_of
 from mutants.program.calling import Fault
 from mutants.program.finding import find_program
 from mutants.texts.jobs import Job
+from mutants.texts.proofs import Answer
 from mutants.words import tell_remarks
 
 
@@ -32,6 +33,10 @@ class Start(NamedTuple):
         """The check."""
         checked = check(self.asked, Given(self.job, self.said, self.expected), self.means, name, self.prover)
         return checked._replace(file=self.made.source.file)
+
+    def answer(self, job: Job, seconds: float | None) -> Answer:
+        """What the prover says of the program with other tests, within so many seconds."""
+        return self.prover._replace(seconds=seconds).proved(words_of_proofs(self.asked, self.means), job)
 
 
 def expected_of(given: argparse.Namespace, made: Made) -> Expected:

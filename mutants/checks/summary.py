@@ -8,7 +8,9 @@ from typing import NamedTuple
 
 from mutants.checks.checking import Checked
 from mutants.declarations.boxes import boxed_text
-from mutants.declarations.proofs import count_of_proved, left_out_text, score_without, wrongly_declared, wrongly_proved
+from mutants.declarations.proofs import (
+    count_of_proved, decided_text, left_out_text, score_without, wrongly_declared, wrongly_proved,
+)  # fmt: skip
 from mutants.declarations.said import NO_REASON, Group, groups_of_person, groups_of_proofs, proved_text
 from mutants.english import joined_words, plural
 from mutants.pages.report import DISAGREE, by_line, counts_by_line, no_survivor_text, survivors_text
@@ -76,10 +78,11 @@ def score_line(checked: Checked) -> str:
 
 
 def proof_lines(checked: Checked) -> Iterator[str]:
-    """The score without the proofs."""
-    proved = proved_count(checked)
+    """The score without the proofs, and how many mutants are decided."""
+    proved, count = proved_count(checked), summed(checked.report.counts.values())
     if proved:
-        yield f"Without the proofs it is {score_without(summed(checked.report.counts.values()), proved)}."
+        yield f"Without the proofs it is {score_without(count, proved)}."
+    yield from filter(None, [decided_text(count, proved, checked.said.proofs)])
 
 
 def subsuming_lines(checked: Checked) -> Iterator[str]:

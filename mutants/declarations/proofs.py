@@ -1,13 +1,13 @@
 """Mutants that are proved equivalent. They are declared automatically, and kept apart from those that a person
 declares."""
 
-from collections.abc import Collection, Iterable, Mapping
+from collections.abc import Collection, Iterable, Mapping, Sequence
 from types import MappingProxyType
 from typing import NamedTuple
 
 from mutants.english import plural
 from mutants.texts.lines import Mutant
-from mutants.texts.proofs import Answer, Proof, meaning_of
+from mutants.texts.proofs import Answer, Candidate, Proof, meaning_of
 from mutants.texts.reports import Count, Row, score_of
 from mutants.texts.twins import name_of
 
@@ -20,7 +20,8 @@ NO_NAMES: Collection[str] = frozenset()
 class Proofs(NamedTuple):
     """What is proved of the mutants of a program: how many steps each has to spare, by its name; or why nothing was
     asked. `declared` are the names that a person declares, whether they are proved or not. Proofs with steps to spare
-    are of the first `tests` tests of a suite. `unfinished` mutants were left at the bound on work."""
+    are of the first `tests` tests of a suite. `unfinished` mutants were left at the bound on work. `candidates` are
+    tests that may kill others, and `is_asked` says that the program equivalents has answered."""
 
     spares: Mapping[str, int] = MappingProxyType({})
     declared: Collection[str] = NO_NAMES
@@ -28,6 +29,8 @@ class Proofs(NamedTuple):
     remark: str = ""
     tests: int = 0
     unfinished: int = 0
+    candidates: Sequence[Candidate] = ()
+    is_asked: bool = False
 
     @property
     def names(self) -> list[str]:
@@ -64,7 +67,8 @@ NO_PROOFS = Proofs()
 def proofs_of(answer: Answer, declared: Collection[str] = NO_NAMES, remark: str = "", tests: int = 0) -> Proofs:
     """The proofs of mutants that a job may declare."""
     spares = {name_of(proof.mutant): proof.spare for proof in answer.proofs if proof.mutant.place <= MOST}
-    return Proofs(spares, frozenset(declared), remark=remark, tests=tests, unfinished=answer.unfinished)
+    left = answer.unfinished, answer.candidates
+    return Proofs(spares, frozenset(declared), "", remark, tests, *left, is_asked=True)
 
 
 def assert_listed(proved: Iterable[Proof], listed: Iterable[Mutant]) -> None:
@@ -109,6 +113,14 @@ def wrongly_proved(rows: Iterable[Row], proofs: Proofs) -> list[str]:
 def wrongly_declared(rows: Iterable[Row], proofs: Proofs) -> list[str]:
     """The mutants that a person declares equivalent and that a test kills."""
     return [name_of(row) for row in rows if row.status == "W" and not proofs.is_alone(name_of(row))]
+
+
+def decided_text(count: Count, proved: int, proofs: Proofs) -> str:
+    """In words, how many mutants are killed, proved equivalent, and neither, where it was asked what is proved. What a
+    person declares does not count."""
+    total = count.wanted + proved
+    parts = f"{count.killed} killed, {proved} {PROVED} equivalent, {count.survived} undecided"
+    return f"Of {plural(total, 'mutant')}: {parts}." if proofs.is_asked and total else ""
 
 
 def left_out_text(count: Count, proved: int) -> str:

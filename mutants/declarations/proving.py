@@ -40,15 +40,28 @@ def with_ops(words: Sequence[str], ops: Iterable[str]) -> list[str]:
 
 class Prover(NamedTuple):
     """The program equivalents, or the reason why it is not asked. Without either there are no proofs, and no reason is
-    given."""
+    given. It is asked for `rows` tests at most of each mutant that it does not prove, and a call may take `seconds`."""
 
     program: str = ""
     not_asked: str = ""
     anew: bool = False
+    rows: int = 0
+    seconds: float | None = None
 
     def asked(self, words: Sequence[str], job: bytes) -> Answer:
-        """The answer of the program to a job; the words are its options."""
-        text = answered(self.program, words, job, lambda: plain_answer(NAME, self.program, words, job), self.anew)
+        """The answer of the program to a job; the words are its options. A program that refuses to give rows is asked
+        without."""
+        asked = [*words, *(["--rows", str(self.rows)] if self.rows else [])]
+
+        def ask() -> str:
+            return plain_answer(NAME, self.program, asked, job, self.seconds)
+
+        try:
+            text = answered(self.program, asked, job, ask, self.anew)
+        except Fault as fault:
+            if fault.status != WORDS or not self.rows:
+                raise
+            return self._replace(rows=0).asked(words, job)
         return read_as(NAME, read_proofs, text)
 
     def proved(self, words: Sequence[str], job: Job) -> Answer:
@@ -62,7 +75,7 @@ class Prover(NamedTuple):
         answer = self.asked(words, batch_text(plain, *first))
         ops = list(dict.fromkeys(proof.mutant.op for proof in answer.proofs if proof.spare))
         for ends in others if ops else []:
-            kept = set(self.asked(with_ops(words, ops), batch_text(plain, *ends)).proofs)
+            kept = set(self._replace(rows=0).asked(with_ops(words, ops), batch_text(plain, *ends)).proofs)
             answer = answer._replace(proofs=[proof for proof in answer.proofs if not proof.spare or proof in kept])
         return answer
 

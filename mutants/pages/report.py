@@ -6,7 +6,7 @@ from typing import NamedTuple
 
 from mutants.declarations.boxes import NO_PROOF, boxed_text
 from mutants.declarations.proofs import (
-    Proofs, count_of_proved, left_out_text, score_without, wrongly_declared, wrongly_proved,
+    Proofs, count_of_proved, decided_text, left_out_text, score_without, wrongly_declared, wrongly_proved,
 )  # fmt: skip
 from mutants.declarations.said import NOTHING, Said
 from mutants.english import joined_words, plural
@@ -60,6 +60,12 @@ def proofs_part(count: Count, proved: int) -> str:
     """The score without the proofs, where there are some."""
     sentence = f"Without the proofs the score is {score_without(count, proved)}."
     return f'<p class="soft">{sentence}</p>\n' if proved else ""
+
+
+def decided_part(count: Count, proved: int, proofs: Proofs) -> str:
+    """How many mutants are killed, proved equivalent, and neither; no text where no proofs were asked for."""
+    sentence = decided_text(count, proved, proofs)
+    return f'<p class="soft">{sentence}</p>\n' if sentence else ""
 
 
 def subsuming_part(listed: Sequence[Mutant], rows: Sequence[Row]) -> str:
@@ -189,8 +195,8 @@ def report_page(analysed: Analysed, remark: str = "", outcomes: Outcomes = Outco
     head = f"<h1>{text(report.unit)}: which mutants the tests kill</h1>\n" + remark_part(remark)
     head += remark_part(proofs.remark) if proved else ""
     head += unexpected_part(outcomes.unexpected) + score_part(count, proved) + proofs_part(count, proved)
-    head += subsuming_part(listed, report.rows) + facts_of(report) + wrong_part(report.rows, proofs)
-    head += remarks_part(said.remarks)
+    head += decided_part(count, proved, proofs) + subsuming_part(listed, report.rows) + facts_of(report)
+    head += wrong_part(report.rows, proofs) + remarks_part(said.remarks)
     return page(f"{report.unit}: {KIND}", head + first_look(survivors, proved, said) + links, bodies)
 
 

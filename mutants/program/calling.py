@@ -45,10 +45,10 @@ def answer(program: str, words: Sequence[str], job: bytes, seconds: float | None
     raise Fault(words[0], failure_of(text, status), status)
 
 
-def plain_answer(name: str, program: str, words: Sequence[str], job: bytes) -> str:
+def plain_answer(name: str, program: str, words: Sequence[str], job: bytes, seconds: float | None = None) -> str:
     """The text that a program without commands answers; a fault, refused words and a failure are a Fault with one
     line."""
-    text, status = call(program, words, job)
+    text, status = call(program, words, job, seconds)
     if status == SUCCESS:
         return text
     raise Fault("", failure_of(text, status), status, name)

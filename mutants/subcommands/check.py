@@ -20,7 +20,8 @@ do on the test: the outcome as `mothra exec` writes it, the word RETURNED left o
 each test in place of it. An outcome that is not as expected is reported, and the exit status is 4.
 
 Where the program equivalents is there, it is asked which mutants are equivalent by a proof. These are declared by
-themselves, with the reason that they are proved: the score does not count them, and is given with and without them.
+themselves, with the reason that they are proved: the score does not count them, and is given with and without them. A
+line says how many mutants are killed, proved equivalent, and undecided, which is neither: mutants suggest decides more.
 They are folded, on the terminal to one line, which --show-proved unfolds. What a person declares stands apart.
 --no-proofs asks for no proofs. A proof with steps to spare is of these tests and this limit on steps: the mutant may
 take so many steps more, and each test leaves room for them. Where equivalents stopped at its bound of work, the check

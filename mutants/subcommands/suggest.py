@@ -3,10 +3,13 @@
     mutants suggest [OPTION..] PROGRAM.f TESTS.json|TESTS.csv
 
 The program and the table are those of `mutants check`, and so are the options that say which mutants are asked about.
-Rows are made by chance: near those of the table, of constants of the program, of other arguments, and some with values
-far from the table's, on which a mutant may overflow. They are run in rounds of 256, and each kill is a verdict of
-mothra. Rows on which the program itself fails are left out. Few rows that kill all that was found are chosen and made
-simpler. Then the table and they are run once more, and what is said rests on that run.
+Where the program equivalents is there, it is asked for rows first: where it can not prove a mutant equivalent, the
+failed proof leads to some. They are run, and where they kill, it is asked again about what is left. Then rows are made
+by chance: near those of the table, of constants of the program, of other arguments, and some with values far from the
+table's, on which a mutant may overflow. They are run in rounds of 256. Each kill is a verdict of mothra. Rows on which
+the program itself fails are left out. Few rows that kill all that was found are chosen and made simpler. Then the table
+and they are run once more, and what is said rests on that run: of the mutants that the tests do not kill, how many are
+killed by a row, proved equivalent, and undecided.
 
 Shown are: the rows, as the table has them, those with far values apart; for each row what the program does on it, to be
 looked at before the row is taken, and the survivors that it kills, by line; and the survivors that no row killed, with
@@ -14,10 +17,10 @@ how many of the rows that were tried came to their lines. A column `expect` of t
 
 An array of numbers that is in order in all tests stays so in all rows, and this is said; --free lifts it. Nothing else
 is known of what the arguments have to be: --ranges says it. --within I=-8:8,J=0:9 tries all rows of a box, in order, a
-million at most, and says of each survivor whether a row of the box kills it; an argument that is only set is 0 there,
-and a LOGICAL one has both values. The pages of check and page say it too, until the program changes. A mutant that the
-program equivalents proves equivalent is no survivor, and is not searched for. Where a row kills one that is proved with
-steps to spare, this is said.
+million at most, and no others, and says of each survivor whether a row of the box kills it; an argument that is only
+set is 0 there, and a LOGICAL one has both values. The pages of check and page say it too, until the program changes. A
+mutant that is proved equivalent is no survivor, and is not searched for. Where a row kills one that is proved with
+steps to spare, this is said. --no-proofs asks equivalents for nothing.
 
 With --rounds the same seed gives the same text; with --seconds it depends on the machine. Ctrl-C ends the search, and
 what was found until then is shown; the exit status is that of an interrupted command.
@@ -43,6 +46,7 @@ from mutants.subcommands import check as checks
 from mutants.suggestions.aims import SECONDS, Aim, read_ranges
 from mutants.suggestions.box import BoxSearch, box_of
 from mutants.suggestions.clock import Clock
+from mutants.suggestions.proving import ROWS
 from mutants.suggestions.suggesting import Suggested, suggested
 from mutants.suggestions.tables import Layout, layout_of, table_with
 from mutants.suggestions.summary import summary
@@ -143,16 +147,18 @@ def run(given: argparse.Namespace, name: str) -> int:
     assert_tests(given)
     assert_table_free(given)
     begun = start_of(given, name)
+    # All rows of a box are tried anyway, and no others.
+    begun = begun._replace(prover=begun.prover._replace(rows=0 if aim.within else ROWS))
     table = begun.made.table
     start = begun.checked(name)
     assert table
     tell_box(aim, start, name)
     # What comes before, such as proofs, does not count as time of the search.
-    result = suggested(start, aim, begun.means, Clock(aim.seconds), name)
+    result = suggested(start, aim, begun.means, Clock(aim.seconds), name, begun.answer)
     layout = layout_of(given.tests, table, dummies_of(start.printed))
     more = [write_table(given.table, given, table, result, layout)] if given.table else []
     more += keep_box(result, begun.means.program, layout)
-    more += checks.end_lines(start.said.proofs, settings, remark_on(begun.means.program))
+    more += checks.end_lines(result.final.said.proofs, settings, remark_on(begun.means.program))
     text = summary(result, given.program, given.tests, layout, aim)
     sys.stdout.write(visible(text + "".join(f"{line}\n" for line in more)))
     return INTERRUPTED if result.is_cut else SUCCESS

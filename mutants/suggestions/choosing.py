@@ -25,7 +25,7 @@ class Choice:
     def __init__(self, search: Search) -> None:
         self.search, self.shape, self.asker = search, search.shape, search.asker
         self.exact = dict(search.exact)
-        self.wanted = self.asker.whole & ~search.alive
+        self.wanted = search.killed
         self.chosen: list[Row] = few_rows(self.wanted, self.exact, self.shape.cost)
         self.cost = 0.0
 

@@ -39,7 +39,8 @@ class Search:
         self.rows, self.experience = Rows(shape, chance), Experience(shape)
         self.borders = Borders(shape, chance, asker.lines())
         self.suite, self.elite = list(suite), list(map(shape.simple, suite))
-        self.alive = asker.whole
+        # The mutants that are left, and those that are proved equivalent after the search began, as bits.
+        self.alive, self.proved = asker.whole, 0
         # What each row kills: within the limit of the search, and within the limit that is asked for.
         self.seen: dict[Row, int] = {}
         self.exact: dict[Row, int] = {}
@@ -52,6 +53,11 @@ class Search:
     @property
     def clock(self) -> Clock:
         return self.asker.clock
+
+    @property
+    def killed(self) -> int:
+        """The mutants that rows kill, as bits."""
+        return self.asker.whole & ~self.alive & ~self.proved
 
     def begin(self, tests: Sequence[Row], cost_of_row: float) -> None:
         """Finds the limit on steps of the search, and how many rows a round may have."""
@@ -129,25 +135,35 @@ class Search:
 
     def round(self) -> None:
         self.round_number += 1
-        rows = self.made()
+        before = self.alive
+        self.borders.learn(self.run(self.made()))
+        if self.alive != before:
+            self.last_round = self.round_number
+        self.dry = self.round_number - self.last_round
+
+    def run(self, rows: Sequence[Row]) -> dict[Row, int]:
+        """Runs rows. The result are those on which the program ends within the limit of the search."""
         kills = self.asker.kills(self.asker.ending(rows, self.steps), self.ops(), self.steps)
         self.experience.learn(rows, kills)
         self.failed += len(rows) - len(kills)
         self.tried += kills
         self.seen.update((row, mask) for row, mask in kills.items() if mask)
-        self.borders.learn(kills)
-        if self.settle([row for row, mask in kills.items() if mask & self.alive]):
-            self.last_round = self.round_number
-        self.dry = self.round_number - self.last_round
+        self.settle([row for row, mask in kills.items() if mask & self.alive])
+        return kills
 
-    def settle(self, rows: Sequence[Row]) -> bool:
+    def settle(self, rows: Sequence[Row]) -> int:
         """Runs rows at the limit that is asked for, since a kill under a lower limit may be none under that. The result
-        says whether a row kills a mutant that was not killed before."""
+        is on how many of them the program ends."""
         exact = self.asker.kills(rows, self.asker.ops_of(self.asker.whole), self.asker.steps) if rows else {}
-        before = self.alive
         for row, mask in exact.items():
             self.seen[row] = self.exact[row] = mask
             if mask & self.alive:
                 self.elite.append(row)
                 self.alive &= ~mask
-        return self.alive != before
+        return len(exact)
+
+    def take(self, rows: Sequence[Row]) -> None:
+        """Runs rows that were not made by chance, where it has to be at the limit that is asked for."""
+        self.known.update(rows)
+        ended = self.run(rows)
+        self.failed -= self.settle(self.asker.ending([row for row in rows if row not in ended], self.asker.steps))

@@ -9,6 +9,7 @@ from mutants.checks.checking import Checked, dummies_of
 from mutants.checks.choice import restricted
 from mutants.checks.outcomes import asked_outcomes
 from mutants.checks.running import Means, asked_in_parts
+from mutants.declarations.proofs import Proofs
 from mutants.jobs.setting import only_set
 from mutants.pages.cover import smallest_set
 from mutants.pages.suite import killers_of
@@ -20,6 +21,7 @@ from mutants.suggestions.box import BoxSearch, box_of
 from mutants.suggestions.choosing import Choice
 from mutants.suggestions.clock import Clock
 from mutants.suggestions.covering import BRANCHES
+from mutants.suggestions.proving import Ask, Proving
 from mutants.suggestions.reaching import Reached, reached_of
 from mutants.suggestions.rounds import Search
 from mutants.suggestions.shapes import Row, Shape, row_of, test_of
@@ -32,13 +34,15 @@ class Suggested(NamedTuple):
     """The result of a search. `start` is the check of the tests, `final` that of the tests and the rows, which come
     last.
 
-    `needless` has the numbers, from 1, of tests that are needless after that.
+    `proving` is what came of proofs that failed. `needless` has the numbers, from 1, of tests that are needless after
+    that.
     """
 
     start: Checked
     final: Checked
     rows: list[Row]
     search: Search
+    proving: Proving
     reached: Reached
     needless: list[int]
     is_cut: bool
@@ -49,17 +53,19 @@ def first_row(checked: Checked) -> Row:
     return row_of(map(zero_of, read_unit(checked.job.source)[1]))
 
 
-def checked_with(start: Checked, rows: list[Row], means: Means, name: str) -> Checked:
-    """The check of the tests and these rows, run with all operators that are asked for."""
-    if not rows:
+def checked_with(start: Checked, proofs: Proofs, rows: list[Row], means: Means, name: str) -> Checked:
+    """The check of the tests and these rows, run with all operators that are asked for, and with these proofs."""
+    proved = [each for each in proofs.names if each not in start.job.equivalent]
+    if not rows and not proved:
         return start
     tests = list(map(test_of, rows))
-    job = start.job._replace(suite=[*start.job.suite, *tests])
+    job = start.job._replace(suite=[*start.job.suite, *tests], equivalent=[*start.job.equivalent, *proved])
     totals = {op: count.total for op, count in start.whole.counts.items()}
     whole = asked_in_parts(job, totals, means, name)
     report = whole if len(start.listed) == len(whole.rows) else restricted(whole, start.listed)
-    outcomes = asked_outcomes(Job(job.source, tests), means, None)
-    return start._replace(job=job, report=report, whole=whole, outcomes=[*start.outcomes, *outcomes])
+    outcomes = [*start.outcomes, *asked_outcomes(Job(job.source, tests), means, None)]
+    said = start.said._replace(proofs=proofs)
+    return start._replace(job=job, report=report, whole=whole, outcomes=outcomes, said=said)
 
 
 def needless_in(checked: Checked) -> list[int]:
@@ -71,7 +77,7 @@ def needless_in(checked: Checked) -> list[int]:
 class Suggesting:
     """A search, which Ctrl-C ends early. What was found until then is shown all the same."""
 
-    def __init__(self, start: Checked, aim: Aim, means: Means, clock: Clock, paced: Paced) -> None:
+    def __init__(self, start: Checked, aim: Aim, means: Means, clock: Clock, paced: Paced, ask: Ask) -> None:
         self.start, self.aim, self.means, self.paced = start, aim, means, paced
         self.tests = [row_of(test) for test in start.job.suite]
         suite = self.tests or [first_row(start)]
@@ -83,6 +89,7 @@ class Suggesting:
         self.search = kind(asker, shape, suite, Random(aim.seed), aim.rounds)
         if isinstance(self.search, BoxSearch):
             self.search.put(box_of(aim.within, start.job.source, dummies_of(start.printed)))
+        self.proving = Proving(self.search, ask)
         self.reached, self.is_cut = Reached(), False
 
     def tell(self, text: str) -> None:
@@ -94,6 +101,7 @@ class Suggesting:
         """The rows that are chosen."""
         with self.cut_short():
             self.search.begin(self.tests, self.start.seconds / max(len(self.tests), 1))
+            self.proving.go(self.tell)
             self.search.go(self.tell)
         choice = Choice(self.search)
         try:
@@ -124,19 +132,20 @@ class Suggesting:
         if not self.aim.within:
             choice.widen()
             choice.simplify(self.tell)
-        left = self.search.asker.of_mask(~choice.wanted)
+        left = self.search.asker.of_mask(~choice.wanted & ~self.search.proved)
         self.reached = reached_of(self.search, {mutant.line for mutant in left}, self.means, self.paced.progress.name)
 
 
-def suggested(start: Checked, aim: Aim, means: Means, clock: Clock, name: str) -> Suggested:
-    """Searches, and runs the tests with the rows that are chosen."""
-    course = Suggesting(start, aim, means, clock, Paced(name))
+def suggested(start: Checked, aim: Aim, means: Means, clock: Clock, name: str, ask: Ask) -> Suggested:
+    """Searches, and runs the tests with the rows that are chosen. `ask` asks again what is proved."""
+    course = Suggesting(start, aim, means, clock, Paced(name), ask)
     rows = course.rows() if start.report.survivors else []
-    final = checked_with(start, rows, means, name)
+    proving = course.proving
+    final = checked_with(start, proving.proofs, rows, means, name)
     needless = needless_in(final) if aim.drops and rows else []
     kept = [row for number, row in enumerate(rows, len(course.tests) + 1) if number not in needless]
     if len(kept) < len(rows):
         # A new row that a smaller set does not need is not suggested.
-        rows, final = kept, checked_with(start, kept, means, name)
+        rows, final = kept, checked_with(start, proving.proofs, kept, means, name)
     old = [number for number in needless if number <= len(course.tests)]
-    return Suggested(start, final, rows, course.search, course.reached, old, course.is_cut)
+    return Suggested(start, final, rows, course.search, proving, course.reached, old, course.is_cut)

@@ -10,7 +10,7 @@ from mutants.checks.summary import WIDTH, difference_lines, line_lines, ranges_t
 from mutants.declarations.boxes import NO_PROOF
 from mutants.declarations.proofs import count_of_proved, killed_later
 from mutants.english import joined_words, plural
-from mutants.pages.report import by_line
+from mutants.pages.report import by_line, no_survivor_text
 from mutants.suggestions.aims import Aim, kept_lines
 from mutants.suggestions.box import BoxSearch
 from mutants.suggestions.shapes import Row
@@ -93,14 +93,22 @@ def tried_line(result: Suggested, seed: int) -> str:
     return f"Tried: {tried}.{left_out if search.failed else ''}"
 
 
+def proving_lines(result: Suggested) -> Iterator[str]:
+    """What came of the rows that failed proofs led to, where such were run."""
+    tried, killed, proved = result.proving.tried, result.proving.killed, result.search.proved.bit_count()
+    if tried:
+        more = f"; with them {plural(proved, 'mutant')} more could be proved equivalent" if proved else ""
+        yield f"Failed proofs led to {tried} of these rows, which kill {plural(killed, 'survivor')}{more}."
+
+
 def which_lines(result: Suggested) -> Iterator[str]:
-    """For all rows of a box: which of three things holds of each mutant that survives the tests."""
-    if not isinstance(result.search, BoxSearch) or not result.search.is_whole:
-        return
+    """Which of three things holds of each mutant that the tests do not kill."""
     start, left = len(result.start.report.survivors), len(result.final.report.survivors)
-    proved = count_of_proved(result.start.report.rows, result.start.said.proofs)
-    counts = f"{start - left} killed by a row, {proved} proved equivalent, {left} that no row of this box kills"
-    yield f"Of the {plural(start + proved, 'mutant')} that the tests do not kill: {counts}."
+    before, proved = (count_of_proved(each.report.rows, each.said.proofs) for each in (result.start, result.final))
+    is_box = isinstance(result.search, BoxSearch) and result.search.is_whole
+    which = "that no row of this box kills" if is_box else "undecided"
+    counts = f"{start + before - proved - left} killed by a row, {proved} proved equivalent, {left} {which}"
+    yield f"Of the {plural(start + before, 'mutant')} that the tests do not kill: {counts}."
 
 
 def reached_text(result: Suggested, line: int) -> str:
@@ -117,7 +125,7 @@ def left_lines(result: Suggested) -> Iterator[str]:
     survivors = result.final.report.survivors
     lines = by_line(survivors)
     if not survivors:
-        yield "No mutant survives that is not declared equivalent."
+        yield no_survivor_text(count_of_proved(result.final.report.rows, result.final.said.proofs))
         return
     verb = "is one survivor" if len(survivors) == 1 else f"are {len(survivors)} survivors"
     is_box = isinstance(result.search, BoxSearch) and result.search.is_whole
@@ -170,7 +178,7 @@ def summary(result: Suggested, program: Path, tests: Path, layout: Layout, aim: 
         return "\n".join(lines) + "\n"
     if result.is_cut:
         lines += ["Cut short by Ctrl-C: what follows was found until then."]
-    lines += [tried_line(result, aim.seed), *which_lines(result)]
+    lines += [tried_line(result, aim.seed), *proving_lines(result), *which_lines(result)]
     lines += kept_lines(result.search.shape.keeps, dummies_of(result.start.printed))
     none = ["No row was found that kills a survivor."]
     lines += ["", *(suggestion_lines(result, layout, tests) if result.rows else none)]

@@ -27,9 +27,9 @@ class Kept(Room):
         running.holds(self, mock.patch.dict(os.environ, {"XDG_CACHE_HOME": str(self.folder / "caches")}))
         running.holds(self, mock.patch.object(proving, "plain_answer", self.counted))
 
-    def counted(self, name: str, program: str, words: list[str], job: bytes) -> str:
+    def counted(self, name: str, program: str, words: list[str], job: bytes, seconds: float | None) -> str:
         self.asked.append(words)
-        return ANSWER(name, program, words, job)
+        return ANSWER(name, program, words, job, seconds)
 
     def spares(
         self, ops: str = "SDL", *words: str, suite: list[object] = [[1, 0]], source: str = SURE, anew: bool = False

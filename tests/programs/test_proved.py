@@ -65,6 +65,7 @@ class Checks(Proving):
         out = self.told()
         has(self, out, "\nScore 100.00 %: 1 of 1 mutant killed, not counting 1 proved equivalent, ")
         has(self, out, "\nWithout the proofs it is 50.00 %: 1 of 2 mutants killed")
+        has(self, out, "\nOf 2 mutants: 1 killed, 1 proved equivalent, 0 undecided.\n")
         has(self, out, "No mutant survives that is not declared or proved equivalent.\n")
         has(self, out, "\n1 mutant proved equivalent (--show-proved tells it).\n")
         self.assertNotIn("SDL 1 ", out)
@@ -74,6 +75,7 @@ class Checks(Proving):
 
     def test_without_the_program_all_is_as_before_and_this_is_told_once(self) -> None:
         without = self.check("--no-page", ops="SDL")[1]
+        self.assertNotIn("undecided", without)
         self.assertTrue(without.endswith(f"{NOT_ASKED}--no-proofs was given.\n"))
         gone = {"EQUIVALENTS": "", "XDG_CACHE_HOME": str(self.folder), "PATH": ""}
         with mock.patch.dict(os.environ, gone), mock.patch.object(finding, "BUILT_EQUIVALENTS", self.folder / "gone"):
@@ -170,7 +172,8 @@ class StepsToSpare(Proving):
         self.put("mutants.ini", "[mutants]\nsteps = 300\n")
         self.assertEqual(mutants("check", "--no-page", *both, proofs=spy, ops="SDL")[0], 0)
         self.assertEqual(mutants("declare", self.program, "SDL 1", "--reason", "why", proofs=spy)[0], 0)
-        asked = ["--ops SDL", "--ops SDL --steps 500"] * 3 + ["--ops SDL --steps 300", "--ops SDL"]
+        asked = ["--ops SDL", "--ops SDL --steps 500"] * 2
+        asked += ["--ops SDL --rows 4", "--ops SDL --steps 500 --rows 4", "--ops SDL --steps 300", "--ops SDL"]
         self.assertEqual(log.read_text().split("\n")[:-1], asked)
 
     def test_they_are_counted_apart(self) -> None:
@@ -265,6 +268,7 @@ class Pages(Proving):
         has(self, page, EQUIVALENT, "1 of 1 mutant killed, not counting 1 proved equivalent")
         has(self, page, "<summary>1 proved equivalent</summary>")
         has(self, page, "Without the proofs the score is 50.00 %: 1 of 2 mutants killed.")
+        has(self, page, "Of 2 mutants: 1 killed, 1 proved equivalent, 0 undecided.")
         self.assertNotIn('id="declared"', page)
         self.asked(ops="")
         page = self.page(self.program, self.tests, ops="")
@@ -273,8 +277,10 @@ class Pages(Proving):
     def test_a_page_with_none(self) -> None:
         without = self.page("--no-proofs", self.program, self.tests)
         self.assertNotIn("proved", without)
-        none = self.saying("PROVED 0 OF 2\n")
-        self.assertTrue(self.page(self.program, self.tests, proofs=none) == without, "another page")
+        none = self.page(self.program, self.tests, proofs=self.saying("PROVED 0 OF 2\n"))
+        decided = '<p class="soft">Of 2 mutants: 1 killed, 0 proved equivalent, 1 undecided.</p>\n'
+        self.assertTrue(none.replace(decided, "") == without, "another page")
+        self.assertIn(decided, none)
 
     def test_declared_and_proved_at_once(self) -> None:
         names, tests = self.put("names.csv", MISTAKE), self.put("seven.csv", "7,0\n")
