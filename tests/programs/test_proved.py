@@ -71,7 +71,9 @@ class Checks(Proving):
         self.assertNotIn("SDL 1 ", out)
         told = f"  SDL 1     line 3: [K=7 -> CONTINUE]: {EQUIVALENT}\n"
         has(self, self.told("--show-proved"), f"\n1 mutant proved equivalent:\n{told}")
-        self.assertNotIn("proved", self.told("--lines", "4"))
+        out = self.told("--lines", "4")
+        has(self, out, "\nOf 1 mutant: 1 killed, 0 proved equivalent, 0 undecided.\n")
+        self.assertEqual(out.count("proved"), 1)
 
     def test_without_the_program_all_is_as_before_and_this_is_told_once(self) -> None:
         without = self.check("--no-page", ops="SDL")[1]
