@@ -119,7 +119,7 @@ class Loop(unittest.TestCase):
         self.assertEqual(len(self.jobs), TURNS)
 
     def test_what_takes_too_long_or_is_refused_ends_it(self) -> None:
-        for fault in (OutOfTime, Fault("", "FAULT O1")):
+        for fault in (OutOfTime(), Fault("", "FAULT O1")):
             proving = self.went()
 
             def asked(job: Job, seconds: float | None) -> Answer:
