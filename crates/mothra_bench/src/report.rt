@@ -2,6 +2,8 @@
 
 ghost use Rattle.std.specs.Prelude.{◌≡◌, ◌++◌, map, flat_map, IfOk, IfErr, OnOk, string_bytes};
 ghost use Rattle.f77_program.specs.Program.{line_of};
+ghost use Rattle.mothra_ops.specs.Copies.{copied, statements_in};
+ghost use Rattle.mothra_ops.specs.Mutants.{program_of};
 ghost use Rattle.mothra_bench.specs.Report as definition;
 ghost use Rattle.mothra_bench.specs.Report.{bits_of, counts_line, entry_lines, mutant_line, operator_lines};
 ghost use Rattle.mothra_bench.specs.Report.{report_text, score_line, status_of, survivor_line, wrong_line};
@@ -12,7 +14,7 @@ use crate::matrix::{Entry, Matrix};
 use f77_legal::heading::unit;
 use f77_program::Line;
 use f77_tree::Shared;
-use mothra_ops::{Op, Plan, push_name, write_name};
+use mothra_ops::{Copies, Op, Plan, push_name, write_name};
 use mothra_verdicts::{Bench, BenchFault};
 use std::alloc::{AllocError, Global};
 
@@ -117,8 +119,9 @@ fn push_mutant(
     text.push_str("MUTANT ")?;
     write_name(name, plan.every(), entry.ticket.op, entry.ticket.number)?;
     text.push_str(name)?;
-    let status = status(entry);
-    write!(text, " {status} ")?;
+    text.push(' ')?;
+    text.push_str(status(entry))?;
+    text.push(' ')?;
     push_bits(text, entry.kills.as_slice())?;
     text.push('\n')
 }
@@ -151,21 +154,32 @@ fn push_survivors(text: &mut String, plan: &Plan, entries: &[Entry]) -> Result<(
         (string_bytes text.new ≡ string_bytes text.old ++ flat_map (survivor_line plan.now) entries.now) }
     ensures memory { IfErr result (λ fault. fault ≡ Memory) }
 {
+    let Ok(mut copies) = Copies::of(*text.allocator(), plan.program().program().lines()) else {
+        return Err(BenchFault::Memory);
+    };
     for entry in entries {
-        push_survivor(text, plan, entry)?;
+        push_survivor(text, plan, &mut copies, entry)?;
     }
     Ok(())
 }
 
-fn push_survivor(text: &mut String, plan: &Plan, entry: &Entry) -> Result<(), BenchFault>
+fn push_survivor(
+    text: &mut String,
+    plan: &Plan,
+    copies: &mut Copies,
+    entry: &Entry,
+) -> Result<(), BenchFault>
+    requires { copied copies.old ≡ statements_in (program_of plan.now) }
     ensures text { OnOk result (string_bytes text.new ≡ string_bytes text.old ++ survivor_line plan.now entry.now) }
+    ensures copies { copied copies.new ≡ copied copies.old }
     ensures memory { IfErr result (λ fault. fault ≡ Memory) }
 {
     if entry.declared || entry.is_killed() {
         return Ok(());
     }
     text.push_str("SURVIVOR ")?;
-    let Ok(()) = plan.push_text(text, entry.ticket.op, entry.ticket.number) else {
+    let ticket = entry.ticket;
+    let Ok(()) = plan.push_text_by(text, copies, ticket.op, ticket.number) else {
         return Err(BenchFault::Memory);
     };
     Ok(text.push('\n')?)

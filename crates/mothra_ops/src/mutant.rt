@@ -1,19 +1,22 @@
 //! Mutants, and the texts that lists and reports have of them.
 
-ghost use Rattle.std.specs.Prelude.{◌≡◌, ◌++◌, string_bytes, IfOk, IfErr, OnOk, OnErr};
+ghost use Rattle.std.specs.Prelude.{◌≡◌, ◌++◌, codes, string_bytes, IfOk, IfErr, OnOk, OnErr};
 ghost use Rattle.f77_program.specs.Canonical.{statement_text};
 ghost use Rattle.f77_tree.specs.Statement.{statement_of};
 ghost use Rattle.f77_tree.specs.Replacement.{replacement_of};
+ghost use Rattle.mothra_ops.specs.Copies.{copied, statements_in};
 ghost use Rattle.mothra_ops.specs.Made.{IsMadeMutant};
 ghost use Rattle.mothra_ops.specs.Mutants.{change_text, line_number_at, mutant_fields};
 ghost use Rattle.mothra_ops.specs.Mutants.{mutant_name, mutant_text, program_of};
 ghost use Rattle.mothra_replacements.specs.declared.fault.OpsFault.TheVariants.{Memory};
 
+use crate::copies::Copies;
 use crate::edit::Edit;
 use crate::plan::Plan;
 use f77_check::Checked;
 use f77_program::{SyntaxFault, print_stmt};
 use f77_tree::{Replacement, Stmt, swap_node};
+use itoa::Buffer;
 use mothra_codes::Op;
 use mothra_replacements::OpsFault;
 use std::alloc::{AllocError, Global};
@@ -87,17 +90,23 @@ impl Plan {
         }
     }
 
-    /// Appends the change of a mutant of the plan, or a part of it where memory runs out.
-    fn write_change(&self, text: &mut String, mutant: &Mutant) -> Result<(), OpsFault>
-        requires { IsMadeMutant self.now.checked mutant.now }
-        ensures text { OnOk result (string_bytes text.new ≡ string_bytes text.old
+    /// Appends the line number of the statement that a mutant of the plan changes, and the text of the changed one.
+    /// Where memory runs out, a part of it is appended.
+    fn write_change(
+        &self,
+        text: &mut String,
+        mutant: &Mutant,
+        statement: &str,
+    ) -> Result<(), AllocError>
+        requires { statement.now ≡ statement_text (statement_of mutant.now.stmt.value) }
+        ensures { OnOk result (string_bytes text.new ≡ string_bytes text.old
             ++ change_text (program_of self.now) (mutant_fields mutant.now)) }
-        ensures memory { IfErr result (λ fault. fault ≡ Memory) }
     {
         let line = self.line_number(mutant.number());
-        write!(text, "LINE {line} ")?;
-        let statement = printed(*text.allocator(), &mutant.statement(self.program())?)?;
-        Ok(text.push_str(&statement)?)
+        text.push_str("LINE ")?;
+        text.push_str(Buffer::new().format(line))?;
+        text.push(' ')?;
+        text.push_str(statement)
     }
 
     /// Appends the change of a mutant of the plan: the line number of the statement, and the canonical text of the
@@ -109,23 +118,33 @@ impl Plan {
         ensures unchanged { OnErr result (string_bytes text.new ≡ string_bytes text.old) }
         ensures memory { IfErr result (λ fault. fault ≡ Memory) }
     {
-        let mut change = String::with_capacity(*text.allocator(), LINE)?;
-        self.write_change(&mut change, mutant)?;
+        let alloc = *text.allocator();
+        let statement = printed(alloc, &mutant.statement(self.program())?)?;
+        let mut change = String::with_capacity(alloc, LINE)?;
+        self.write_change(&mut change, mutant, &statement)?;
         Ok(text.push_str(&change)?)
     }
 
-    /// The line of the operator's mutant of this number; an empty text where the plan has no such mutant.
-    fn text_of(&self, alloc: Global, op: Op, number: u32) -> Result<String, OpsFault>
-        ensures text { IfOk result (λ text. string_bytes text ≡ mutant_text self.now op number) }
+    /// Appends the line of a mutant of the plan that has this name.
+    fn push_line(
+        &self,
+        text: &mut String,
+        mutant: &Mutant,
+        op: Op,
+        number: u32,
+        statement: &str,
+    ) -> Result<(), OpsFault>
+        requires statement { statement.now ≡ statement_text (statement_of mutant.now.stmt.value) }
+        ensures text { OnOk result (string_bytes text.new ≡ string_bytes text.old
+            ++ mutant_name self.now.every op number
+            ++ codes " " ++ change_text (program_of self.now) (mutant_fields mutant.now)) }
+        ensures unchanged { OnErr result (string_bytes text.new ≡ string_bytes text.old) }
         ensures memory { IfErr result (λ fault. fault ≡ Memory) }
     {
-        let Some(mutant) = self.mutant(op, number) else {
-            return Ok(String::new(alloc));
-        };
-        let mut text = name(alloc, LINE, self.every(), op, number)?;
-        text.push(' ')?;
-        self.write_change(&mut text, mutant)?;
-        Ok(text)
+        let mut own = name(*text.allocator(), LINE, self.every(), op, number)?;
+        own.push(' ')?;
+        self.write_change(&mut own, mutant, statement)?;
+        Ok(text.push_str(&own)?)
     }
 
     /// Appends the line of the operator's mutant of this number: its name, the line number of the statement that it
@@ -135,8 +154,58 @@ impl Plan {
         ensures unchanged { OnErr result (string_bytes text.new ≡ string_bytes text.old) }
         ensures memory { IfErr result (λ fault. fault ≡ Memory) }
     {
-        let own = self.text_of(*text.allocator(), op, number)?;
-        Ok(text.push_str(&own)?)
+        let Some(mutant) = self.mutant(op, number) else {
+            return Ok(());
+        };
+        let statement = printed(*text.allocator(), &mutant.statement(self.program())?)?;
+        self.push_line(text, mutant, op, number, &statement)
+    }
+
+    /// The canonical text of the statement that a mutant of the plan changes. Its node stands in the copy meanwhile.
+    fn printed_in(
+        &self,
+        alloc: Global,
+        copies: &mut Copies,
+        mutant: &Mutant,
+    ) -> Result<String, OpsFault>
+        requires made { IsMadeMutant self.now.checked mutant.now }
+        requires copies { copied copies.old ≡ statements_in (program_of self.now) }
+        ensures copies { copied copies.new ≡ copied copies.old }
+        ensures text { IfOk result
+            (λ text. string_bytes text ≡ statement_text (statement_of mutant.now.stmt.value)) }
+        ensures memory { IfErr result (λ fault. fault ≡ Memory) }
+    {
+        let (number, position) = (mutant.edit.statement, mutant.edit.position);
+        let mut node = mutant.node()?;
+        copies.swap(number, position, &mut node);
+        let Some(stmt) = copies.get(number) else {
+            unreachable!()
+        };
+        let text = printed(alloc, stmt);
+        copies.swap(number, position, &mut node);
+        text
+    }
+
+    /// Appends the line of the operator's mutant of this number, as `push_text` does. Its node stands in a copy of its
+    /// statement while that is printed, so no statement is copied.
+    pub fn push_text_by(
+        &self,
+        text: &mut String,
+        copies: &mut Copies,
+        op: Op,
+        number: u32,
+    ) -> Result<(), OpsFault>
+        requires { copied copies.old ≡ statements_in (program_of self.now) }
+        ensures text { OnOk result (string_bytes text.new ≡ string_bytes text.old ++ mutant_text self.now op number) }
+        ensures unchanged { OnErr result (string_bytes text.new ≡ string_bytes text.old) }
+        ensures copies { copied copies.new ≡ copied copies.old }
+        ensures memory { IfErr result (λ fault. fault ≡ Memory) }
+    {
+        let Some(mutant) = self.mutant(op, number) else {
+            return Ok(());
+        };
+        let statement = self.printed_in(*text.allocator(), copies, mutant)?;
+        self.push_line(text, mutant, op, number, &statement)
     }
 }
 
@@ -157,11 +226,14 @@ fn printed(alloc: Global, stmt: &Stmt) -> Result<String, OpsFault>
 pub fn write_name(name: &mut String, every: u32, op: Op, number: u32) -> Result<(), AllocError>
     ensures { OnOk result (string_bytes name.new ≡ mutant_name every op number) }
 {
-    let code = op.code();
     let original = u64::from(number.saturating_sub(1)) * u64::from(every) + 1;
+    let mut digits = Buffer::new();
     name.clear();
-    write!(name, "{code} {number} {original}")?;
-    Ok(())
+    name.push_str(op.code())?;
+    name.push(' ')?;
+    name.push_str(digits.format(number))?;
+    name.push(' ')?;
+    name.push_str(digits.format(original))
 }
 
 /// The name of a mutant, in a text with room for so many characters.
