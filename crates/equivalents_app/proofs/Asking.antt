@@ -8,6 +8,7 @@ use Rattle.clap.specs.Walk.{nothing_held, rows_after, walk}
 use Rattle.clap.proofs.OnLiterals.{clap_on_literals}
 use Rattle.mothra_codes.specs.declared.op.Op.{Op}
 use Rattle.mothra_cli.specs.Request.{operators_at}
+use Rattle.mothra_cli.specs.Request as number
 use Rattle.mothra_cli.specs.declared.request.WordsFault.{WordsFault}
 use Rattle.mothra_cli.specs.declared.request.WordsFault.TheVariants.{Refused, BadOperatorList}
 use Rattle.mothra_cli.proofs.Accepted.{default_number}
@@ -43,11 +44,11 @@ apart e = absurd (true≢false (sym e))
 -- `--every` and `--steps` have defaults, and their numbers are within their bounds
 serves_every : Each (Serves (codes "every") 1 1048575) (built equivalents).top.rules
 unfolding clap_on_literals equivalents
-serves_every = (apart, (λ f. record { action = refl; parser = refl; range = omega arith }, (apart, (apart, (apart, (apart, tt))))))
+serves_every = (apart, (λ f. record { action = refl; parser = refl; range = omega arith }, (apart, (apart, (apart, (apart, (apart, tt)))))))
 
 serves_steps : Each (Serves (codes "steps") 1 1000000) (built equivalents).top.rules
 unfolding clap_on_literals equivalents
-serves_steps = (apart, (apart, (λ f. record { action = refl; parser = refl; range = omega arith }, (apart, (apart, (apart, tt))))))
+serves_steps = (apart, (apart, (λ f. record { action = refl; parser = refl; range = omega arith }, (apart, (apart, (apart, (apart, tt)))))))
 
 given_every : list_any (has_default (codes "every")) (built equivalents).top.rules ≡ true
 unfolding clap_on_literals equivalents
@@ -76,10 +77,10 @@ IsAccepted refused = ⊥
 IsAccepted bad_operators = Unit {0}
 IsAccepted (inquiry i) = IsInquiryBounded i
 
-accepted : (o : Option (List Op)) (every steps : ℕ) (json : Bool) → (1 ≤ every) × (every ≤ 1048575) → (1 ≤ steps) × (steps ≤ 1000000)
-    → IsAccepted (inquiry_meaning o (Some every) (Some steps) json)
-accepted None every steps json few limit = tt
-accepted (Some ops) every steps json few limit = (few.0, few.1, limit.0, limit.1)
+accepted : (o : Option (List Op)) (every steps : ℕ) (json : Bool) (rows : Option ℕ) → (1 ≤ every) × (every ≤ 1048575) → (1 ≤ steps) × (steps ≤ 1000000)
+    → IsAccepted (inquiry_meaning o (Some every) (Some steps) json rows)
+accepted None every steps json rows few limit = tt
+accepted (Some ops) every steps json rows few limit = (few.0, few.1, limit.0, limit.1)
 
 own_asks : (words : List Text) → fault_of equivalents words ≡ [] → IsAccepted (options_meaning (matches_of equivalents words))
 own_asks words taken =
@@ -87,7 +88,8 @@ own_asks words taken =
     let every = option_number (codes "every") 1 1048575 (omega arith) serves_every given_every words taken in
     let steps = option_number (codes "steps") 1 1000000 (omega arith) serves_steps given_steps words taken in
     rw (every.1, steps.1)
-    (accepted (operators_at rows) every.0 steps.0 (flag_at (codes "json") rows) (every.2, every.3) (steps.2, steps.3))
+    (accepted (operators_at rows) every.0 steps.0 (flag_at (codes "json") rows) (number.option_number (codes "rows") rows)
+    (every.2, every.3) (steps.2, steps.3))
 
 pub asks : (words : List Text) (rows : List Row) → fault_of equivalents words ≡ [] → rows ≡ matches_of equivalents words → IsAccepted (options_meaning rows)
 asks words rows taken is = subst (λ r. IsAccepted (options_meaning r)) (sym is) (own_asks words taken)

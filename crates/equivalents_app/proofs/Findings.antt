@@ -52,7 +52,7 @@ module _ (job : JobFields) (i : Inquiry) where
 
       pub found : (text : List ℕ) (program : List LineFields) (plan : PlanFields) → IsLegalProgramOf source (Ok program)
           → program_of plan ≡ program → plan.every ≡ i.every → ((op : Op) → IsTrue (asked plan op) ↔ Contains named op) → IsPlan plan
-          → IsNamedIn plan job.suite i.steps i.json text → IsFound job i (Ok text)
+          → IsNamedIn plan job.suite i text → IsFound job i (Ok text)
       found text program plan is of_program kept asks planned names =
           IsFound.text (subst (λ s. IsLegalProgramOf s (Ok program)) own is)
           (record {

@@ -1,4 +1,5 @@
 pub mod Words
+pub mod Rows
 pub mod Rendering
 pub mod Room
 pub mod Finding

@@ -7,7 +7,9 @@ use Rattle.f77_tree.specs.Joined.{separated}
 use Rattle.mothra_app.specs.Listing.{asked_total}
 use Rattle.mothra_codes.specs.Ticket.{ticket}
 use Rattle.mothra_codes.specs.declared.ticket.Ticket.{Ticket}
+use Rattle.equivalents_app.specs.Rows.{row_line}
 use Rattle.mothra_equivalents.specs.declared.equivalents.Equivalent.{Equivalent}
+use Rattle.mothra_equivalents.specs.declared.suggestions.Suggestion.{Suggestion}
 use Rattle.mothra_job.specs.Equivalent.{ticket_text}
 use Rattle.mothra_ops.specs.Mutants.{MutantFields, change_text, mutant_name, mutant_of, original_number, program_of}
 use Rattle.mothra_ops.specs.Plan.{PlanFields}
@@ -43,9 +45,11 @@ abbrev pub last_line : ℕ → ℕ → ℕ → List ℕ
 last_line count total left =
     codes "PROVED " ++ (decimal count ++ (codes " OF " ++ (decimal total ++ (left_text left ++ codes "\n"))))
 
-abbrev pub lines_text : PlanFields → List Equivalent → ℕ → List ℕ
-lines_text plan list left =
-    flat_map (equivalent_line plan) list ++ last_line (length list) (asked_total plan) left
+-- the lines of the named mutants, then those of rows, then the last one
+abbrev pub lines_text : PlanFields → List Equivalent → List Suggestion → ℕ → List ℕ
+lines_text plan list rows left =
+    flat_map (equivalent_line plan) list
+    ++ (flat_map (row_line plan.every) rows ++ last_line (length list) (asked_total plan) left)
 
 -- ---- as the list that the key `equivalent` of a job takes
 
@@ -69,6 +73,6 @@ json_line every list = codes "[" ++ (separated entry_text [] (declarable every l
 -- ---- lines or JSON, as asked for
 
 -- Rule: what `equivalents` writes
-abbrev pub written_text : PlanFields → List Equivalent → ℕ → Bool → List ℕ
-written_text plan list left json =
-    if json then json_line plan.every list else lines_text plan list left
+abbrev pub written_text : PlanFields → List Equivalent → List Suggestion → ℕ → Bool → List ℕ
+written_text plan list rows left json =
+    if json then json_line plan.every list else lines_text plan list rows left

@@ -6,6 +6,7 @@ use Rattle.clap.specs.Words.{App, HasKind, Row, Rule, Text, fault_of, matches_of
 use Rattle.clap.specs.Simple.{new_shape}
 use Rattle.clap.specs.Walk.{is_empty}
 use Rattle.clap.specs.declared.builder.action.ArgAction.TheVariants.{SetTrue}
+use Rattle.clap.specs.declared.builder.value_parser.ValueParser.TheVariants.{Unsigned}
 use Rattle.clap.specs.declared.error.Error.{Error}
 use Rattle.mothra_codes.specs.declared.op.Op.{Op}
 use Rattle.mothra_cli.specs.Command.{every_rule, ops_rule, steps_rule}
@@ -18,12 +19,19 @@ use Rattle.equivalents_app.specs.declared.words.Inquiry.{Inquiry}
 abbrev pub json_rule : Rule
 json_rule = record (new_rule (codes "json")) { long = Some (codes "json"); action = Some SetTrue }
 
+-- `--rows`: how many rows are written for a mutant at most, 1 to 64; none where it is absent
+abbrev pub rows_rule : Rule
+rows_rule = record (new_rule (codes "rows")) {
+  long = Some (codes "rows");
+  parser = Some (Unsigned 1 64);
+}
+
 unfoldable pub equivalents : App
 equivalents = record {
   top = record (new_shape (codes "equivalents")) {
     has_version = true;
     rules = ops_rule
-        ∷ every_rule ∷ steps_rule ∷ json_rule ∷ [];
+        ∷ every_rule ∷ steps_rule ∷ json_rule ∷ rows_rule ∷ [];
   };
   subs = [];
 }
@@ -40,18 +48,21 @@ pub data InquiryMeaning : Type 0 where
 abbrev pub flag_at : Text → List Row → Bool
 flag_at name rows = option_map_or (λ text. bytes_eq text (codes "true")) (one_of name rows) false
 
--- the meaning of these operators and numbers, which have to be there, and of lines or JSON
-abbrev pub inquiry_meaning : Option (List Op) → Option ℕ → Option ℕ → Bool → InquiryMeaning
-inquiry_meaning None every steps json = bad_operators
-inquiry_meaning (Some operators) (Some every) (Some steps) json =
-    inquiry (record { operators = operators; every = every; steps = steps; json = json })
-inquiry_meaning (Some operators) _ _ json = refused
+-- the meaning of these operators and numbers, which have to be there, of lines or JSON, and of
+-- how many rows are asked for
+abbrev pub inquiry_meaning : Option (List Op) → Option ℕ → Option ℕ → Bool → Option ℕ
+    → InquiryMeaning
+inquiry_meaning None every steps json rows = bad_operators
+inquiry_meaning (Some operators) (Some every) (Some steps) json rows = inquiry
+    (record { operators = operators; every = every; steps = steps; json = json; rows = rows })
+inquiry_meaning (Some operators) _ _ json rows = refused
 
 -- the meaning of the values of the options
 abbrev pub options_meaning : List Row → InquiryMeaning
 options_meaning rows =
     inquiry_meaning (operators_at rows) (option_number (codes "every") rows)
     (option_number (codes "steps") rows) (flag_at (codes "json") rows)
+    (option_number (codes "rows") rows)
 
 -- the command line takes the words
 abbrev pub IsInquiryTaken : List Text → Type 0

@@ -13,13 +13,14 @@ ghost use Rattle.equivalents_app.specs.Words.{IsInquiryBounded};
 use crate::killed::{bench_of, killed_on};
 use crate::rendering::text_of;
 use crate::room::{keep_within, room_of};
+use crate::rows::rows_of;
 use crate::words::Inquiry;
 use f77_meaning::{Arg, Values};
 use indexmap::IndexSet;
 use mothra_app::fault::Fault;
 use mothra_app::program::legal_program_of;
 use mothra_codes::Ticket;
-use mothra_equivalents::{Found, equivalents_of};
+use mothra_equivalents::{Found, Search, equivalents_of};
 use mothra_job::Job;
 use mothra_ops::{OpsFault, Plan};
 use std::alloc::Global;
@@ -30,13 +31,18 @@ fn named_of(
     plan: &Plan,
     killed: &IndexSet<Ticket>,
     room: Option<u32>,
+    inquiry: &Inquiry,
 ) -> Result<Found, OpsFault>
     ensures named { IfOk result (λ found. (tests : List (List Given)) (steps : ℕ)
         → IfSome room (LeavesRoom (program_of plan.now) tests steps)
         → AreNamedMutants plan.now tests steps found.list.items) }
     ensures memory { IfErr result (λ fault. fault ≡ Memory) }
 {
-    let mut found = equivalents_of(alloc, plan, killed)?;
+    let search = Search {
+        most: inquiry.rows.unwrap_or(0),
+        steps: inquiry.steps,
+    };
+    let mut found = equivalents_of(alloc, plan, killed, search)?;
     keep_within(&mut found.list, room);
     Ok(found)
 }
@@ -47,15 +53,24 @@ fn text_for(
     plan: &Plan,
     killed: &IndexSet<Ticket>,
     room: Option<u32>,
-    json: bool,
+    inquiry: &Inquiry,
 ) -> Result<String, OpsFault>
-    ensures text { IfOk result (λ text. (tests : List (List Given)) (steps : ℕ)
-        → IfSome room (LeavesRoom (program_of plan.now) tests steps)
-        → IsNamedIn plan.now tests steps json (string_bytes text)) }
+    ensures text { IfOk result (λ text. (tests : List (List Given))
+        → IfSome room (LeavesRoom (program_of plan.now) tests inquiry.now.steps)
+        → IsNamedIn plan.now tests inquiry.now (string_bytes text)) }
     ensures memory { IfErr result (λ fault. fault ≡ Memory) }
 {
-    let found = named_of(alloc, plan, killed, room)?;
-    text_of(alloc, plan, &found, json)
+    let found = named_of(alloc, plan, killed, room, inquiry)?;
+    let suggestions = found.suggestions;
+    let rows = rows_of(alloc, plan, &found.list, suggestions, inquiry.rows)?;
+    text_of(
+        alloc,
+        plan,
+        &found.list,
+        &rows,
+        found.unfinished,
+        inquiry.json,
+    )
 }
 
 /// The text that names mutants of the plan that are equivalent, as the words ask for it. Where a test does not fit, or
@@ -68,15 +83,15 @@ fn text_in(
 ) -> Result<String, OpsFault>
     requires few { length tests ≤ 256 }
     ensures named { IfOk result
-        (λ text. IsNamedIn plan tests inquiry.now.steps inquiry.now.json (string_bytes text)) }
+        (λ text. IsNamedIn plan tests inquiry.now (string_bytes text)) }
     ensures memory { IfErr result (λ fault. fault ≡ Memory) }
 {
     let Some(room) = room_of(alloc, plan.program(), tests.as_slice(), inquiry.steps)? else {
-        return text_for(alloc, &plan, &IndexSet::new(alloc), None, inquiry.json);
+        return text_for(alloc, &plan, &IndexSet::new(alloc), None, inquiry);
     };
     let bench = bench_of(alloc, plan, tests, inquiry.steps)?;
     let killed = killed_on(alloc, &bench)?;
-    text_for(alloc, bench.plan(), &killed, Some(room), inquiry.json)
+    text_for(alloc, bench.plan(), &killed, Some(room), inquiry)
 }
 
 /// The text that names equivalent mutants of the program of a job, as the words ask for it.

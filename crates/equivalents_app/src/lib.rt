@@ -7,6 +7,7 @@ mod killed;
 pub mod law;
 mod rendering;
 mod room;
+mod rows;
 mod serving;
 mod words;
 

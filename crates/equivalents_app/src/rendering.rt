@@ -10,8 +10,9 @@ ghost use Rattle.equivalents_app.specs.Rendering.{declarable, entry_text, equiva
 ghost use Rattle.equivalents_app.specs.Rendering.{json_line, last_line, lines_text, promise_line};
 ghost use Rattle.equivalents_app.specs.Rendering as definition;
 
+use crate::rows::push_rows;
 use mothra_codes::Ticket;
-use mothra_equivalents::{Equivalent, Found};
+use mothra_equivalents::{Equivalent, Suggestion};
 use mothra_ops::{Mutant, Op, OpsFault, Plan, push_name};
 use std::alloc::{AllocError, Global};
 
@@ -111,15 +112,22 @@ fn push_last(
     text.push_str("\n")
 }
 
-/// The lines of mutants of the plan.
-fn lines_of(alloc: Global, plan: &Plan, found: &Found) -> Result<String, OpsFault>
+/// The lines of mutants of the plan, and of rows.
+fn lines_of(
+    alloc: Global,
+    plan: &Plan,
+    list: &[Equivalent],
+    rows: &[Suggestion],
+    unfinished: u64,
+) -> Result<String, OpsFault>
     ensures text { IfOk result
-        (λ text. string_bytes text ≡ lines_text plan.now found.now.list.items found.now.unfinished) }
+        (λ text. string_bytes text ≡ lines_text plan.now list.now rows.now unfinished) }
     ensures memory { IfErr result (λ fault. fault ≡ Memory) }
 {
     let mut text = String::new(alloc);
-    push_equivalents(&mut text, plan, &found.list)?;
-    push_last(&mut text, plan, found.list.len(), found.unfinished)?;
+    push_equivalents(&mut text, plan, list)?;
+    push_rows(&mut text, plan.every(), rows)?;
+    push_last(&mut text, plan, list.len(), unfinished)?;
     Ok(text)
 }
 
@@ -179,15 +187,22 @@ fn json_of(alloc: Global, every: u32, list: &[Equivalent]) -> Result<String, All
     Ok(text)
 }
 
-/// The text that names mutants of the plan: lines, or a JSON list.
-pub fn text_of(alloc: Global, plan: &Plan, found: &Found, json: bool) -> Result<String, OpsFault>
-    ensures text { IfOk result (λ text. string_bytes text
-        ≡ definition.written_text plan.now found.now.list.items found.now.unfinished json) }
+/// The text that names mutants of the plan: lines, with the rows behind them, or a JSON list.
+pub fn text_of(
+    alloc: Global,
+    plan: &Plan,
+    list: &[Equivalent],
+    rows: &[Suggestion],
+    unfinished: u64,
+    json: bool,
+) -> Result<String, OpsFault>
+    ensures text { IfOk result
+        (λ text. string_bytes text ≡ definition.written_text plan.now list.now rows.now unfinished json) }
     ensures memory { IfErr result (λ fault. fault ≡ Memory) }
 {
     if json {
-        Ok(json_of(alloc, plan.every(), &found.list)?)
+        Ok(json_of(alloc, plan.every(), list)?)
     } else {
-        lines_of(alloc, plan, found)
+        lines_of(alloc, plan, list, rows, unfinished)
     }
 }

@@ -4,7 +4,8 @@ ghost use Rattle.std.specs.Prelude.{◌≡◌, IfErr, IfOk, Ok, OnOk, Some, fals
 ghost use Rattle.clap.specs.Words.{FailsBy, app_of, fault_of, found_of, matches_of, rows_of, rule_of};
 ghost use Rattle.clap.specs.declared.builder.command.Command.TheViews.{out-Command};
 ghost use Rattle.mothra_cli.specs.Command.{steps_rule};
-ghost use Rattle.equivalents_app.specs.Words.{equivalents, flag_at, json_rule, IsInquiryBounded, IsInquiryTaken};
+ghost use Rattle.equivalents_app.specs.Words.{equivalents, flag_at, json_rule, rows_rule};
+ghost use Rattle.equivalents_app.specs.Words.{IsInquiryBounded, IsInquiryTaken};
 ghost use Rattle.equivalents_app.specs.Words.{inquiry_meaning, options_meaning, IsInquiryFault};
 ghost use Rattle.equivalents_app.specs.code.Words.{ReadsInquiry};
 ghost use Rattle.equivalents_app.specs.Words as asked;
@@ -28,6 +29,8 @@ pub struct Inquiry {
     pub steps: u32,
     /// Whether the text is a JSON list, and not lines.
     pub json: bool,
+    /// So many rows are to be written for a mutant that is not named, 1 to 64; none where it is None.
+    pub rows: Option<u32>,
 }
 
 /// The option `--steps`: 1 to 1,000,000; 10,000 where it is absent.
@@ -54,6 +57,20 @@ fn json_option<'a>(alloc: Global) -> Arg<'a>
         .action(ArgAction::SetTrue)
 }
 
+/// The option `--rows`: 1 to 64.
+fn rows_option<'a>(alloc: Global) -> Arg<'a>
+    ensures rule { rule_of result ≡ rows_rule }
+    ensures global { result.global ≡ false }
+{
+    Arg::new(alloc, "rows")
+        .long("rows")
+        .help(
+            "For each mutant that was asked about and is not named, up to so many lines with the word ROW: tests that \
+             may kill it",
+        )
+        .value_parser(ValueParser::unsigned(1, 64))
+}
+
 fn command<'a>(alloc: Global) -> Result<Command<'a>, AllocError>
     ensures app { IfOk result (λ c. app_of c ≡ equivalents) }
     ensures globals { IfOk result (λ c. (out-Command c).has_globals ≡ false) }
@@ -72,7 +89,8 @@ fn command<'a>(alloc: Global) -> Result<Command<'a>, AllocError>
         .arg(ops_option(alloc))?
         .arg(every_option(alloc))?
         .arg(steps_option(alloc))?
-        .arg(json_option(alloc))?;
+        .arg(json_option(alloc))?
+        .arg(rows_option(alloc))?;
     Ok(command)
 }
 
@@ -97,14 +115,16 @@ fn inquiry_with(
     every: Option<u32>,
     steps: Option<u32>,
     json: bool,
+    rows: Option<u32>,
 ) -> Option<Inquiry>
-    ensures { ReadsInquiry (inquiry_meaning (Some operators) every steps json) (Ok result) }
+    ensures { ReadsInquiry (inquiry_meaning (Some operators) every steps json rows) (Ok result) }
 {
     Some(Inquiry {
         operators,
         every: every?,
         steps: steps?,
         json,
+        rows,
     })
 }
 
@@ -118,6 +138,7 @@ fn inquiry_in(alloc: Global, matches: &ArgMatches<'_>) -> Result<Option<Inquiry>
             number_at(matches, "every"),
             number_at(matches, "steps"),
             has_flag(matches, "json"),
+            number_at(matches, "rows"),
         )),
         None => Err(WordsFault::BadOperatorList),
     }

@@ -21,6 +21,7 @@ use crate::cuts::cuts_of;
 use crate::evaluator::{Atoms, Evaluator};
 use crate::halt::{Halt, unless_unknown};
 use crate::pairs::Pair;
+use crate::rows::Rows;
 use crate::samples::copied_samples;
 use crate::sides::copied_side;
 use crate::visiting::{Tour, Visit, Visits, tour_of};
@@ -79,8 +80,14 @@ impl Visits {
     }
 
     /// The changed program follows the program from wherever that comes to the changed statement. Gives by how many
-    /// steps it is behind at most.
-    fn steps_behind(&self, alloc: Global, change: &Change, work: &mut u64) -> Result<i64, Halt>
+    /// steps it is behind at most; where that is not told there may be rows.
+    fn steps_behind(
+        &self,
+        alloc: Global,
+        change: &Change,
+        work: &mut u64,
+        rows: &mut Rows,
+    ) -> Result<i64, Halt>
         ensures follows { IfOk result (λ behind.
             (spare : ℕ) (checked : CheckedFields) (places : List Place) (entry : Known)
             → behind ≤ℤ pos spare → AreVisits checked.statements places entry self.now
@@ -98,7 +105,11 @@ impl Visits {
         *work = work.saturating_sub(self.atoms.facts.len() as u64 / FACTS);
         let todo = pairs_of(alloc, visits)?;
         let mut evaluator = self.evaluator(alloc)?;
-        let behind = evaluator.follow(change, todo, work)?;
+        let followed = evaluator.follow(change, todo, work);
+        if followed.is_err() {
+            rows.add_all(alloc, &evaluator.samples, &change.dummies)?;
+        }
+        let behind = followed?;
         unless_unknown(is_inside(&self.atoms.facts, &evaluator.atoms.facts))?;
         law_of_atoms(&evaluator.atoms.table);
         Ok(behind)
@@ -107,14 +118,20 @@ impl Visits {
 
 impl Tour {
     /// The changed program follows the program from each cut. Gives by how many steps it is behind at most.
-    fn steps_behind(&self, alloc: Global, change: &Change, work: &mut u64) -> Result<i64, Halt>
+    fn steps_behind(
+        &self,
+        alloc: Global,
+        change: &Change,
+        work: &mut u64,
+        rows: &mut Rows,
+    ) -> Result<i64, Halt>
         ensures follows { IfOk result (λ behind. (spare : ℕ) (checked : CheckedFields)
             → behind ≤ℤ pos spare → IsTourOf checked self.now → FollowsThere checked change.now spare) }
         ensures above { IfOk result (λ behind. pos 0 ≤ℤ behind) }
     {
         let mut most = 0;
         for visits in &self.each {
-            let behind = visits.steps_behind(alloc, change, work)?;
+            let behind = visits.steps_behind(alloc, change, work, rows)?;
             most = behind.max(most);
         }
         Ok(most)
@@ -137,6 +154,7 @@ fn fewest_behind(
     tours: &[Tour],
     change: &Change,
     work: &mut u64,
+    rows: &mut Rows,
 ) -> Result<Option<i64>, AllocError>
     ensures follows { IfOk result (λ found. IfSome found (λ behind. (spare : ℕ) (checked : CheckedFields)
         → behind ≤ℤ pos spare → All (IsTourOf checked) tours.now → FollowsThere checked change.now spare)) }
@@ -144,7 +162,7 @@ fn fewest_behind(
 {
     let mut fewest: Option<i64> = None;
     for tour in tours {
-        match tour.steps_behind(alloc, change, work) {
+        match tour.steps_behind(alloc, change, work, rows) {
             Ok(behind) => fewest = Some(fewer(fewest, behind)),
             Err(Halt::Memory) => return Err(AllocError),
             Err(_) => {}
@@ -200,6 +218,7 @@ fn add_tour(
     entries: &[Entry],
     joins: bool,
     work: u64,
+    seeks: bool,
     list: &mut Vec<Tour>,
 ) -> Result<(), AllocError>
     requires { HoldsThroughout (record { checked = checked.now; entries = entries.now }) }
@@ -207,7 +226,7 @@ fn add_tour(
 {
     let statements = checked.statements();
     let cuts = cuts_of(alloc, statements, checked.start().entry, joins)?;
-    match tour_of(alloc, statements, &cuts, entries, work) {
+    match tour_of(alloc, statements, &cuts, entries, work, seeks) {
         Ok(tour) => Ok(list.push(tour)?),
         Err(Halt::Memory) => Err(AllocError),
         Err(_) => Ok(()),
@@ -216,20 +235,21 @@ fn add_tour(
 
 impl<'a> Tours<'a> {
     /// The tours of a program of which the entries are an invariant: by so much work from all cuts at most, and by so
-    /// much from the start alone.
+    /// much from the start alone. `seeks` says whether rows will be asked for.
     pub fn of(
         alloc: Global,
         checked: &'a Checked,
         entries: &[Entry],
         work: u64,
         from_start: u64,
+        seeks: bool,
     ) -> Result<Tours<'a>, AllocError>
         requires { HoldsThroughout (record { checked = checked.now; entries = entries.now }) }
         ensures { IfOk result (λ tours. tours ≡ checked.now) }
     {
         let mut list = Vec::new(alloc);
-        add_tour(alloc, checked, entries, true, work, &mut list)?;
-        add_tour(alloc, checked, entries, false, from_start, &mut list)?;
+        add_tour(alloc, checked, entries, true, work, seeks, &mut list)?;
+        add_tour(alloc, checked, entries, false, from_start, seeks, &mut list)?;
         Ok(Tours { checked, list })
     }
 
@@ -240,7 +260,7 @@ impl<'a> Tours<'a> {
 
     /// By how many steps a limit is to be larger for the program with this statement in the place of the one of this
     /// number, from 1, to come to what the program comes to wherever that returns or stops. None where that was not
-    /// shown by the work that is left; none is left where it did not do.
+    /// shown by the work that is left; none is left where it did not do. Then there may be rows.
     pub fn steps_to_spare(
         &self,
         alloc: Global,
@@ -248,6 +268,7 @@ impl<'a> Tours<'a> {
         stmt: &Stmt,
         resolved: &Shared<Resolved>,
         work: &mut u64,
+        rows: &mut Rows,
     ) -> Result<Option<u64>, AllocError>
         requires fits { Fits (map line_of self.now.program) number (statement_of stmt.now) }
         requires legal { IsLegal (patched (map line_of self.now.program) number (statement_of stmt.now)) }
@@ -268,7 +289,7 @@ impl<'a> Tours<'a> {
             Err(Halt::Memory) => return Err(AllocError),
             Err(_) => return Ok(None),
         };
-        match fewest_behind(alloc, &self.list, &change, work)? {
+        match fewest_behind(alloc, &self.list, &change, work, rows)? {
             Some(behind) => Ok(u64::try_from(behind).ok()),
             None => Ok(None),
         }

@@ -82,6 +82,32 @@ impl Evaluator {
         plus_constant(self.alloc, m, term, constant)?.ok_or(Halt::Unknown)
     }
 
+    /// A sample is looked for on which a term has this sign, if rows are asked for and there is none.
+    pub(crate) fn seek(&mut self, term: &Term, sign: Sign) -> Result<(), Halt>
+        ensures atoms { self.new.atoms ≡ self.old.atoms }
+        ensures path { self.new.path ≡ self.old.path }
+        ensures own { self.new.own ≡ self.old.own }
+    {
+        if self.samples.seeks && !self.samples.show(1, term, 0, sign) {
+            self.samples
+                .mend(self.alloc, &self.path, &self.atoms.table, term, sign)?;
+        }
+        Ok(())
+    }
+
+    /// The same for a term, m times, and a constant that are above 0.
+    fn seek_above(&mut self, m: i64, term: &Term, constant: i64) -> Result<(), Halt>
+        ensures atoms { self.new.atoms ≡ self.old.atoms }
+        ensures path { self.new.path ≡ self.old.path }
+        ensures own { self.new.own ≡ self.old.own }
+    {
+        if !self.samples.seeks {
+            return Ok(());
+        }
+        let sum = self.plus(m, term, constant)?;
+        self.seek(&sum, Sign::Positive)
+    }
+
     /// There is a fault unless a term, m times, and a constant are at most 0.
     pub(crate) fn expect_below(&mut self, m: i64, term: &Term, constant: i64) -> Result<(), Halt>
         ensures expects { IfOk result (λ _. Expects self.old self.new
@@ -89,6 +115,7 @@ impl Evaluator {
         ensures extends { Extends self.old.atoms self.new.atoms }
     {
         if !self.own {
+            self.seek_above(m, term, constant)?;
             unless_unknown(!self.samples.show(m, term, constant, Sign::Positive))?;
             return unless_unknown(is_bounded(self.alloc, &self.path, m, term, constant)?);
         }
@@ -111,6 +138,7 @@ impl Evaluator {
             }
         }
         if !self.own {
+            self.seek(term, Sign::Zero)?;
             unless_unknown(!self.samples.show(1, term, 0, Sign::Zero))?;
             return unless_unknown(is_apart(self.alloc, &self.path, term)?);
         }

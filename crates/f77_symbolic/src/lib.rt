@@ -25,6 +25,7 @@ mod mending;
 mod pairs;
 mod powers;
 mod reading;
+pub mod rows;
 mod samples;
 mod sides;
 mod spans;

@@ -14,6 +14,7 @@ ghost use Rattle.f77_symbolic.specs.Sides.{state_of, turn_of, turns_of};
 use crate::evaluator::Evaluator;
 use crate::halt::{Halt, unless_unknown};
 use crate::memory::{Location, Symbolic, Write, write_at};
+use crate::samples::Sign;
 use crate::sides::{Side, SymbolicTurn};
 use crate::values::Slots;
 use f77_terms::paths::Path;
@@ -56,6 +57,25 @@ impl Evaluator {
         }
     }
 
+    /// A sample is looked for on which two values differ, if rows are asked for and there is none.
+    fn seek_apart(&mut self, a: &Symbolic, b: &Symbolic) -> Result<(), Halt>
+        ensures atoms { self.new.atoms ≡ self.old.atoms }
+        ensures path { self.new.path ≡ self.old.path }
+        ensures own { self.new.own ≡ self.old.own }
+    {
+        if !self.samples.seeks {
+            return Ok(());
+        }
+        match (a, b) {
+            (Symbolic::Number(x), Symbolic::Number(y)) | (Symbolic::Truth(x), Symbolic::Truth(y)) =>
+                {
+                    let between = self.combination(1, x, -1, y)?;
+                    self.seek(&between, Sign::NotZero)
+                }
+            _ => Ok(()),
+        }
+    }
+
     /// Both sides hold the same in the slot of a location, if that is of the list.
     fn show_same_at(
         &mut self,
@@ -75,6 +95,7 @@ impl Evaluator {
         }
         let own = self.read(left, location)?;
         let other = self.read(right, location)?;
+        self.seek_apart(&own, &other)?;
         self.show_same_value(&own, &other)
     }
 

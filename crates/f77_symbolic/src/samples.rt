@@ -37,6 +37,8 @@ pub struct Sample {
 pub struct Samples {
     pub list: Vec<Sample>,
     pub on: Vec<usize>,
+    /// Rows are asked for: where two programs may differ a sample is looked for that shows it.
+    pub seeks: bool,
 }
 
 /// What a sample is to have of a term.
@@ -111,10 +113,7 @@ fn scaled_value(values: &[Option<i64>], m: i64, term: &Term, constant: i64) -> O
 
 /// The number without a sign.
 pub(crate) fn unsigned(z: i64) -> Option<usize> {
-    match usize::try_from(z) {
-        Ok(number) => Some(number),
-        Err(_) => None,
-    }
+    usize::try_from(z).ok()
 }
 
 /// The number of the slot that lies so far behind this one.
@@ -217,10 +216,7 @@ fn between(z: i64, low: i64, high: i64) -> i64 {
     if low <= z && z <= high || low > high {
         return z;
     }
-    match turned(z, low, high) {
-        Some(near) => near,
-        None => low,
-    }
+    turned(z, low, high).unwrap_or(low)
 }
 
 /// A number that a slot may hold; one that says that it holds a value; and behind these passes of a DO, or by how much
@@ -234,7 +230,12 @@ fn number_at(facts: &[Fact], slot: usize, any: i64) -> i64 {
 }
 
 /// The first samples of a program with so many statements, where this is known of its slots.
-pub fn first_samples(alloc: Global, facts: &[Fact], count: usize) -> Result<Samples, AllocError> {
+pub fn first_samples(
+    alloc: Global,
+    facts: &[Fact],
+    count: usize,
+    seeks: bool,
+) -> Result<Samples, AllocError> {
     let slots = facts.len().saturating_add(count).saturating_mul(2);
     let mut list = Vec::with_capacity(alloc, FIRST_SAMPLES)?;
     let mut chance: u64 = 1;
@@ -252,6 +253,7 @@ pub fn first_samples(alloc: Global, facts: &[Fact], count: usize) -> Result<Samp
     Ok(Samples {
         list,
         on: Vec::new(alloc),
+        seeks,
     })
 }
 
@@ -267,6 +269,7 @@ pub(crate) fn copied_samples(alloc: Global, samples: &Samples) -> Result<Samples
     Ok(Samples {
         list,
         on: Vec::new(alloc),
+        seeks: samples.seeks,
     })
 }
 

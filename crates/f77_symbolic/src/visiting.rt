@@ -152,11 +152,12 @@ fn visits_from(
     cuts: &[Place],
     entry: &Entry,
     work: &mut u64,
+    seeks: bool,
 ) -> Result<Visits, Halt>
     ensures { IfOk result (λ visits. AreVisits statements.now cuts.now entry.now visits) }
 {
     unless_unknown(entry.loops.len() == statements.len())?;
-    let samples = first_samples(alloc, &entry.facts, statements.len())?;
+    let samples = first_samples(alloc, &entry.facts, statements.len(), seeks)?;
     let mut at = no_visits(alloc, statements.len())?;
     let facts = entry.facts.to_vec(alloc)?;
     let table = new_table(alloc);
@@ -177,13 +178,14 @@ fn visits_from(
     })
 }
 
-/// The walks from all entries of these places, by so much work at most.
+/// The walks from all entries of these places, by so much work at most. Where rows are to be sought, samples are.
 pub(crate) fn tour_of(
     alloc: Global,
     statements: &[Shared<Resolved>],
     cuts: &[Place],
     entries: &[Entry],
     work: u64,
+    seeks: bool,
 ) -> Result<Tour, Halt>
     ensures { IfOk result (λ tour. IsTour statements.now cuts.now entries.now tour.each.items) }
 {
@@ -192,7 +194,7 @@ pub(crate) fn tour_of(
     for number in 0..entries.len() {
         let entry = entry_at(entries, number);
         if is_cut(cuts, entry.place) {
-            each.push(visits_from(alloc, statements, cuts, entry, &mut left)?)?;
+            each.push(visits_from(alloc, statements, cuts, entry, &mut left, seeks)?)?;
         }
     }
     Ok(Tour { each })

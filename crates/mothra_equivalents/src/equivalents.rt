@@ -7,6 +7,7 @@ ghost use Rattle.mothra_equivalents.specs.code.Equivalents.{AreOf, IsFront};
 ghost use Rattle.mothra_replacements.specs.declared.fault.OpsFault.TheVariants.{Memory};
 
 use crate::prover::Prover;
+use crate::suggestions::{Search, Suggestion, add_suggestions, rows_for};
 use indexmap::IndexSet;
 use mothra_codes::{Op, Ticket};
 use mothra_ops::{OpsFault, Plan};
@@ -29,13 +30,17 @@ pub struct Found {
     pub list: Vec<Equivalent>,
     /// For so many others the bound on work was met before anything was told of them.
     pub unfinished: u64,
+    /// Tests for others, by operator, then number.
+    pub suggestions: Vec<Suggestion>,
 }
 
-/// Adds the operator's mutant with this number to the list, if it is proved equivalent. Nothing is asked of a killed
-/// one.
+/// Adds the operator's mutant with this number to the list, if it is proved equivalent; else tests that kill it.
+/// Nothing is asked of a killed one.
 fn add(
     alloc: Global,
     list: &mut Vec<Equivalent>,
+    suggestions: &mut Vec<Suggestion>,
+    search: Search,
     prover: &mut Prover<'_>,
     killed: &IndexSet<Ticket>,
     op: Op,
@@ -52,7 +57,16 @@ fn add(
     }
     if let Some(spare) = prover.spare(alloc, ticket)? {
         list.push(Equivalent { ticket, spare })?;
+        return Ok(());
     }
+    add_suggestions(
+        alloc,
+        prover.plan(),
+        ticket,
+        prover.rows(),
+        search,
+        suggestions,
+    )?;
     Ok(())
 }
 
@@ -60,6 +74,8 @@ fn add(
 fn add_operator(
     alloc: Global,
     list: &mut Vec<Equivalent>,
+    suggestions: &mut Vec<Suggestion>,
+    search: Search,
     prover: &mut Prover<'_>,
     killed: &IndexSet<Ticket>,
     op: Op,
@@ -71,7 +87,16 @@ fn add_operator(
     ensures memory { IfErr result (λ fault. fault ≡ Memory) }
 {
     for before in 0..count {
-        add(alloc, list, prover, killed, op, before + 1)?;
+        add(
+            alloc,
+            list,
+            suggestions,
+            search,
+            prover,
+            killed,
+            op,
+            before + 1,
+        )?;
     }
     Ok(())
 }
@@ -86,25 +111,43 @@ fn asked_of(plan: &Plan, killed: &IndexSet<Ticket>) -> u64 {
 }
 
 /// The mutants of the plan that are proved equivalent, by operator, then number. A mutant that is not among them may
-/// be equivalent, too. Those that a test kills can not be: nothing is asked of them.
+/// be equivalent, too. Those that a test kills can not be: nothing is asked of them. For the others tests are looked
+/// for as asked.
 pub fn equivalents_of(
     alloc: Global,
     plan: &Plan,
     killed: &IndexSet<Ticket>,
+    search: Search,
 ) -> Result<Found, OpsFault>
     ensures equivalents { IfOk result (λ found. AreEquivalents plan.now found.list.items) }
     ensures memory { IfErr result (λ fault. fault ≡ Memory) }
 {
     let mut list = Vec::new(alloc);
+    let mut suggestions = Vec::new(alloc);
     let unfinished = asked_of(plan, killed);
-    let Some(mut prover) = Prover::of(alloc, plan, unfinished)? else {
-        return Ok(Found { list, unfinished });
+    let Some(mut prover) = Prover::of(alloc, plan, unfinished, rows_for(search))? else {
+        return Ok(Found {
+            list,
+            unfinished,
+            suggestions,
+        });
     };
     for op in Op::ALL {
-        add_operator(alloc, &mut list, &mut prover, killed, op, plan.count(op))?;
+        let count = plan.count(op);
+        add_operator(
+            alloc,
+            &mut list,
+            &mut suggestions,
+            search,
+            &mut prover,
+            killed,
+            op,
+            count,
+        )?;
     }
     Ok(Found {
         list,
         unfinished: prover.unfinished(),
+        suggestions,
     })
 }

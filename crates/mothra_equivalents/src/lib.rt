@@ -3,5 +3,7 @@
 
 mod equivalents;
 mod prover;
+mod suggestions;
 
 pub use equivalents::{Equivalent, Found, equivalents_of};
+pub use suggestions::{Search, Suggestion};

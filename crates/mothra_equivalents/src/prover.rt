@@ -14,6 +14,7 @@ use f77_check::Resolved;
 use f77_equivalence::invariant::Invariant;
 use f77_finder::finding::entries_of;
 use f77_symbolic::equivalent::Tours;
+use f77_symbolic::rows::Rows;
 use f77_tree::{Shared, Stmt};
 use mothra_codes::Ticket;
 use mothra_ops::{Mutant, OpsFault, Plan};
@@ -48,6 +49,8 @@ pub(crate) struct Prover<'a> {
     left: u64,
     /// For so many mutants the work did not do.
     unfinished: u64,
+    /// What may kill the mutant that was asked about last.
+    rows: Rows,
 }
 
 impl<'a> Model for Prover<'a> {
@@ -92,11 +95,13 @@ fn in_32_bits(spare: Option<u64>) -> Option<u32>
 }
 
 impl<'a> Prover<'a> {
-    /// The mutants of the plan, of which about so many are asked; None if no invariant of the program was found.
+    /// The mutants of the plan, of which about so many are asked, with so many rows for each at most; None if no
+    /// invariant of the program was found.
     pub(crate) fn of(
         alloc: Global,
         plan: &'a Plan,
         asked: u64,
+        most_rows: usize,
     ) -> Result<Option<Prover<'a>>, OpsFault>
         ensures plan { IfOk result (λ found. IfSome found (λ prover. prover ≡ plan.now)) }
         ensures memory { IfErr result (λ fault. fault ≡ Memory) }
@@ -106,19 +111,37 @@ impl<'a> Prover<'a> {
         let Some(invariant) = Invariant::of(alloc, checked, entries)? else {
             return Ok(None);
         };
-        let tours = Tours::of(alloc, checked, invariant.entries(), TOUR, FROM_START)?;
+        let tours = Tours::of(
+            alloc,
+            checked,
+            invariant.entries(),
+            TOUR,
+            FROM_START,
+            most_rows > 0,
+        )?;
         Ok(Some(Prover {
             plan,
             left: if tours.is_empty() { 0 } else { BUDGET },
             tours,
             asked,
             unfinished: 0,
+            rows: Rows::new(alloc, most_rows),
         }))
     }
 
     /// For how many mutants the work did not do.
     pub(crate) fn unfinished(&self) -> u64 {
         self.unfinished
+    }
+
+    /// The plan.
+    pub(crate) fn plan(&self) -> &Plan {
+        self.plan
+    }
+
+    /// Rows that may kill the mutant that was asked about last.
+    pub(crate) fn rows(&self) -> &[Vec<i64>] {
+        &self.rows.list
     }
 
     /// How many steps are to be spared for the mutant with this statement, if it is equivalent then. `resolved` is the
@@ -140,7 +163,7 @@ impl<'a> Prover<'a> {
         let mut work = most;
         let spare = self
             .tours
-            .steps_to_spare(alloc, number, stmt, resolved, &mut work)?;
+            .steps_to_spare(alloc, number, stmt, resolved, &mut work, &mut self.rows)?;
         self.left = self.left.saturating_sub(most.saturating_sub(work));
         if spare.is_none() && work == 0 {
             self.unfinished = self.unfinished.saturating_add(1);
@@ -158,6 +181,7 @@ impl<'a> Prover<'a> {
         ensures memory { IfErr result (λ fault. fault ≡ Memory) }
     {
         self.asked = self.asked.saturating_sub(1);
+        self.rows.list.clear();
         if !mutant.is_alone {
             return Ok(None);
         }

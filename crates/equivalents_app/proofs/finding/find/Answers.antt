@@ -30,7 +30,7 @@ returns c =
     let i = c.args.inquiry.now in
     let plan = c.in_ok-plan.plan in
     let text = string_bytes c.in_ok-text_in.field-0 in
-    let named = subst (λ tests. IsNamedIn plan tests i.steps i.json text) c.into_lists-tests.ensures.suite c.in_ok-text_in.ensures.named in
+    let named = subst (λ tests. IsNamedIn plan tests i text) c.into_lists-tests.ensures.suite c.in_ok-text_in.ensures.named in
     found c.args.job i _ c.source.ensures _ c.as_slice.ensures text (map line_of c.in_ok-checked.checked.program) plan
     c.in_ok-checked.ensures.program (ap (λ (k : CheckedFields). map line_of k.program) c.in_ok-plan.ensures.program)
     c.in_ok-plan.ensures.every c.in_ok-plan.ensures.asked c.in_ok-plan.ensures.lists named

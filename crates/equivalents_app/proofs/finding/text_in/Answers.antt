@@ -21,5 +21,5 @@ returns-clause-named c =
     let of_tests = subst (λ tests. LeavesRoom (program_of c.args.plan) tests i.steps room) c.as_slice.ensures of_plan in
     let leaves = subst (λ (plan : PlanFields). LeavesRoom (program_of plan) c.args.tests i.steps room) (sym own) of_tests in
     IfOk-weaker c.text_for-2.result _ _
-    (λ text is. subst (λ plan. IsNamedIn plan c.args.tests i.steps i.json (string_bytes text)) own (is c.args.tests i.steps leaves))
+    (λ text is. subst (λ plan. IsNamedIn plan c.args.tests i (string_bytes text)) own (is c.args.tests leaves))
     c.text_for-2.ensures.text

@@ -12,4 +12,5 @@ returns-clause-app c =
     let choosing = c.in_ok-arg.ensures.shape c.ops_option.ensures.global ∙ ap₂ with_rule bare c.ops_option.ensures.rule in
     let thinning = c.in_ok-arg-2.ensures.shape c.every_option.ensures.global ∙ ap₂ with_rule choosing c.every_option.ensures.rule in
     let limiting = c.in_ok-arg-3.ensures.shape c.steps_option.ensures.global ∙ ap₂ with_rule thinning c.steps_option.ensures.rule in
-    c.in_ok-command.ensures.shape c.json_option.ensures.global ∙ ap₂ with_rule limiting c.json_option.ensures.rule
+    let writing = c.in_ok-arg-4.ensures.shape c.json_option.ensures.global ∙ ap₂ with_rule limiting c.json_option.ensures.rule in
+    c.in_ok-command.ensures.shape c.rows_option.ensures.global ∙ ap₂ with_rule writing c.rows_option.ensures.rule

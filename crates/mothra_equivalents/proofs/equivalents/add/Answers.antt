@@ -6,8 +6,8 @@ use Rattle.mothra_equivalents.specs.Equivalents.{IsProvedMutant}
 use Rattle.mothra_equivalents.proofs.Adding.{front_grows}
 use Rattle.mothra_equivalents.proofs.equivalents.add.Goals as goal
 
-pub returns-in_ok-push-clause-front : goal.returns-in_ok-push-clause-front
-returns-in_ok-push-clause-front c front =
+pub returns-in-Some-clause-front : goal.returns-in-Some-clause-front
+returns-in-Some-clause-front c front =
     let plan = c.args.prover.now in
     let own = ticket c.args.op c.args.number in
     let known = subst (λ found. IfSome found (λ spare. IsProvedMutant plan own spare)) c.in-Some.is c.in_ok-spare.ensures.equivalent in

@@ -1,8 +1,8 @@
-use Rattle.std.proofs.Common.{inl, refl, ◌+ℤ◌, ◌*ℤ◌, ◌≤ℤ◌, pos, w64}
+use Rattle.std.proofs.Common.{inl, inr, refl, subst, sym, ◌+ℤ◌, ◌*ℤ◌, ◌≤ℤ◌, pos, w64}
 use Rattle.std.proofs.lemmas.Int.{to_z-of_z}
 use Rattle.f77_terms.proofs.Values.{ok_then}
+use Rattle.f77_terms.specs.Paths.{Holds}
 use Rattle.f77_terms.specs.Terms.{sum_value}
-use Rattle.f77_symbolic.proofs.Expecting.{expected_so}
 use Rattle.f77_symbolic.proofs.evaluator.Evaluator.expect_below.Goals as goal
 use mir.Val.{SFits}
 
@@ -12,7 +12,9 @@ returns-then-not-self-clause-expects c =
     let constant : SFits w64 c.args.constant = c.ranges.constant in
     let bounded = simp to_z-of_z at c.in_ok-is_bounded.ensures in
     ok_then c.unless_unknown-then-not-self.result c.unless_unknown-then-not-self.ensures
-    (λ x shown v holds. expected_so v c.args.self.now ((c.args.constant +ℤ c.args.m *ℤ sum_value v c.args.term.now) ≤ℤ pos 0) holds (bounded shown v holds))
+    (λ x shown v holds.
+    let there = subst (λ path. Holds v path) (sym c.seek_above.ensures.path) holds in
+    ((λ below. record { holds = there; own = c.seek_above.ensures.own }), inr (bounded shown v there)))
 
 pub returns-clause-expects : goal.returns-clause-expects
 returns-clause-expects c v holds =

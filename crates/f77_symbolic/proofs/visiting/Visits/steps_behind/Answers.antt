@@ -2,6 +2,7 @@ use Rattle.std.proofs.Common.{◌≡◌, ◌≤◌, ◌<◌, length, refl, ap, a
 use Rattle.std.specs.Prelude.{All, Any, Some, slice_get, ◌≤ℤ◌}
 use Rattle.std.proofs.lemmas.Int.{ints}
 use Rattle.std.proofs.lemmas.Option.{slice_get_read}
+use Rattle.std.proofs.lemmas.Result.{IfOk-at_ok}
 use Rattle.f77_facts.specs.Facts.{AreIn, Lies}
 use Rattle.f77_symbolic.specs.code.Visits.{IsPairOf}
 use Rattle.f77_symbolic.proofs.Chained.{follows_noted, interprets_there, none_empty, none_past, noted_from, numbers_of, start_of}
@@ -31,17 +32,17 @@ returns-then-len-eq0-clause-follows c spare checked places entry within are firs
 pub returns-clause-follows : goal.returns-clause-follows
 returns-clause-follows c spare checked places entry within are first s n ready of leads here =
     let count = length checked.statements in
-    let facts = c.follow.new.self.atoms.facts.items in
+    let facts = c.follow-followed.new.self.atoms.facts.items in
     let law = c.law_of_atoms-2.ensures (numbers_of first count facts) in
-    let lies : Lies c.args.self.now.atoms.facts.items c.follow.new.self.atoms.facts.items
-    = subst (λ inner. Lies inner c.follow.new.self.atoms.facts.items) c.deref-2.ensures.value
+    let lies : Lies c.args.self.now.atoms.facts.items c.follow-followed.new.self.atoms.facts.items
+    = subst (λ inner. Lies inner c.follow-followed.new.self.atoms.facts.items) c.deref-2.ensures.value
     (subst (λ outer. Lies c.deref-2.result.now outer) c.deref-3.ensures.value (c.is_inside.ensures c.in_ok-unless_unknown.ensures)) in
-    let interprets = interprets_there first count c.follow.new.self.atoms law.0 (lies first.cells (are.facts first.cells of.inside)) law.1 in
-    let old = c.in_ok-evaluator.ensures (start_of first count facts) law.0 (c.follow.ensures.extends (start_of first count facts) law.0 interprets) in
+    let interprets = interprets_there first count c.follow-followed.new.self.atoms law.0 (lies first.cells (are.facts first.cells of.inside)) law.1 in
+    let old = c.in_ok-evaluator.ensures (start_of first count facts) law.0 (c.follow-followed.ensures.extends (start_of first count facts) law.0 interprets) in
     let noted = noted_from checked.statements places entry c.args.self.now first s n facts law.0 are of leads old in
     let there = slice_get_read c.args.self.now.at.items (length c.args.self.now.at.items) c.args.change.now.place c.index-visits.result.now refl
     (omega arith) c.index-visits.ensures in
     let most : c.in_ok-behind.behind ≤ℤ pos spare = omega (arith, ints, within) in
-    follows_noted checked c.args.change.now spare places c.follow.new.self.atoms c.in_ok-behind.behind c.index-visits.result.now c.in_ok-todo.todo.items
-    c.args.self.now.at.items (start_of first count facts) law.0 s ready most interprets c.in_ok-behind.ensures.settled
+    follows_noted checked c.args.change.now spare places c.follow-followed.new.self.atoms c.in_ok-behind.behind c.index-visits.result.now c.in_ok-todo.todo.items
+    c.args.self.now.at.items (start_of first count facts) law.0 s ready most interprets (IfOk-at_ok _ c.in_ok-behind.was c.follow-followed.ensures.settled)
     (subst (All (λ visit. Any (IsPairOf visit) c.in_ok-todo.todo.items)) c.deref.ensures.value c.in_ok-todo.ensures) there here noted

@@ -1,0 +1,156 @@
+//! Rows: tests that may kill mutants which are not named, as the key `suite` of a job has them.
+
+ghost use Rattle.std.specs.Prelude.{◌≡◌, ◌≢◌, ◌++◌, true, false, All, IfOk, OnOk, flat_map, string_bytes};
+ghost use Rattle.std.specs.Fmt.{signed_decimal};
+ghost use Rattle.equivalents_app.specs.Rows.{AreRowsFor, IsRowOf, json_value, json_list, row_line};
+ghost use Rattle.equivalents_app.specs.Rows as definition;
+
+use f77_meaning::Arg;
+use f77_run::fit;
+use mothra_equivalents::{Equivalent, Suggestion};
+use mothra_ops::{Plan, push_name};
+use std::alloc::{AllocError, Global};
+
+/// The mutant of a suggestion is named.
+fn is_named(list: &[Equivalent], row: &Suggestion) -> bool
+    ensures { result ≡ false → All (λ equivalent. equivalent.ticket ≢ row.now.ticket) list.now }
+{
+    for equivalent in list {
+        if equivalent.ticket == row.ticket {
+            return true;
+        }
+    }
+    false
+}
+
+/// The suggestion is a row that may be written: it fits, and it is of a mutant of the plan that is not named.
+fn may_be_row(plan: &Plan, list: &[Equivalent], row: &Suggestion) -> bool
+    ensures { result ≡ true → IsRowOf plan.now list.now row.now }
+{
+    let Some(_mutant) = plan.mutant(row.ticket.op, row.ticket.number) else {
+        return false;
+    };
+    if is_named(list, row) {
+        return false;
+    }
+    fit(plan.program().arguments(), row.arguments.as_slice()).is_ok()
+}
+
+/// The suggestions that may be written.
+fn fitting(
+    alloc: Global,
+    plan: &Plan,
+    list: &[Equivalent],
+    suggestions: Vec<Suggestion>,
+) -> Result<Vec<Suggestion>, AllocError>
+    ensures { IfOk result (λ rows. All (IsRowOf plan.now list.now) rows.items) }
+{
+    let mut rows = Vec::new(alloc);
+    for row in suggestions {
+        if may_be_row(plan, list, &row) {
+            rows.push(row)?;
+        }
+    }
+    Ok(rows)
+}
+
+/// The rows among suggestions, where some are asked for.
+pub(crate) fn rows_of(
+    alloc: Global,
+    plan: &Plan,
+    list: &[Equivalent],
+    suggestions: Vec<Suggestion>,
+    most: Option<u32>,
+) -> Result<Vec<Suggestion>, AllocError>
+    ensures { IfOk result (λ rows. AreRowsFor plan.now list.now most rows.items) }
+{
+    match most {
+        Some(_) => fitting(alloc, plan, list, suggestions),
+        None => Ok(Vec::new(alloc)),
+    }
+}
+
+fn truth_text(truth: bool) -> &'static str
+    ensures { result.now ≡ definition.truth_text truth }
+{
+    if truth { "true" } else { "false" }
+}
+
+/// Adds the elements of an INTEGER array.
+fn push_numbers(text: &mut String, numbers: &[i32]) -> Result<(), AllocError>
+    ensures { OnOk result (string_bytes text.new ≡ string_bytes text.old ++ json_list signed_decimal numbers.now) }
+{
+    text.push_str("[")?;
+    let mut before = "";
+    for number in numbers {
+        write!(text, "{before}{number}")?;
+        before = ",";
+    }
+    text.push_str("]")
+}
+
+/// Adds the elements of a LOGICAL array.
+fn push_truths(text: &mut String, truths: &[bool]) -> Result<(), AllocError>
+    ensures { OnOk result
+        (string_bytes text.new ≡ string_bytes text.old ++ json_list definition.truth_text truths.now) }
+{
+    text.push_str("[")?;
+    let mut before = "";
+    for truth in truths {
+        text.push_str(before)?;
+        text.push_str(truth_text(*truth))?;
+        before = ",";
+    }
+    text.push_str("]")
+}
+
+/// Adds the value of a dummy argument.
+fn push_argument(text: &mut String, argument: &Arg) -> Result<(), AllocError>
+    ensures { OnOk result (string_bytes text.new ≡ string_bytes text.old ++ json_value argument.now) }
+{
+    match argument {
+        Arg::Int(number) => write!(text, "{number}"),
+        Arg::Truth(truth) => text.push_str(truth_text(*truth)),
+        Arg::Ints(numbers) => push_numbers(text, numbers.as_slice()),
+        Arg::Truths(truths) => push_truths(text, truths.as_slice()),
+    }
+}
+
+/// Adds the values of all dummy arguments.
+fn push_arguments(text: &mut String, arguments: &[Arg]) -> Result<(), AllocError>
+    ensures { OnOk result (string_bytes text.new ≡ string_bytes text.old ++ json_list json_value arguments.now) }
+{
+    text.push_str("[")?;
+    let mut before = "";
+    for argument in arguments {
+        text.push_str(before)?;
+        push_argument(text, argument)?;
+        before = ",";
+    }
+    text.push_str("]")
+}
+
+/// Adds the line of a row.
+fn push_row(text: &mut String, every: u32, row: &Suggestion) -> Result<(), AllocError>
+    ensures { OnOk result (string_bytes text.new ≡ string_bytes text.old ++ row_line every row.now) }
+{
+    text.push_str("ROW ")?;
+    push_name(text, every, row.ticket.op, row.ticket.number)?;
+    text.push_str(" ")?;
+    push_arguments(text, row.arguments.as_slice())?;
+    text.push_str("\n")
+}
+
+/// Adds a line for each row.
+pub(crate) fn push_rows(
+    text: &mut String,
+    every: u32,
+    rows: &[Suggestion],
+) -> Result<(), AllocError>
+    ensures { OnOk result (string_bytes text.new ≡ string_bytes text.old ++ flat_map (row_line every) rows.now) }
+{
+    for row in rows {
+        push_row(text, every, row)?;
+    }
+    Ok(())
+}
