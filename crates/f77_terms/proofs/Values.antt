@@ -101,3 +101,9 @@ pub parts_round : (v : Valuation) (ps : List Part) (k : ℕ) (p : Part) → slic
 parts_round v ps k p e =
     let all : take (length ps - (k + 1)) (drop (k + 1) ps) ≡ drop (k + 1) ps = take_all (length ps - (k + 1)) (drop (k + 1) ps) (omega (arith, length-drop (k + 1) ps)) in
     rw all (rw add-one (parts_apart v ps k p e))
+
+-- the only part
+pub parts_only : (v : Valuation) (ps : List Part) (p : Part) → length ps ≡ 1 → slice_get ps 0 ≡ Some p → parts_value v ps ≡ part_value v p
+parts_only v [] p one e = absurd (cc)
+parts_only v (x ∷ []) p one e = let same : x ≡ p = cc in let here = ap (part_value v) same in omega (arith, ints, here)
+parts_only v (x ∷ y ∷ ys) p one e = absurd (omega (arith, one))

@@ -8,7 +8,7 @@ ghost use Rattle.f77_terms.specs.Paths.{IsUnequal, IsOneOf, HasCase, Holds};
 
 use crate::bounds::add_bound;
 use crate::near::path_near;
-use crate::ranges::{Range, narrow_all, set_within};
+use crate::ranges::{Range, narrow_all, narrow_all_apart, set_within};
 use crate::splitting::{is_refuted_with, joint_bounds, side_case};
 use crate::terms::Term;
 use std::alloc::{AllocError, Global};
@@ -142,11 +142,12 @@ pub fn add_choice(path: &mut Path, choice: Choice) -> Result<(), AllocError>
     Ok(())
 }
 
-/// Narrows the ranges of atoms by what is at most 0.
+/// Narrows the ranges of atoms by what is at most 0, and by what is not 0.
 pub fn settle(path: &mut Path)
     ensures { (v : Valuation) → Holds v path.old → Holds v path.new }
 {
     narrow_all(&mut path.known, &path.below);
+    narrow_all_apart(&mut path.known, &path.unequal);
 }
 
 /// Where the path holds, the term is at most 0.

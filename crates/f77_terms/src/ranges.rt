@@ -1,10 +1,11 @@
 //! Ranges of atoms, of products and of terms.
 
-ghost use Rattle.std.specs.Prelude.{◌≡◌, ◌<◌, ◌+ℤ◌, ◌*ℤ◌, ◌≤ℤ◌, ℤ, pos, true, length, vec_len};
-ghost use Rattle.std.specs.Prelude.{slice_get, Some, IfSome};
+ghost use Rattle.std.specs.Prelude.{◌≡◌, ◌≢◌, ◌<◌, ◌+ℤ◌, ◌*ℤ◌, ◌≤ℤ◌, ℤ, pos, true, length, vec_len};
+ghost use Rattle.std.specs.Prelude.{slice_get, Some, IfSome, All};
 ghost use Rattle.f77_terms.specs.Terms.{Valuation, monomial_value, part_value, parts_value, sum_value};
 ghost use Rattle.f77_terms.specs.Bounds.{IsBelow, AreBelow};
 ghost use Rattle.f77_terms.specs.Ranges.{IsIn, AreKnown};
+ghost use Rattle.f77_terms.specs.Paths.{IsUnequal};
 
 use crate::monomials::Monomial;
 use crate::numbers::ceiling;
@@ -272,6 +273,56 @@ pub fn narrow_all(known: &mut [Option<Range>], bounds: &[Term]) -> bool
         }
     }
     is_new
+}
+
+/// The number of the atom for which a term of this one part and a constant is 0, if that is told.
+fn root_of(factor: i64, constant: i64) -> Option<i64>
+    ensures { IfSome result (λ root. (x : ℤ) → x ≡ root → (constant +ℤ factor *ℤ x) ≡ pos 0) }
+{
+    match factor {
+        1 => constant.checked_neg(),
+        -1 => Some(constant),
+        _ => None,
+    }
+}
+
+/// Notes that an atom is not this number, where the number is an end of its range.
+fn leave_out(known: &mut [Option<Range>], atom: usize, number: i64)
+    ensures { (v : Valuation) → AreKnown v known.old → v atom ≢ number → AreKnown v known.new }
+{
+    let Some(range) = atom_range(known, atom) else {
+        return;
+    };
+    if range.low == number && number < i64::MAX {
+        raise(known, atom, number + 1);
+    } else if range.high == number && number > i64::MIN {
+        lower(known, atom, number - 1);
+    }
+}
+
+/// Notes what follows for an atom from a term that is not 0.
+fn narrow_apart(known: &mut [Option<Range>], term: &Term)
+    ensures { (v : Valuation) → AreKnown v known.old → IsUnequal v term.now → AreKnown v known.new }
+{
+    if term.parts.len() != 1 {
+        return;
+    }
+    let part = part_at(&term.parts, 0);
+    let Monomial::One(atom) = part.monomial else {
+        return;
+    };
+    if let Some(root) = root_of(part.factor, term.constant) {
+        leave_out(known, atom, root);
+    }
+}
+
+/// Notes what follows for atoms from each term that is not 0.
+pub fn narrow_all_apart(known: &mut [Option<Range>], terms: &[Term])
+    ensures { (v : Valuation) → AreKnown v known.old → All (IsUnequal v) terms.now → AreKnown v known.new }
+{
+    for term in terms {
+        narrow_apart(known, term);
+    }
 }
 
 /// No number is in the range of an atom.

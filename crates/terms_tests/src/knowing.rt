@@ -8,7 +8,9 @@ use f77_terms::knowing::{
     know_unequal,
 };
 use f77_terms::monomials::Monomial;
-use f77_terms::paths::{Path, add_below, add_range, is_apart, is_below, new_path, refuted, settle};
+use f77_terms::paths::{
+    Path, add_below, add_range, add_unequal, is_apart, is_below, new_path, refuted, settle,
+};
 use f77_terms::ranges::{Range, atom_range};
 use f77_terms::terms::{atom_term, constant_term, difference};
 use std::alloc::{AllocError, Global};
@@ -76,6 +78,20 @@ fn settles_ranges(rt: HostRuntime) -> Result<(), Fail> {
     let narrowed = Range { low: 1, high: 4 };
     assert_eq!(rt; atom_range(&path.known, 0), Some(narrowed));
     assert_eq!(rt; atom_range(&path.known, 1), Some(narrowed));
+    Ok(())
+}
+
+#[test]
+fn settles_what_is_unequal(rt: HostRuntime) -> Result<(), Fail> {
+    let alloc = rt.alloc();
+    let mut path = new_path(alloc);
+    add_range(&mut path, 0, Range { low: 0, high: 9 })?;
+    add_unequal(&mut path, atom_term(alloc, 0)?)?;
+    settle(&mut path);
+    assert_eq!(rt; atom_range(&path.known, 0), Some(Range { low: 1, high: 9 }));
+    add_unequal(&mut path, made(alloc, 9, &[(-1, X)])?)?;
+    settle(&mut path);
+    assert_eq!(rt; atom_range(&path.known, 0), Some(Range { low: 1, high: 8 }));
     Ok(())
 }
 

@@ -1,0 +1,19 @@
+use Rattle.std.proofs.Common.{arith, rules, SFits, w64}
+use Rattle.std.proofs.lemmas.Int.{ints}
+use Rattle.f77_terms.proofs.ranges.leave_out.Goals as goal
+
+pub returns-then-number-lt9223372036854775807 : goal.returns-then-number-lt9223372036854775807
+returns-then-number-lt9223372036854775807 c v known apart =
+    let number : SFits w64 c.args.number = c.ranges.number in
+    let low : SFits w64 c.in-Some.range.low = search rules in
+    let inside = c.in-Some.ensures.within v known in
+    let end = c.if-range-number.true in
+    c.raise.ensures v known (omega (arith, ints, inside.above, end, apart))
+
+pub returns-then-number-gtminus9223372036854775808 : goal.returns-then-number-gtminus9223372036854775808
+returns-then-number-gtminus9223372036854775808 c v known apart =
+    let number : SFits w64 c.args.number = c.ranges.number in
+    let high : SFits w64 c.in-Some.range.high = search rules in
+    let inside = c.in-Some.ensures.within v known in
+    let end = c.if-range-number-2.true in
+    c.lower.ensures v known (omega (arith, ints, inside.below, end, apart))
