@@ -36,7 +36,7 @@ use Rattle.f77_equivalence.proofs.Changed.{EndsAlikeWithin}
 use Rattle.f77_equivalence.specs.Equivalent.{IsEnd}
 use Rattle.f77_equivalence.specs.Start.{start_state}
 use Rattle.f77_equivalence.specs.Storable.{AreStorable}
-use Rattle.f77_equivalence.proofs.Throughout.{runs_there, starts_there}
+use Rattle.f77_equivalence.proofs.Starting.{runs_there, starts_there}
 
 -- no fault is told as an end
 told_otherwise : (fault : Fault) → IsEnd (fault_outcome fault) → ⊥

@@ -1,6 +1,5 @@
 pub mod Moving
-pub mod Throughout
+pub mod Starting
 pub mod Ending
-pub mod StartSlots
 pub mod InPlace
 pub mod Changed

@@ -13,7 +13,7 @@ use Rattle.f77_code.specs.declared.control.Place.TheVariants.{Execute, Increment
 use Rattle.f77_code.specs.declared.control.Turn.{Turn}
 use Rattle.f77_code.specs.Evaluation.{held_in, number_in, truth_in}
 use Rattle.f77_code.specs.Moves.{Cells, TurnList, Move, Goes, state, used, jump_chosen, acted, begun, incremented, go_on, passing, passing_at, moved, turn_at, is_executed, is_loop}
-use Rattle.f77_facts.proofs.Slots.{same_or_not}
+use Rattle.std.proofs.lemmas.Bool.{cases_eq}
 use Rattle.f77_equivalence.specs.Alike.{AgreeBut, PassAlike, site}
 
 begun_alike : (statements others : List Resolved) (d variable t : ℕ) (a b step : ℤ) (cells : Cells) (turns : TurnList) → PassAlike statements others t
@@ -32,7 +32,7 @@ used_same (Err fault) cells f g each = refl
 -- at the statements that are the same in both programs
 module _ (statements others : List Resolved) (changed : ℕ) (agree : AgreeBut changed statements others) (pass : PassAlike statements others changed) where
   every_pass : (t : ℕ) → PassAlike statements others t
-  every_pass t d passes step cells turns = by (same_or_not t changed)
+  every_pass t d passes step cells turns = by (cases_eq t changed)
     where
       by : (t ≡ changed) ⊎ (t ≢ changed) → passing_at others t d passes step cells turns ≡ passing_at statements t d passes step cells turns
       by (inl same) =

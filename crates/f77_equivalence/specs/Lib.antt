@@ -4,5 +4,4 @@ pub mod Storable
 pub mod Equivalent
 pub mod Start
 pub mod Changed
-pub mod Invariant
 pub mod code

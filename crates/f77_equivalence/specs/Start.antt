@@ -1,11 +1,13 @@
 -- Where the runs of a checked program start, and when entries say what is there.
-use Rattle.std.specs.Prelude.{List, None, length, map, option_map, replicate}
+use Rattle.std.specs.Prelude.{◌≡◌, List, None, length, map, option_map, replicate}
 use Rattle.std.specs.List.{zip}
 use Rattle.f77_check.specs.Checked.{CheckedFields}
 use Rattle.f77_code.specs.declared.control.Place.TheVariants.{Execute}
 use Rattle.f77_code.specs.Moves.{Cells, TurnList, State, state}
 use Rattle.f77_facts.specs.declared.entries.Entry.{Entry}
 use Rattle.f77_facts.specs.Entries.{IsAmong}
+use Rattle.f77_facts.specs.Facts.{AreIn}
+use Rattle.f77_facts.specs.Loops.{AreLeft}
 use Rattle.f77_meaning.specs.declared.argument.Arg.{Arg}
 use Rattle.f77_meaning.specs.Interpreter.{AreFitting}
 use Rattle.f77_meaning.specs.Spans.{all_filled}
@@ -27,14 +29,16 @@ abbrev pub start_state : CheckedFields → List Arg → State
 start_state checked arguments =
     state (Execute checked.start.entry) (start_cells checked arguments) (start_turns checked)
 
--- an entry says what is there where the run with these arguments starts
-abbrev pub StartsIn : CheckedFields → List Entry → List Arg → Type 0
-StartsIn checked entries arguments =
-    IsAmong entries (Execute checked.start.entry) (start_cells checked arguments)
-    (start_turns checked)
+-- what the entry says is so where runs start
+pub record IsStartEntry (checked : CheckedFields) (entry : Entry) : Type 0 where
+  pub there : entry.place ≡ Execute checked.start.entry
+  pub inside : (arguments : List Arg) → AreFitting checked.arguments arguments
+      → AreStorable arguments → AreIn entry.facts.items (start_cells checked arguments)
+  pub left : AreLeft entry.loops.items (start_turns checked)
 
--- whatever arguments fit whose numbers INTEGER holds
+-- an entry says what is so where a run starts, whatever arguments fit whose numbers INTEGER holds
 abbrev pub HoldsStart : CheckedFields → List Entry → Type 0
 HoldsStart checked entries =
     (arguments : List Arg) → AreFitting checked.arguments arguments → AreStorable arguments
-    → StartsIn checked entries arguments
+    → IsAmong entries (Execute checked.start.entry) (start_cells checked arguments)
+    (start_turns checked)

@@ -1,6 +1,5 @@
-//! Programs with one statement changed, when they are equivalent, and what is known throughout the runs of a program.
+//! Programs with one statement changed, when they are equivalent, and what is known where runs of a program start.
 #![tactic(auto)]
 
-pub mod invariant;
 pub mod start;
 pub mod ways;

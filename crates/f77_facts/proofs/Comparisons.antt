@@ -1,11 +1,10 @@
 -- What comparisons say of the order of numbers.
-use Rattle.std.proofs.Common.{arith, ◌≡◌, ◌≢◌, ◌≤◌, Bool, not, ℤ, pos, negsuc, true, false, refl, sym, subst, ap}
+use Rattle.std.proofs.Common.{arith, ◌≡◌, ◌≢◌, ◌≤◌, ℤ, pos, negsuc, true, false, ap}
 use Rattle.std.specs.Prelude.{◌≤ℤ◌, ◌<ℤ◌}
 use Rattle.std.proofs.lemmas.Bool.{ltb-true}
 use Rattle.std.proofs.lemmas.Bool.Decides.{nat_tests}
 use Rattle.std.proofs.lemmas.Int.{ints}
 use Rattle.f77_actions.specs.Number.{is_below, is_same}
-use Rattle.f77_facts.specs.Known.{IsBetween}
 
 pub below_lt : (u v : ℤ) → is_below u v ≡ true → u <ℤ v
 below_lt (pos a) (pos b) e = let h = ltb-true a b e in omega (arith, ints, h)
@@ -31,20 +30,3 @@ equal_same (negsuc a) = grind (arith, nat_tests)
 
 pub not_same_apart : (u v : ℤ) → is_same u v ≡ false → u ≢ v
 not_same_apart u v e is = let same = equal_same v in let other = rw is at e in absurd (cc)
-
-pub same_reversed : (u v : ℤ) → is_same v u ≡ is_same u v
-same_reversed (pos a) (pos b) = grind (arith, nat_tests)
-same_reversed (pos a) (negsuc b) = refl
-same_reversed (negsuc a) (pos b) = refl
-same_reversed (negsuc a) (negsuc b) = grind (arith, nat_tests)
-
-pub not_not : (b : Bool) → b ≡ not (not b)
-not_not true = refl
-not_not false = refl
-
-pub not_true : (b : Bool) → not b ≡ true → b ≡ false
-not_true true e = absurd (cc)
-not_true false e = refl
-
-pub equal_between : (u v low high : ℤ) → is_same u v ≡ true → IsBetween low v high → IsBetween low u high
-equal_between u v low high e h = subst (λ (z : ℤ). IsBetween low z high) (sym (same_equal u v e)) h

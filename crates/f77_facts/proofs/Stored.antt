@@ -2,17 +2,17 @@
 use Rattle.std.proofs.Common.{arith, ◌≡◌, ◌⊎◌, inl, inr, ℕ, ◌<◌, ◌≤◌, ◌+◌, List, length, Option, Some, sym, subst}
 use Rattle.std.specs.Prelude.{slice_get, slice_set}
 use Rattle.std.proofs.lemmas.Bool.{cases_lt}
+use Rattle.std.proofs.lemmas.List.{set_past}
 use Rattle.f77_actions.specs.declared.value.Value.{Value}
 use Rattle.f77_code.specs.Evaluation.{held_in}
 use Rattle.f77_code.specs.Moves.{Cells}
 use Rattle.f77_facts.specs.declared.facts.Fact.{Fact}
-use Rattle.f77_facts.specs.declared.reaching.Reach.{Reach}
 use Rattle.f77_facts.specs.Facts.{SuitsFact, AreIn}
-use Rattle.f77_facts.specs.code.Assigning.{Widens, Assigns}
-use Rattle.f77_facts.proofs.Slots.{set_one, set_both, set_past}
+use Rattle.f77_facts.specs.code.Assigning.{Widens}
+use Rattle.f77_facts.proofs.Slots.{set_one, set_both}
 
 pub widens_none : (facts : List Fact) (from : ℕ) (fact : Fact) → Widens facts facts from from fact
-widens_none facts from fact = record { kept = λ cells inside. inside; given = λ cells k value inside low high suits. absurd (omega (arith, low, high)) }
+widens_none facts from fact = record { kept = λ cells inside. inside; given = λ cells k cell inside low high suits. absurd (omega (arith, low, high)) }
 
 -- one more slot's fact is widened
 pub widens_more : (old now : List Fact) (from k : ℕ) (fact own hull : Fact) → Widens old now from k fact → slice_get now k ≡ Some own
@@ -20,41 +20,33 @@ pub widens_more : (old now : List Fact) (from k : ℕ) (fact own hull : Fact) �
     → Widens old (slice_set now k hull) from (k + 1) fact
 widens_more old now from k fact own hull before is first second = record {
   kept = λ cells inside. keep cells (before.kept cells inside);
-  given = λ cells j value inside low high suits. by cells j value inside low high suits (cases_lt j k);
+  given = λ cells j cell inside low high suits. by cells j cell inside low high suits (cases_lt j k);
 }
   where
     keep : (cells : Cells) → AreIn now cells → AreIn (slice_set now k hull) cells
     keep cells inside = set_one now cells k hull inside (first (held_in cells k) (inside.each k own is))
 
-    by : (cells : Cells) (j : ℕ) (value : Value) → AreIn old cells → from ≤ j → j < k + 1 → SuitsFact fact (Some value) → (j < k) ⊎ (k ≤ j)
-        → AreIn (slice_set now k hull) (slice_set cells j (Some value))
-    by cells j value inside low high suits (inl below) = keep (slice_set cells j (Some value)) (before.given cells j value inside low below suits)
-    by cells j value inside low high suits (inr above) =
+    by : (cells : Cells) (j : ℕ) (cell : Option Value) → AreIn old cells → from ≤ j → j < k + 1 → SuitsFact fact cell → (j < k) ⊎ (k ≤ j)
+        → AreIn (slice_set now k hull) (slice_set cells j cell)
+    by cells j cell inside low high suits (inl below) = keep (slice_set cells j cell) (before.given cells j cell inside low below suits)
+    by cells j cell inside low high suits (inr above) =
         let same : k ≡ j = omega (arith, high, above) in
-        subst (λ i. AreIn (slice_set now k hull) (slice_set cells i (Some value))) same
-        (set_both now cells k hull value (before.kept cells inside) (second (Some value) suits))
+        subst (λ i. AreIn (slice_set now k hull) (slice_set cells i cell)) same
+        (set_both now cells k hull cell (before.kept cells inside) (second cell suits))
 
 pub widens_to : (old new : List Fact) (from k end : ℕ) (fact : Fact) → end ≤ k → Widens old new from k fact → Widens old new from end fact
 widens_to old new from k end fact last widens = record {
   kept = widens.kept;
-  given = λ cells j value inside low high suits. widens.given cells j value inside low (omega (arith, high, last)) suits;
+  given = λ cells j cell inside low high suits. widens.given cells j cell inside low (omega (arith, high, last)) suits;
 }
 
--- one slot alone is reached
-pub assigns_one : (facts : List Fact) (reach : Reach) (fact : Fact) → reach.count ≡ 1 → Assigns facts (slice_set facts reach.first fact) reach fact
-assigns_one facts reach fact one cells k value inside reached suits =
-    let low = reached.above in
-    let high = reached.below in
-    let same : reach.first ≡ k = omega (arith, low, high, one) in
-    subst (λ i. AreIn (slice_set facts reach.first fact) (slice_set cells i (Some value))) same (set_both facts cells reach.first fact value inside suits)
-
--- a slot is reached that is there, or one that is not
-pub assigns_some : (old new : List Fact) (reach : Reach) (end : ℕ) (fact : Fact) → Widens old new reach.first end fact
-    → ((k : ℕ) → k < reach.first + reach.count → k < length old → k < end) → Assigns old new reach fact
-assigns_some old new reach end fact widens ends cells k value inside reached suits = by (cases_lt k (length old))
+-- a slot is given what suits the fact, or there is no such slot
+pub widens_all : (old new : List Fact) (from end k : ℕ) (fact : Fact) → Widens old new from end fact → from ≤ k → (k < length old → k < end)
+    → (cells : Cells) (cell : Option Value) → AreIn old cells → SuitsFact fact cell → AreIn new (slice_set cells k cell)
+widens_all old new from end k fact widens low high cells cell inside suits = by (cases_lt k (length old))
   where
-    by : (k < length old) ⊎ (length old ≤ k) → AreIn new (slice_set cells k (Some value))
-    by (inl below) = widens.given cells k value inside reached.above (ends k reached.below below) suits
+    by : (k < length old) ⊎ (length old ≤ k) → AreIn new (slice_set cells k cell)
+    by (inl below) = widens.given cells k cell inside low (high below) suits
     by (inr above) =
         let past : length cells ≤ k = omega (arith, above, inside.count) in
-        subst (λ c. AreIn new c) (sym (set_past cells k (Some value) past)) (widens.kept cells inside)
+        subst (λ c. AreIn new c) (sym (set_past cells k cell past)) (widens.kept cells inside)

@@ -1,8 +1,7 @@
--- Invariants: for each place of control what is known there, by one or more entries.
+-- For places of control what is known there, by one or more entries.
 use Rattle.std.specs.Prelude.{◌≡◌, ℕ, List, Some, slice_get}
-use Rattle.f77_actions.specs.declared.resolved.Resolved.{Resolved}
 use Rattle.f77_code.specs.declared.control.Place.{Place}
-use Rattle.f77_code.specs.Moves.{Cells, TurnList, State, Move, Goes, Ends, moved}
+use Rattle.f77_code.specs.Moves.{Cells, TurnList}
 use Rattle.f77_facts.specs.declared.entries.Entry.{Entry}
 use Rattle.f77_facts.specs.declared.facts.Fact.{Fact}
 use Rattle.f77_facts.specs.declared.loops.LoopFact.{LoopFact}
@@ -24,29 +23,7 @@ abbrev pub GrowsEntries : List Entry → List Entry → Type 0
 GrowsEntries old new = (place : Place) (cells : Cells) (turns : TurnList)
     → IsAmong old place cells turns → IsAmong new place cells turns
 
--- entries were added, so that this holds
-abbrev pub AddsEntries : List Entry → List Entry → Type 0 → Type 0
-AddsEntries old new claim = GrowsEntries old new × claim
-
--- where control goes on, an entry says what is there
-abbrev pub LandsInEntries : List Entry → Move → Type 0
-LandsInEntries entries (Goes s) = IsAmong entries s.place s.cells s.turns
-LandsInEntries entries (Ends finish cells) = Unit {0}
-
 -- all states of the place of which this is known are in entries
 abbrev pub AreCovered : List Entry → Place → List Fact → List LoopFact → Type 0
 AreCovered entries place facts loops = (cells : Cells) (turns : TurnList)
     → AreIn facts cells → AreLeft loops turns → IsAmong entries place cells turns
-
--- a step from a state of which this is known leads into entries
-abbrev pub KeepsEntries : List Resolved → List Entry → Place → List Fact → List LoopFact → Type 0
-KeepsEntries statements entries place facts loops =
-    (cells : Cells) (turns : TurnList) (move : Move) → AreIn facts cells → AreLeft loops turns
-    → moved statements (record { place = place; cells = cells; turns = turns }) ≡ Some move
-    → LandsInEntries entries move
-
--- a step from a state that is in an entry leads into entries
-abbrev pub IsInductive : List Resolved → List Entry → Type 0
-IsInductive statements entries =
-    (s : State) (move : Move) → IsAmong entries s.place s.cells s.turns
-    → moved statements s ≡ Some move → LandsInEntries entries move

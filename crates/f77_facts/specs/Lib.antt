@@ -2,8 +2,6 @@ pub mod Known
 pub mod Truths
 pub mod Facts
 pub mod Loops
-pub mod Reaching
-pub mod Bounds
-pub mod Refining
+pub mod Assigning
 pub mod Entries
 pub mod code

@@ -1,5 +1,1 @@
-pub mod Reaching
-pub mod Refining
 pub mod Assigning
-pub mod Entries
-pub mod Keeping

@@ -1,12 +1,11 @@
 //! What is known at the places where control may be.
 
-ghost use Rattle.std.specs.Prelude.{◌≡◌, ◌<◌, true, length, slice_get, Some, IfOk};
-ghost use Rattle.f77_facts.specs.Entries.{AreCovered, GrowsEntries, AddsEntries};
+ghost use Rattle.std.specs.Prelude.{◌≡◌, ◌<◌, true, length, slice_get, Some};
+ghost use Rattle.f77_facts.specs.Entries.{AreCovered, GrowsEntries};
 
 use crate::facts::{Fact, is_empty, is_inside};
 use crate::loops::{LoopFact, is_loops_inside};
 use f77_code::Place;
-use std::alloc::AllocError;
 
 /// What is known of slots and DOs where control is at this place. A place may have several entries.
 #[derive(Drop)]
@@ -54,25 +53,4 @@ pub fn are_covered(entries: &[Entry], covered: &[Entry]) -> bool
         }
     }
     true
-}
-
-/// Adds that control gets to the place, unless no state suits the facts.
-pub fn add_move(
-    moves: &mut Vec<Entry>,
-    place: Place,
-    facts: Vec<Fact>,
-    loops: Vec<LoopFact>,
-) -> Result<(), AllocError>
-    ensures { IfOk result (λ _. AddsEntries moves.old.items moves.new.items
-        (AreCovered moves.new.items place facts.items loops.items)) }
-{
-    if is_empty(&facts) {
-        return Ok(());
-    }
-    moves.push(Entry {
-        place,
-        facts,
-        loops,
-    })?;
-    Ok(())
 }

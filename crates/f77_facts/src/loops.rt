@@ -1,12 +1,11 @@
 //! What is known of which DOs are active, and of what they have left.
 
-ghost use Rattle.std.specs.Prelude.{◌≡◌, ◌<◌, true, length, slice_get, slice_set, Option, Some, IfOk};
+ghost use Rattle.std.specs.Prelude.{◌≡◌, ◌<◌, true, length, slice_get, slice_set, Option, Some};
 ghost use Rattle.f77_code.specs.declared.control.Turn.{Turn};
 ghost use Rattle.f77_code.specs.Moves.{TurnList};
 ghost use Rattle.f77_facts.specs.Loops.{SuitsTurn, AreLeft};
 
 use crate::known::{self, Known};
-use std::alloc::{AllocError, Global};
 
 /// What is known of a DO: whether it is active, and then how many passes it has left and how it is incremented.
 #[derive(Clone, Copy, Debug, PartialEq, Eq)]
@@ -34,42 +33,21 @@ pub fn set_loop(loops: &mut [LoopFact], d: usize, fact: LoopFact)
     }
 }
 
-/// The DO is active, and what it has left is within these bounds.
 #[tactic(auto, using(crate::proofs::Turns::turn_within))]
-fn is_active_within(a: LoopFact, fewest: u64, most: u64, step: Known) -> bool
-    ensures { result ≡ true → (turn : Option Turn) → SuitsTurn a turn
-        → SuitsTurn (LoopFact.Active fewest most step) turn }
-{
-    match a {
-        LoopFact::Inactive => false,
-        LoopFact::Active {
-            fewest: least,
-            most: greatest,
-            step: own,
-        } => {
-            if least < fewest || most < greatest {
-                return false;
-            }
-            known::is_within(own, step)
-        }
-    }
-}
-
-fn is_inactive(a: LoopFact) -> bool
-    ensures { result ≡ true → (turn : Option Turn) → SuitsTurn a turn → SuitsTurn LoopFact.Inactive turn }
-{
-    match a {
-        LoopFact::Inactive => true,
-        LoopFact::Active { .. } => false,
-    }
-}
-
 fn is_loop_within(a: LoopFact, b: LoopFact) -> bool
     ensures { result ≡ true → (turn : Option Turn) → SuitsTurn a turn → SuitsTurn b turn }
 {
-    match b {
-        LoopFact::Inactive => is_inactive(a),
-        LoopFact::Active { fewest, most, step } => is_active_within(a, fewest, most, step),
+    match (a, b) {
+        (LoopFact::Inactive, LoopFact::Inactive) => true,
+        (
+            LoopFact::Active { fewest, most, step },
+            LoopFact::Active {
+                fewest: least,
+                most: greatest,
+                step: by,
+            },
+        ) => least <= fewest && most <= greatest && known::is_within(step, by),
+        _ => false,
     }
 }
 
@@ -88,11 +66,4 @@ pub fn is_loops_inside(inner: &[LoopFact], outer: &[LoopFact]) -> bool
         }
     }
     true
-}
-
-/// The same facts in memory of their own.
-pub fn copy(alloc: Global, loops: &[LoopFact]) -> Result<Vec<LoopFact>, AllocError>
-    ensures { IfOk result (λ v. v.items ≡ loops.now) }
-{
-    Vec::from_slice(alloc, loops)
 }

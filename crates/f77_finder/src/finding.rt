@@ -1,30 +1,26 @@
-//! Finds what is known at each place of a program.
+//! Finds what is known at each cut of a program.
 
-use crate::costs::{costs_of, is_too_much, room_within};
 use crate::descending::narrowed;
-use crate::rounds::settled_entries;
-use crate::starting::starting_entry;
-use crate::thresholds::thresholds_of;
+use crate::reached::entries_in;
+use crate::rounds::settled;
+use crate::search::Search;
 use f77_check::Checked;
+use f77_equivalence::start::starting_entry;
 use f77_facts::entries::Entry;
 use std::alloc::{AllocError, Global};
 
-/// What is known where a run of the program starts and of each place where control comes from there:
-/// an entry for each place, or a few that are kept apart, or none at all, as for a program that would take too long.
-/// Nothing is claimed of them: they are to be checked.
+/// What is known where a run of the program starts and of each cut to which control comes from there: an entry for each
+/// cut, or a few that are kept apart, or the start alone where the search would take too long. Nothing is claimed of
+/// them: they are to be checked.
 pub fn entries_of(alloc: Global, checked: &Checked) -> Result<Vec<Entry>, AllocError> {
-    let statements = checked.statements();
-    let thresholds = thresholds_of(alloc, statements)?;
+    let mut search = Search::of(alloc, checked)?;
     let start = starting_entry(alloc, checked)?;
-    let costs = costs_of(alloc, statements, start.facts.len())?;
-    if is_too_much(&costs) {
-        return Ok(Vec::new(alloc));
+    match settled(&mut search, &start)? {
+        Some(list) => entries_in(alloc, narrowed(&mut search, &start, list)?),
+        None => {
+            let mut entries = Vec::with_capacity(alloc, 1)?;
+            entries.push(start)?;
+            Ok(entries)
+        }
     }
-    let entries = settled_entries(alloc, statements, start, &thresholds, &costs)?;
-    if entries.is_empty() {
-        return Ok(entries);
-    }
-    let start = starting_entry(alloc, checked)?;
-    let room = room_within(&costs, start.facts.len());
-    narrowed(alloc, statements, &start, entries, room)
 }

@@ -2,14 +2,12 @@
 #![tactic(auto)]
 
 mod apart;
-mod behind;
 mod collecting;
-mod costs;
 mod descending;
 pub mod finding;
 mod ordering;
 mod reached;
 mod rounds;
-mod starting;
+mod search;
 mod thresholds;
 mod widening;

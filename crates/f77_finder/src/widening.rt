@@ -6,6 +6,10 @@ use f77_facts::facts::{self, Fact, fact_at, set};
 use f77_facts::known::{self, Known};
 use f77_facts::loops::{LoopFact, loop_at, set_loop};
 
+/// More passes than a DO may have, and so few that sums of such numbers are told still: what DOs have left is kept only
+/// where it has a bound.
+const MOST_PASSES: u64 = 1099511627776;
+
 /// How an entry takes in another one.
 #[derive(Clone, Copy)]
 pub(crate) enum Manner<'a> {
@@ -79,7 +83,7 @@ fn joined_most(old: u64, other: u64, manner: Manner) -> u64 {
     }
     match manner {
         Manner::Plain => other,
-        Manner::ToThresholds(_) => u64::MAX,
+        Manner::ToThresholds(_) => other.max(MOST_PASSES),
     }
 }
 

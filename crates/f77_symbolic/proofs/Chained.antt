@@ -1,10 +1,9 @@
 -- From the visits of a tour to the states in which a run comes to the changed statement.
-use Rattle.std.proofs.Common.{arith, ◌≡◌, ◌≢◌, ◌⊎◌, inl, inr, ◌≤◌, ◌<◌, ◌+◌, ◌*◌, ◌-◌, ◌∙◌, ◌++◌, ◌∷◌, [], get_or, take}
-use Rattle.std.proofs.Common.{cond, ltb, ℕ, zero, suc, true, false, List, Option, Some, None, length, refl, sym, ap, subst, ℤ, pos}
+use Rattle.std.proofs.Common.{arith, ◌≡◌, ◌≤◌, ◌<◌, ◌+◌, ◌-◌, ◌∙◌, ◌++◌, ◌∷◌, [], get_or, take}
+use Rattle.std.proofs.Common.{ℕ, true, List, Some, length, refl, sym, ap, subst, ℤ, pos}
 use Rattle.std.specs.Prelude.{All, Any, Vec, map, slice_get, slice_set, ◌≤ℤ◌, ◌+ℤ◌}
-use Rattle.std.specs.List.{list_any, slice_index_or}
+use Rattle.std.specs.List.{slice_index_or}
 use Rattle.std.specs.declared.alloc.Global.{Global}
-use Rattle.std.proofs.lemmas.Bool.{lt-ltb, le-ltb}
 use Rattle.std.proofs.lemmas.Int.{ints}
 use Rattle.std.proofs.lemmas.List.Elements.{All-more, All-weaker}
 use Rattle.std.proofs.lemmas.List.Quantifiers.{Any-push}
@@ -12,29 +11,22 @@ use Rattle.std.proofs.lemmas.Option.{same_Some, slice_get_within}
 use Rattle.f77_actions.specs.declared.resolved.Resolved.{Resolved}
 use Rattle.f77_check.specs.Checked.{CheckedFields}
 use Rattle.f77_check.specs.Patching.{IsInPlace}
-use Rattle.f77_code.specs.Evaluation.{held_in}
 use Rattle.f77_code.specs.declared.control.Place.{Place}
-use Rattle.f77_code.specs.declared.control.Place.TheVariants as place
-use Rattle.f77_code.specs.declared.control.Turn.{Turn}
-use Rattle.f77_code.specs.Moves.{State, Goes, turn_at}
+use Rattle.f77_code.specs.Moves.{State}
 use Rattle.f77_equivalence.specs.Equivalent.{IsEquivalentWithin}
 use Rattle.f77_equivalence.specs.Alike.{site}
 use Rattle.f77_equivalence.specs.Changed.{IsChange}
 use Rattle.f77_equivalence.specs.Equivalent.{IsEquivalent}
-use Rattle.f77_equivalence.specs.Invariant.{HoldsThroughout}
+use Rattle.f77_equivalence.specs.Start.{start_state}
 use Rattle.f77_equivalence.proofs.InPlace.{change_in_place}
 use Rattle.f77_facts.specs.declared.entries.Entry.{Entry}
 use Rattle.f77_facts.specs.declared.facts.Fact.{Fact}
-use Rattle.f77_facts.specs.Entries.{IsAmong}
-use Rattle.f77_facts.specs.Facts.{AreIn}
-use Rattle.f77_facts.proofs.Slots.{same_or_not}
 use Rattle.f77_legal.specs.Legal.{IsLegal}
 use Rattle.f77_meaning.specs.Interpreter.{IsOutcomeOf}
 use Rattle.f77_program.specs.Patching.{patched}
 use Rattle.f77_program.specs.Program.{LineFields, line_of}
 use Rattle.f77_tree.specs.Statement.{Statement}
 use Rattle.f77_terms.proofs.There.{any_before}
-use Rattle.f77_terms.specs.Atoms.{FitsTable}
 use Rattle.f77_terms.specs.Terms.{Valuation}
 use Rattle.f77_symbolic.specs.declared.change.Change.{Change}
 use Rattle.f77_symbolic.specs.declared.evaluator.Atoms.{Atoms}
@@ -43,85 +35,16 @@ use Rattle.f77_symbolic.specs.declared.visiting.Tour.{Tour}
 use Rattle.f77_symbolic.specs.declared.visiting.Visit.{Visit}
 use Rattle.f77_symbolic.specs.declared.visiting.Visits.{Visits}
 use Rattle.f77_symbolic.specs.Machines.{IsFirst, machine, together}
-use Rattle.f77_symbolic.specs.Walk.{FollowsByKeys, IsReachable, ReachesIn}
-use Rattle.f77_symbolic.specs.Atoms.{AreNumbers, Interprets, presence_of}
-use Rattle.f77_symbolic.specs.Memory.{Start, kind_of_slot, number_of}
+use Rattle.f77_symbolic.specs.Walk.{FollowsByKeys, IsReachable}
+use Rattle.f77_symbolic.specs.Atoms.{Interprets}
+use Rattle.f77_symbolic.specs.Memory.{Start}
 use Rattle.f77_symbolic.specs.code.Pairs.{AreSettled, IsReady, IsSettled}
 use Rattle.f77_symbolic.specs.Sides.{state_of}
-use Rattle.f77_symbolic.specs.Visits.{AreTurnNumbers, AreVisits, IsVisitNoted, IsOfEntry, IsTourOf, IsVisit, LeadsTo, is_cut_in, is_same_place}
+use Rattle.f77_symbolic.specs.Visits.{AreTurnNumbers, AreVisits, IsVisitNoted, IsOfEntry, IsTourOf, IsVisit, LeadsTo}
 use Rattle.f77_symbolic.specs.code.Visits.{FollowsFrom, FollowsThere, IsPairOf}
 use Rattle.f77_symbolic.proofs.Following.{equivalent_where_followed}
-use Rattle.f77_symbolic.proofs.Walk.{visited}
-
--- so many numbers, and others behind them
-joined_at : ℕ → (ℕ → ℤ) → (ℕ → ℤ) → ℕ → ℤ
-joined_at k f g n = cond (ltb n k) (f n) (g (n - k))
-
-joined_below : (k n : ℕ) (f g : ℕ → ℤ) → n < k → joined_at k f g n ≡ f n
-unfolding joined_at
-joined_below k n f g below = ap (λ b. cond b (f n) (g (n - k))) (lt-ltb n k below)
-
-joined_behind : (k n m : ℕ) (f g : ℕ → ℤ) → n ≡ k + m → joined_at k f g n ≡ g m
-unfolding joined_at
-joined_behind k n m f g is =
-    let above : k ≤ n = omega (arith, is) in
-    let rest : n - k ≡ m = omega (arith, is) in
-    ap (λ b. cond b (f n) (g (n - k))) (le-ltb n k above) ∙ ap g rest
-
-passes_of : Option Turn → ℤ
-passes_of None = pos 0
-passes_of (Some turn) = pos turn.passes
-
-step_of : Option Turn → ℤ
-step_of None = pos 0
-step_of (Some turn) = turn.step
-
--- the numbers of a state: of slots, whether they hold one, of passes and of steps
-module _ (s : State) (count : ℕ) (facts : List Fact) where
-  steps_from : ℕ → ℤ
-  steps_from d = step_of (turn_at s.turns d)
-
-  turns_from : ℕ → ℤ
-  turns_from = joined_at count (λ d. passes_of (turn_at s.turns d)) steps_from
-
-  presence_from : ℕ → ℤ
-  presence_from = joined_at (length s.cells) (λ slot. presence_of (kind_of_slot facts slot) (held_in s.cells slot)) turns_from
-
-  pub numbers_of : ℕ → ℤ
-  numbers_of = joined_at (length s.cells) (λ slot. number_of (held_in s.cells slot)) presence_from
-
-  abbrev pub start_of : Start
-  start_of = record { cells = s.cells; numbers = numbers_of }
-
-  pub start_numbers : AreNumbers facts start_of
-  unfolding numbers_of presence_from
-  start_numbers = record {
-    held = λ slot below. joined_below (length s.cells) slot (λ slot. number_of (held_in s.cells slot)) presence_from below;
-    present = λ slot below.
-        joined_behind (length s.cells) (length s.cells + slot) slot (λ slot. number_of (held_in s.cells slot)) presence_from refl
-        ∙ joined_below (length s.cells) slot (λ slot. presence_of (kind_of_slot facts slot) (held_in s.cells slot)) turns_from below;
-  }
-
-  behind : (n m : ℕ) → n ≡ length s.cells + (length s.cells + m) → numbers_of n ≡ turns_from m
-  unfolding numbers_of presence_from
-  behind n m is =
-      joined_behind (length s.cells) n (length s.cells + m) (λ slot. number_of (held_in s.cells slot)) presence_from is
-      ∙ joined_behind (length s.cells) (length s.cells + m) m (λ slot. presence_of (kind_of_slot facts slot) (held_in s.cells slot)) turns_from refl
-
-  pub turn_numbers : AreTurnNumbers (length s.cells) count s.turns start_of
-  unfolding turns_from steps_from passes_of step_of
-  turn_numbers = record {
-    passes = λ d turn below is.
-        behind (2 * length s.cells + d) d (omega arith) ∙ joined_below count d (λ d. passes_of (turn_at s.turns d)) steps_from below ∙ ap passes_of is;
-    steps = λ d turn below is.
-        behind (2 * length s.cells + count + d) (count + d) (omega arith)
-        ∙ joined_behind count (count + d) d (λ d. passes_of (turn_at s.turns d)) steps_from refl ∙ ap step_of is;
-  }
-
--- atoms are interpreted there, where what is known of slots is so
-pub interprets_there : (s : State) (count : ℕ) (atoms : Atoms) (v : Valuation) → AreIn atoms.facts.items s.cells
-    → FitsTable (numbers_of s count atoms.facts.items) v atoms.table → Interprets atoms (start_of s count atoms.facts.items) v
-interprets_there s count atoms v inside fits = record { known = inside; are = start_numbers s count atoms.facts.items; fits = fits }
+use Rattle.f77_symbolic.proofs.Starting.{start_of, turn_numbers}
+use Rattle.f77_symbolic.proofs.Tours.{IsOnTour, along, at_cut}
 
 -- what the program comes to from a state of the entry is noted
 pub noted_from : (statements : List Resolved) (places : List Place) (entry : Entry) (visits : Visits) (first s : State) (n : ℕ) (facts : List Fact) (v : Valuation)
@@ -158,21 +81,13 @@ pairs_more visits old new i visit pair within is of pushed before =
     (λ one found. subst (Any (IsPairOf one)) (sym pushed) (any_before (IsPairOf one) old (pair ∷ []) found)) (take i visits) before)
     (subst (λ one. Any (IsPairOf one) new) is there)
 
--- what is reached is among the entries
-module _ (checked : CheckedFields) (entries : List Entry) (throughout : HoldsThroughout (record { checked = checked; entries = entries })) where
-  IsKnown : State → Type 0
-  IsKnown s = IsAmong entries s.place s.cells s.turns
-
-  known_on : (n : ℕ) (s t : State) → IsKnown s → ReachesIn (machine checked.statements) n s t → IsKnown t
-  unfolding IsKnown
-  known_on zero s t known same = subst (λ (r : State). IsAmong entries r.place r.cells r.turns) (sym same) known
-  known_on (suc n) s t known (b, goes, rest) = known_on n b t (throughout.inductive s (Goes b) known goes) rest
-
-  pub known_there : (s : State) → IsReachable (machine checked.statements) (IsFirst checked) s → IsAmong entries s.place s.cells s.turns
-  unfolding IsKnown
-  known_there s (a, (arguments, fits, storable, is), n, leads) =
-      known_on n a s
-      (subst (λ (r : State). IsAmong entries r.place r.cells r.turns) (sym is) (throughout.start arguments fits storable)) leads
+-- what a run comes to is on the tour
+reached_on_tour : (checked : CheckedFields) (tour : Tour) (of : IsTourOf checked tour) (s : State) → IsReachable (machine checked.statements) (IsFirst checked) s
+    → IsOnTour checked.statements of.places of.entries s
+reached_on_tour checked tour of s (a, (arguments, fits, storable, is), n, leads) =
+    along checked.statements of.places of.entries tour.each.items of.visits n a s
+    (subst (IsOnTour checked.statements of.places of.entries) (sym is)
+    (at_cut checked.statements of.places of.entries (start_state checked arguments) (of.starts arguments fits storable) of.start)) leads
 
 -- it follows from each visit of the changed statement
 module _ (checked : CheckedFields) (change : Change) (spare : ℕ) (places : List Place) where
@@ -208,16 +123,9 @@ pub follows_there : (checked : CheckedFields) (change : Change) (spare : ℕ) (t
     → AreVisits checked.statements of.places entry visits → FollowsFrom checked of.places entry change spare)
     → FollowsThere checked change spare
 follows_there checked change spare tour of each s ready reached here =
-    let it = visited (machine checked.statements) (IsFirst checked) (is_cut_in of.places) starts s reached in
-    let known = known_there checked of.entries of.throughout it.from it.reached in
-    let cut : list_any (λ other. is_same_place other known.entry.place) of.places ≡ true
-    = subst (λ p. list_any (λ other. is_same_place other p) of.places ≡ true) (sym known.there) it.is in
-    let from = of.visits known.number known.entry known.is cut in
-    each from.1 from.0 known.entry from.2 from.3 from.4 it.from s it.steps ready
-    (record { place = known.there; inside = known.inside; left = known.left }) it.leads here
-  where
-    starts : (s : State) → IsFirst checked s → is_cut_in of.places s ≡ true
-    starts s (arguments, fits, storable, is) = subst (λ (r : State). is_cut_in of.places r ≡ true) (sym is) of.start
+    let on = reached_on_tour checked tour of s reached in
+    let from = of.visits on.number on.entry on.is on.cut in
+    each from.1 from.0 on.entry from.2 from.3 from.4.0 on.first s on.steps ready on.of on.leads here
 
 -- by so many steps at most the changed program is behind on the walk of these visits
 abbrev pub IsFollowed : Change → ℤ → Visits → Type 0
@@ -243,39 +151,6 @@ pub tour_followed : (checked : CheckedFields) (change : Change) (spare : ℕ) (t
 tour_followed checked change spare tour most within of all =
     follows_there checked change spare tour of
     (λ visits k entry below is are. subst (IsFollowed change most) is (all k visits below) spare checked of.places entry within are)
-
--- there are visits from each entry of these places, as far as that was gone through
-abbrev pub IsTourTo : List Resolved → List Place → List Entry → ℕ → List Visits → Type 0
-IsTourTo statements places entries n each =
-    (k : ℕ) → k < n → (entry : Entry) → slice_get entries k ≡ Some entry → list_any (λ place. is_same_place place entry.place) places ≡ true
-    → Any (AreVisits statements places entry) each
-
-pub tour_more : (statements : List Resolved) (places : List Place) (entries : List Entry) (n : ℕ) (entry : Entry) (old new : List Visits)
-    → slice_get entries n ≡ Some entry
-    → ((visits : Visits) × AreVisits statements places entry visits × (new ≡ old ++ visits ∷ []))
-    ⊎ ((list_any (λ place. is_same_place place entry.place) places ≡ false) × (new ≡ old))
-    → IsTourTo statements places entries n old → IsTourTo statements places entries (n + 1) new
-tour_more statements places entries n entry old new at added before k below other is cut = by (same_or_not k n) added
-  where
-    by : (k ≡ n) ⊎ (k ≢ n)
-        → ((visits : Visits) × AreVisits statements places entry visits × (new ≡ old ++ visits ∷ []))
-        ⊎ ((list_any (λ place. is_same_place place entry.place) places ≡ false) × (new ≡ old))
-        → Any (AreVisits statements places other) new
-    by (inl here) (inl (visits, are, same)) =
-        let one : entry ≡ other = same_Some _ _ (sym at ∙ ap (slice_get entries) (sym here) ∙ is) in
-        subst (Any (AreVisits statements places other)) (sym same)
-        (Any-push (AreVisits statements places other) old visits (subst (λ e. AreVisits statements places e visits) one are))
-    by (inl here) (inr (none, same)) =
-        let one : entry ≡ other = same_Some _ _ (sym at ∙ ap (slice_get entries) (sym here) ∙ is) in
-        let none_there : list_any (λ place. is_same_place place other.place) places ≡ false
-        = subst (λ (e : Entry). list_any (λ place. is_same_place place e.place) places ≡ false) one none in
-        let e : true ≡ false = sym cut ∙ none_there in
-        absurd (cc (e))
-    by (inr differ) (inl (visits, are, same)) =
-        subst (Any (AreVisits statements places other)) (sym same)
-        (any_before (AreVisits statements places other) old (visits ∷ []) (before k (omega (arith, below, differ)) other is cut))
-    by (inr differ) (inr (none, same)) =
-        subst (Any (AreVisits statements places other)) (sym same) (before k (omega (arith, below, differ)) other is cut)
 
 -- a program whose changed statement is followed from wherever it is come to is equivalent within so many steps
 pub equivalent_by : (checked : CheckedFields) (number : ℕ) (statement : Statement) (new : Resolved) (change : Change) (spare : ℕ)

@@ -11,6 +11,7 @@ pub mod Located
 pub mod Written
 pub mod Read
 pub mod Turned
+pub mod Bounded
 pub mod Chained
 pub mod Comparisons
 pub mod Dummies
@@ -19,6 +20,8 @@ pub mod HeldAlike
 pub mod Matching
 pub mod Settling
 pub mod Sized
+pub mod Starting
 pub mod Steps
 pub mod Suiting
 pub mod Toured
+pub mod Tours

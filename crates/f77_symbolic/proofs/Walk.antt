@@ -98,33 +98,9 @@ module _ (S E : Type 0) (p : Pairing S E) (closed : (s b : S) → p.Matters s �
   keys_follow each = everywhere (KeysFollow p) (λ n keys room s t matters key. each room s t matters key matters n keys)
 
 -- one more step, to a state that is no cut
-leads_on : {S E : Type 0} (machine : Machine S E) (cut : S → Bool) (n : ℕ) (s t u : S) → LeadsUncut machine cut n s t → machine.goes t u → cut u ≡ false → LeadsUncut machine cut (suc n) s u
+pub leads_on : {S E : Type 0} (machine : Machine S E) (cut : S → Bool) (n : ℕ) (s t u : S) → LeadsUncut machine cut n s t → machine.goes t u → cut u ≡ false → LeadsUncut machine cut (suc n) s u
 leads_on machine cut zero s t u leads goes apart = (u, subst (λ r. machine.goes r u) leads goes, apart, refl)
 leads_on machine cut (suc n) s t u (b, first, is, rest) goes apart = (b, first, is, leads_on machine cut n b t u rest goes apart)
-
--- a state that is reached from a start: a cut from which some steps lead there, with no other cut on the way
-pub record IsVisited {S E : Type 0} (machine : Machine S E) (Start : S → Type 0) (cut : S → Bool) (s : S) : Type 0 where
-  pub from : S
-  pub reached : IsReachable machine Start from
-  pub is : cut from ≡ true
-  pub steps : ℕ
-  pub leads : LeadsUncut machine cut steps from s
-
--- each state that is reached is led to from the last cut on the way
-module _ {S E : Type 0} (machine : Machine S E) (Start : S → Type 0) (cut : S → Bool) (starts : (s : S) → Start s → cut s ≡ true) where
-  onward : (t u : S) → IsReachable machine Start t → machine.goes t u → IsVisited machine Start cut t → (c : Bool) → cut u ≡ c → IsVisited machine Start cut u
-  onward t u reached goes v true is = record { from = u; reached = reached_on machine Start t u reached goes; is = is; steps = 0; leads = refl }
-  onward t u reached goes v false is =
-      record { from = v.from; reached = v.reached; is = v.is; steps = suc v.steps; leads = leads_on machine cut v.steps v.from t u v.leads goes is }
-
-  along : (n : ℕ) (s t : S) → IsReachable machine Start s → IsVisited machine Start cut s → ReachesIn machine n s t → IsVisited machine Start cut t
-  along zero s t reached v reaches = subst (IsVisited machine Start cut) (sym reaches) v
-  along (suc n) s t reached v (b, goes, rest) =
-      along n b t (reached_on machine Start s b reached goes) (onward s b reached goes v (cut b) refl) rest
-
-  pub visited : (t : S) → IsReachable machine Start t → IsVisited machine Start cut t
-  visited t (a, start, n, leads) =
-      along n a t (a, start, 0, refl) (record { from = a; reached = (a, start, 0, refl); is = starts a start; steps = 0; leads = refl }) leads
 
 -- here the second machine does what the first does
 pub record AreSameAt {S E : Type 0} (own other : Machine S E) (s : S) : Type 0 where

@@ -8,11 +8,12 @@ use Rattle.f77_actions.specs.declared.resolved.Resolved.{Resolved}
 use Rattle.f77_code.specs.declared.control.Place.{Place}
 use Rattle.f77_code.specs.declared.control.Place.TheVariants as place
 use Rattle.f77_code.specs.declared.control.Turn.{Turn}
-use Rattle.f77_code.specs.Moves.{State, TurnList, turn_at}
+use Rattle.f77_code.specs.Moves.{State, TurnList, Goes, moved, turn_at}
 use Rattle.f77_check.specs.Checked.{CheckedFields}
 use Rattle.f77_equivalence.specs.Alike.{site}
-use Rattle.f77_equivalence.specs.Invariant.{HoldsThroughout}
+use Rattle.f77_equivalence.specs.Start.{HoldsStart}
 use Rattle.f77_facts.specs.declared.entries.Entry.{Entry}
+use Rattle.f77_facts.specs.Entries.{GrowsEntries, IsAmong}
 use Rattle.f77_facts.specs.Facts.{AreIn, Lies}
 use Rattle.f77_facts.specs.Loops.{AreLeft}
 use Rattle.f77_terms.specs.Paths.{Holds}
@@ -65,7 +66,8 @@ pub record IsOfEntry (entry : Entry) (s : State) : Type 0 where
   pub inside : AreIn entry.facts.items s.cells
   pub left : AreLeft entry.loops.items s.turns
 
--- From each state of the entry, all that the program comes to before the next cut is noted.
+-- From each state of the entry, all that the program comes to before the next cut is noted,
+-- and so is what is known of each state at a cut to which it comes then.
 pub record AreVisits (statements : List Resolved) (places : List Place) (entry : Entry)
     (visits : Visits) : Type 0 where
   pub facts : Lies entry.facts.items visits.atoms.facts.items
@@ -74,18 +76,23 @@ pub record AreVisits (statements : List Resolved) (places : List Place) (entry :
       → AreTurnNumbers (length entry.facts.items) (length statements) first.turns start
       → IsOfEntry entry first → LeadsTo statements places n first s
       → IsVisitNoted visits.at.items start v s
+  pub lands : (first s t : State) (n : ℕ)
+      → IsOfEntry entry first → LeadsTo statements places n first s
+      → moved statements s ≡ Some (Goes t) → is_cut_in places t ≡ true
+      → IsAmong visits.arrivals.items t.place t.cells t.turns
 
--- there are visits from each entry of these places
+-- there are visits from each entry of these places, which lead into entries again
 abbrev pub IsTour : List Resolved → List Place → List Entry → List Visits → Type 0
 IsTour statements places entries each = (k : ℕ) (entry : Entry) → slice_get entries k ≡ Some entry
     → list_any (λ place. is_same_place place entry.place) places ≡ true
-    → Any (AreVisits statements places entry) each
+    → Any (λ visits. AreVisits statements places entry visits
+    × GrowsEntries visits.arrivals.items entries) each
 
--- a tour of a program, from entries that are an invariant
+-- a tour of a program, from entries that say what is known where runs start
 pub record IsTourOf (checked : CheckedFields) (tour : Tour) : Type 0 where
   pub places : List Place
   pub entries : List Entry
-  pub throughout : HoldsThroughout (record { checked = checked; entries = entries })
+  pub starts : HoldsStart checked entries
   pub start :
       list_any (λ other. is_same_place other (place.Execute checked.start.entry)) places ≡ true
   pub visits : IsTour checked.statements places entries tour.each.items

@@ -127,7 +127,7 @@ fn is_join(comings: &[u32], i: usize) -> bool {
 }
 
 /// The place where runs start, and behind it, where they are asked for, each to which control comes on more ways.
-pub(crate) fn cuts_of(
+pub fn cuts_of(
     alloc: Global,
     statements: &[Shared<Resolved>],
     entry: usize,

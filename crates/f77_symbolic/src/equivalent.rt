@@ -5,7 +5,7 @@ ghost use Rattle.f77_check.specs.Checked.{CheckedFields};
 ghost use Rattle.f77_check.specs.Patching.{IsInPlace};
 ghost use Rattle.f77_equivalence.specs.Equivalent.{IsEquivalentWithin};
 ghost use Rattle.f77_equivalence.specs.Equivalent.{IsEquivalent};
-ghost use Rattle.f77_equivalence.specs.Invariant.{HoldsThroughout};
+ghost use Rattle.f77_equivalence.specs.Start.{HoldsStart};
 ghost use Rattle.f77_facts.specs.declared.entries.Entry.{Entry as Known};
 ghost use Rattle.f77_code.specs.declared.control.Place.{Place};
 ghost use Rattle.f77_legal.specs.Legal.{IsLegal};
@@ -27,6 +27,7 @@ use crate::sides::copied_side;
 use crate::visiting::{Tour, Visit, Visits, tour_of};
 use f77_actions::Resolved;
 use f77_check::Checked;
+use f77_equivalence::start::holds_start;
 use f77_facts::entries::Entry;
 use f77_facts::facts::is_inside;
 use f77_terms::atoms::law_of_atoms;
@@ -221,7 +222,7 @@ fn add_tour(
     seeks: bool,
     list: &mut Vec<Tour>,
 ) -> Result<(), AllocError>
-    requires { HoldsThroughout (record { checked = checked.now; entries = entries.now }) }
+    requires { HoldsStart checked.now entries.now }
     ensures { IfOk result (λ _. All (IsTourOf checked.now) list.old.items → All (IsTourOf checked.now) list.new.items) }
 {
     let statements = checked.statements();
@@ -234,8 +235,8 @@ fn add_tour(
 }
 
 impl<'a> Tours<'a> {
-    /// The tours of a program of which the entries are an invariant: by so much work from all cuts at most, and by so
-    /// much from the start alone. `seeks` says whether rows will be asked for.
+    /// The tours of a program from these entries, where they say what is known where runs start: by so much work from
+    /// all cuts at most, and by so much from the start alone. `seeks` says whether rows will be asked for.
     pub fn of(
         alloc: Global,
         checked: &'a Checked,
@@ -244,10 +245,12 @@ impl<'a> Tours<'a> {
         from_start: u64,
         seeks: bool,
     ) -> Result<Tours<'a>, AllocError>
-        requires { HoldsThroughout (record { checked = checked.now; entries = entries.now }) }
         ensures { IfOk result (λ tours. tours ≡ checked.now) }
     {
         let mut list = Vec::new(alloc);
+        if !holds_start(alloc, checked, entries)? {
+            return Ok(Tours { checked, list });
+        }
         add_tour(alloc, checked, entries, true, work, seeks, &mut list)?;
         add_tour(alloc, checked, entries, false, from_start, seeks, &mut list)?;
         Ok(Tours { checked, list })

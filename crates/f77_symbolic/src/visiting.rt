@@ -4,7 +4,7 @@ ghost use Rattle.std.specs.Prelude.{◌≡◌, length, IfOk};
 ghost use Rattle.f77_equivalence.specs.Alike.{site};
 ghost use Rattle.f77_symbolic.specs.code.Atoms.{Extends};
 ghost use Rattle.f77_symbolic.specs.Visits.{AreVisits, IsTour};
-ghost use Rattle.f77_symbolic.specs.code.Visits.{GivesWayAlone, IsAdded, IsNotedAs, WalksOn};
+ghost use Rattle.f77_symbolic.specs.code.Visits.{Arrives, GivesWayAlone, IsAdded, IsNotedAs, WalksOn};
 
 use crate::cuts::is_cut;
 use crate::evaluator::{Atoms, Evaluator};
@@ -14,9 +14,9 @@ use crate::samples::{Samples, first_samples};
 use crate::sides::{Side, Step, copied_side};
 use f77_actions::Resolved;
 use f77_code::Place;
-use f77_facts::entries::{Entry, entry_at};
+use f77_facts::entries::{Entry, are_covered, entry_at};
 use f77_facts::facts::is_inside;
-use f77_terms::atoms::new_table;
+use f77_terms::atoms::{law_of_atoms, new_table};
 use f77_terms::paths::{Path, new_path};
 use f77_tree::Shared;
 use std::alloc::{AllocError, Global};
@@ -28,12 +28,14 @@ pub struct Visit {
     pub side: Side,
 }
 
-/// What a walk of the program from one cut comes to before the next: by statement, the visits there.
+/// What a walk of the program from one cut comes to before the next: by statement, the visits there; and what is known
+/// where it comes to a cut.
 #[derive(Drop)]
 pub struct Visits {
     pub atoms: Atoms,
     pub samples: Samples,
     pub at: Vec<Vec<Visit>>,
+    pub arrivals: Vec<Entry>,
 }
 
 /// The walks from all cuts of a program.
@@ -77,8 +79,29 @@ fn add_on(
 }
 
 impl Evaluator {
-    /// The program makes a step alone: the visit is noted, and another one is to come, if the step is no end and leads
-    /// to no cut. Or the visit is split, or its path does not hold.
+    /// A step leads to a side: what is known there is noted at a cut, and else the visit there is to come.
+    fn arrive(
+        &mut self,
+        cuts: &[Place],
+        side: Side,
+        todo: &mut Vec<Visit>,
+        arrivals: &mut Vec<Entry>,
+    ) -> Result<(), Halt>
+        ensures arrives { IfOk result (λ _. Arrives cuts.now self.old side todo.old.items todo.new.items
+            arrivals.old.items arrivals.new.items) }
+        ensures extends { Extends self.old.atoms self.new.atoms }
+    {
+        if is_cut(cuts, side.place) {
+            arrivals.push(self.settled_entry(&side)?)?;
+            return Ok(());
+        }
+        let path = self.taken_path();
+        todo.push(Visit { path, side })?;
+        Ok(())
+    }
+
+    /// The program makes a step alone: the visit is noted, and, if the step is no end, another one is to come, or what
+    /// is known at a cut is noted. Or the visit is split, or its path does not hold.
     fn step_alone(
         &mut self,
         statements: &[Shared<Resolved>],
@@ -86,16 +109,16 @@ impl Evaluator {
         visit: Visit,
         todo: &mut Vec<Visit>,
         at: &mut Vec<Vec<Visit>>,
+        arrivals: &mut Vec<Entry>,
     ) -> Result<(), Halt>
         ensures gives { IfOk result (λ _. GivesWayAlone self.new.atoms statements.now cuts.now visit
-            todo.old.items todo.new.items at.old.items at.new.items) }
+            todo.old.items todo.new.items at.old.items at.new.items arrivals.old.items arrivals.new.items) }
         ensures extends { Extends self.old.atoms self.new.atoms }
     {
         match self.step_from(&visit.path, true, &visit.side, statements) {
             Ok((step, side)) => {
-                if step == Step::Moves && !is_cut(cuts, side.place) {
-                    let path = self.taken_path();
-                    todo.push(Visit { path, side })?;
+                if step == Step::Moves {
+                    self.arrive(cuts, side, todo, arrivals)?;
                 }
                 note(at, visit)
             }
@@ -117,8 +140,10 @@ impl Evaluator {
         first: Visit,
         work: &mut u64,
         at: &mut Vec<Vec<Visit>>,
+        arrivals: &mut Vec<Entry>,
     ) -> Result<(), Halt>
-        ensures walks { IfOk result (λ _. WalksOn self.new.atoms statements.now cuts.now first at.new.items) }
+        ensures walks { IfOk result (λ _.
+            WalksOn self.new.atoms statements.now cuts.now first at.new.items arrivals.new.items) }
         ensures extends { Extends self.old.atoms self.new.atoms }
     {
         let mut todo = Vec::new(self.alloc);
@@ -128,11 +153,14 @@ impl Evaluator {
                 return Ok(());
             };
             *work = work.saturating_sub(self.samples.cost(&visit.path, statements.len()));
-            self.step_alone(statements, cuts, visit, &mut todo, at)?;
+            self.step_alone(statements, cuts, visit, &mut todo, at, arrivals)?;
         }
         Err(Halt::Unknown)
     }
 }
+
+/// To begin a walk with so many statements costs one unit.
+const STATEMENTS: u64 = 8;
 
 /// A list without visits for each statement.
 fn no_visits(alloc: Global, count: usize) -> Result<Vec<Vec<Visit>>, AllocError>
@@ -157,6 +185,7 @@ fn visits_from(
     ensures { IfOk result (λ visits. AreVisits statements.now cuts.now entry.now visits) }
 {
     unless_unknown(entry.loops.len() == statements.len())?;
+    *work = work.saturating_sub(statements.len() as u64 / STATEMENTS);
     let samples = first_samples(alloc, &entry.facts, statements.len(), seeks)?;
     let mut at = no_visits(alloc, statements.len())?;
     let facts = entry.facts.to_vec(alloc)?;
@@ -169,13 +198,32 @@ fn visits_from(
         samples,
     };
     let first = evaluator.first_visit(statements.len(), entry.place, &entry.loops)?;
-    evaluator.walk_alone(statements, cuts, first, work, &mut at)?;
+    let mut arrivals = Vec::new(alloc);
+    evaluator.walk_alone(statements, cuts, first, work, &mut at, &mut arrivals)?;
     unless_unknown(is_inside(&entry.facts, &evaluator.atoms.facts))?;
+    law_of_atoms(&evaluator.atoms.table);
     Ok(Visits {
         atoms: evaluator.atoms,
         samples: evaluator.samples,
         at,
+        arrivals,
     })
+}
+
+/// What is known where a walk of the program from an entry comes to cuts, by so much work at most. None where it does
+/// not come so far.
+pub fn entries_behind(
+    alloc: Global,
+    statements: &[Shared<Resolved>],
+    cuts: &[Place],
+    entry: &Entry,
+    work: &mut u64,
+) -> Result<Option<Vec<Entry>>, AllocError> {
+    match visits_from(alloc, statements, cuts, entry, work, false) {
+        Ok(visits) => Ok(Some(visits.arrivals)),
+        Err(Halt::Memory) => Err(AllocError),
+        Err(_) => Ok(None),
+    }
 }
 
 /// The walks from all entries of these places, by so much work at most. Where rows are to be sought, samples are.
@@ -194,7 +242,9 @@ pub(crate) fn tour_of(
     for number in 0..entries.len() {
         let entry = entry_at(entries, number);
         if is_cut(cuts, entry.place) {
-            each.push(visits_from(alloc, statements, cuts, entry, &mut left, seeks)?)?;
+            let visits = visits_from(alloc, statements, cuts, entry, &mut left, seeks)?;
+            unless_unknown(are_covered(entries, &visits.arrivals))?;
+            each.push(visits)?;
         }
     }
     Ok(Tour { each })

@@ -124,14 +124,7 @@ pub fn equivalents_of(
 {
     let mut list = Vec::new(alloc);
     let mut suggestions = Vec::new(alloc);
-    let unfinished = asked_of(plan, killed);
-    let Some(mut prover) = Prover::of(alloc, plan, unfinished, rows_for(search))? else {
-        return Ok(Found {
-            list,
-            unfinished,
-            suggestions,
-        });
-    };
+    let mut prover = Prover::of(alloc, plan, asked_of(plan, killed), rows_for(search))?;
     for op in Op::ALL {
         let count = plan.count(op);
         add_operator(

@@ -11,7 +11,6 @@ ghost use Rattle.mothra_equivalents.specs.Equivalents.{IsProved, IsProvedMutant}
 ghost use Rattle.mothra_replacements.specs.declared.fault.OpsFault.TheVariants.{Memory};
 
 use f77_check::Resolved;
-use f77_equivalence::invariant::Invariant;
 use f77_finder::finding::entries_of;
 use f77_symbolic::equivalent::Tours;
 use f77_symbolic::rows::Rows;
@@ -95,38 +94,27 @@ fn in_32_bits(spare: Option<u64>) -> Option<u32>
 }
 
 impl<'a> Prover<'a> {
-    /// The mutants of the plan, of which about so many are asked, with so many rows for each at most; None if no
-    /// invariant of the program was found.
+    /// The mutants of the plan, of which about so many are asked, with so many rows for each at most.
     pub(crate) fn of(
         alloc: Global,
         plan: &'a Plan,
         asked: u64,
         most_rows: usize,
-    ) -> Result<Option<Prover<'a>>, OpsFault>
-        ensures plan { IfOk result (λ found. IfSome found (λ prover. prover ≡ plan.now)) }
+    ) -> Result<Prover<'a>, OpsFault>
+        ensures plan { IfOk result (λ prover. prover ≡ plan.now) }
         ensures memory { IfErr result (λ fault. fault ≡ Memory) }
     {
         let checked = plan.program();
         let entries = entries_of(alloc, checked)?;
-        let Some(invariant) = Invariant::of(alloc, checked, entries)? else {
-            return Ok(None);
-        };
-        let tours = Tours::of(
-            alloc,
-            checked,
-            invariant.entries(),
-            TOUR,
-            FROM_START,
-            most_rows > 0,
-        )?;
-        Ok(Some(Prover {
+        let tours = Tours::of(alloc, checked, &entries, TOUR, FROM_START, most_rows > 0)?;
+        Ok(Prover {
             plan,
             left: if tours.is_empty() { 0 } else { BUDGET },
             tours,
             asked,
             unfinished: 0,
             rows: Rows::new(alloc, most_rows),
-        }))
+        })
     }
 
     /// For how many mutants the work did not do.

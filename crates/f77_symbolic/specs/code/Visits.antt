@@ -1,22 +1,24 @@
 -- What the walk of the program alone comes to.
 -- Private functions and proofs alone cite what stands here.
 use Rattle.std.specs.Prelude.{◌≡◌, ◌⊎◌, ◌<◌, ◌++◌, ◌∷◌, []}
-use Rattle.std.specs.Prelude.{ℕ, pos, Bool, true, Any, List, Option}
+use Rattle.std.specs.Prelude.{ℕ, pos, Bool, true, false, Any, List, Option, Some}
 use Rattle.std.specs.Prelude.{length, option_map, Vec}
+use Rattle.std.specs.List.{list_any}
 use Rattle.std.specs.declared.alloc.Global.{Global}
 use Rattle.f77_actions.specs.declared.resolved.Resolved.{Resolved}
 use Rattle.f77_code.specs.declared.control.Place.{Place}
-use Rattle.f77_code.specs.declared.control.Place.TheVariants as place
-use Rattle.f77_code.specs.Moves.{State, TurnList, turn_at}
+use Rattle.f77_code.specs.Moves.{State, TurnList, Goes, moved, turn_at}
 use Rattle.f77_check.specs.Checked.{CheckedFields}
 use Rattle.f77_equivalence.specs.Alike.{site}
 use Rattle.f77_facts.specs.declared.entries.Entry.{Entry}
 use Rattle.f77_facts.specs.declared.loops.LoopFact.{LoopFact}
+use Rattle.f77_facts.specs.Entries.{IsAmong}
 use Rattle.f77_facts.specs.Loops.{AreLeft, SuitsTurn}
 use Rattle.f77_terms.specs.Paths.{Holds}
 use Rattle.f77_terms.specs.Terms.{Valuation}
 use Rattle.f77_symbolic.specs.declared.evaluator.Atoms.{Atoms}
 use Rattle.f77_symbolic.specs.declared.evaluator.Evaluator.{Evaluator}
+use Rattle.f77_symbolic.specs.declared.sides.Side.{Side}
 use Rattle.f77_symbolic.specs.declared.sides.SymbolicTurn.{SymbolicTurn}
 use Rattle.f77_symbolic.specs.declared.halt.Split.{Split}
 use Rattle.f77_symbolic.specs.declared.pairs.Pair.{Pair}
@@ -25,12 +27,13 @@ use Rattle.f77_symbolic.specs.declared.change.Change.{Change}
 use Rattle.f77_symbolic.specs.Machines.{IsAtSite, IsFirst, machine, together}
 use Rattle.f77_symbolic.specs.Walk.{FollowsByKeys, IsReachable}
 use Rattle.f77_symbolic.specs.Atoms.{Interprets}
-use Rattle.f77_symbolic.specs.Memory.{Start}
+use Rattle.f77_symbolic.specs.Memory.{AreInside, Start}
 use Rattle.f77_symbolic.specs.code.Evaluation.{Always, IsOnWay, StaysOn}
 use Rattle.f77_symbolic.specs.code.Pairs.{IsReady}
-use Rattle.f77_symbolic.specs.Sides.{turn_of}
+use Rattle.f77_symbolic.specs.Sides.{state_of, turn_of}
 use Rattle.f77_symbolic.specs.code.Sides.{IsSameSide}
 use Rattle.f77_symbolic.specs.Visits.{LeadsTo, IsVisit, IsVisitNoted, AreTurnNumbers, IsOfEntry}
+use Rattle.f77_symbolic.specs.Visits.{is_cut_in, is_same_place}
 
 -- steps lead to the state from the state of a visit
 pub record IsBehind (statements : List Resolved) (places : List Place) (start : Start) (v : Valuation) (s : State)
@@ -40,11 +43,26 @@ pub record IsBehind (statements : List Resolved) (places : List Place) (start : 
   pub steps : ℕ
   pub leads : LeadsTo statements places steps from s
 
--- the state is noted, or steps lead there from a visit that is still to come
-abbrev pub IsFoundByWalk : List Resolved → List Place → List (Vec Visit Global) → List Visit → Start → Valuation
-    → State → Type 0
-IsFoundByWalk statements places at todo start v s =
-    IsVisitNoted at start v s ⊎ Any (IsBehind statements places start v s) todo
+-- steps lead from the state of a visit to one that is followed by this state, which is at a cut
+pub record IsAhead (statements : List Resolved) (places : List Place) (start : Start) (v : Valuation) (t : State)
+    (visit : Visit) : Type 0 where
+  pub last : State
+  pub behind : IsBehind statements places start v last visit
+  pub goes : moved statements last ≡ Some (Goes t)
+  pub cut : is_cut_in places t ≡ true
+
+-- what is known of the state is among the arrivals
+abbrev pub IsMet : List Entry → State → Type 0
+IsMet arrivals t = IsAmong arrivals t.place t.cells t.turns
+
+-- it is found, or a visit that is still to come leads there
+abbrev pub IsFoundOrAhead : Type 0 → (Visit → Type 0) → List Visit → Type 0
+IsFoundOrAhead There Leads todo = There ⊎ Any Leads todo
+
+-- it is found still to which the visit or one that was to come leads, or that was found
+abbrev pub StaysFound : (Visit → Type 0) → Visit → List Visit → List Visit → Type 0 → Type 0 → Type 0
+StaysFound Leads visit old new Before After =
+    (Leads visit → IsFoundOrAhead After Leads new) × (IsFoundOrAhead Before Leads old → IsFoundOrAhead After Leads new)
 
 -- where the turn of a DO suits what is known, the symbolic turn stands for it, and the new path holds
 abbrev pub StandsForTurn : Evaluator → Evaluator → ℕ → ℕ → LoopFact → Option SymbolicTurn → Type 0
@@ -74,17 +92,32 @@ abbrev pub IsNotedAs : Visit → List (Vec Visit Global) → List (Vec Visit Glo
 IsNotedAs visit old new = (start : Start) (v : Valuation) (s : State)
     → (IsVisit start v s visit → IsVisitNoted new start v s) × (IsVisitNoted old start v s → IsVisitNoted new start v s)
 
--- what was found by the visit or by what was to come is found still, and what was noted is noted still
-abbrev pub GivesWayAlone : Atoms → List Resolved → List Place → Visit → List Visit → List Visit
-    → List (Vec Visit Global) → List (Vec Visit Global) → Type 0
-GivesWayAlone atoms statements places visit old new at after = Whichever atoms (λ start v. (s : State)
-    → (IsBehind statements places start v s visit → IsFoundByWalk statements places after new start v s)
-    × (IsFoundByWalk statements places at old start v s → IsFoundByWalk statements places after new start v s))
+-- the entry says what is known of the states of the side, where the path of the evaluator holds
+abbrev pub IsKnownAs : Evaluator → Side → Entry → Type 0
+IsKnownAs evaluator side entry = (start : Start) (v : Valuation) → Interprets evaluator.atoms start v
+    → Holds v evaluator.path → AreInside v side.writes.items → IsOfEntry entry (state_of start.cells v side)
 
--- all to which steps lead from the visit is noted
-abbrev pub WalksOn : Atoms → List Resolved → List Place → Visit → List (Vec Visit Global) → Type 0
-WalksOn atoms statements places first at = Whichever atoms (λ start v. (s : State)
-    → IsBehind statements places start v s first → IsVisitNoted at start v s)
+-- at a cut what is known of the side is added to the arrivals, and elsewhere a visit of it is to come
+abbrev pub Arrives : List Place → Evaluator → Side → List Visit → List Visit → List Entry → List Entry → Type 0
+Arrives places evaluator side old new arrivals later =
+    ((list_any (λ other. is_same_place other side.place) places ≡ true) × (new ≡ old)
+    × (entry : Entry) × IsKnownAs evaluator side entry × (later ≡ arrivals ++ (entry ∷ [])))
+    ⊎ ((list_any (λ other. is_same_place other side.place) places ≡ false) × (later ≡ arrivals)
+    × (new ≡ old ++ (record { path = evaluator.path; side = side } ∷ [])))
+
+-- when the visit has given way to others, what was to be noted and what was to be met stays found
+abbrev pub GivesWayAlone : Atoms → List Resolved → List Place → Visit → List Visit → List Visit
+    → List (Vec Visit Global) → List (Vec Visit Global) → List Entry → List Entry → Type 0
+GivesWayAlone atoms statements places visit old new at after arrivals later = Whichever atoms (λ start v. (s : State)
+    → StaysFound (IsBehind statements places start v s) visit old new
+    (IsVisitNoted at start v s) (IsVisitNoted after start v s)
+    × StaysFound (IsAhead statements places start v s) visit old new (IsMet arrivals s) (IsMet later s))
+
+-- all to which steps lead from the visit is noted, and what is known at cuts then is among the arrivals
+abbrev pub WalksOn : Atoms → List Resolved → List Place → Visit → List (Vec Visit Global) → List Entry → Type 0
+WalksOn atoms statements places first at arrivals = Whichever atoms (λ start v. (s : State)
+    → (IsBehind statements places start v s first → IsVisitNoted at start v s)
+    × (IsAhead statements places start v s first → IsMet arrivals s))
 
 -- the pair in which both programs are where the visit is
 pub record IsPairOf (visit : Visit) (pair : Pair) : Type 0 where

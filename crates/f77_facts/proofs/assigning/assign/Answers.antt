@@ -1,8 +1,19 @@
-use Rattle.f77_facts.proofs.Stored.{assigns_one, assigns_some}
+use Rattle.std.proofs.Common.{arith, ◌≡◌, subst}
+use Rattle.std.specs.Prelude.{slice_set}
+use Rattle.f77_facts.specs.Facts.{AreIn}
+use Rattle.f77_facts.proofs.Slots.{set_both}
+use Rattle.f77_facts.proofs.Stored.{widens_all}
 use Rattle.f77_facts.proofs.assigning.assign.Goals as goal
 
 pub returns-then-reach-eq1 : goal.returns-then-reach-eq1
-returns-then-reach-eq1 c = rw c.set.ensures (assigns_one c.args.facts.now c.args.reach c.args.fact c.if-reach-eq1.true)
+returns-then-reach-eq1 c cells k cell inside reached suits =
+    let facts = c.args.facts.now in
+    let first = c.args.reach.first in
+    let same : first ≡ k = omega (arith, reached.above, reached.below, c.if-reach-eq1.true) in
+    rw c.set.ensures (subst (λ i. AreIn (slice_set facts first c.args.fact) (slice_set cells i cell)) same
+    (set_both facts cells first c.args.fact cell inside suits))
 
 pub returns-else-reach-eq1 : goal.returns-else-reach-eq1
-returns-else-reach-eq1 c = assigns_some c.args.facts.now c.widen.new.facts c.args.reach c.end_of-end.result c.args.fact c.widen.ensures c.end_of-end.ensures.each
+returns-else-reach-eq1 c cells k cell inside reached suits =
+    widens_all c.args.facts.now c.widen.new.facts c.args.reach.first c.min-end.result k c.args.fact c.widen.ensures reached.above
+    (λ below. omega (arith, reached.below, below)) cells cell inside suits

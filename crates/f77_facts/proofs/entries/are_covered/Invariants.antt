@@ -1,5 +1,6 @@
-use Rattle.f77_facts.proofs.Growing.{CoversFirst}
+use Rattle.std.proofs.Common.{◌<◌, ℕ}
+use Rattle.f77_facts.proofs.Covering.{IsCoveredAt}
 use Rattle.f77_facts.proofs.entries.are_covered.Given as goal
 
 abbrev pub invariant-loop-number : goal.invariant-loop-number
-invariant-loop-number l = CoversFirst l.entries l.covered l.number
+invariant-loop-number l = (k : ℕ) → k < l.number → IsCoveredAt l.entries l.covered k

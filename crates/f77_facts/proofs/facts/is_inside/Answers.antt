@@ -1,11 +1,19 @@
-use Rattle.std.proofs.Common.{arith, below_more}
-use Rattle.f77_facts.proofs.Slots.{one_within, all_within}
+use Rattle.std.proofs.Common.{arith, below_more, ◌≡◌, ◌∙◌, length}
+use Rattle.f77_code.specs.Evaluation.{held_in}
+use Rattle.f77_facts.specs.Facts.{SuitsFact}
+use Rattle.f77_facts.proofs.Within.{one_within, all_within}
 use Rattle.f77_facts.proofs.facts.is_inside.Goals as goal
 
 pub loop-slot-preserved : goal.loop-slot-preserved
 loop-slot-preserved c =
     below_more _ _ c.loop-slot.invariant
-    (one_within c.args.inner.now c.args.outer.now c.loop-slot.slot c.fact_at-a.result c.fact_at-b.result c.fact_at-a.ensures c.fact_at-b.ensures (c.is_within.ensures c.if-not-is_within.false))
+    (one_within SuitsFact c.args.inner.now c.args.outer.now c.loop-slot.slot c.fact_at-a.result c.fact_at-b.result c.fact_at-a.ensures c.fact_at-b.ensures
+    (c.is_within.ensures c.if-not-is_within.false))
 
 pub returns : goal.returns
-returns c e = all_within c.args.inner.now c.args.outer.now (omega arith) (λ k h. c.loop-slot.invariant k (omega (arith, h)))
+returns c e cells inside =
+    let same : length c.args.inner.now ≡ length c.args.outer.now = omega arith in
+    record {
+      count = inside.count ∙ same;
+      each = all_within SuitsFact c.args.inner.now c.args.outer.now same (λ k h. c.loop-slot.invariant k (omega (arith, h))) (held_in cells) inside.each;
+    }

@@ -1,12 +1,19 @@
-use Rattle.std.proofs.Common.{arith, below_more}
-use Rattle.f77_facts.proofs.Turns.{one_loop_within, all_loops_within}
+use Rattle.std.proofs.Common.{arith, below_more, ◌≡◌, ◌∙◌, length}
+use Rattle.f77_code.specs.Moves.{turn_at}
+use Rattle.f77_facts.specs.Loops.{SuitsTurn}
+use Rattle.f77_facts.proofs.Within.{one_within, all_within}
 use Rattle.f77_facts.proofs.loops.is_loops_inside.Goals as goal
 
 pub loop-d-preserved : goal.loop-d-preserved
 loop-d-preserved c =
     below_more _ _ c.loop-d.invariant
-    (one_loop_within c.args.inner.now c.args.outer.now c.loop-d.d c.loop_at-a.result c.loop_at-b.result c.loop_at-a.ensures c.loop_at-b.ensures
+    (one_within SuitsTurn c.args.inner.now c.args.outer.now c.loop-d.d c.loop_at-a.result c.loop_at-b.result c.loop_at-a.ensures c.loop_at-b.ensures
     (c.is_loop_within.ensures c.if-not-is_loop_within.false))
 
 pub returns : goal.returns
-returns c e = all_loops_within c.args.inner.now c.args.outer.now (omega arith) (λ k h. c.loop-d.invariant k (omega (arith, h)))
+returns c e turns left =
+    let same : length c.args.inner.now ≡ length c.args.outer.now = omega arith in
+    record {
+      count = left.count ∙ same;
+      each = all_within SuitsTurn c.args.inner.now c.args.outer.now same (λ k h. c.loop-d.invariant k (omega (arith, h))) (turn_at turns) left.each;
+    }

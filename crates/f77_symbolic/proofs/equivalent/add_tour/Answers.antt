@@ -13,7 +13,7 @@ returns-in-Ok c all =
     let of : IsTourOf c.args.checked.now c.in-Ok.tour = record {
       places = places;
       entries = c.args.entries.now;
-      throughout = c.requires;
+      starts = c.requires;
       start = subst (λ (begin : Start). list_any (λ other. is_same_place other (place.Execute begin.entry)) places ≡ true) c.start.ensures.start c.in_ok-cuts.ensures;
       visits =
           subst (λ list. IsTour list places c.args.entries.now c.in-Ok.tour.each.items) c.statements-statements.ensures.statements

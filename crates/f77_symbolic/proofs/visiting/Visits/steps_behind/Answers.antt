@@ -1,11 +1,12 @@
-use Rattle.std.proofs.Common.{◌≡◌, ◌≤◌, ◌<◌, length, refl, ap, arith, subst, sym, pos}
-use Rattle.std.specs.Prelude.{All, Any, Some, slice_get, ◌≤ℤ◌}
+use Rattle.std.proofs.Common.{length, refl, arith, subst, pos}
+use Rattle.std.specs.Prelude.{All, Any, ◌≤ℤ◌}
 use Rattle.std.proofs.lemmas.Int.{ints}
 use Rattle.std.proofs.lemmas.Option.{slice_get_read}
 use Rattle.std.proofs.lemmas.Result.{IfOk-at_ok}
-use Rattle.f77_facts.specs.Facts.{AreIn, Lies}
+use Rattle.f77_facts.specs.Facts.{Lies}
 use Rattle.f77_symbolic.specs.code.Visits.{IsPairOf}
-use Rattle.f77_symbolic.proofs.Chained.{follows_noted, interprets_there, none_empty, none_past, noted_from, numbers_of, start_of}
+use Rattle.f77_symbolic.proofs.Chained.{follows_noted, none_empty, none_past, noted_from}
+use Rattle.f77_symbolic.proofs.Starting.{interprets_there, numbers_of, start_of}
 use Rattle.f77_symbolic.proofs.visiting.Visits.steps_behind.Goals as goal
 
 pub returns-then-change-len-clause-follows : goal.returns-then-change-len-clause-follows

@@ -1,0 +1,15 @@
+use Rattle.std.proofs.Common.{◌≡◌, ◌∷◌, sym}
+use Rattle.f77_equivalence.proofs.Starting.{argument_given}
+use Rattle.f77_equivalence.proofs.start.+give_arguments.Goals as goal
+
+pub returns : goal.returns
+returns t c cells arguments inside fits storable =
+    let first = c.in-Some.first.now in
+    let dummies = c.in-Some.dummies.now in
+    let shape = c.in-Some-split_first.shape.now in
+    let shapes = c.in-Some-split_first.shapes.now in
+    let starts : c.args.dummies.now ≡ first ∷ dummies = c.in-Some.ensures.cases.0 in
+    let shaped : c.args.shapes.now ≡ shape ∷ shapes = c.in-Some-split_first.ensures.cases.0 in
+    rw starts
+    (argument_given c.args.facts.now c.give.new.facts c.give_arguments.new.facts first dummies shape shapes c.argument_fact.result
+    (rw (sym c.size.ensures) c.give.ensures) c.argument_fact.ensures c.give_arguments.ensures cells arguments inside (rw shaped at fits) storable)

@@ -1,0 +1,10 @@
+use Rattle.std.proofs.Common.{◌≡◌, subst, sym}
+use Rattle.f77_terms.specs.Ranges.{AreKnown, IsIn}
+use Rattle.f77_symbolic.proofs.evaluator.Evaluator.narrow_by.Goals as goal
+
+pub returns : goal.returns
+returns c start v fits holds known are =
+    let at = rw c.deref-2.ensures.value at c.in-Some-number_at.ensures in
+    let value : v c.args.atom ≡ start.numbers c.in-Some-number_at.number = fits c.args.atom _ at tt in
+    let inside = c.in-Some.ensures.within v (subst (AreKnown v) (sym c.deref.ensures.value) holds.known) in
+    c.narrow_slot.ensures start known are (subst (IsIn c.in-Some.range) value inside)

@@ -1,0 +1,249 @@
+//! What is known of a state to which the program comes: bounds of what slots hold, and of what DOs have left.
+
+ghost use Rattle.std.specs.Prelude.{◌≡◌, ◌≤◌, ◌<◌, ◌≤ℤ◌, not, pos, vec_len};
+ghost use Rattle.std.specs.Prelude.{Ok, option_map, slice_set, IfOk, IfSome};
+ghost use Rattle.f77_actions.specs.Number.{is_same};
+ghost use Rattle.f77_code.specs.Moves.{Cells};
+ghost use Rattle.f77_facts.specs.Assigning.{IsSlotReached};
+ghost use Rattle.f77_facts.specs.Facts.{AreIn, SuitsFact};
+ghost use Rattle.f77_facts.specs.Known.{IsBetween};
+ghost use Rattle.f77_facts.specs.Loops.{AreLeft, SuitsTurn};
+ghost use Rattle.f77_facts.specs.Truths.{SuitsTruth};
+ghost use Rattle.f77_terms.specs.Atoms.{FitsTable};
+ghost use Rattle.f77_terms.specs.Paths.{Holds};
+ghost use Rattle.f77_terms.specs.Ranges.{IsIn};
+ghost use Rattle.f77_terms.specs.Terms.{Valuation, sum_value};
+ghost use Rattle.f77_symbolic.specs.Atoms.{AreNumbers, Interprets};
+ghost use Rattle.f77_symbolic.specs.Memory.{AreInside, IsInside, Start, cells_of, content_of, slot_of};
+ghost use Rattle.f77_symbolic.specs.Sides.{passes_left, state_of, turn_of, turns_of};
+ghost use Rattle.f77_symbolic.specs.Visits.{IsOfEntry};
+ghost use Rattle.f77_symbolic.specs.code.Atoms.{Extends};
+
+use crate::bounding::{has_others, has_zero, narrow_slot, number_at, passes_from, reach_within};
+use crate::evaluator::Evaluator;
+use crate::halt::{Halt, unless_unknown};
+use crate::memory::{Location, Symbolic, Write};
+use crate::sides::{Side, SymbolicTurn};
+use f77_facts::assigning::{Reach, assign};
+use f77_facts::entries::Entry;
+use f77_facts::facts::Fact;
+use f77_facts::known::Known;
+use f77_facts::loops::LoopFact;
+use f77_facts::truths::Truths;
+use f77_terms::knowing::is_bounded;
+use f77_terms::paths::settle;
+use f77_terms::ranges::{Range, atom_range, term_range};
+use f77_terms::terms::Term;
+use std::alloc::AllocError;
+
+/// No DO begins with more passes.
+const MOST_PASSES: u64 = 4294967296;
+
+impl Evaluator {
+    /// The least number that a term may be, which INTEGER holds.
+    fn low_of(&self, term: &Term, range: Option<Range>) -> Result<i32, Halt>
+        ensures { IfOk result (λ low. (v : Valuation) → Holds v self.now.path
+            → IfSome range (λ range. IsIn range (sum_value v term.now)) → low ≤ℤ sum_value v term.now) }
+    {
+        if let Some(range) = range {
+            if let Ok(low) = i32::try_from(range.low) {
+                return Ok(low);
+            }
+        }
+        let least = i64::from(i32::MIN);
+        unless_unknown(is_bounded(self.alloc, &self.path, -1, term, least)?)?;
+        Ok(i32::MIN)
+    }
+
+    /// The greatest number that a term may be, which INTEGER holds.
+    fn high_of(&self, term: &Term, range: Option<Range>) -> Result<i32, Halt>
+        ensures { IfOk result (λ high. (v : Valuation) → Holds v self.now.path
+            → IfSome range (λ range. IsIn range (sum_value v term.now)) → sum_value v term.now ≤ℤ high) }
+    {
+        if let Some(range) = range {
+            if let Ok(high) = i32::try_from(range.high) {
+                return Ok(high);
+            }
+        }
+        let most = -i64::from(i32::MAX);
+        unless_unknown(is_bounded(self.alloc, &self.path, 1, term, most)?)?;
+        Ok(i32::MAX)
+    }
+
+    /// Bounds of a term.
+    fn known_of(&self, term: &Term) -> Result<Known, Halt>
+        ensures { IfOk result (λ known. (v : Valuation) → Holds v self.now.path
+            → IsBetween known.low (sum_value v term.now) known.high) }
+    {
+        let range = term_range(&self.path.known, term);
+        let low = self.low_of(term, range)?;
+        let high = self.high_of(term, range)?;
+        Ok(Known {
+            may_lack: false,
+            low,
+            high,
+        })
+    }
+
+    /// Which truth values a term stands for.
+    fn truths_of(&self, term: &Term) -> Truths
+        ensures { (v : Valuation) → Holds v self.now.path
+            → SuitsTruth result (Ok (not (is_same (sum_value v term.now) (pos 0)))) }
+    {
+        match term_range(&self.path.known, term) {
+            Some(range) => Truths {
+                may_lack: false,
+                may_hold: has_others(range),
+                may_fail: has_zero(range),
+            },
+            None => Truths {
+                may_lack: false,
+                may_hold: true,
+                may_fail: true,
+            },
+        }
+    }
+
+    /// The slots of a location: some of them only, if its index is known so well.
+    fn reach_of(&self, location: &Location) -> Reach
+        ensures { (v : Valuation) → Holds v self.now.path → IsInside v location.now
+            → IsSlotReached result (slot_of v location.now) }
+    {
+        let first = location.first;
+        let count = location.count;
+        match term_range(&self.path.known, &location.index) {
+            Some(range) => reach_within(first, count, range),
+            None => Reach { first, count },
+        }
+    }
+
+    /// What is known of a value.
+    fn fact_of(&self, value: &Symbolic) -> Result<Fact, Halt>
+        ensures { IfOk result (λ fact. (v : Valuation) → Holds v self.now.path
+            → SuitsFact fact (content_of v value.now)) }
+    {
+        match value {
+            Symbolic::Number(term) => Ok(Fact::Number(self.known_of(term)?)),
+            Symbolic::Truth(term) => Ok(Fact::Truth(self.truths_of(term))),
+        }
+    }
+
+    /// Takes a write into account.
+    fn take_in(&self, facts: &mut [Fact], write: &Write) -> Result<(), Halt>
+        ensures { IfOk result (λ _. (cells : Cells) (v : Valuation) → Holds v self.now.path
+            → IsInside v write.now.location → AreIn facts.old cells
+            → AreIn facts.new (slice_set cells (slot_of v write.now.location) (content_of v write.now.value))) }
+    {
+        let fact = self.fact_of(&write.value)?;
+        assign(facts, self.reach_of(&write.location), fact);
+        Ok(())
+    }
+
+    /// Takes into account what is known of an atom.
+    fn narrow_by(&self, facts: &mut [Fact], atom: usize)
+        requires { atom < vec_len self.now.atoms.table.keys }
+        ensures { (start : Start) (v : Valuation) → FitsTable start.numbers v self.now.atoms.table
+            → Holds v self.now.path → AreIn facts.old start.cells → AreNumbers facts.old start
+            → AreIn facts.new start.cells × AreNumbers facts.new start }
+    {
+        let Some(range) = atom_range(&self.path.known, atom) else {
+            return;
+        };
+        let Some(number) = number_at(&self.atoms.table.keys, atom) else {
+            return;
+        };
+        narrow_slot(facts, number, range);
+    }
+
+    /// What is known of what slots held where the walk starts.
+    fn facts_at_start(&self) -> Result<Vec<Fact>, AllocError>
+        ensures { IfOk result (λ facts. (start : Start) (v : Valuation) → Interprets self.now.atoms start v
+            → Holds v self.now.path → AreIn facts.items start.cells) }
+    {
+        let mut facts = self.atoms.facts.to_vec(self.alloc)?;
+        for atom in 0..self.atoms.table.keys.len() {
+            self.narrow_by(&mut facts, atom);
+        }
+        Ok(facts)
+    }
+
+    /// What is known of slots behind the writes.
+    fn facts_behind(&self, writes: &[Write]) -> Result<Vec<Fact>, Halt>
+        ensures { IfOk result (λ facts. (start : Start) (v : Valuation) → Interprets self.now.atoms start v
+            → Holds v self.now.path → AreInside v writes.now
+            → AreIn facts.items (cells_of start.cells v writes.now)) }
+    {
+        let mut facts = self.facts_at_start()?;
+        for write in writes {
+            self.take_in(&mut facts, write)?;
+        }
+        Ok(facts)
+    }
+
+    /// The fewest and the most passes that a DO has left.
+    fn passes_of(&self, passes: &Term) -> Result<(u64, u64), Halt>
+        ensures { IfOk result (λ both. (v : Valuation) → Holds v self.now.path
+            → (both.0 ≤ passes_left (sum_value v passes.now))
+            × (passes_left (sum_value v passes.now) ≤ both.1)) }
+    {
+        if let Some(range) = term_range(&self.path.known, passes) {
+            return Ok((passes_from(range.low), passes_from(range.high)));
+        }
+        let most = -(MOST_PASSES as i64);
+        unless_unknown(is_bounded(self.alloc, &self.path, 1, passes, most)?)?;
+        Ok((0, MOST_PASSES))
+    }
+
+    /// What is known of what a DO has left.
+    fn loop_fact(&self, turn: &Option<SymbolicTurn>) -> Result<LoopFact, Halt>
+        ensures { IfOk result (λ fact. (v : Valuation) → Holds v self.now.path
+            → SuitsTurn fact (option_map (turn_of v) turn.now)) }
+    {
+        let Some(turn) = turn else {
+            return Ok(LoopFact::Inactive);
+        };
+        let (fewest, most) = self.passes_of(&turn.passes)?;
+        let step = self.known_of(&turn.step)?;
+        Ok(LoopFact::Active { fewest, most, step })
+    }
+
+    /// What is known of what each DO has left.
+    fn loops_of(&self, turns: &[Option<SymbolicTurn>]) -> Result<Vec<LoopFact>, Halt>
+        ensures { IfOk result (λ loops. (v : Valuation) → Holds v self.now.path
+            → AreLeft loops.items (turns_of v turns.now)) }
+    {
+        let mut loops = Vec::with_capacity(self.alloc, turns.len())?;
+        for turn in turns {
+            loops.push(self.loop_fact(turn)?)?;
+        }
+        Ok(loops)
+    }
+
+    /// What is known of the state of a side, where the path holds.
+    fn entry_of(&self, side: &Side) -> Result<Entry, Halt>
+        ensures { IfOk result (λ entry. (start : Start) (v : Valuation) → Interprets self.now.atoms start v
+            → Holds v self.now.path → AreInside v side.now.writes.items
+            → IsOfEntry entry (state_of start.cells v side.now)) }
+    {
+        let facts = self.facts_behind(&side.writes)?;
+        let loops = self.loops_of(&side.turns)?;
+        Ok(Entry {
+            place: side.place,
+            facts,
+            loops,
+        })
+    }
+
+    /// The same, when the ranges of atoms were narrowed: twice, since what is not 0 may narrow what others narrow then.
+    pub(crate) fn settled_entry(&mut self, side: &Side) -> Result<Entry, Halt>
+        ensures entry { IfOk result (λ entry. (start : Start) (v : Valuation) → Interprets self.old.atoms start v
+            → Holds v self.old.path → AreInside v side.now.writes.items
+            → IsOfEntry entry (state_of start.cells v side.now)) }
+        ensures extends { Extends self.old.atoms self.new.atoms }
+    {
+        settle(&mut self.path);
+        settle(&mut self.path);
+        let entry = self.entry_of(side)?;
+        Ok(entry)
+    }
+}
