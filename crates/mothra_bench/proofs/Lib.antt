@@ -22,3 +22,4 @@ mod CompleteRows
 pub mod FirstItems
 mod Crossings
 mod CountSteps
+mod RowLists

@@ -1,4 +1,4 @@
-use Rattle.std.proofs.Common.{◌≡◌, ◌++◌}
+use Rattle.std.proofs.Common.{◌≡◌, ◌++◌, length}
 use Rattle.std.specs.Vec.Iter.{into_iter_items}
 use Rattle.mothra_bench.specs.code.RowMap.{HasRows}
 use Rattle.mothra_bench.proofs.row_map.RowMap.of.Given as goal
@@ -8,4 +8,5 @@ invariant-loop-row l =
     (goal.iterator-loop-row).can_next l.row-iterator
     × (goal.iterator-loop-row).is_finite l.row-iterator
     × (l.fn.rows.items ≡ l.yielded ++ into_iter_items l.row-iterator)
+    × (length l.map.rows.items ≡ 22)
     × HasRows l.map l.yielded

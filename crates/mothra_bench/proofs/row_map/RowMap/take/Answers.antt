@@ -1,9 +1,17 @@
-use Rattle.std.proofs.Common.{cond, ◌&&◌, nat_eq, None, ap, ◌∙◌}
+use Rattle.std.proofs.Common.{length, cond, eqb, ◌&&◌, None, refl, ap, ◌∙◌, arith}
+use Rattle.std.proofs.lemmas.Option.{slice_get_read}
 use Rattle.mothra_codes.specs.Op.{index}
 use Rattle.mothra_bench.specs.code.RowMap.{ticket_row}
+use Rattle.mothra_bench.proofs.RowLists.{listed_set}
 use Rattle.mothra_bench.proofs.row_map.RowMap.take.Goals as goal
 
 pub returns-clause-rows : goal.returns-clause-rows
-returns-clause-rows c = λ other.
-    c.remove.ensures.updates.0 (index other.op, other.number)
-    ∙ ap (λ i. cond (nat_eq i (index other.op) && nat_eq c.args.ticket.number other.number) None (ticket_row c.args.self.now other)) c.index.ensures.value
+returns-clause-rows c =
+    let lists = c.args.self.now.rows.items in
+    let op = c.index-op.result in
+    let number = c.args.ticket.number in
+    let old = c.index_mut.result.now in
+    λ other.
+    listed_set lists op old c.take_at.new.list number None
+    (slice_get_read lists (length lists) op old refl (omega (arith, c.if-op-len.false, c.len.ensures)) c.index_mut.ensures.value) c.take_at.ensures.rows (index other.op) other.number
+    ∙ ap (λ i. cond (eqb i (index other.op) && eqb number other.number) None (ticket_row c.args.self.now other)) c.index-op.ensures.value
