@@ -23,3 +23,4 @@ pub mod FirstItems
 mod Crossings
 mod CountSteps
 mod RowLists
+mod CountedOperators

@@ -1,12 +1,14 @@
 //! Mutants are counted, and the score is computed.
 
-ghost use Rattle.std.specs.Prelude.{◌≡◌, ◌+◌, ◌∷◌, ◌++◌, ◌<◌, ◌≤◌, ◌^◌, [], List, length};
+ghost use Rattle.std.specs.Prelude.{◌≡◌, ◌+◌, ◌∷◌, ◌++◌, ◌<◌, ◌≤◌, ◌^◌, [], List, Some, IfOk, length, slice_get};
+ghost use Rattle.mothra_codes.specs.Op.{index};
+ghost use Rattle.mothra_codes.specs.declared.op.Op.{Op};
 ghost use Rattle.mothra_bench.specs.Matrix as definition;
 ghost use Rattle.mothra_bench.specs.Matrix.{counts, entries_of, score_of};
 ghost use Rattle.mothra_bench.specs.declared.matrix.Entry.{Entry};
 
 use crate::matrix::Entry;
-use mothra_codes::Op;
+use std::alloc::{AllocError, Global};
 use std::marker::Model;
 
 /// How many mutants there are; how many of them are killed; how many are declared equivalent and survived.
@@ -38,18 +40,21 @@ impl Counts {
         counts
     }
 
-    /// The counts of the entries of one operator. The call takes no memory.
-    pub fn of_operator(op: Op, entries: &[Entry]) -> Counts
+    /// The counts of the entries of each operator, in the order of the operators.
+    pub fn of_operators(alloc: Global, entries: &[Entry]) -> Result<Vec<Counts>, AllocError>
         requires { length entries.now < 2 ^ 32 }
-        ensures { result ≡ counts (entries_of op entries.now) }
+        ensures count { IfOk result (λ list. length list.items ≡ 22) }
+        ensures counts { IfOk result
+            (λ list. (op : Op) → slice_get list.items (index op) ≡ Some (counts (entries_of op entries.now))) }
     {
-        let mut counts = Counts::none();
-        for entry in entries {
-            if entry.ticket.op == op {
-                counts.add(entry);
-            }
+        let mut list = Vec::with_capacity(alloc, 22)?;
+        for _ in 0..22usize {
+            list.push(Counts::none())?;
         }
-        counts
+        for entry in entries {
+            list[entry.ticket.op.index()].add(entry);
+        }
+        Ok(list)
     }
 
     /// The counts of no entries.

@@ -60,9 +60,10 @@ fn push_unit(text: &mut String, lines: &[Shared<Line>]) -> Result<(), AllocError
 fn push_operators(text: &mut String, plan: &Plan, matrix: &Matrix) -> Result<(), AllocError>
     ensures { OnOk result (string_bytes text.new ≡ string_bytes text.old ++ operator_lines plan.now matrix.now) }
 {
+    let counts = Counts::of_operators(*text.allocator(), matrix.entries())?;
     for op in Op::ALL {
         if plan.asked(op) {
-            push_counts(text, op.code(), &Counts::of_operator(op, matrix.entries()))?;
+            push_counts(text, op.code(), &counts[op.index()])?;
         }
     }
     Ok(())

@@ -1,0 +1,14 @@
+use Rattle.std.proofs.Common.{◌≡◌, [], All, Some, length, take}
+use Rattle.std.specs.Prelude.{slice_get}
+use Rattle.mothra_codes.specs.Op.{index}
+use Rattle.mothra_codes.specs.declared.op.Op.{Op}
+use Rattle.mothra_bench.specs.Matrix.{counts, entries_of}
+use Rattle.mothra_bench.proofs.counts.Counts.of_operators.Given as goal
+
+abbrev pub invariant-loop : goal.invariant-loop
+invariant-loop l = (length l.list.items ≡ l.counter) × All (λ c. c ≡ counts []) l.list.items
+
+abbrev pub invariant-loop-entry : goal.invariant-loop-entry
+invariant-loop-entry l =
+    (length l.list.items ≡ 22)
+    × ((op : Op) → slice_get l.list.items (index op) ≡ Some (counts (entries_of op (take l.entry-index l.entries))))
