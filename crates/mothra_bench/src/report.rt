@@ -100,26 +100,17 @@ fn push_mutants(text: &mut String, plan: &Plan, entries: &[Entry]) -> Result<(),
     ensures { OnOk result
         (string_bytes text.new ≡ string_bytes text.old ++ flat_map (mutant_line plan.now) entries.now) }
 {
-    let mut name = String::new(*text.allocator());
     for entry in entries {
-        push_mutant(text, &mut name, plan, entry)?;
+        push_mutant(text, plan, entry)?;
     }
     Ok(())
 }
 
-/// Adds the line of a mutant. `name` is used for the mutant's name, and what it had is lost: so one string serves all
-/// lines.
-fn push_mutant(
-    text: &mut String,
-    name: &mut String,
-    plan: &Plan,
-    entry: &Entry,
-) -> Result<(), AllocError>
+fn push_mutant(text: &mut String, plan: &Plan, entry: &Entry) -> Result<(), AllocError>
     ensures { OnOk result (string_bytes text.new ≡ string_bytes text.old ++ mutant_line plan.now entry.now) }
 {
     text.push_str("MUTANT ")?;
-    write_name(name, plan.every(), entry.ticket.op, entry.ticket.number)?;
-    text.push_str(name)?;
+    write_name(text, plan.every(), entry.ticket.op, entry.ticket.number)?;
     text.push(' ')?;
     text.push_str(status(entry))?;
     text.push(' ')?;

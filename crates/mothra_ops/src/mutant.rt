@@ -221,19 +221,22 @@ fn printed(alloc: Global, stmt: &Stmt) -> Result<String, OpsFault>
     }
 }
 
-/// Writes the name of a mutant over what `name` has: the operator's code, its number in the thinned list, and its
-/// number in the whole list.
-pub fn write_name(name: &mut String, every: u32, op: Op, number: u32) -> Result<(), AllocError>
-    ensures { OnOk result (string_bytes name.new ≡ mutant_name every op number) }
+/// Appends the name of a mutant: the operator's code, its number in the thinned list, and its number in the whole list.
+/// Where memory runs out, a part of it is appended.
+pub fn write_name(text: &mut String, every: u32, op: Op, number: u32) -> Result<(), AllocError>
+    ensures { OnOk result (string_bytes text.new ≡ string_bytes text.old ++ mutant_name every op number) }
 {
     let original = u64::from(number.saturating_sub(1)) * u64::from(every) + 1;
     let mut digits = Buffer::new();
-    name.clear();
-    name.push_str(op.code())?;
-    name.push(' ')?;
-    name.push_str(digits.format(number))?;
-    name.push(' ')?;
-    name.push_str(digits.format(original))
+    text.push_str(op.code())?;
+    text.push(' ')?;
+    let shown = digits.format(number);
+    text.push_str(shown)?;
+    text.push(' ')?;
+    if original == u64::from(number) {
+        return text.push_str(shown);
+    }
+    text.push_str(digits.format(original))
 }
 
 /// The name of a mutant, in a text with room for so many characters.
