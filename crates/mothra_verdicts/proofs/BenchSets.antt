@@ -94,3 +94,8 @@ declared_by declared keys one other answer named is same =
       λ yes. (named.same one).0 ((has keys one).0 (sym is ∙ yes)),
       λ there. is ∙ (has keys one).1 ((named.same one).1 there),
     )
+
+-- a set without entries has none that is declared
+pub none_declared : (declared keys : List Ticket) (one : Ticket) → AreNamed declared keys → length keys ≡ 0 → IsTrue false ↔ Contains declared one
+none_declared declared [] one named none = declared_by declared [] one one false named refl refl
+none_declared declared (key ∷ keys) one named none = absurd (omega arith)

@@ -156,6 +156,9 @@ impl Bench {
     pub fn is_declared(&self, ticket: Ticket) -> bool
         ensures { IsTrue result ↔ IsDeclared self.now ticket }
     {
+        if self.named.is_empty() {
+            return false;
+        }
         match u32::try_from(original_number(self.plan.every(), ticket.number)) {
             Ok(number) => self.named.contains(&Ticket {
                 op: ticket.op,
