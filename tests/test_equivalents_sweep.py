@@ -1,16 +1,22 @@
-"""The sweep over proved mutants: its rows, and the programs that it makes."""
+"""The sweep over proved mutants: its rows, the programs that it makes, and what it says of answers."""
 
 import re
 import unittest
-from itertools import islice
+from collections.abc import Sequence
+from itertools import cycle, islice
 from random import Random
+from unittest import mock
 
 import running  # noqa: F401  it finds the package
+from developing import equivalents_sweep as sweep
 from developing.robustness.edges import edges_of, rows_for
 from developing.robustness.programs import program_of
 from mutants.jobs.cells import GREATEST, LEAST
 from mutants.texts.cards import action_at, cards_of, source_lines
+from mutants.suggestions.asking import Asker
+from mutants.suggestions.shapes import Row
 from mutants.texts.dummies import read_unit
+from mutants.texts.proofs import Answer, Candidate, read_proofs
 
 JUMPS = re.compile(r"GOTO(\d+)|GOTO\(([\d,]+)\)|\)(\d+,\d+,\d+)$")
 
@@ -73,6 +79,66 @@ class Programs(unittest.TestCase):
         labels = [card.label for card in cards if card.label]
         self.assertEqual((depth, loops, len(set(labels))), (0, [], len(labels)), source)
         self.assertLessEqual({label for card in cards for label in labels_in(card.text)}, outside, source)
+
+
+class Sweeping(unittest.TestCase):
+    """A program with two mutants that are named, and a run in the place of mothra. The first is killed where I is below
+    0, the second, which has 3 steps to spare, where it is above 99. On each row the program makes I steps, at least 1.
+    """
+
+    case = sweep.Case("least.f", running.LEAST, True)
+    named = "EQUIVALENT ABS 1 1 LINE 3 K=IABS(I)\nSPARE 3 SDL 1 1 LINE 3 CONTINUE\n"
+    last = "PROVED 2 OF 9, 1 NOT FINISHED\n"
+
+    @staticmethod
+    def kills(asker: Asker, rows: Sequence[Row], ops: Sequence[str], steps: int) -> dict[Row, int]:
+        firsts = {row: row[0] for row in rows if isinstance(row[0], int)}
+        return {row: (first < 0) + 2 * (first > 99) for row, first in firsts.items() if first <= steps}
+
+    def tried(self, firsts: Sequence[int], led: Sequence[int] = (), rows: int = 4) -> sweep.Tried:
+        """The sweep with these values of I by chance, and those to which failed proofs led."""
+        text = self.named + "".join(f"ROW UOI 1 1 [{first},1,0]\n" for first in led) + self.last
+
+        def answer(name: str, program: str, words: Sequence[str], job: bytes) -> str:
+            self.assertEqual((program, words), ("equivalents", ["--rows", str(rows)] if rows else []))
+            return text
+
+        listed = [proof.mutant for proof in read_proofs(text).proofs]
+        made = cycle((first, 1, 0) for first in firsts)
+        fakes = {"asked_list": lambda *_: ([], listed), "asked_print": lambda *_: [], "plain_answer": answer,
+                 "rows_for": lambda *_: made}  # fmt: skip
+        runs = {"kills": self.kills, "ending": lambda asker, rows, steps: rows}
+        with mock.patch.multiple(sweep, **fakes), mock.patch.multiple(Asker, **runs):
+            return sweep.tried(sweep.Programs("mothra", "equivalents", 256, 1, rows), self.case)
+
+    def test_rows_by_chance_and_those_of_failed_proofs(self) -> None:
+        tried = self.tried([1, 5, 9], [5, 7, 7])
+        counts = "2 proved, 1 with steps to spare (3 at most), 1 not finished, 4 tests (1 by failed proofs), 0 killed"
+        self.assertEqual(sweep.line_on("least.f", [tried]), f"least.f: 2 mutants, {counts}")
+        self.assertEqual(list(sweep.faults_of(tried)), [])
+        self.assertEqual((self.tried([1], rows=0).led, len(self.tried([1], rows=0).tests)), (set(), 1))
+
+    def test_a_test_that_kills_is_told_with_the_program(self) -> None:
+        told, *source = list(sweep.faults_of(self.tried([1, -5], [-7])))
+        killed = "equivalent: killed by [-5, 1, 0] with --steps 10000"
+        self.assertEqual(told, f"least.f: ABS 1 1 LINE 3 K=IABS(I), {killed}")
+        self.assertEqual(source, [running.LEAST.rstrip("\n")])
+
+    def test_a_mutant_that_a_row_of_a_failed_proof_alone_kills(self) -> None:
+        tried = self.tried([1, -5], [-7, 100])
+        self.assertEqual([each.proof.mutant.op for each in tried.killed], ["ABS", "SDL"])
+        self.assertEqual([each.test for each in tried.killed_by_led()], [(100, 1, 0)])
+        self.assertIn("with --steps 10000, a row of a failed proof", list(sweep.faults_of(tried))[1])
+
+    def test_a_row_that_does_not_leave_the_steps_to_spare_may_kill(self) -> None:
+        self.assertEqual(self.tried([9998]).killed, [])
+        self.assertEqual(len(self.tried([9997]).killed), 1)
+
+    def test_of_many_rows_of_failed_proofs_some_are_tried(self) -> None:
+        answer = Answer([], candidates=[Candidate("UOI", 1, 1, [number % 50, [1]]) for number in range(100)])
+        self.assertEqual(len(sweep.led_rows(answer, 256, Random(1))), 50)
+        rows = sweep.led_rows(answer, 20, Random(1))
+        self.assertEqual((len(set(rows)), rows), (20, sweep.led_rows(answer, 20, Random(1))))
 
 
 if __name__ == "__main__":

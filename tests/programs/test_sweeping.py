@@ -33,14 +33,16 @@ class Sweeps(Room):
         status, out, errors = self.sweep("--programs", "2")
         self.assertEqual((status, errors), (statuses.SUCCESS, ""))
         proved = r"\d+ proved, \d+ with steps to spare \(\d at most\), 0 not finished"
-        self.assertRegex(out, rf"^least\.f: \d+ mutants, {proved}, \d+ tests, 0 killed\n2 made programs: ")
+        tests = r"\d+ tests \(\d+ by failed proofs\)"
+        self.assertRegex(out, rf"^least\.f: \d+ mutants, {proved}, {tests}, 0 killed\n2 made programs: ")
         self.assertTrue(out.endswith("\nno mutant is killed that is proved equivalent\n"), out)
 
     def test_one_that_is_killed_is_told_with_the_test(self) -> None:
         for word, spare, meant in (("EQUIVALENT", 0, ""), ("SPARE 1", 1, " with 1 step to spare")):
             status, out, _ = self.sweep("--programs", "0", proofs=self.wrong(word))
             self.assertEqual(status, statuses.FAULT)
-            self.assertIn(f" 1 proved, {spare} with steps to spare ({spare} at most), 0 not finished, 40 tests, 1", out)
+            tests = "40 tests (0 by failed proofs)"
+            self.assertIn(f" 1 proved, {spare} with steps to spare ({spare} at most), 0 not finished, {tests}, 1", out)
             named = f"\nleast.f: SDL 2 2 LINE 4 CONTINUE, equivalent{meant}: killed by "
             self.assertRegex(out, named + r"\[.*\] with --steps 10000\n")
 
