@@ -9,3 +9,4 @@ mod Rooms
 mod Answered
 mod Storable
 mod Tests
+mod Order

@@ -1,10 +1,12 @@
 -- Rows: tests that may kill mutants which are not named, as the key `suite` of a job has them.
-use Rattle.std.specs.Prelude.{◌≡◌, ◌≢◌, ◌++◌, ℕ, Bool, true, false, All, List, [], Option, Some, None, codes}
+use Rattle.std.specs.Prelude.{◌≡◌, ◌≢◌, ◌≤◌, ◌⊎◌, ◌++◌, ℕ, Bool, true, false, All, AllPairs}
+use Rattle.std.specs.Prelude.{List, [], map, Option, Some, None, codes}
 use Rattle.std.specs.Fmt.{signed_decimal}
 use Rattle.f77_meaning.specs.Interpreter.{AreFitting}
 use Rattle.f77_meaning.specs.declared.argument.Arg.{Arg}
 use Rattle.f77_meaning.specs.declared.argument.Arg.TheVariants.{Int, Truth, Ints, Truths}
 use Rattle.f77_tree.specs.Joined.{separated}
+use Rattle.mothra_codes.specs.Ticket.{Before, ticket_times}
 use Rattle.mothra_equivalents.specs.declared.equivalents.Equivalent.{Equivalent}
 use Rattle.mothra_equivalents.specs.declared.suggestions.Suggestion.{Suggestion}
 use Rattle.mothra_ops.specs.Mutants.{MutantFields, mutant_name, mutant_of}
@@ -20,10 +22,20 @@ pub record IsRowOf (plan : PlanFields) (list : List Equivalent) (row : Suggestio
   pub unnamed : All (λ equivalent. equivalent.ticket ≢ row.ticket) list
   pub fits : AreFitting plan.checked.arguments row.arguments
 
--- such rows, and none where none are asked for
+-- one row stands before another: its mutant does, or both are of one mutant, with other arguments
+abbrev pub StandsBefore : Suggestion → Suggestion → Type 0
+StandsBefore one other = Before one.ticket other.ticket
+    ⊎ ((one.ticket ≡ other.ticket) × (one.arguments ≢ other.arguments))
+
+-- the rows stand by operator, then number, none of them twice; no mutant has more than `most`
+pub record StandInOrder (most : ℕ) (rows : List Suggestion) : Type 0 where
+  pub ordered : AllPairs StandsBefore rows
+  pub few : (i k : ℕ) → ticket_times i k (map (λ (row : Suggestion). row.ticket) rows) ≤ most
+
+-- such rows in order, at most so many of a mutant, and none where none are asked for
 abbrev pub AreRowsFor : PlanFields → List Equivalent → Option ℕ → List Suggestion → Type 0
 AreRowsFor plan list None rows = rows ≡ []
-AreRowsFor plan list (Some most) rows = All (IsRowOf plan list) rows
+AreRowsFor plan list (Some most) rows = All (IsRowOf plan list) rows × StandInOrder most rows
 
 -- ---- their text
 

@@ -1,12 +1,16 @@
 //! Rows: tests that may kill mutants which are not named, as the key `suite` of a job has them.
 
-ghost use Rattle.std.specs.Prelude.{◌≡◌, ◌≢◌, ◌++◌, true, false, All, IfOk, OnOk, flat_map, string_bytes};
+ghost use Rattle.std.specs.Prelude.{◌≡◌, ◌≢◌, ◌++◌, ◌∷◌, [], true, false, All, IfOk, OnOk, Some};
+ghost use Rattle.std.specs.Prelude.{flat_map, string_bytes};
 ghost use Rattle.std.specs.Fmt.{signed_decimal};
-ghost use Rattle.equivalents_app.specs.Rows.{AreRowsFor, IsRowOf, json_value, json_list, row_line};
+ghost use Rattle.mothra_codes.specs.Ticket.{Before};
+ghost use Rattle.equivalents_app.specs.Rows.{StandInOrder, AreRowsFor, IsRowOf, StandsBefore};
+ghost use Rattle.equivalents_app.specs.Rows.{json_value, json_list, row_line};
 ghost use Rattle.equivalents_app.specs.Rows as definition;
 
 use f77_meaning::Arg;
 use f77_run::fit;
+use mothra_codes::Ticket;
 use mothra_equivalents::{Equivalent, Suggestion};
 use mothra_ops::{Plan, push_name};
 use std::alloc::{AllocError, Global};
@@ -36,18 +40,50 @@ fn may_be_row(plan: &Plan, list: &[Equivalent], row: &Suggestion) -> bool
     fit(plan.program().arguments(), row.arguments.as_slice()).is_ok()
 }
 
-/// The suggestions that may be written.
+/// One mutant stands before another in the list of all.
+fn is_before(one: Ticket, other: Ticket) -> bool
+    ensures { result ≡ true → Before one other }
+{
+    let (first, second) = (one.op.index(), other.op.index());
+    first < second || (first == second && one.number < other.number)
+}
+
+/// One row is of the same mutant as another, with other arguments.
+fn is_other(one: &Suggestion, other: &Suggestion) -> bool
+    ensures { result ≡ true → StandsBefore one.now other.now }
+{
+    one.ticket == other.ticket && one.arguments != other.arguments
+}
+
+/// The row may stand behind these: its mutant is not before theirs, and fewer than `most` other rows are of it.
+fn may_follow(rows: &[Suggestion], row: &Suggestion, most: usize) -> bool
+    ensures { result ≡ true → StandInOrder most rows.now → StandInOrder most (rows.now ++ row.now ∷ []) }
+{
+    for same in 0..rows.len() {
+        let last = &rows[rows.len() - 1 - same];
+        if is_before(last.ticket, row.ticket) {
+            return same < most;
+        }
+        if !is_other(last, row) {
+            return false;
+        }
+    }
+    rows.len() < most
+}
+
+/// The suggestions that may be written, at most so many of a mutant.
 fn fitting(
     alloc: Global,
     plan: &Plan,
     list: &[Equivalent],
     suggestions: Vec<Suggestion>,
+    most: usize,
 ) -> Result<Vec<Suggestion>, AllocError>
-    ensures { IfOk result (λ rows. All (IsRowOf plan.now list.now) rows.items) }
+    ensures { IfOk result (λ rows. AreRowsFor plan.now list.now (Some most) rows.items) }
 {
     let mut rows = Vec::new(alloc);
     for row in suggestions {
-        if may_be_row(plan, list, &row) {
+        if may_be_row(plan, list, &row) && may_follow(&rows, &row, most) {
             rows.push(row)?;
         }
     }
@@ -65,7 +101,7 @@ pub(crate) fn rows_of(
     ensures { IfOk result (λ rows. AreRowsFor plan.now list.now most rows.items) }
 {
     match most {
-        Some(_) => fitting(alloc, plan, list, suggestions),
+        Some(most) => fitting(alloc, plan, list, suggestions, most as usize),
         None => Ok(Vec::new(alloc)),
     }
 }

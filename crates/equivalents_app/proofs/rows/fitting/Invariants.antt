@@ -1,6 +1,6 @@
-use Rattle.std.specs.Prelude.{All}
-use Rattle.equivalents_app.specs.Rows.{IsRowOf}
+use Rattle.std.specs.Prelude.{Some}
+use Rattle.equivalents_app.specs.Rows.{AreRowsFor}
 use Rattle.equivalents_app.proofs.rows.fitting.Given as goal
 
 abbrev pub invariant-loop-row : goal.invariant-loop-row
-invariant-loop-row l = All (IsRowOf l.plan l.list) l.rows.items
+invariant-loop-row l = AreRowsFor l.plan l.list (Some l.most) l.rows.items
