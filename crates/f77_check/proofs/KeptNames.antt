@@ -9,7 +9,7 @@ use Rattle.std.proofs.lemmas.List.Concat.{flat_map-cons}
 use Rattle.std.proofs.lemmas.List.Elements.{filter_map-append}
 use Rattle.std.proofs.lemmas.List.Folds.{list_all-append, list_all-map}
 use Rattle.indexmap.specs.IndexMap.{keys}
-use Rattle.f77_tree.specs.Node.{NodeOf, parts, all_parts, tree_nodes, step_parts, nodes_of, node_name, names_of}
+use Rattle.f77_tree.specs.Node.{NodeOf, parts, all_parts, tree_nodes, value_nodes, nodes_of, node_name, names_of}
 use Rattle.f77_program.specs.Program.{LineFields}
 use Rattle.f77_tree.specs.Tree.{Tree, Trees, DeclFields}
 use Rattle.f77_tree.specs.Statement.{Statement}
@@ -64,7 +64,7 @@ module _ (names : Names) where
     items_are Trees.None = refl
     items_are (Trees.Then t ts) = parts_append (parts t) (all_parts ts) ∙ (λ i. tree_is t i && items_are ts i)
 
-  step_is : (step : Option Tree) → nodes_kept (step_parts step) ≡ step_kept names step
+  step_is : (step : Option Tree) → nodes_kept (value_nodes step) ≡ step_kept names step
   step_is None = refl
   step_is (Some t) = tree_is t
 
@@ -86,8 +86,8 @@ module _ (names : Names) where
   statement_kept (Statement.ElseIf t) h = sym (tree_is t) ∙ h
   statement_kept (Statement.Loop label name a b c) h =
       sym (ap (λ z. is_kept names name && z)
-      (kept_append (tree_nodes a) (tree_nodes b ++ step_parts c)
-      ∙ (λ i. tree_is a i && (kept_append (tree_nodes b) (step_parts c) ∙ (λ j. tree_is b j && step_is c j)) i)))
+      (kept_append (tree_nodes a) (tree_nodes b ++ value_nodes c)
+      ∙ (λ i. tree_is a i && (kept_append (tree_nodes b) (value_nodes c) ∙ (λ j. tree_is b j && step_is c j)) i)))
       ∙ h
   statement_kept _ h = refl
 

@@ -118,7 +118,7 @@ impl Resolver {
                 self.boxed(alloc, right)?,
             )),
             Expr::ZeroPush(operand) => Ok(Number::ZeroPush(self.boxed(alloc, operand)?)),
-            Expr::Truth(_) | Expr::Not(_) => unreachable!(),
+            _ => unreachable!(),
         }
     }
 
@@ -253,9 +253,7 @@ impl Resolver {
                     self.boxed_condition(alloc, right)?,
                 )),
             },
-            Expr::Number(_) | Expr::Call(_, _) | Expr::Signed(_, _) | Expr::ZeroPush(_) => {
-                unreachable!()
-            }
+            _ => unreachable!(),
         }
     }
 

@@ -153,17 +153,7 @@ impl Resolver {
             Stmt::Return => Ok(Action::Return),
             Stmt::Stop => Ok(Action::Stop),
             Stmt::Trap => Ok(Action::Trap),
-            Stmt::Subroutine { .. }
-            | Stmt::Declare { .. }
-            | Stmt::Dimension { .. }
-            | Stmt::Preset { .. }
-            | Stmt::LogicalIf { .. }
-            | Stmt::BlockIf { .. }
-            | Stmt::ElseIf { .. }
-            | Stmt::Else
-            | Stmt::EndIf
-            | Stmt::Loop { .. }
-            | Stmt::End => unreachable!(),
+            _ => unreachable!(),
         }
     }
 
@@ -277,14 +267,7 @@ impl Resolver {
                 step,
             } => self.do_loop(alloc, i, *label, variable, first, last, step),
             Stmt::End => Ok(Action::Return),
-            Stmt::Assign { .. }
-            | Stmt::Goto { .. }
-            | Stmt::ComputedGoto { .. }
-            | Stmt::ArithIf { .. }
-            | Stmt::Continue
-            | Stmt::Return
-            | Stmt::Stop
-            | Stmt::Trap => self.inner_action(alloc, i, stmt),
+            _ => self.inner_action(alloc, i, stmt),
         }
     }
 

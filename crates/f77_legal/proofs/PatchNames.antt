@@ -14,7 +14,7 @@ use Rattle.indexmap.specs.IndexMap.{get, keys}
 use Rattle.f77_program.specs.Formed.{is_action}
 use Rattle.f77_program.specs.code.Formed.{statement_formed, formed}
 use Rattle.f77_program.specs.Group.{group_of}
-use Rattle.f77_tree.specs.Node.{NodeOf, parts, all_parts, tree_nodes, step_parts, nodes_of, node_name, names_of}
+use Rattle.f77_tree.specs.Node.{NodeOf, parts, all_parts, tree_nodes, value_nodes, nodes_of, node_name, names_of}
 use Rattle.f77_program.specs.Program.{LineFields}
 use Rattle.f77_program.specs.Patching.{replaced}
 use Rattle.f77_tree.specs.Grammar.{is_name}
@@ -126,7 +126,7 @@ module _ (test : Symbol → Bool) where
     items_are Trees.None = refl
     items_are (Trees.Then t ts) = parts_append (parts t) (all_parts ts) ∙ (λ i. tree_is t i && items_are ts i)
 
-  step_is : (step : Option Tree) → nodes_pass (step_parts step) ≡ value_passes test step
+  step_is : (step : Option Tree) → nodes_pass (value_nodes step) ≡ value_passes test step
   step_is None = refl
   step_is (Some t) = tree_is t
 
@@ -149,8 +149,8 @@ module _ (test : Symbol → Bool) where
   statement_is (Statement.ElseIf t) h = tree_is t
   statement_is (Statement.Loop label name a b c) h =
       ap (λ z. test name && z)
-      (pass_append (tree_nodes a) (tree_nodes b ++ step_parts c)
-      ∙ (λ i. tree_is a i && (pass_append (tree_nodes b) (step_parts c) ∙ (λ j. tree_is b j && step_is c j)) i))
+      (pass_append (tree_nodes a) (tree_nodes b ++ value_nodes c)
+      ∙ (λ i. tree_is a i && (pass_append (tree_nodes b) (value_nodes c) ∙ (λ j. tree_is b j && step_is c j)) i))
   statement_is _ h = refl
 
   plain_is : (xs : List Symbol) → list_all test (map name_in (map NameUse.Plain xs)) ≡ list_all test xs

@@ -94,14 +94,8 @@ in_text_formed (Statement.ArithIf t l m n) = tree_in_text_formed t
 in_text_formed (Statement.LogicalIf t s) = rw (tree_in_text_formed t, in_text_action s, in_text_formed s) refl
 in_text_formed (Statement.BlockIf t) = tree_in_text_formed t
 in_text_formed (Statement.ElseIf t) = tree_in_text_formed t
-in_text_formed Statement.Else = refl
-in_text_formed Statement.EndIf = refl
 in_text_formed (Statement.Loop label name a b c) = rw (tree_in_text_formed a, tree_in_text_formed b, step_in_text_formed c) refl
-in_text_formed Statement.Continue = refl
-in_text_formed Statement.Return = refl
-in_text_formed Statement.Stop = refl
-in_text_formed Statement.Trap = refl
-in_text_formed Statement.End = refl
+in_text_formed _ = refl
 
 -- digits for any label
 abbrev pub Row : ℕ → Type 0

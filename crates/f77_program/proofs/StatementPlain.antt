@@ -113,16 +113,10 @@ squeezed_statement (Statement.LogicalIf t s) f =
     ap (λ z. codes "IF(" ++ z) (behind_plain (text_of t) (codes ") " ++ statement_text s) _ (plain_text t test) (ap (λ z. 41 ∷ z) (squeezed_statement s inner)))
 squeezed_statement (Statement.BlockIf t) f = ap (λ z. codes "IF(" ++ z) (behind_plain (text_of t) (codes ") THEN") (codes ")THEN") (plain_text t f) refl)
 squeezed_statement (Statement.ElseIf t) f = ap (λ z. codes "ELSEIF(" ++ z) (behind_plain (text_of t) (codes ") THEN") (codes ")THEN") (plain_text t f) refl)
-squeezed_statement Statement.Else f = refl
-squeezed_statement Statement.EndIf f = refl
 squeezed_statement (Statement.Loop label name a b c) f =
     ap (λ z. codes "DO" ++ z) (behind_plain (decimal label) (32 ∷ (name ++ (61 ∷ (text_of a ++ (44 ∷ (text_of b ++ step_text c)))))) _ (plain_decimal label)
     (squeezed_plain (name ++ (61 ∷ (text_of a ++ (44 ∷ (text_of b ++ step_text c))))) (plain_range name a b c f)))
-squeezed_statement Statement.Continue f = refl
-squeezed_statement Statement.Return f = refl
-squeezed_statement Statement.Stop f = refl
-squeezed_statement Statement.Trap f = refl
-squeezed_statement Statement.End f = refl
+squeezed_statement _ f = refl
 
 pub printable_statement : (s : Statement) → statement_formed is_name s ≡ true → list_all is_printable (statement_text s) ≡ true
 printable_statement (Statement.Subroutine name []) f = printable_plain name (plain_name name (and_true (is_name name) true f).0)
@@ -144,16 +138,10 @@ printable_statement (Statement.LogicalIf t s) f =
     printable_both (text_of t) (codes ") " ++ statement_text s) (printable_plain (text_of t) (plain_text t test)) (printable_statement s inner)
 printable_statement (Statement.BlockIf t) f = printable_both (text_of t) (codes ") THEN") (printable_plain (text_of t) (plain_text t f)) refl
 printable_statement (Statement.ElseIf t) f = printable_both (text_of t) (codes ") THEN") (printable_plain (text_of t) (plain_text t f)) refl
-printable_statement Statement.Else f = refl
-printable_statement Statement.EndIf f = refl
 printable_statement (Statement.Loop label name a b c) f =
     printable_both (decimal label) (32 ∷ (name ++ (61 ∷ (text_of a ++ (44 ∷ (text_of b ++ step_text c)))))) (printable_plain (decimal label) (plain_decimal label))
     (printable_plain (name ++ (61 ∷ (text_of a ++ (44 ∷ (text_of b ++ step_text c))))) (plain_range name a b c f))
-printable_statement Statement.Continue f = refl
-printable_statement Statement.Return f = refl
-printable_statement Statement.Stop f = refl
-printable_statement Statement.Trap f = refl
-printable_statement Statement.End f = refl
+printable_statement _ f = refl
 
 -- the first piece of a text is not blank where its first character is not
 starts : (c : ℕ) (text : List ℕ) → not (is_blank c) ≡ true → not (list_all is_blank (piece (c ∷ text) 0)) ≡ true
@@ -178,14 +166,8 @@ statement_starts (Statement.ArithIf t l m n) f = refl
 statement_starts (Statement.LogicalIf t s) f = refl
 statement_starts (Statement.BlockIf t) f = refl
 statement_starts (Statement.ElseIf t) f = refl
-statement_starts Statement.Else f = refl
-statement_starts Statement.EndIf f = refl
 statement_starts (Statement.Loop label name a b c) f = refl
-statement_starts Statement.Continue f = refl
-statement_starts Statement.Return f = refl
-statement_starts Statement.Stop f = refl
-statement_starts Statement.Trap f = refl
-statement_starts Statement.End f = refl
+statement_starts _ f = refl
 
 pub reads_back : (s : Statement) → IsFormed s → IsUnmutated s → statement_constants s ≡ true → SpellsStatement (squeezed (statement_text s)) s
 reads_back s f u k =

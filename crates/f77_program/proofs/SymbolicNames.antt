@@ -99,12 +99,6 @@ symbolic_statement (Statement.ArithIf t l m n) = symbolic_tree t
 symbolic_statement (Statement.LogicalIf t s) = joined (symbolic_tree t) (behind (is_action s) (symbolic_statement s))
 symbolic_statement (Statement.BlockIf t) = symbolic_tree t
 symbolic_statement (Statement.ElseIf t) = symbolic_tree t
-symbolic_statement Statement.Else = yes
-symbolic_statement Statement.EndIf = yes
 symbolic_statement (Statement.Loop label name a b c) =
     joined (symbolic_name name) (joined (symbolic_tree a) (joined (symbolic_tree b) (symbolic_value c)))
-symbolic_statement Statement.Continue = yes
-symbolic_statement Statement.Return = yes
-symbolic_statement Statement.Stop = yes
-symbolic_statement Statement.Trap = yes
-symbolic_statement Statement.End = yes
+symbolic_statement _ = yes

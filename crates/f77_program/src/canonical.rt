@@ -23,14 +23,10 @@ fn own_level(expr: &Expr) -> u8
     ensures { result ≡ canonical.own_level (tree_of expr.now) }
 {
     match expr {
-        Expr::Number(_)
-        | Expr::Truth(_)
-        | Expr::Reference(_)
-        | Expr::Call(_, _)
-        | Expr::ZeroPush(_) => 9,
         Expr::Signed(_, _) => 6,
         Expr::Not(_) => 4,
         Expr::Binary(op, _, _) => op.level(),
+        _ => 9,
     }
 }
 

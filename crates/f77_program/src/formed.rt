@@ -43,12 +43,12 @@ fn formed(expr: &Expr) -> bool
     ensures { result ≡ forms_code.formed is_symbolic (tree_of expr.now) }
 {
     match expr {
-        Expr::Number(_) | Expr::Truth(_) => true,
         Expr::Reference(place) => is_reference(&place.name, &place.subscripts)
             && all_formed(&place.subscripts),
         Expr::Call(_, arguments) => is_some_list(arguments) && all_formed(arguments),
         Expr::Signed(_, inner) | Expr::Not(inner) | Expr::ZeroPush(inner) => formed(inner),
         Expr::Binary(_, left, right) => formed(left) && formed(right),
+        _ => true,
     }
 }
 

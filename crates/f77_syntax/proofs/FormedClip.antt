@@ -106,14 +106,8 @@ statement_clip (Statement.ArithIf t l m n) = tree_clip t
 statement_clip (Statement.LogicalIf t s) = rw (tree_clip t, action_clip s, statement_clip s) refl
 statement_clip (Statement.BlockIf t) = tree_clip t
 statement_clip (Statement.ElseIf t) = tree_clip t
-statement_clip Statement.Else = refl
-statement_clip Statement.EndIf = refl
 statement_clip (Statement.Loop label name a b c) = rw (name_clip name, tree_clip a, tree_clip b, step_clip c) refl
-statement_clip Statement.Continue = refl
-statement_clip Statement.Return = refl
-statement_clip Statement.Stop = refl
-statement_clip Statement.Trap = refl
-statement_clip Statement.End = refl
+statement_clip _ = refl
 
 -- what is kept of a statement that a text spells is formed exactly where its names have at most six characters
 pub formed_short : (got s : Statement) → IsFormed got → got ≡ clip_statement s → statement_names s ≡ true

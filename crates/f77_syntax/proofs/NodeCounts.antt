@@ -5,7 +5,7 @@ use Rattle.std.proofs.lemmas.List.{length-append, length-map}
 use Rattle.f77_tree.specs.Tree.{Tree, Trees, DeclFields, GroupFields}
 use Rattle.f77_tree.specs.Statement.{Statement}
 use Rattle.f77_tree.specs.Limits.{statement_nodes}
-use Rattle.f77_tree.specs.Node.{NodeOf, parts, all_parts, tree_nodes, step_parts, group_nodes, target_nodes, label_nodes, parameter_nodes, nodes_of}
+use Rattle.f77_tree.specs.Node.{NodeOf, parts, all_parts, tree_nodes, value_nodes, group_nodes, target_nodes, label_nodes, parameter_nodes, nodes_of}
 
 -- constants, references, calls and operators, each one
 abbrev mutual
@@ -50,14 +50,8 @@ count_by_part (Statement.ArithIf t l m n) = 1 + (nodes t + 3)
 count_by_part (Statement.LogicalIf t s) = 1 + (nodes t + count_by_part s)
 count_by_part (Statement.BlockIf t) = 1 + nodes t
 count_by_part (Statement.ElseIf t) = 1 + nodes t
-count_by_part Statement.Else = 1
-count_by_part Statement.EndIf = 1
 count_by_part (Statement.Loop label name a b c) = 3 + (nodes a + (nodes b + step_nodes c))
-count_by_part Statement.Continue = 1
-count_by_part Statement.Return = 1
-count_by_part Statement.Stop = 1
-count_by_part Statement.Trap = 1
-count_by_part Statement.End = 1
+count_by_part _ = 1
 
 -- The list of nodes has this number of nodes.
 mutual
@@ -78,7 +72,7 @@ mutual
 tree_counted : (t : Tree) → length (tree_nodes t) ≡ nodes t
 tree_counted t = length-map (parts t) NodeOf.Part ∙ parts_counted t
 
-step_counted : (c : Option Tree) → length (step_parts c) ≡ step_nodes c
+step_counted : (c : Option Tree) → length (value_nodes c) ≡ step_nodes c
 step_counted None = refl
 step_counted (Some t) = tree_counted t
 
@@ -95,7 +89,7 @@ target_counted name items = omega (arith, length-map (all_parts items) NodeOf.Pa
 
 control_counted : (a b : Tree) (c : Option Tree) → length (parameter_nodes a b c) ≡ nodes a + (nodes b + step_nodes c)
 control_counted a b c =
-    omega (arith, length-append (tree_nodes a) (tree_nodes b ++ step_parts c), length-append (tree_nodes b) (step_parts c), tree_counted a, tree_counted b, step_counted c)
+    omega (arith, length-append (tree_nodes a) (tree_nodes b ++ value_nodes c), length-append (tree_nodes b) (value_nodes c), tree_counted a, tree_counted b, step_counted c)
 
 nodes_counted : (s : Statement) → length (nodes_of s) ≡ count_by_part s
 nodes_counted (Statement.Subroutine name names) = omega (arith, length-map names NodeOf.Named)
@@ -112,14 +106,8 @@ nodes_counted (Statement.ArithIf t l m n) =
 nodes_counted (Statement.LogicalIf t s) = omega (arith, length-append (tree_nodes t) (nodes_of s), tree_counted t, nodes_counted s)
 nodes_counted (Statement.BlockIf t) = omega (arith, tree_counted t)
 nodes_counted (Statement.ElseIf t) = omega (arith, tree_counted t)
-nodes_counted Statement.Else = omega arith
-nodes_counted Statement.EndIf = omega arith
 nodes_counted (Statement.Loop label name a b c) = omega (arith, control_counted a b c)
-nodes_counted Statement.Continue = omega arith
-nodes_counted Statement.Return = omega arith
-nodes_counted Statement.Stop = omega arith
-nodes_counted Statement.Trap = omega arith
-nodes_counted Statement.End = omega arith
+nodes_counted _ = omega arith
 
 pub counted_by_part : (s : Statement) → statement_nodes s ≡ count_by_part s
 counted_by_part = nodes_counted

@@ -41,14 +41,8 @@ constants_by_part (Statement.ArithIf t l m n) = rw (constants_clip t) refl
 constants_by_part (Statement.LogicalIf t s) = rw (constants_clip t, constants_by_part s) refl
 constants_by_part (Statement.BlockIf t) = constants_clip t
 constants_by_part (Statement.ElseIf t) = constants_clip t
-constants_by_part Statement.Else = refl
-constants_by_part Statement.EndIf = refl
 constants_by_part (Statement.Loop label name a b c) = rw (constants_clip a, constants_clip b, step_constants_clip c) refl
-constants_by_part Statement.Continue = refl
-constants_by_part Statement.Return = refl
-constants_by_part Statement.Stop = refl
-constants_by_part Statement.Trap = refl
-constants_by_part Statement.End = refl
+constants_by_part _ = refl
 
 nodes_by_part : (s : Statement) → count_by_part (clip_statement s) ≡ count_by_part s
 nodes_by_part (Statement.Subroutine name names) = ap (λ n. 1 + n) (length-map names cut)
@@ -62,14 +56,8 @@ nodes_by_part (Statement.ArithIf t l m n) = rw (nodes_clip t) refl
 nodes_by_part (Statement.LogicalIf t s) = rw (nodes_clip t, nodes_by_part s) refl
 nodes_by_part (Statement.BlockIf t) = rw (nodes_clip t) refl
 nodes_by_part (Statement.ElseIf t) = rw (nodes_clip t) refl
-nodes_by_part Statement.Else = refl
-nodes_by_part Statement.EndIf = refl
 nodes_by_part (Statement.Loop label name a b c) = rw (nodes_clip a, nodes_clip b, step_nodes_clip c) refl
-nodes_by_part Statement.Continue = refl
-nodes_by_part Statement.Return = refl
-nodes_by_part Statement.Stop = refl
-nodes_by_part Statement.Trap = refl
-nodes_by_part Statement.End = refl
+nodes_by_part _ = refl
 
 kept_by_part : (s : Statement) → statement_names s ≡ true → by_part s ≡ true → clip_statement s ≡ s
 kept_by_part (Statement.Subroutine name names) n h =
@@ -92,8 +80,6 @@ kept_by_part (Statement.LogicalIf t s) n h =
     let (first, rest) = and_true (small_constants t) (by_part s) h in rw (kept t named first, kept_by_part s others rest) refl
 kept_by_part (Statement.BlockIf t) n h = rw (kept t n h) refl
 kept_by_part (Statement.ElseIf t) n h = rw (kept t n h) refl
-kept_by_part Statement.Else n h = refl
-kept_by_part Statement.EndIf n h = refl
 kept_by_part (Statement.Loop label name a b c) n h =
     let (named, trees_named) = and_true (is_short name) (short_names a && (short_names b && of_value short_names c)) n in
     let (a_named, b_and_c_named) = and_true (short_names a) (short_names b && of_value short_names c) trees_named in
@@ -102,11 +88,7 @@ kept_by_part (Statement.Loop label name a b c) n h =
     let (first, others) = and_true (small_constants a) (small_constants b && of_value small_constants c) rest in
     let (second, third) = and_true (small_constants b) (of_value small_constants c) others in
     rw (short_cut name named, kept a a_named first, kept b b_named second, step_kept c c_named third) refl
-kept_by_part Statement.Continue n h = refl
-kept_by_part Statement.Return n h = refl
-kept_by_part Statement.Stop n h = refl
-kept_by_part Statement.Trap n h = refl
-kept_by_part Statement.End n h = refl
+kept_by_part _ n h = refl
 
 -- asked of the nodes, the answers are the same
 pub statement_constants_clip : (s : Statement) → statement_constants (clip_statement s) ≡ statement_constants s

@@ -9,7 +9,7 @@ use Rattle.f77_tree.specs.Tree.{Tree, Trees, DeclFields, GroupFields}
 use Rattle.f77_tree.specs.Statement.{Statement}
 use Rattle.f77_tree.specs.Limits.{largest_integer, is_label, is_small_node, statement_constants}
 use Rattle.f77_tree.specs.Names.{of_value}
-use Rattle.f77_tree.specs.Node.{NodeOf, parts, all_parts, tree_nodes, step_parts, group_nodes, target_nodes, label_nodes, parameter_nodes, nodes_of}
+use Rattle.f77_tree.specs.Node.{NodeOf, parts, all_parts, tree_nodes, value_nodes, group_nodes, target_nodes, label_nodes, parameter_nodes, nodes_of}
 
 -- a part of an expression, a bound, a declared name, a value of DATA
 abbrev pub small_tree : Tree → Bool
@@ -62,14 +62,8 @@ by_part (Statement.ArithIf t l m n) = small_constants t && (is_label l && (is_la
 by_part (Statement.LogicalIf t s) = small_constants t && by_part s
 by_part (Statement.BlockIf t) = small_constants t
 by_part (Statement.ElseIf t) = small_constants t
-by_part Statement.Else = true
-by_part Statement.EndIf = true
 by_part (Statement.Loop label name a b c) = is_label label && (small_constants a && (small_constants b && of_value small_constants c))
-by_part Statement.Continue = true
-by_part Statement.Return = true
-by_part Statement.Stop = true
-by_part Statement.Trap = true
-by_part Statement.End = true
+by_part _ = true
 
 -- asked of the nodes, the answer is the same
 mutual
@@ -90,7 +84,7 @@ mutual
 tree_small : (t : Tree) → list_all is_small_node (tree_nodes t) ≡ small_constants t
 tree_small t = list_all-map is_small_node NodeOf.Part (parts t) ∙ parts_small t
 
-step_small : (c : Option Tree) → list_all is_small_node (step_parts c) ≡ of_value small_constants c
+step_small : (c : Option Tree) → list_all is_small_node (value_nodes c) ≡ of_value small_constants c
 step_small None = refl
 step_small (Some t) = tree_small t
 
@@ -126,8 +120,8 @@ three_labels l m n = rw (and-true (is_label n)) refl
 parameters_small : (a b : Tree) (c : Option Tree)
     → list_all is_small_node (parameter_nodes a b c) ≡ (small_constants a && (small_constants b && of_value small_constants c))
 parameters_small a b c =
-    both (tree_nodes a) (tree_nodes b ++ step_parts c) (small_constants a) (small_constants b && of_value small_constants c) (tree_small a)
-    (both (tree_nodes b) (step_parts c) (small_constants b) (of_value small_constants c) (tree_small b) (step_small c))
+    both (tree_nodes a) (tree_nodes b ++ value_nodes c) (small_constants a) (small_constants b && of_value small_constants c) (tree_small a)
+    (both (tree_nodes b) (value_nodes c) (small_constants b) (of_value small_constants c) (tree_small b) (step_small c))
 
 pub decided_by_part : (s : Statement) → statement_constants s ≡ by_part s
 decided_by_part (Statement.Subroutine name names) = names_pass names
@@ -145,11 +139,5 @@ decided_by_part (Statement.LogicalIf t s) =
     both (tree_nodes t) (nodes_of s) (small_constants t) (by_part s) (tree_small t) (decided_by_part s)
 decided_by_part (Statement.BlockIf t) = tree_small t
 decided_by_part (Statement.ElseIf t) = tree_small t
-decided_by_part Statement.Else = refl
-decided_by_part Statement.EndIf = refl
 decided_by_part (Statement.Loop label name a b c) = ap (λ z. is_label label && z) (parameters_small a b c)
-decided_by_part Statement.Continue = refl
-decided_by_part Statement.Return = refl
-decided_by_part Statement.Stop = refl
-decided_by_part Statement.Trap = refl
-decided_by_part Statement.End = refl
+decided_by_part _ = refl

@@ -6,7 +6,7 @@ use Rattle.std.proofs.lemmas.List.{map-append}
 use Rattle.f77_tree.specs.declared.data.Value.{Value}
 use Rattle.f77_tree.specs.Tree.{Tree, Trees, GroupFields}
 use Rattle.f77_tree.specs.Statement.{Statement}
-use Rattle.f77_tree.specs.Node.{NodeOf, parts, all_parts, tree_nodes, step_parts, group_nodes, label_nodes, nodes_behind, nodes_of}
+use Rattle.f77_tree.specs.Node.{NodeOf, parts, all_parts, tree_nodes, value_nodes, group_nodes, label_nodes, nodes_behind, nodes_of}
 use Rattle.f77_tree.specs.Sites.{Site, node_at, site_within, fixed, list_sites, item_sites, tree_sites, step_sites, target_sites, label_sites, value_sites, group_sites, sites_behind, sites}
 
 pub nodes_within : {X Y : Type 0} (f : X → Y) (xs : List (Site X)) → map node_at (map (site_within f) xs) ≡ map node_at xs
@@ -63,7 +63,7 @@ mutual
       ∙ ap (λ l. l ++ map node_at (item_sites ts)) (tree_numbering t) ∙ ap (λ l. tree_nodes t ++ l) (item_numbering ts)
       ∙ sym (map-append NodeOf.Part (parts t) (all_parts ts))
 
-step_numbering : (c : Option Tree) → map node_at (step_sites c) ≡ step_parts c
+step_numbering : (c : Option Tree) → map node_at (step_sites c) ≡ value_nodes c
 step_numbering None = refl
 step_numbering (Some t) = nodes_within Some (tree_sites t) ∙ tree_numbering t
 
@@ -101,20 +101,14 @@ behind_numbering (Statement.LogicalIf t s) =
     ∙ ap (λ l. l ++ map node_at (sites s)) (tree_numbering t) ∙ ap (λ l. tree_nodes t ++ (NodeOf.Itself s ∷ l)) (behind_numbering s)
 behind_numbering (Statement.BlockIf t) = nodes_within Statement.BlockIf (tree_sites t) ∙ tree_numbering t
 behind_numbering (Statement.ElseIf t) = nodes_within Statement.ElseIf (tree_sites t) ∙ tree_numbering t
-behind_numbering Statement.Else = refl
-behind_numbering Statement.EndIf = refl
 behind_numbering (Statement.Loop label name a b c) =
     ap (λ l. NodeOf.Labelled label ∷ (NodeOf.Named name ∷ l))
     (nodes_then (λ u. Statement.Loop label name u b c) (tree_sites a) _
     ∙ ap (λ l. map node_at (tree_sites a) ++ l)
     (nodes_both (λ u. Statement.Loop label name a u c) (Statement.Loop label name a b) (tree_sites b) (step_sites c)
     ∙ ap (λ l. l ++ map node_at (step_sites c)) (tree_numbering b) ∙ ap (λ l. tree_nodes b ++ l) (step_numbering c))
-    ∙ ap (λ l. l ++ (tree_nodes b ++ step_parts c)) (tree_numbering a))
-behind_numbering Statement.Continue = refl
-behind_numbering Statement.Return = refl
-behind_numbering Statement.Stop = refl
-behind_numbering Statement.Trap = refl
-behind_numbering Statement.End = refl
+    ∙ ap (λ l. l ++ (tree_nodes b ++ value_nodes c)) (tree_numbering a))
+behind_numbering _ = refl
 
 pub numbering : (s : Statement) → map node_at (sites s) ≡ nodes_of s
 numbering s = ap (λ l. NodeOf.Itself s ∷ l) (behind_numbering s)

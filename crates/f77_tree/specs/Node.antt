@@ -5,7 +5,7 @@ use Rattle.std.specs.Prelude.{ℕ, List, [], ◌∷◌, ◌++◌, map, Option, S
 use Rattle.std.specs.List.{flat_map}
 use Rattle.f77_tree.specs.declared.data.Value.{Value}
 use Rattle.f77_tree.specs.Tree.{Tree, Trees, DeclFields, GroupFields}
-use Rattle.f77_tree.specs.Statement.{Statement, statement_of}
+use Rattle.f77_tree.specs.Statement.{Statement, statement_of, jumps_of, value_of}
 use Rattle.f77_tree.specs.declared.node.Node.{Node}
 use Rattle.f77_tree.specs.declared.node.Node.TheVariants as node
 use Rattle.f77_tree.specs.View.{trees, tree_of, reference_fields}
@@ -43,10 +43,10 @@ abbrev mutual
 abbrev pub tree_nodes : Tree → List NodeOf
 tree_nodes t = map NodeOf.Part (parts t)
 
--- the nodes of the third parameter of a DO, if it has one
-abbrev pub step_parts : Option Tree → List NodeOf
-step_parts None = []
-step_parts (Some t) = tree_nodes t
+-- the nodes of an expression, if there is one
+abbrev pub value_nodes : Option Tree → List NodeOf
+value_nodes None = []
+value_nodes (Some t) = tree_nodes t
 
 -- the nodes of a group of DATA: its names, then its values
 abbrev pub group_nodes : GroupFields → List NodeOf
@@ -66,31 +66,21 @@ control_nodes label name = NodeOf.Labelled label ∷ (NodeOf.Named name ∷ [])
 
 -- the nodes of the parameters of a DO
 abbrev pub parameter_nodes : Tree → Tree → Option Tree → List NodeOf
-parameter_nodes a b c = tree_nodes a ++ (tree_nodes b ++ step_parts c)
+parameter_nodes a b c = tree_nodes a ++ (tree_nodes b ++ value_nodes c)
 
 -- Rule: what only mutants have; nodes
--- The nodes behind a statement's own. The statement inside a logical IF has a node too. The unit's
--- name, bounds and repeats have none.
+-- The nodes behind a statement's own: mostly its labels, then its expression. The statement inside
+-- a logical IF has a node too. The unit's name, bounds and repeats have none.
 abbrev pub nodes_behind : Statement → List NodeOf
 nodes_behind (Statement.Subroutine name names) = map NodeOf.Named names
 nodes_behind (Statement.Declare kind ds) = map NodeOf.Declared ds
 nodes_behind (Statement.Dimension ds) = map NodeOf.Declared ds
 nodes_behind (Statement.Preset gs) = flat_map group_nodes gs
 nodes_behind (Statement.Assign name items t) = target_nodes name items ++ tree_nodes t
-nodes_behind (Statement.Goto label) = NodeOf.Labelled label ∷ []
-nodes_behind (Statement.ComputedGoto labels t) = map NodeOf.Labelled labels ++ tree_nodes t
 nodes_behind (Statement.ArithIf t l m n) = tree_nodes t ++ label_nodes l m n
 nodes_behind (Statement.LogicalIf t s) = tree_nodes t ++ (NodeOf.Itself s ∷ nodes_behind s)
-nodes_behind (Statement.BlockIf t) = tree_nodes t
-nodes_behind (Statement.ElseIf t) = tree_nodes t
-nodes_behind Statement.Else = []
-nodes_behind Statement.EndIf = []
 nodes_behind (Statement.Loop label name a b c) = control_nodes label name ++ parameter_nodes a b c
-nodes_behind Statement.Continue = []
-nodes_behind Statement.Return = []
-nodes_behind Statement.Stop = []
-nodes_behind Statement.Trap = []
-nodes_behind Statement.End = []
+nodes_behind s = map NodeOf.Labelled (jumps_of s) ++ value_nodes (value_of s)
 
 -- Rule: what only mutants have; nodes
 -- the nodes of a statement: node 0 is the statement itself

@@ -272,17 +272,11 @@ statement_own (Statement.ArithIf t l m n) =
 statement_own (Statement.LogicalIf t a) = both_true (tree_own t) (statement_own a)
 statement_own (Statement.BlockIf t) = tree_own t
 statement_own (Statement.ElseIf t) = tree_own t
-statement_own Statement.Else = refl
-statement_own Statement.EndIf = refl
 statement_own (Statement.Loop l name a b c) =
     both_true ((unsigned_Decides l l).1 refl)
     (both_true ((bytes_decides name name).1 refl)
     (both_true (tree_own a) (both_true (tree_own b) ((step_decides c c).1 refl))))
-statement_own Statement.Continue = refl
-statement_own Statement.Return = refl
-statement_own Statement.Stop = refl
-statement_own Statement.Trap = refl
-statement_own Statement.End = refl
+statement_own _ = refl
 
 pub statement_decides : (s t : Statement) → Decides (same_statement s t) (s ≡ t)
 statement_decides = decided_by same_statement statement_is statement_own

@@ -4,7 +4,7 @@ use Rattle.std.specs.Prelude.{ℕ, List, [], ◌∷◌, ◌++◌, map, Option, S
 use Rattle.f77_tree.specs.declared.data.Value.{Value}
 use Rattle.f77_tree.specs.Node.{NodeOf}
 use Rattle.f77_tree.specs.Tree.{Tree, Trees, GroupFields}
-use Rattle.f77_tree.specs.Statement.{Statement}
+use Rattle.f77_tree.specs.Statement.{Statement, jumps_of, value_of, with_labels, with_value}
 
 -- a node of a whole, and the whole that results where another node is put there
 abbrev pub Site : Type 0 → Type 0
@@ -120,7 +120,13 @@ group_sites group =
 abbrev pub statement_then : Statement → List (Site Statement) → List (Site Statement)
 statement_then s rest = (NodeOf.Itself s, statement_or s) ∷ rest
 
--- the sites behind a statement's own: dummy arguments and declared names stay
+-- the sites of the expression of a statement, if it has one
+abbrev pub expression_sites : Statement → Option Tree → List (Site Statement)
+expression_sites s None = []
+expression_sites s (Some t) = map (site_within (with_value s)) (tree_sites t)
+
+-- The sites behind a statement's own: mostly its labels, then its expression. Dummy arguments and
+-- declared names stay.
 abbrev pub sites_behind : Statement → List (Site Statement)
 sites_behind (Statement.Subroutine name names) =
     map (λ n. fixed (Statement.Subroutine name names) (NodeOf.Named n)) names
@@ -132,10 +138,6 @@ sites_behind (Statement.Preset gs) = map (site_within Statement.Preset) (list_si
 sites_behind (Statement.Assign name items t) =
     map (site_within (λ place. Statement.Assign place.0 place.1 t)) (target_sites (name, items))
     ++ map (site_within (Statement.Assign name items)) (tree_sites t)
-sites_behind (Statement.Goto label) = map (site_within Statement.Goto) (label_sites label)
-sites_behind (Statement.ComputedGoto labels t) =
-    map (site_within (λ ls. Statement.ComputedGoto ls t)) (list_sites label_sites labels)
-    ++ map (site_within (Statement.ComputedGoto labels)) (tree_sites t)
 sites_behind (Statement.ArithIf t l m n) =
     map (site_within (λ u. Statement.ArithIf u l m n)) (tree_sites t)
     ++ (map (site_within (λ k. Statement.ArithIf t k m n)) (label_sites l)
@@ -144,21 +146,14 @@ sites_behind (Statement.ArithIf t l m n) =
 sites_behind (Statement.LogicalIf t s) =
     map (site_within (λ u. Statement.LogicalIf u s)) (tree_sites t)
     ++ map (site_within (Statement.LogicalIf t)) (statement_then s (sites_behind s))
-sites_behind (Statement.BlockIf t) = map (site_within Statement.BlockIf) (tree_sites t)
-sites_behind (Statement.ElseIf t) = map (site_within Statement.ElseIf) (tree_sites t)
-sites_behind Statement.Else = []
-sites_behind Statement.EndIf = []
 sites_behind (Statement.Loop label name a b c) =
     map (site_within (λ l. Statement.Loop l name a b c)) (label_sites label)
     ++ (map (site_within (λ n. Statement.Loop label n a b c)) (name_sites name)
     ++ (map (site_within (λ u. Statement.Loop label name u b c)) (tree_sites a)
     ++ (map (site_within (λ u. Statement.Loop label name a u c)) (tree_sites b)
     ++ map (site_within (Statement.Loop label name a b)) (step_sites c))))
-sites_behind Statement.Continue = []
-sites_behind Statement.Return = []
-sites_behind Statement.Stop = []
-sites_behind Statement.Trap = []
-sites_behind Statement.End = []
+sites_behind s = map (site_within (with_labels s)) (list_sites label_sites (jumps_of s))
+    ++ expression_sites s (value_of s)
 
 -- the sites of a statement: itself, then its parts from left to right
 abbrev pub sites : Statement → List (Site Statement)

@@ -112,6 +112,22 @@ jumps_of (Statement.ArithIf t l m n) = l ∷ (m ∷ (n ∷ []))
 jumps_of (Statement.LogicalIf t s) = jumps_of s
 jumps_of _ = []
 
+-- the GO TO, or computed GO TO, with other labels
+abbrev pub with_labels : Statement → List ℕ → Statement
+with_labels (Statement.Goto label) (other ∷ others) = Statement.Goto other
+with_labels (Statement.ComputedGoto labels t) others = Statement.ComputedGoto others t
+with_labels s others = s
+
+-- the statement with another expression that it assigns, tests or chooses by
+abbrev pub with_value : Statement → Tree → Statement
+with_value (Statement.Assign name items t) u = Statement.Assign name items u
+with_value (Statement.ComputedGoto labels t) u = Statement.ComputedGoto labels u
+with_value (Statement.ArithIf t l m n) u = Statement.ArithIf u l m n
+with_value (Statement.LogicalIf t s) u = Statement.LogicalIf u s
+with_value (Statement.BlockIf t) u = Statement.BlockIf u
+with_value (Statement.ElseIf t) u = Statement.ElseIf u
+with_value s u = s
+
 -- the statement is no computed GO TO without a label (11.2)
 abbrev pub has_labels : Statement → Bool
 has_labels (Statement.ComputedGoto labels t) = has_items labels

@@ -4,8 +4,8 @@
 ghost use Rattle.std.specs.Prelude.{◌≡◌, ◌++◌, IfOk, OnOk, map, flat_map, option_map};
 ghost use Rattle.f77_tree.specs.Data.{data_group_of};
 ghost use Rattle.f77_tree.specs.Declaration.{decl_of};
-ghost use Rattle.f77_tree.specs.Node.{NodeOf, node_of, nodes_of, tree_nodes, all_parts, step_parts, group_nodes};
-ghost use Rattle.f77_tree.specs.Statement.{statement_of};
+ghost use Rattle.f77_tree.specs.Node.{NodeOf, node_of, nodes_of, tree_nodes, all_parts, value_nodes, group_nodes};
+ghost use Rattle.f77_tree.specs.Statement.{statement_of, jumps_of};
 ghost use Rattle.f77_tree.specs.View.{tree_of, trees};
 
 use crate::node::Node;
@@ -35,19 +35,9 @@ fn add_statement<'a>(list: &mut Vec<Node<'a>>, stmt: &'a Stmt) -> Result<(), All
             add_items(list, &target.subscripts)?;
             add_tree(list, value)
         }
-        Stmt::Goto { label } => add_labels(list, &[*label]),
-        Stmt::ComputedGoto { labels, value } => {
-            add_labels(list, labels)?;
-            add_tree(list, value)
-        }
-        Stmt::ArithIf {
-            value,
-            negative,
-            zero,
-            positive,
-        } => {
+        Stmt::ArithIf { value, .. } => {
             add_tree(list, value)?;
-            add_labels(list, &[*negative, *zero, *positive])
+            add_jumps(list, stmt)
         }
         Stmt::LogicalIf {
             condition,
@@ -56,7 +46,6 @@ fn add_statement<'a>(list: &mut Vec<Node<'a>>, stmt: &'a Stmt) -> Result<(), All
             add_tree(list, condition)?;
             add_statement(list, statement)
         }
-        Stmt::BlockIf { condition } | Stmt::ElseIf { condition } => add_tree(list, condition),
         Stmt::Loop {
             label,
             variable,
@@ -68,15 +57,12 @@ fn add_statement<'a>(list: &mut Vec<Node<'a>>, stmt: &'a Stmt) -> Result<(), All
             list.push(Node::Name(variable))?;
             add_tree(list, first)?;
             add_tree(list, last)?;
-            add_step(list, step)
+            add_value(list, step.as_ref())
         }
-        Stmt::Else
-        | Stmt::EndIf
-        | Stmt::Continue
-        | Stmt::Return
-        | Stmt::Stop
-        | Stmt::Trap
-        | Stmt::End => Ok(()),
+        _ => {
+            add_jumps(list, stmt)?;
+            add_value(list, stmt.value())
+        }
     }
 }
 
@@ -87,7 +73,6 @@ fn add_tree<'a>(list: &mut Vec<Node<'a>>, expr: &'a Expr) -> Result<(), AllocErr
 {
     list.push(Node::Expression(expr))?;
     match expr {
-        Expr::Number(_) | Expr::Truth(_) => Ok(()),
         Expr::Reference(place) => add_items(list, &place.subscripts),
         Expr::Call(_, arguments) => add_items(list, arguments),
         Expr::Signed(_, inner) | Expr::Not(inner) | Expr::ZeroPush(inner) => add_tree(list, inner),
@@ -95,6 +80,7 @@ fn add_tree<'a>(list: &mut Vec<Node<'a>>, expr: &'a Expr) -> Result<(), AllocErr
             add_tree(list, left)?;
             add_tree(list, right)
         }
+        _ => Ok(()),
     }
 }
 
@@ -109,21 +95,27 @@ fn add_items<'a>(list: &mut Vec<Node<'a>>, items: &'a [Expr]) -> Result<(), Allo
     Ok(())
 }
 
-fn add_step<'a>(list: &mut Vec<Node<'a>>, step: &'a Option<Expr>) -> Result<(), AllocError>
-    ensures { OnOk result
-        (map node_of list.new.items ≡ map node_of list.old.items ++ step_parts (option_map tree_of step.now)) }
+/// Adds an expression and its parts, if there is one.
+fn add_value<'a>(list: &mut Vec<Node<'a>>, value: Option<&'a Expr>) -> Result<(), AllocError>
+    ensures { OnOk result (map node_of list.new.items
+        ≡ map node_of list.old.items ++ value_nodes (option_map (λ value. tree_of value.now) value.entry)) }
 {
-    match step {
-        Some(step) => add_tree(list, step),
+    match value {
+        Some(value) => add_tree(list, value),
         None => Ok(()),
     }
 }
 
-fn add_labels(list: &mut Vec<Node<'_>>, labels: &[u32]) -> Result<(), AllocError>
-    ensures { OnOk result (map node_of list.new.items ≡ map node_of list.old.items ++ map NodeOf.Labelled labels.now) }
+/// Adds the labels to which control may go from the statement.
+fn add_jumps(list: &mut Vec<Node<'_>>, stmt: &Stmt) -> Result<(), AllocError>
+    ensures { OnOk result (map node_of list.new.items
+        ≡ map node_of list.old.items ++ map NodeOf.Labelled (jumps_of (statement_of stmt.now))) }
 {
-    for label in labels {
-        list.push(Node::Label(*label))?;
+    for k in 0..stmt.jump_count() {
+        let Some(label) = stmt.jump(k) else {
+            unreachable!()
+        };
+        list.push(Node::Label(label))?;
     }
     Ok(())
 }

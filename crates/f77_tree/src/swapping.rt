@@ -83,13 +83,7 @@ fn swap_behind(stmt: &mut Stmt, number: &mut usize, node: &mut Replacement) -> b
             last,
             step,
         } => swap_loop(label, variable, first, last, step, number, node),
-        Stmt::Else
-        | Stmt::EndIf
-        | Stmt::Continue
-        | Stmt::Return
-        | Stmt::Stop
-        | Stmt::Trap
-        | Stmt::End => false,
+        _ => false,
     }
 }
 

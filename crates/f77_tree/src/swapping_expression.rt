@@ -29,7 +29,6 @@ pub fn swap_expression(expr: &mut Expr, number: &mut usize, node: &mut Replaceme
         };
     }
     match expr {
-        Expr::Number(_) | Expr::Truth(_) => false,
         Expr::Reference(place) => swap_items(&mut place.subscripts, number, node),
         Expr::Call(_, arguments) => swap_items(arguments, number, node),
         Expr::Signed(_, inner) => swap_boxed(inner, number, node),
@@ -38,6 +37,7 @@ pub fn swap_expression(expr: &mut Expr, number: &mut usize, node: &mut Replaceme
             swap_boxed(left, number, node) || swap_boxed(right, number, node)
         }
         Expr::ZeroPush(inner) => swap_boxed(inner, number, node),
+        _ => false,
     }
 }
 

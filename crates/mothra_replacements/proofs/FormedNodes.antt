@@ -11,7 +11,7 @@ use Rattle.f77_tree.specs.code.Joined.{some_all}
 use Rattle.f77_tree.specs.Declaration.{all_bounded}
 use Rattle.f77_tree.specs.Statement.{Statement}
 use Rattle.f77_tree.proofs.Tests.{and_true}
-use Rattle.f77_tree.specs.Node.{NodeOf, parts, all_parts, step_parts, group_nodes, node_name, names_of, nodes_behind, nodes_of}
+use Rattle.f77_tree.specs.Node.{NodeOf, parts, all_parts, value_nodes, group_nodes, node_name, names_of, nodes_behind, nodes_of}
 use Rattle.f77_program.specs.code.Data.{any_value, is_group}
 use Rattle.f77_program.specs.code.Declaration.{declaration_formed, is_decl}
 use Rattle.f77_program.specs.code.Formed.{formed, all_formed, is_some_list, statement_formed, value_formed}
@@ -96,7 +96,7 @@ part_nodes ts all = All-map IsFormedNode NodeOf.Part ts all
 tree_nodes_formed : (t : Tree) → formed is_symbolic t ≡ true → All IsFormedNode (map NodeOf.Part (parts t))
 tree_nodes_formed t f = part_nodes (parts t) (parts_formed t f)
 
-step_nodes_formed : (c : Option Tree) → value_formed is_symbolic c ≡ true → All IsFormedNode (step_parts c)
+step_nodes_formed : (c : Option Tree) → value_formed is_symbolic c ≡ true → All IsFormedNode (value_nodes c)
 step_nodes_formed None f = All-nil IsFormedNode
 step_nodes_formed (Some t) f = tree_nodes_formed t f
 
@@ -153,11 +153,11 @@ behind_formed (Statement.Loop label name a b c) f =
     let (is, rest) = and_true (is_symbolic name) (formed is_symbolic a && (formed is_symbolic b && value_formed is_symbolic c)) f in
     let (first, others) = and_true (formed is_symbolic a) (formed is_symbolic b && value_formed is_symbolic c) rest in
     let (second, third) = and_true (formed is_symbolic b) (value_formed is_symbolic c) others in
-    let nodes = map NodeOf.Part (parts a) ++ (map NodeOf.Part (parts b) ++ step_parts c) in
+    let nodes = map NodeOf.Part (parts a) ++ (map NodeOf.Part (parts b) ++ value_nodes c) in
     All-cons IsFormedNode (NodeOf.Labelled label) (NodeOf.Named name ∷ nodes) refl
     (All-cons IsFormedNode (NodeOf.Named name) nodes is
-    (All-append IsFormedNode (map NodeOf.Part (parts a)) (map NodeOf.Part (parts b) ++ step_parts c) (tree_nodes_formed a first)
-    (All-append IsFormedNode (map NodeOf.Part (parts b)) (step_parts c) (tree_nodes_formed b second) (step_nodes_formed c third))))
+    (All-append IsFormedNode (map NodeOf.Part (parts a)) (map NodeOf.Part (parts b) ++ value_nodes c) (tree_nodes_formed a first)
+    (All-append IsFormedNode (map NodeOf.Part (parts b)) (value_nodes c) (tree_nodes_formed b second) (step_nodes_formed c third))))
 behind_formed Statement.Continue f = All-nil IsFormedNode
 behind_formed Statement.Return f = All-nil IsFormedNode
 behind_formed Statement.Stop f = All-nil IsFormedNode

@@ -52,9 +52,9 @@ pub(crate) fn kind_in(names: &Names, expr: &Expr) -> Kind
 {
     match expr {
         Expr::Reference(place) => names.kind(&place.name),
-        Expr::Number(_) | Expr::Call(..) | Expr::Signed(..) | Expr::ZeroPush(_) => Kind::Integer,
         Expr::Truth(_) | Expr::Not(_) => Kind::Logical,
         Expr::Binary(operator, _, _) => result_kind(*operator),
+        _ => Kind::Integer,
     }
 }
 
