@@ -4,7 +4,7 @@
 //! no branch: the statements behind it are judged as if the block were not there, and its own line is reported first.
 
 ghost use Rattle.std.specs.Prelude.{◌≡◌, ◌+◌, ◌<◌, ◌^◌, ◌&&◌, ◌||◌, ◌==◌};
-ghost use Rattle.std.specs.Prelude.{ℕ, false, nat_lt, List, length, map, take, slice_index_or, Some, None, IfOk, IfErr};
+ghost use Rattle.std.specs.Prelude.{ℕ, false, nat_lt, List, length, map, take, slice_index_or, Some, None, IfOk};
 ghost use Rattle.std.specs.Option.{option_map_or};
 ghost use Rattle.f77_program.specs.Program.{LineFields, line_of};
 ghost use Rattle.f77_tree.specs.Statement.{statement_of};
@@ -15,12 +15,10 @@ ghost use Rattle.f77_legal.specs.code.BlockTable as table_code;
 ghost use Rattle.f77_legal.specs.BlockTable.{tabled, IsBlockTable};
 ghost use Rattle.f77_legal.specs.code.BlockTable.{is_end_among, is_before_end};
 ghost use Rattle.f77_legal.specs.Labels.{nth_statement};
-ghost use Rattle.f77_legal.specs.declared.fault.CheckFault.TheVariants.{Memory};
 
-use crate::fault::CheckFault;
 use f77_program::Line;
 use f77_tree::{Form, Shared, Stmt};
-use std::alloc::Global;
+use std::alloc::{AllocError, Global};
 
 /// What begins at a statement and has an end that is looked for: a whole block, or a branch of one.
 #[derive(Clone, Copy)]
@@ -184,9 +182,8 @@ pub fn next(lines: &[Shared<Line>], i: usize) -> Option<usize>
 }
 
 #[tactic(auto, using(crate::proofs::FirstNumbers::table_more))]
-fn block_ends(alloc: Global, lines: &[Shared<Line>]) -> Result<Vec<Option<usize>>, CheckFault>
+fn block_ends(alloc: Global, lines: &[Shared<Line>]) -> Result<Vec<Option<usize>>, AllocError>
     ensures made { IfOk result (λ ends. ends.items ≡ tabled table.block_end_at (map line_of lines.now)) }
-    ensures memory { IfErr result (λ fault. fault ≡ Memory) }
 {
     let mut ends = Vec::with_capacity(alloc, lines.len())?;
     for i in 0..lines.len() {
@@ -196,9 +193,8 @@ fn block_ends(alloc: Global, lines: &[Shared<Line>]) -> Result<Vec<Option<usize>
 }
 
 #[tactic(auto, using(crate::proofs::FirstNumbers::table_more))]
-fn else_ends(alloc: Global, lines: &[Shared<Line>]) -> Result<Vec<Option<usize>>, CheckFault>
+fn else_ends(alloc: Global, lines: &[Shared<Line>]) -> Result<Vec<Option<usize>>, AllocError>
     ensures made { IfOk result (λ ends. ends.items ≡ tabled table_code.else_end_at (map line_of lines.now)) }
-    ensures memory { IfErr result (λ fault. fault ≡ Memory) }
 {
     let mut ends = Vec::with_capacity(alloc, lines.len())?;
     for i in 0..lines.len() {
@@ -237,9 +233,8 @@ fn mark(marks: &mut [bool], end: Option<usize>)
 }
 
 /// For each statement, whether it is one of the ends.
-fn ends_marked(alloc: Global, ends: &[Option<usize>]) -> Result<Vec<bool>, CheckFault>
+fn ends_marked(alloc: Global, ends: &[Option<usize>]) -> Result<Vec<bool>, AllocError>
     ensures made { IfOk result (λ marks. marks.items ≡ map (is_end_among ends.now) (first_numbers (length ends.now))) }
-    ensures memory { IfErr result (λ fault. fault ≡ Memory) }
 {
     let mut marks = vec![in alloc; false; ends.len()]?;
     for end in ends {
@@ -260,10 +255,9 @@ fn furthest(reach: usize, end: Option<usize>) -> usize
 
 /// For each statement, whether a statement before it has its end behind it.
 #[tactic(auto, using(crate::proofs::FirstNumbers::table_more))]
-fn insides(alloc: Global, ends: &[Option<usize>]) -> Result<Vec<bool>, CheckFault>
+fn insides(alloc: Global, ends: &[Option<usize>]) -> Result<Vec<bool>, AllocError>
     ensures made { IfOk result
         (λ inside. inside.items ≡ map (λ k. is_before_end (take k ends.now) k) (first_numbers (length ends.now))) }
-    ensures memory { IfErr result (λ fault. fault ≡ Memory) }
 {
     let mut inside = Vec::with_capacity(alloc, ends.len())?;
     let mut reach: usize = 0;
@@ -279,11 +273,10 @@ fn branch_ends(
     lines: &[Shared<Line>],
     ends: &[Option<usize>],
     inside: &[bool],
-) -> Result<Vec<Option<usize>>, CheckFault>
+) -> Result<Vec<Option<usize>>, AllocError>
     ensures made { ends.now ≡ tabled table.block_end_at (map line_of lines.now)
         → inside.now ≡ tabled is_in_block (map line_of lines.now)
         → IfOk result (λ found. found.items ≡ tabled table.branch_end_at (map line_of lines.now)) }
-    ensures memory { IfErr result (λ fault. fault ≡ Memory) }
 {
     let mut found = Vec::with_capacity(alloc, lines.len())?;
     for i in 0..lines.len() {
@@ -294,9 +287,8 @@ fn branch_ends(
 
 impl Blocks {
     /// The table of these lines. Its time grows with the lines, and with those in each block and branch.
-    pub(crate) fn of(alloc: Global, lines: &[Shared<Line>]) -> Result<Blocks, CheckFault>
+    pub(crate) fn of(alloc: Global, lines: &[Shared<Line>]) -> Result<Blocks, AllocError>
         ensures made { IfOk result (λ blocks. IsBlockTable blocks (map line_of lines.now)) }
-        ensures memory { IfErr result (λ fault. fault ≡ Memory) }
     {
         let ends = block_ends(alloc, lines)?;
         let inside = insides(alloc, &ends)?;

@@ -9,17 +9,15 @@
 //! In a program that is not legal ranges may overlap, and the parent of a parent need not hold the statement. All that
 //! hold it are among its ancestors, so each reader asks of an ancestor whether it does.
 
-ghost use Rattle.std.specs.Prelude.{◌≡◌, ◌&&◌, ◌==◌, false, not, List, length, IfOk, IfErr};
+ghost use Rattle.std.specs.Prelude.{◌≡◌, ◌&&◌, ◌==◌, false, not, List, length, IfOk};
 ghost use Rattle.std.specs.Iterator.{YieldsFirst, item_count};
 ghost use Rattle.std.specs.Option.{option_map_or};
 ghost use Rattle.f77_program.specs.Program.{LineFields};
 ghost use Rattle.f77_legal.specs.Enclosing as enclosing;
 ghost use Rattle.f77_legal.specs.code.Enclosing as enclosing_code;
 ghost use Rattle.f77_legal.specs.Loops as loops;
-ghost use Rattle.f77_legal.specs.declared.fault.CheckFault.TheVariants as fault;
 
-use crate::fault::CheckFault;
-use std::alloc::Global;
+use std::alloc::{AllocError, Global};
 
 /// The ends of DOs and of branches, and the parent of each statement: the innermost DO or branch that holds it.
 #[derive(Drop)]
@@ -106,11 +104,10 @@ fn parents_of(
     alloc: Global,
     terminals: &[Option<usize>],
     branch_ends: &[Option<usize>],
-) -> Result<Vec<Option<usize>>, CheckFault>
+) -> Result<Vec<Option<usize>>, AllocError>
     ensures parents { IfOk result
         (λ parents. parents.items
         ≡ enclosing.parents_of terminals.now branch_ends.now (length terminals.now)) }
-    ensures memory { IfErr result (λ e. e ≡ fault.Memory) }
 {
     let mut parents = Vec::new(alloc);
     for k in 0..terminals.len() {
@@ -155,11 +152,10 @@ impl Ranges {
         alloc: Global,
         terminals: Vec<Option<usize>>,
         branch_ends: Vec<Option<usize>>,
-    ) -> Result<Ranges, CheckFault>
+    ) -> Result<Ranges, AllocError>
         ensures table { IfOk result (λ ranges. (program : List LineFields) → length terminals.items ≡ length program
             → IsTerminals terminals.items program
             → IsBranches branch_ends.items program → IsRangeTable ranges program) }
-        ensures memory { IfErr result (λ e. e ≡ fault.Memory) }
     {
         let parents = parents_of(alloc, &terminals, &branch_ends)?;
         Ok(Ranges {
@@ -233,10 +229,9 @@ impl Ranges {
     }
 
     /// The DOs that a jump from statement `i` to statement `j` leaves, the outermost first (11.10.8).
-    pub fn left_by(&self, alloc: Global, i: usize, j: usize) -> Result<Vec<usize>, CheckFault>
+    pub fn left_by(&self, alloc: Global, i: usize, j: usize) -> Result<Vec<usize>, AllocError>
         ensures left { IfOk result (λ left. (program : List LineFields)
             → IsRangeTable self.now program → left.items ≡ loops.left_by program i j) }
-        ensures memory { IfErr result (λ e. e ≡ fault.Memory) }
     {
         let mut left: Vec<usize> = self
             .ancestors(i)
@@ -247,11 +242,10 @@ impl Ranges {
     }
 
     /// The DOs whose terminal statement is `t`, the innermost first (11.10). The DOs have to be nested.
-    pub fn ending(&self, alloc: Global, t: usize) -> Result<Vec<usize>, CheckFault>
+    pub fn ending(&self, alloc: Global, t: usize) -> Result<Vec<usize>, AllocError>
         ensures ends { IfOk result
             (λ ends. (program : List LineFields) → IsRangeTable self.now program → loops.AreNested program
             → ends.items ≡ loops.loops_ending program t) }
-        ensures memory { IfErr result (λ e. e ≡ fault.Memory) }
     {
         let ends: Vec<usize> = self
             .ancestors(t)

@@ -4,14 +4,13 @@
 //! arrays of any size come here.
 
 ghost use Rattle.std.specs.Prelude.{◌≡◌, ◌==◌, ◌||◌, ◌≤◌, ◌*◌, ◌++◌, false, not, [], ◌∷◌};
-ghost use Rattle.std.specs.Prelude.{length, map, min, option_map, slice_get, IfOk, IfErr};
+ghost use Rattle.std.specs.Prelude.{length, map, min, option_map, slice_get, IfOk};
 ghost use Rattle.std.specs.List.{list_all, list_any};
 ghost use Rattle.std.specs.Str.{bytes_eq};
 ghost use Rattle.f77_tree.specs.Comparing as comparing;
 ghost use Rattle.f77_tree.specs.Data.{data_group_of};
 ghost use Rattle.f77_program.specs.Program.{line_of};
 ghost use Rattle.f77_tree.specs.Statement.{statement_of};
-ghost use Rattle.f77_legal.specs.declared.fault.CheckFault.TheVariants as fault;
 ghost use Rattle.f77_legal.specs.Clause.{lines_where};
 ghost use Rattle.f77_legal.specs.NameTable.{kind_at, array_bounds, IsNameTable};
 ghost use Rattle.f77_legal.specs.code.NameTable.{dummy_at};
@@ -20,13 +19,12 @@ ghost use Rattle.f77_legal.specs.InitialValues.{product, groups_of, has_bad_data
 ghost use Rattle.f77_legal.specs.code.Runs.{kinds_in, kinds_left, behind_kinds, fills, misplaces};
 ghost use Rattle.f77_legal.specs.code.Runs.{names_of_groups, groups_break, breaks_data, names_held};
 
-use crate::fault::CheckFault;
 use crate::kinds::same_kind;
 use crate::names::Names;
 use f77_program::Line;
 use f77_tree::{Constant, DataGroup, Kind, Name, Shared, Stmt, Value};
 use indexmap::IndexSet;
-use std::alloc::Global;
+use std::alloc::{AllocError, Global};
 
 fn constant_kind(constant: Constant) -> Kind
     ensures { result ≡ initial_values.constant_kind constant }
@@ -138,11 +136,10 @@ fn is_filled(names: &Names, group: &DataGroup) -> bool
 
 /// Notes a name of DATA, and says whether it was noted before.
 #[tactic(auto, using(crate::proofs::Misplaced::held_more))]
-fn note<'a>(seen: &mut IndexSet<&'a Name>, name: &'a Name) -> Result<bool, CheckFault>
+fn note<'a>(seen: &mut IndexSet<&'a Name>, name: &'a Name) -> Result<bool, AllocError>
     ensures before { IfOk result (λ before. before ≡ list_any (bytes_eq name.now) (names_held seen.old.keys)) }
     ensures noted { IfOk result
         (λ before. before ≡ false → names_held seen.new.keys ≡ names_held seen.old.keys ++ name.now ∷ []) }
-    ensures memory { IfErr result (λ e. e ≡ fault.Memory) }
 {
     let is_new = seen.insert(name)?;
     Ok(!is_new)
@@ -153,12 +150,11 @@ fn is_misplaced<'a>(
     names: &Names,
     seen: &mut IndexSet<&'a Name>,
     name: &'a Name,
-) -> Result<bool, CheckFault>
+) -> Result<bool, AllocError>
     ensures misplaced { IfOk result
         (λ bad. bad ≡ (dummy_at names.now name.now || list_any (bytes_eq name.now) (names_held seen.old.keys))) }
     ensures noted { IfOk result
         (λ bad. bad ≡ false → names_held seen.new.keys ≡ names_held seen.old.keys ++ name.now ∷ []) }
-    ensures memory { IfErr result (λ e. e ≡ fault.Memory) }
 {
     if names.is_dummy(name) {
         return Ok(true);
@@ -171,11 +167,10 @@ fn are_misplaced<'a>(
     names: &Names,
     seen: &mut IndexSet<&'a Name>,
     items: &'a [Name],
-) -> Result<bool, CheckFault>
+) -> Result<bool, AllocError>
     ensures misplaced { IfOk result (λ bad. bad ≡ misplaces (dummy_at names.now) (names_held seen.old.keys) items.now) }
     ensures noted { IfOk result
         (λ bad. bad ≡ false → names_held seen.new.keys ≡ names_held seen.old.keys ++ items.now) }
-    ensures memory { IfErr result (λ e. e ≡ fault.Memory) }
 {
     for item in items {
         if is_misplaced(names, seen, item)? {
@@ -190,13 +185,12 @@ fn are_groups_misplaced<'a>(
     names: &Names,
     seen: &mut IndexSet<&'a Name>,
     groups: &'a [DataGroup],
-) -> Result<bool, CheckFault>
+) -> Result<bool, AllocError>
     ensures misplaced { IfOk result
         (λ bad. bad ≡ misplaces (dummy_at names.now) (names_held seen.old.keys) (names_of_groups
         (map data_group_of groups.now))) }
     ensures noted { IfOk result (λ bad. bad ≡ false → names_held seen.new.keys
         ≡ names_held seen.old.keys ++ names_of_groups (map data_group_of groups.now)) }
-    ensures memory { IfErr result (λ e. e ≡ fault.Memory) }
 {
     for group in groups {
         if are_misplaced(names, seen, &group.names)? {
@@ -222,14 +216,13 @@ fn groups_break<'a>(
     names: &Names,
     seen: &mut IndexSet<&'a Name>,
     groups: &'a [DataGroup],
-) -> Result<bool, CheckFault>
+) -> Result<bool, AllocError>
     ensures breaks { IfOk result
         (λ bad. bad
         ≡ groups_break (array_bounds names.now) (kind_at names.now) (dummy_at names.now) (names_held seen.old.keys)
         (map data_group_of groups.now)) }
     ensures noted { IfOk result (λ bad. bad ≡ false → names_held seen.new.keys
         ≡ names_held seen.old.keys ++ names_of_groups (map data_group_of groups.now)) }
-    ensures memory { IfErr result (λ e. e ≡ fault.Memory) }
 {
     if are_groups_misplaced(names, seen, groups)? {
         return Ok(true);
@@ -244,14 +237,13 @@ fn breaks_data<'a>(
     names: &Names,
     seen: &mut IndexSet<&'a Name>,
     stmt: &'a Stmt,
-) -> Result<bool, CheckFault>
+) -> Result<bool, AllocError>
     ensures breaks { IfOk result
         (λ bad. bad
         ≡ breaks_data (array_bounds names.now) (kind_at names.now) (dummy_at names.now) (names_held seen.old.keys)
         (statement_of stmt.now)) }
     ensures noted { IfOk result (λ bad. bad ≡ false → names_held seen.new.keys
         ≡ names_held seen.old.keys ++ names_of_groups (groups_of (statement_of stmt.now))) }
-    ensures memory { IfErr result (λ e. e ≡ fault.Memory) }
 {
     match stmt {
         Stmt::Preset { groups } => groups_break(names, seen, groups),
@@ -264,13 +256,12 @@ pub(crate) fn first_bad_data(
     alloc: Global,
     names: &Names,
     lines: &[Shared<Line>],
-) -> Result<Option<u32>, CheckFault>
+) -> Result<Option<u32>, AllocError>
     ensures line { IsNameTable names.now (map line_of lines.now)
         → IfOk result
         (λ line. line
         ≡ slice_get
         (lines_where (has_bad_data (map line_of lines.now)) (map line_of lines.now)) 0) }
-    ensures memory { IfErr result (λ e. e ≡ fault.Memory) }
 {
     let mut seen = IndexSet::new(alloc);
     for line in lines {

@@ -5,7 +5,7 @@
 
 ghost use Rattle.std.specs.Prelude.{◌≡◌, ◌++◌, ◌∷◌};
 ghost use Rattle.std.specs.Prelude.{List, [], Option, None, false, filter, length, map};
-ghost use Rattle.std.specs.Prelude.{not, nat_eq, is_some, option_map, slice_get, IfOk, IfErr, OnOk};
+ghost use Rattle.std.specs.Prelude.{not, nat_eq, is_some, option_map, slice_get, IfOk, OnOk};
 ghost use Rattle.std.specs.List.{find, list_any};
 ghost use Rattle.std.specs.Option.{option_and_then, option_map_or};
 ghost use Rattle.indexmap.specs.IndexMap.{get, IsUnique};
@@ -15,13 +15,11 @@ ghost use Rattle.f77_legal.specs.LabelTable.{IsLabelTable};
 ghost use Rattle.f77_legal.specs.code.LabelTable.{noted};
 ghost use Rattle.f77_legal.specs.Labels as clause;
 ghost use Rattle.f77_legal.specs.Labels.{is_double, label_place};
-ghost use Rattle.f77_legal.specs.declared.fault.CheckFault.TheVariants as fault;
 
-use crate::fault::CheckFault;
 use f77_program::Line;
 use f77_tree::{Form, Shared, Stmt};
 use indexmap::IndexMap;
-use std::alloc::Global;
+use std::alloc::{AllocError, Global};
 
 /// Where a label stands. Statements are numbered from 0.
 #[derive(Clone, Copy, Debug)]
@@ -40,9 +38,8 @@ pub struct Labels {
 
 impl Labels {
     /// The labels of these lines.
-    pub(crate) fn of(alloc: Global, lines: &[Shared<Line>]) -> Result<Labels, CheckFault>
+    pub(crate) fn of(alloc: Global, lines: &[Shared<Line>]) -> Result<Labels, AllocError>
         ensures table { IfOk result (λ table. IsLabelTable table (map line_of lines.now)) }
-        ensures memory { IfErr result (λ e. e ≡ fault.Memory) }
     {
         let mut labels = Labels {
             places: IndexMap::new(alloc),
@@ -70,10 +67,9 @@ impl Labels {
     }
 
     /// Adds the label of statement `i`, if it has one. The table has those of the statements before it.
-    fn note(&mut self, i: usize, line: &Line) -> Result<(), CheckFault>
+    fn note(&mut self, i: usize, line: &Line) -> Result<(), AllocError>
         ensures table { OnOk result ((program : List LineFields) → IsLabelTable self.old program → length program ≡ i
             → IsLabelTable self.new (program ++ line_of line.now ∷ [])) }
-        ensures memory { IfErr result (λ e. e ≡ fault.Memory) }
     {
         let Some(label) = line.label else {
             return Ok(());

@@ -1,7 +1,7 @@
 //! The table of names: each variable and array, with what the program says of it.
 
 ghost use Rattle.std.specs.Prelude.{◌≡◌, ◌-◌, ◌^◌, ◌||◌, List, nat_lt, map, filter, sum, min};
-ghost use Rattle.std.specs.Prelude.{slice_get, option_map, is_some, length, false, IfOk, IfErr};
+ghost use Rattle.std.specs.Prelude.{slice_get, option_map, is_some, length, false, IfOk};
 ghost use Rattle.std.specs.List.{find};
 ghost use Rattle.std.specs.Map.Iter.{deref_pair};
 ghost use Rattle.std.specs.Option.{option_copied, option_map_or};
@@ -9,7 +9,6 @@ ghost use Rattle.std.specs.Str.{bytes_eq};
 ghost use Rattle.indexmap.specs.IndexMap.{get, index_of, values};
 ghost use Rattle.f77_tree.specs.Intrinsic.{function_named};
 ghost use Rattle.f77_program.specs.Program.{LineFields, line_of};
-ghost use Rattle.f77_legal.specs.declared.fault.CheckFault.TheVariants as fault;
 ghost use Rattle.f77_legal.specs.Legal.{is_array};
 ghost use Rattle.f77_legal.specs.Names as named;
 ghost use Rattle.f77_legal.specs.Names.{symbols, is_real, is_twice, unit_name};
@@ -19,11 +18,10 @@ ghost use Rattle.f77_legal.specs.code.NameTable.{dummy_at};
 ghost use Rattle.f77_legal.specs.InitialValues as initial_values;
 ghost use Rattle.f77_legal.specs.InitialValues.{product};
 
-use crate::fault::CheckFault;
 use f77_program::Line;
 use f77_tree::{Intrinsic, Kind, Name, Shared};
 use indexmap::IndexMap;
-use std::alloc::Global;
+use std::alloc::{AllocError, Global};
 
 /// The most names of a table that is searched from its head: to compare a few names is quicker than to hash one.
 const FEW: usize = 12;
@@ -131,9 +129,8 @@ fn array_size(facts: &Facts) -> u64
 impl Names {
     /// The table of the names of these lines. A changed program may keep the table of the program that it was made
     /// from, which may have names that it no longer has; no statement reads their slots.
-    pub fn of(alloc: Global, lines: &[Shared<Line>]) -> Result<Names, CheckFault>
+    pub fn of(alloc: Global, lines: &[Shared<Line>]) -> Result<Names, AllocError>
         ensures table { IfOk result (λ names. IsNameTable names (map line_of lines.now)) }
-        ensures memory { IfErr result (λ f. f ≡ fault.Memory) }
     {
         let mut names = Names {
             facts: IndexMap::new(alloc),

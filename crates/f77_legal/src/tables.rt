@@ -1,7 +1,7 @@
 //! The tables that the clauses read. Their memory is linear in the program, however deep its nest is. They are made of
 //! programs that are not legal, too.
 
-ghost use Rattle.std.specs.Prelude.{◌≡◌, List, map, IfOk, IfErr, false};
+ghost use Rattle.std.specs.Prelude.{◌≡◌, List, map, IfOk, false};
 ghost use Rattle.std.specs.Option.{option_map_or};
 ghost use Rattle.f77_legal.specs.Blocks.{first_numbers};
 ghost use Rattle.f77_legal.specs.Labels.{label_place};
@@ -12,16 +12,14 @@ ghost use Rattle.f77_legal.specs.LabelTable.{IsLabelTable};
 ghost use Rattle.f77_legal.specs.BlockTable.{IsBlockTable};
 ghost use Rattle.f77_legal.specs.Tables.{AreTables, Serve};
 ghost use Rattle.f77_legal.specs.code.Tables.{terminal_of, closed_branch_end};
-ghost use Rattle.f77_legal.specs.declared.fault.CheckFault.TheVariants.{Memory};
 
 use crate::blocks::Blocks;
 use crate::enclosing::Ranges;
-use crate::fault::CheckFault;
 use crate::labels::{Labels, terminal_label};
 use crate::names::Names;
 use f77_program::Line;
 use f77_tree::{Shared, Stmt};
-use std::alloc::Global;
+use std::alloc::{AllocError, Global};
 
 /// The tables of a program: of its names, its labels, its blocks and its ranges.
 #[derive(Drop)]
@@ -44,10 +42,9 @@ fn terminals(
     alloc: Global,
     labels: &Labels,
     lines: &[Shared<Line>],
-) -> Result<Vec<Option<usize>>, CheckFault>
+) -> Result<Vec<Option<usize>>, AllocError>
     ensures terminals { IfOk result (λ ends. (program : List LineFields) → IsLabelTable labels.now program
         → ends.items ≡ map (λ line. terminal_of program (statement_of line.stmt)) lines.now) }
-    ensures memory { IfErr result (λ fault. fault ≡ Memory) }
 {
     let mut ends = Vec::new(alloc);
     for line in lines {
@@ -61,10 +58,9 @@ fn branch_ends(
     alloc: Global,
     blocks: &Blocks,
     count: usize,
-) -> Result<Vec<Option<usize>>, CheckFault>
+) -> Result<Vec<Option<usize>>, AllocError>
     ensures ends { IfOk result (λ ends. (program : List LineFields) → IsBlockTable blocks.now program
         → ends.items ≡ map (closed_branch_end program) (first_numbers count)) }
-    ensures memory { IfErr result (λ fault. fault ≡ Memory) }
 {
     let mut ends = Vec::new(alloc);
     for i in 0..count {
@@ -75,9 +71,8 @@ fn branch_ends(
 
 impl Tables {
     /// The tables of these lines.
-    pub fn of(alloc: Global, lines: &[Shared<Line>]) -> Result<Tables, CheckFault>
+    pub fn of(alloc: Global, lines: &[Shared<Line>]) -> Result<Tables, AllocError>
         ensures tables { IfOk result (λ tables. AreTables tables (map line_of lines.now)) }
-        ensures memory { IfErr result (λ fault. fault ≡ Memory) }
     {
         let names = Names::of(alloc, lines)?;
         let labels = Labels::of(alloc, lines)?;

@@ -1,22 +1,20 @@
 //! What the statements of a program say of its names, noted in the table of names.
 
-ghost use Rattle.std.specs.Prelude.{◌≡◌, List, ℕ, None, map, OnOk, IfErr};
+ghost use Rattle.std.specs.Prelude.{◌≡◌, List, ℕ, None, map, OnOk};
 ghost use Rattle.std.specs.Str.{bytes_eq};
 ghost use Rattle.indexmap.specs.IndexMap.{get};
 ghost use Rattle.f77_tree.specs.Declaration.{decl_of};
 ghost use Rattle.f77_tree.specs.Node.{names_of};
 ghost use Rattle.f77_tree.specs.Statement.{statement_of};
-ghost use Rattle.f77_legal.specs.declared.fault.CheckFault.TheVariants as fault;
 ghost use Rattle.f77_legal.specs.Names.{NameUse, uses_of};
 ghost use Rattle.f77_legal.specs.NameTable.{facts_fields, table_entries};
 ghost use Rattle.f77_legal.specs.code.NameTable.{once_more, first_said, with_kind, with_shape};
 ghost use Rattle.f77_legal.specs.code.NameTable.{facts_with_bounds, with_fact, no_facts};
 ghost use Rattle.f77_legal.specs.code.NameTable.{with_use, with_uses, use_of};
 
-use crate::fault::CheckFault;
 use crate::names::{Facts, Names, Times};
 use f77_tree::{Decl, Kind, Name, Stmt, nodes};
-use std::alloc::Global;
+use std::alloc::{AllocError, Global};
 
 /// What a statement says of a name.
 #[derive(Clone, Copy, Drop)]
@@ -74,9 +72,8 @@ impl Facts {
         self.typed = self.typed.next();
     }
 
-    fn note_shape(&mut self, alloc: Global, bounds: &[u32]) -> Result<(), CheckFault>
+    fn note_shape(&mut self, alloc: Global, bounds: &[u32]) -> Result<(), AllocError>
         ensures noted { OnOk result (facts_fields self.new ≡ with_shape (facts_fields self.old) bounds.now) }
-        ensures memory { IfErr result (λ f. f ≡ fault.Memory) }
     {
         match self.dimensioned {
             Times::Never => {
@@ -93,9 +90,8 @@ impl Facts {
     }
 
     #[tactic(auto, using(crate::proofs::Noting::bounds_given))]
-    fn note_bounds(&mut self, alloc: Global, bounds: &[u32]) -> Result<(), CheckFault>
+    fn note_bounds(&mut self, alloc: Global, bounds: &[u32]) -> Result<(), AllocError>
         ensures noted { OnOk result (facts_fields self.new ≡ facts_with_bounds (facts_fields self.old) bounds.now) }
-        ensures memory { IfErr result (λ f. f ≡ fault.Memory) }
     {
         if bounds.is_empty() {
             return Ok(());
@@ -103,11 +99,10 @@ impl Facts {
         self.note_shape(alloc, bounds)
     }
 
-    fn note(&mut self, alloc: Global, said: Said) -> Result<(), CheckFault>
+    fn note(&mut self, alloc: Global, said: Said) -> Result<(), AllocError>
         ensures noted { OnOk result
             ((name : List ℕ) → facts_fields self.new
             ≡ with_fact (facts_fields self.old) (use_of name said.entry)) }
-        ensures memory { IfErr result (λ f. f ≡ fault.Memory) }
     {
         match said {
             Said::Dummy => {
@@ -125,12 +120,11 @@ impl Facts {
 }
 
 impl Names {
-    fn add(&mut self, alloc: Global, name: &Name, said: Said) -> Result<(), CheckFault>
+    fn add(&mut self, alloc: Global, name: &Name, said: Said) -> Result<(), AllocError>
         ensures noted { get bytes_eq self.old.facts name.now ≡ None
             → OnOk result
             (table_entries self.new
             ≡ with_use (table_entries self.old) (use_of name.now said.entry)) }
-        ensures memory { IfErr result (λ f. f ≡ fault.Memory) }
     {
         let mut facts = Facts::none(alloc);
         facts.note(alloc, said)?;
@@ -138,11 +132,10 @@ impl Names {
         Ok(())
     }
 
-    fn note(&mut self, alloc: Global, name: &Name, said: Said) -> Result<(), CheckFault>
+    fn note(&mut self, alloc: Global, name: &Name, said: Said) -> Result<(), AllocError>
         ensures noted { OnOk result
             (table_entries self.new
             ≡ with_use (table_entries self.old) (use_of name.now said.entry)) }
-        ensures memory { IfErr result (λ f. f ≡ fault.Memory) }
     {
         match self.facts.get_mut(name) {
             Some(facts) => facts.note(alloc, said),
@@ -151,12 +144,11 @@ impl Names {
     }
 
     /// Notes that the names of a statement occur.
-    fn note_names(&mut self, alloc: Global, stmt: &Stmt) -> Result<(), CheckFault>
+    fn note_names(&mut self, alloc: Global, stmt: &Stmt) -> Result<(), AllocError>
         ensures noted { OnOk result
             (table_entries self.new
             ≡ with_uses (table_entries self.old)
             (map NameUse.Plain (names_of (statement_of stmt.now)))) }
-        ensures memory { IfErr result (λ f. f ≡ fault.Memory) }
     {
         for node in &nodes(alloc, stmt)? {
             if let Some(name) = node.name() {
@@ -166,11 +158,10 @@ impl Names {
         Ok(())
     }
 
-    fn note_dummies(&mut self, alloc: Global, names: &[Name]) -> Result<(), CheckFault>
+    fn note_dummies(&mut self, alloc: Global, names: &[Name]) -> Result<(), AllocError>
         ensures noted { OnOk result
             (table_entries self.new
             ≡ with_uses (table_entries self.old) (map NameUse.Dummy names.now)) }
-        ensures memory { IfErr result (λ f. f ≡ fault.Memory) }
     {
         for name in names {
             self.note(alloc, name, Said::Dummy)?;
@@ -178,11 +169,10 @@ impl Names {
         Ok(())
     }
 
-    fn note_typed(&mut self, alloc: Global, kind: Kind, items: &[Decl]) -> Result<(), CheckFault>
+    fn note_typed(&mut self, alloc: Global, kind: Kind, items: &[Decl]) -> Result<(), AllocError>
         ensures noted { OnOk result (table_entries self.new
             ≡ with_uses (table_entries self.old)
             (map (NameUse.Typed kind) (map decl_of items.now))) }
-        ensures memory { IfErr result (λ f. f ≡ fault.Memory) }
     {
         for item in items {
             self.note(alloc, &item.name, Said::Typed(kind, &item.bounds))?;
@@ -190,11 +180,10 @@ impl Names {
         Ok(())
     }
 
-    fn note_dimensioned(&mut self, alloc: Global, items: &[Decl]) -> Result<(), CheckFault>
+    fn note_dimensioned(&mut self, alloc: Global, items: &[Decl]) -> Result<(), AllocError>
         ensures noted { OnOk result (table_entries self.new
             ≡ with_uses (table_entries self.old)
             (map NameUse.Dimensioned (map decl_of items.now))) }
-        ensures memory { IfErr result (λ f. f ≡ fault.Memory) }
     {
         for item in items {
             self.note(alloc, &item.name, Said::Dimensioned(&item.bounds))?;
@@ -204,11 +193,10 @@ impl Names {
 
     /// Notes what a statement says of its names.
     #[tactic(auto, using(crate::proofs::Forms::plain_uses))]
-    pub(crate) fn note_statement(&mut self, alloc: Global, stmt: &Stmt) -> Result<(), CheckFault>
+    pub(crate) fn note_statement(&mut self, alloc: Global, stmt: &Stmt) -> Result<(), AllocError>
         ensures noted { OnOk result
             (table_entries self.new
             ≡ with_uses (table_entries self.old) (uses_of (statement_of stmt.now))) }
-        ensures memory { IfErr result (λ f. f ≡ fault.Memory) }
     {
         match stmt {
             Stmt::Subroutine { arguments, .. } => self.note_dummies(alloc, arguments),
