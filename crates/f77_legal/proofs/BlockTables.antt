@@ -12,24 +12,12 @@ use Rattle.f77_tree.specs.Statement.{Statement}
 use Rattle.f77_legal.specs.Labels.{nth_statement}
 use Rattle.f77_legal.specs.Blocks.{is_block_if, is_end_if, is_else, is_alternative, first_numbers, statement_numbers, has_at, block_end}
 use Rattle.f77_legal.specs.Blocks.{branch_end, is_in_block, is_end_of_block, ends_else, begins_branch, branch_holds, breaks_block}
-use Rattle.f77_legal.specs.BlockTable.{block_end_at, branch_end_at, IsBlockTable}
-use Rattle.f77_legal.specs.code.BlockTable.{else_end_at, is_end_among, is_before_end, is_misplaced}
+use Rattle.f77_legal.specs.BlockTable.{block_end_at, else_end_at, branch_end_at, IsBlockTable}
+use Rattle.f77_legal.specs.code.BlockTable.{end_of, is_end_among, is_before_end, is_misplaced}
 use Rattle.f77_legal.specs.declared.blocks.Blocks.{Blocks}
-use Rattle.f77_legal.proofs.FirstNumbers.{length-table, get_or-table, table_same, take-table, any_same, any_below, any_end, or_false}
-
--- which statements end a block IF, as the table has it
-pub closing_table : (p : List LineFields) (ends : List (Option ℕ)) (marks : List Bool) → ends ≡ map (block_end_at p) (statement_numbers p)
-    → marks ≡ map (is_end_among ends) (first_numbers (length ends)) → marks ≡ map (is_end_of_block p) (statement_numbers p)
-closing_table p ends marks e h =
-    h ∙ (ap (λ n. map (is_end_among ends) (first_numbers n)) (ap length e ∙ length-table (block_end_at p) (length p))
-    ∙ table_same (is_end_among ends) (is_end_of_block p) (length p) (λ k b. ap (λ es. is_end_among es k) e ∙ any_end (λ e. e == k) (has_at is_block_if p) (block_end p) (statement_numbers p)))
-
--- which statements end a branch that an ELSE begins, as the table has it
-pub after_else_table : (p : List LineFields) (ends : List (Option ℕ)) (marks : List Bool) → ends ≡ map (else_end_at p) (statement_numbers p)
-    → marks ≡ map (is_end_among ends) (first_numbers (length ends)) → marks ≡ map (ends_else p) (statement_numbers p)
-after_else_table p ends marks e h =
-    h ∙ (ap (λ n. map (is_end_among ends) (first_numbers n)) (ap length e ∙ length-table (else_end_at p) (length p))
-    ∙ table_same (is_end_among ends) (ends_else p) (length p) (λ k b. ap (λ es. is_end_among es k) e ∙ any_end (λ e. e == k) (has_at is_else p) (branch_end p) (statement_numbers p)))
+use Rattle.f77_legal.specs.declared.blocks.Extent.TheVariants.{Block, Branch}
+use Rattle.f77_legal.proofs.BlockScan.{branch_end_is}
+use Rattle.f77_legal.proofs.FirstNumbers.{length-table, get_or-table, take-table, any_same, any_below, any_end, or_false}
 
 -- only a block IF before k can have k in its block
 opened_before : (p : List LineFields) (k : ℕ) → k ≤ length p
@@ -42,17 +30,36 @@ opened_before p k within =
     before : (b : ℕ) (c q : Bool) → b < k → (c && q) ≡ (c && (nat_lt b k && q))
     before b c q h = let e : nat_lt b k ≡ true = grind (arith, nat_tests) in rw e refl
 
-pub inside_table : (p : List LineFields) (ends : List (Option ℕ)) (inside : List Bool) → ends ≡ map (block_end_at p) (statement_numbers p)
-    → inside ≡ map (λ k. is_before_end (take k ends) k) (first_numbers (length ends)) → inside ≡ map (is_in_block p) (statement_numbers p)
-inside_table p ends inside e h =
-    h ∙ (ap (λ n. map (λ k. is_before_end (take k ends) k) (first_numbers n)) (ap length e ∙ length-table (block_end_at p) (length p))
-    ∙ table_same (λ k. is_before_end (take k ends) k) (is_in_block p) (length p) (λ k b. one k (omega arith)))
-  where
-    one : (k : ℕ) → k ≤ length p → is_before_end (take k ends) k ≡ is_in_block p k
-    one k b =
-        ap (λ es. is_before_end (take k es) k) e
-        ∙ (ap (λ es. is_before_end es k) (take-table (block_end_at p) (length p) k b)
-        ∙ (any_end (nat_lt k) (has_at is_block_if p) (block_end p) (first_numbers k) ∙ opened_before p k b))
+-- by the ends of the first n statements, k stands in a block
+pub inside_at : (p : List LineFields) (ends : List (Option ℕ)) (n k : ℕ) → ends ≡ map (block_end_at p) (first_numbers n) → k ≤ n → k ≤ length p
+    → is_before_end (take k ends) k ≡ is_in_block p k
+inside_at p ends n k e before within =
+    ap (λ es. is_before_end (take k es) k) e
+    ∙ (ap (λ es. is_before_end es k) (take-table (block_end_at p) n k before)
+    ∙ (any_end (nat_lt k) (has_at is_block_if p) (block_end p) (first_numbers k) ∙ opened_before p k within))
+
+-- the ends that begin at a statement, by what it is
+module _ (p : List LineFields) (i : ℕ) (s : Statement) (at : nth_statement p i ≡ Some s) where
+  pub block_at : (begins : Bool) → begins ≡ is_block_if s → cond begins (end_of p Block i) None ≡ block_end_at p i
+  block_at begins e = ap (λ b. cond b (block_end p i) None) e ∙ sym (ap (λ o. cond (option_map_or is_block_if o false) (block_end p i) None) at)
+
+  pub else_at : (begins : Bool) → begins ≡ is_else s → cond begins (end_of p Branch i) None ≡ else_end_at p i
+  else_at begins e = (λ k. cond (e k) (branch_end_is p i k) None) ∙ sym (ap (λ o. cond (option_map_or is_else o false) (branch_end p i) None) at)
+
+  begins_at : (is_some (block_end_at p i) || (is_alternative s && is_in_block p i)) ≡ begins_branch p i
+  begins_at =
+      ap (λ b. b || (is_alternative s && is_in_block p i)) (closed (has_at is_block_if p i) (block_end p i))
+      ∙ sym (ap (λ o. (has_at is_block_if p i && is_some (block_end p i)) || (option_map_or is_alternative o false && is_in_block p i)) at)
+    where
+      closed : (b : Bool) (end : Option ℕ) → is_some (cond b end None) ≡ (b && is_some end)
+      closed true end = refl
+      closed false end = refl
+
+  pub branch_at : (begins : Bool) (end : Option ℕ) (inside : Bool) → begins ≡ (is_some end || (is_alternative s && inside)) → end ≡ block_end_at p i → inside ≡ is_in_block p i
+      → cond begins (end_of p Branch i) None ≡ branch_end_at p i
+  branch_at begins end inside e f g =
+      ap (λ end. cond begins end None) (branch_end_is p i)
+      ∙ ap (λ b. cond b (branch_end p i) None) (e ∙ (λ k. is_some (f k) || (is_alternative s && g k)) ∙ begins_at)
 
 -- what a statement breaks, by what it is
 breaks_by : (s : Statement) (x y z : Bool)
@@ -65,9 +72,11 @@ pub breaks_here : (t : Blocks) (p : List LineFields) (i : ℕ) (s : Statement) �
     → breaks_block p i ≡ is_misplaced t s i
 breaks_here t p i s within is table =
     let e : get_or t.ends.items i None ≡ block_end_at p i = ap (λ xs. get_or xs i None) table.ends ∙ get_or-table (block_end_at p) (length p) i None within in
-    let c : get_or t.closing.items i false ≡ is_end_of_block p i = ap (λ xs. get_or xs i false) table.closing ∙ get_or-table (is_end_of_block p) (length p) i false within in
-    let n : get_or t.inside.items i false ≡ is_in_block p i = ap (λ xs. get_or xs i false) table.inside ∙ get_or-table (is_in_block p) (length p) i false within in
-    let a : get_or t.after_else.items i false ≡ ends_else p i = ap (λ xs. get_or xs i false) table.after_else ∙ get_or-table (ends_else p) (length p) i false within in
+    let c : is_end_among t.ends.items i ≡ is_end_of_block p i =
+    ap (λ es. is_end_among es i) table.ends ∙ any_end (λ e. e == i) (has_at is_block_if p) (block_end p) (statement_numbers p) in
+    let n : is_before_end (take i t.ends.items) i ≡ is_in_block p i = inside_at p t.ends.items (length p) i table.ends (omega arith) (omega arith) in
+    let a : is_end_among t.else_ends.items i ≡ ends_else p i =
+    ap (λ es. is_end_among es i) table.else_ends ∙ any_end (λ e. e == i) (has_at is_else p) (branch_end p) (statement_numbers p) in
     by (nth_statement p i) is
     ∙ (breaks_by s (not (is_some (block_end p i))) (not (is_end_of_block p i)) (not (is_in_block p i) || ends_else p i)
     ∙ rw e (rw c (rw n (rw a (opened (nth_statement p i) (is_end_of_block p i) (is_in_block p i) (ends_else p i) is)))))

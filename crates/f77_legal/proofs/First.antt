@@ -1,9 +1,14 @@
 -- The first fault of several lists, searched from the front.
-use Rattle.std.proofs.Common.{◌≡◌, ◌<◌, ℕ, List, [], ◌∷◌, ◌++◌, length, get_or, map, Some, None, refl, ◌∙◌, ap}
+use Rattle.std.proofs.Common.{◌≡◌, ◌<◌, ℕ, List, [], ◌∷◌, ◌++◌, length, get_or, map, Some, None, inr, refl, sym, ◌∙◌, ap, append_assoc}
+use Rattle.std.specs.Prelude.{Result, Ok, Err}
 use Rattle.std.proofs.lemmas.Option.{slice_get-map, slice_get_read}
 use Rattle.std.specs.Prelude.{slice_get, option_map}
-use Rattle.f77_program.specs.Program.{line_of}
+use Rattle.f77_program.specs.Program.{LineFields, line_of}
 use Rattle.f77_program.specs.declared.program.Line.{Line}
+use Rattle.f77_legal.specs.Legal.{ReportsFirstFault, name_faults, clause_faults, label_faults, statement_faults, data_faults, too_large_faults, faults}
+use Rattle.f77_legal.specs.Legal.{expression_clauses, control_clauses}
+use Rattle.f77_legal.specs.code.Legal.{ReportsFirst}
+use Rattle.f77_legal.specs.declared.fault.CheckFault.{CheckFault}
 
 pub empty_from : {X : Type 0} (xs : List X) → slice_get xs 0 ≡ None → xs ≡ []
 empty_from [] h = refl
@@ -32,3 +37,28 @@ first_behind xs ys x none found = rw none found
 pub first_before : {X : Type 0} (xs ys : List X) (x : X) → slice_get xs 0 ≡ Some x → slice_get (xs ++ ys) 0 ≡ Some x
 first_before [] ys x found = absurd (cc (found))
 first_before (y ∷ xs) ys x found = found
+
+pub none_behind_none : {X : Type 0} (xs ys : List X) → xs ≡ [] → ys ≡ [] → xs ++ ys ≡ []
+none_behind_none xs ys none no_more = rw (none, no_more) refl
+
+module _ (p : List LineFields) where
+  -- the faults of names, statements and labels, and those behind them
+  pub faults_in_two : faults p ≡ (name_faults p ++ statement_faults p) ++ (data_faults p ++ too_large_faults p)
+  faults_in_two =
+      let expressions = clause_faults expression_clauses p in
+      let control = clause_faults control_clauses p in
+      let late = data_faults p ++ too_large_faults p in
+      ap (λ xs. name_faults p ++ (expressions ++ xs)) (sym (append_assoc (label_faults p) control late))
+      ∙ ap (λ xs. name_faults p ++ xs) (sym (append_assoc expressions (label_faults p ++ control) late))
+      ∙ sym (append_assoc (name_faults p) (statement_faults p) late)
+
+  pub early_found : (fault : CheckFault) → slice_get (name_faults p ++ statement_faults p) 0 ≡ Some fault → slice_get (faults p) 0 ≡ Some fault
+  early_found fault found = ap (λ all. slice_get all 0) faults_in_two ∙ first_before (name_faults p ++ statement_faults p) _ fault found
+
+  pub late_found : (fault : CheckFault) → name_faults p ++ statement_faults p ≡ [] → slice_get (data_faults p ++ too_large_faults p) 0 ≡ Some fault → slice_get (faults p) 0 ≡ Some fault
+  late_found fault none found = ap (λ all. slice_get all 0) faults_in_two ∙ first_behind (name_faults p ++ statement_faults p) _ fault none found
+
+  pub late_reported : (result : Result (Unit {0}) CheckFault) → name_faults p ++ statement_faults p ≡ [] → data_faults p ≡ [] → ReportsFirst result (too_large_faults p)
+      → ReportsFirstFault result (faults p)
+  late_reported (Ok unit) none no_data kept = faults_in_two ∙ none_behind_none _ _ none (none_behind_none _ _ no_data kept)
+  late_reported (Err fault) none no_data found = inr (late_found fault none (first_behind (data_faults p) _ fault no_data found))

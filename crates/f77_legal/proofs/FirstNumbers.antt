@@ -41,12 +41,6 @@ take-table f (suc n) k h = either (take-table f n k) (cases_lt n k)
     either before (inr below) =
         rw (map-append f (first_numbers n) (n ∷ [])) (take-append-le k (map f (first_numbers n)) (f n ∷ []) (omega (arith, length-table f n)) ∙ before below)
 
--- a table of the same values
-pub table_same : {X : Type 0} (f g : ℕ → X) (n : ℕ) → ((k : ℕ) → k < n → f k ≡ g k) → map f (first_numbers n) ≡ map g (first_numbers n)
-table_same f g zero same = refl
-table_same f g (suc n) same =
-    rw (map-append f (first_numbers n) (n ∷ [])) (rw (map-append g (first_numbers n) (n ∷ [])) (rw (table_same f g n (λ k h. same k (omega arith))) (rw (same n (omega arith)) refl)))
-
 pub none_found : (p : ℕ → Bool) (n : ℕ) → ((k : ℕ) → k < n → p k ≡ false) → None ≡ find p (first_numbers n)
 none_found p zero fails = refl
 none_found p (suc n) fails =

@@ -15,8 +15,6 @@ pub mod Jumps
 pub mod BlockScan
 pub mod BlockTables
 pub mod LoopLists
-pub mod Walks
-pub mod Nesting
 pub mod Prefixes
 pub mod LoopTables
 pub mod Counts

@@ -1,15 +1,11 @@
 -- Two tests of a list: where some element passes the first alone, and where both keep the same elements.
-use Rattle.std.proofs.Common.{◌≡◌, ℕ, zero, suc, ◌<◌, length, slice_get, List, [], ◌∷◌, ◌++◌, Option, Some, None, Bool, true, false, cond, refl, sym, ◌∙◌, ap, subst, inl, inr, arith}
+use Rattle.std.proofs.Common.{◌≡◌, ℕ, List, [], ◌∷◌, Bool, true, false, cond, refl, sym, ◌∙◌, ap, subst}
 use Rattle.std.specs.Prelude.{filter, ◌&&◌, ◌||◌, ◌==◌, not}
-use Rattle.std.specs.List.{All, list_any, list_all, find}
-use Rattle.std.specs.Option.{option_or}
-use Rattle.std.proofs.lemmas.Bool.{or_from, or_parts, cases_lt}
+use Rattle.std.specs.List.{All, list_any, list_all}
+use Rattle.std.proofs.lemmas.Bool.{or_from, or_parts}
 use Rattle.std.proofs.lemmas.Bool.Decides.{Decides-eqb}
-use Rattle.std.proofs.lemmas.List.{length-append}
 use Rattle.std.proofs.lemmas.List.Elements.{All-head, All-tail, filter_passes}
-use Rattle.std.proofs.lemmas.List.Folds.{find-append}
 use Rattle.std.proofs.lemmas.Slice.Eq.{slice_eq-Decides}
-use Rattle.f77_legal.specs.Blocks.{first_numbers}
 use Rattle.f77_legal.specs.Loops.{same_numbers}
 
 -- some element passes p and not q
@@ -62,44 +58,3 @@ same_filters p q xs =
     (none_out p q xs (subst (All (λ y. q y ≡ true)) (sym (decides.0 e)) (filter_passes q xs)))
     (none_out q p xs (subst (All (λ y. p y ≡ true)) (decides.0 e) (filter_passes p xs))))
     (λ e. let parts = or_parts (left_out p q xs) (left_out q p xs) e in decides.1 (same_kept p q xs parts.0 parts.1))
-
-pub any_agree : (p q : ℕ → Bool) → ((x : ℕ) → p x ≡ q x) → (xs : List ℕ) → list_any p xs ≡ list_any q xs
-any_agree p q h xs = ap (λ (test : ℕ → Bool). list_any test xs) (λ i. λ x. h x i)
-
-pub filter_none : (p : ℕ → Bool) → ((x : ℕ) → p x ≡ false) → (xs : List ℕ) → filter p xs ≡ []
-filter_none p h [] = refl
-filter_none p h (x ∷ xs) = ap (λ b. cond b (x ∷ filter p xs) (filter p xs)) (h x) ∙ filter_none p h xs
-
--- the number i stands at the place i
-pub count_numbers : (n : ℕ) → length (first_numbers n) ≡ n
-count_numbers zero = refl
-count_numbers (suc n) = let e = count_numbers n in omega (arith, length-append (first_numbers n) (n ∷ []))
-
-get_within : (xs ys : List ℕ) (i : ℕ) → i < length xs → slice_get (xs ++ ys) i ≡ slice_get xs i
-get_within [] ys i lt = absurd (omega arith)
-get_within (x ∷ xs) ys zero lt = refl
-get_within (x ∷ xs) ys (suc i) lt = get_within xs ys i (omega arith)
-
-get_last : (xs : List ℕ) (y : ℕ) → slice_get (xs ++ y ∷ []) (length xs) ≡ Some y
-get_last [] y = refl
-get_last (x ∷ xs) y = get_last xs y
-
-pub get_number : (n i : ℕ) → i < n → slice_get (first_numbers n) i ≡ Some i
-get_number zero i lt = absurd (omega arith)
-get_number (suc n) i lt = elim (cases_lt i n) [
-  | inl below ↦ get_within (first_numbers n) (n ∷ []) i (rw (count_numbers n) below) ∙ get_number n i below
-  | inr above ↦
-      let e : n ≡ i = omega arith in
-      let last = subst (λ k. slice_get (first_numbers n ++ n ∷ []) k ≡ Some n) (count_numbers n) (get_last (first_numbers n) n) in
-      subst (λ k. slice_get (first_numbers n ++ n ∷ []) k ≡ Some k) e last
-]
-
-found_either : (o : Option ℕ) (b : Bool) (n e : ℕ) → ((k : ℕ) → o ≡ Some k → k < n) → option_or o (cond b (Some n) None) ≡ Some e → e < suc n
-found_either None true n e h same = let k : n ≡ e = cc in omega arith
-found_either None false n e h same = absurd (cc)
-found_either (Some k) b n e h same = let s : k ≡ e = cc in let l : k < n = h k refl in omega arith
-
-pub found_within : (p : ℕ → Bool) (n e : ℕ) → find p (first_numbers n) ≡ Some e → e < n
-found_within p zero e h = absurd (cc)
-found_within p (suc n) e h =
-    found_either (find p (first_numbers n)) (p n) n e (found_within p n) (sym (find-append p (first_numbers n) (n ∷ [])) ∙ h)

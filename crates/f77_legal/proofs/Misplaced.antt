@@ -11,8 +11,10 @@ use mathlib.Core.Bool.{true≢false}
 use Rattle.std.specs.Cmp.Lexicographic.{nat_list_eq_equiv, same_text}
 use Rattle.f77_tree.specs.Data.{data_group_of}
 use Rattle.f77_tree.specs.declared.data.DataGroup.{DataGroup}
+use Rattle.f77_tree.specs.declared.tree.Kind.{Kind}
+use Rattle.f77_tree.specs.Tree.{GroupFields}
 use Rattle.f77_legal.specs.Names.{Symbol}
-use Rattle.f77_legal.specs.code.Runs.{misplaces, names_of_groups, names_held}
+use Rattle.f77_legal.specs.code.Runs.{fills, groups_break, misplaces, names_of_groups, names_held}
 
 held_any : (name : Symbol) (keys : List (Bor (List ℕ))) → list_any (λ key. bytes_eq name key.now) keys ≡ list_any (bytes_eq name) (names_held keys)
 held_any name [] = refl
@@ -132,19 +134,50 @@ module _ (dummy : Symbol → Bool) (before items : List Symbol) (i : ℕ) (x : S
   pub item_held : before ++ drop i items ≡ (before ++ x ∷ []) ++ drop (i + 1) items
   item_held = rw rest_is (sym (append_assoc before (x ∷ []) (drop (i + 1) items)))
 
+-- the first of the groups breaks the clause, or the others do behind its names
+groups_step : (bounds : Symbol → List ℕ) (kinds : Symbol → Kind) (dummy : Symbol → Bool) (before : List Symbol) (g : GroupFields) (gs : List GroupFields)
+    → groups_break bounds kinds dummy before (g ∷ gs)
+    ≡ ((misplaces dummy before g.names || not (fills bounds kinds g)) || groups_break bounds kinds dummy (before ++ g.names) gs)
+groups_step bounds kinds dummy before g gs =
+    ap (λ b. b || (not (fills bounds kinds g) || list_any (λ group. not (fills bounds kinds group)) gs)) (misplaces_append dummy before g.names (names_of_groups gs))
+    ∙ turned (misplaces dummy before g.names) (misplaces dummy (before ++ g.names) (names_of_groups gs)) (not (fills bounds kinds g)) (list_any (λ group. not (fills bounds kinds group)) gs)
+  where
+    turned : (a b c d : Bool) → ((a || b) || (c || d)) ≡ ((a || c) || (b || d))
+    turned true b c d = refl
+    turned false true true d = refl
+    turned false true false d = refl
+    turned false false c d = refl
+
 -- the groups of a list from number i on: group i, and those behind it
-module _ (dummy : Symbol → Bool) (before : List Symbol) (groups : List DataGroup) (i : ℕ) (g : DataGroup) (below : i < length groups) (is : g ≡ get_or groups i g) where
-  groups_are : names_of_groups (map data_group_of (drop i groups)) ≡ g.names.items ++ names_of_groups (map data_group_of (drop (i + 1) groups))
-  groups_are = rw add-one (ap (λ gs. names_of_groups (map data_group_of gs)) (drop-cons groups i g below ∙ ap (λ y. y ∷ drop (suc i) groups) (sym is)))
+module _ (bounds : Symbol → List ℕ) (kinds : Symbol → Kind) (dummy : Symbol → Bool) (before : List Symbol) (groups : List DataGroup) (i : ℕ) (g : DataGroup)
+    (below : i < length groups) (is : g ≡ get_or groups i g) where
+  groups_are : map data_group_of (drop i groups) ≡ data_group_of g ∷ map data_group_of (drop (i + 1) groups)
+  groups_are = rw add-one (ap (map data_group_of) (drop-cons groups i g below ∙ ap (λ y. y ∷ drop (suc i) groups) (sym is)))
 
-  pub group_found : (b : Bool) → b ≡ misplaces dummy before g.names.items → b ≡ true → true ≡ misplaces dummy before (names_of_groups (map data_group_of (drop i groups)))
-  group_found b e t = rw groups_are (sym (misplaces_append dummy before g.names.items _
-      ∙ ap (λ d. d || misplaces dummy (before ++ g.names.items) (names_of_groups (map data_group_of (drop (i + 1) groups)))) (sym e ∙ t)))
+  group_step : (a b : Bool) → a ≡ misplaces dummy before g.names.items → b ≡ fills bounds kinds (data_group_of g)
+      → groups_break bounds kinds dummy before (map data_group_of (drop i groups))
+      ≡ ((a || not b) || groups_break bounds kinds dummy (before ++ g.names.items) (map data_group_of (drop (i + 1) groups)))
+  group_step a b e f =
+      ap (groups_break bounds kinds dummy before) groups_are
+      ∙ groups_step bounds kinds dummy before (data_group_of g) (map data_group_of (drop (i + 1) groups))
+      ∙ (λ k. (sym e k || not (sym f k)) || groups_break bounds kinds dummy (before ++ g.names.items) (map data_group_of (drop (i + 1) groups)))
 
-  pub group_passed : (b : Bool) → b ≡ misplaces dummy before g.names.items → b ≡ false
-      → misplaces dummy before (names_of_groups (map data_group_of (drop i groups))) ≡ misplaces dummy (before ++ g.names.items) (names_of_groups (map data_group_of (drop (i + 1) groups)))
-  group_passed b e t = rw groups_are (misplaces_append dummy before g.names.items _
-      ∙ ap (λ d. d || misplaces dummy (before ++ g.names.items) (names_of_groups (map data_group_of (drop (i + 1) groups)))) (sym e ∙ t))
+  pub group_misplaced : true ≡ misplaces dummy before g.names.items → true ≡ groups_break bounds kinds dummy before (map data_group_of (drop i groups))
+  group_misplaced e = sym (group_step true _ e refl)
+
+  pub group_unfilled : false ≡ fills bounds kinds (data_group_of g) → true ≡ groups_break bounds kinds dummy before (map data_group_of (drop i groups))
+  group_unfilled f =
+      sym (group_step _ false refl f ∙ ap (λ b. b || groups_break bounds kinds dummy (before ++ g.names.items) (map data_group_of (drop (i + 1) groups))) (either_true (misplaces dummy before g.names.items)))
+    where
+      either_true : (b : Bool) → (b || true) ≡ true
+      either_true true = refl
+      either_true false = refl
+
+  pub group_passed : false ≡ misplaces dummy before g.names.items → true ≡ fills bounds kinds (data_group_of g)
+      → groups_break bounds kinds dummy before (map data_group_of (drop i groups))
+      ≡ groups_break bounds kinds dummy (before ++ g.names.items) (map data_group_of (drop (i + 1) groups))
+  group_passed e f = group_step false true e f
 
   pub group_held : before ++ names_of_groups (map data_group_of (drop i groups)) ≡ (before ++ g.names.items) ++ names_of_groups (map data_group_of (drop (i + 1) groups))
-  group_held = rw groups_are (sym (append_assoc before (g.names.items) (names_of_groups (map data_group_of (drop (i + 1) groups)))))
+  group_held =
+      ap (λ gs. before ++ names_of_groups gs) groups_are ∙ sym (append_assoc before g.names.items (names_of_groups (map data_group_of (drop (i + 1) groups))))

@@ -2,8 +2,8 @@
 use Rattle.std.proofs.Common.{◌≡◌, ◌∙◌, ℕ, List, map, ap, if◌then◌else◌, None}
 use Rattle.std.specs.Prelude.{option_map}
 use Rattle.f77_program.specs.Program.{LineFields}
-use Rattle.f77_legal.specs.Blocks.{is_block_if, is_end_of_block, is_in_block, ends_else}
-use Rattle.f77_legal.specs.BlockTable.{block_end_at, branch_end_at, tabled, IsBlockTable}
+use Rattle.f77_legal.specs.Blocks.{is_block_if, is_else}
+use Rattle.f77_legal.specs.BlockTable.{block_end_at, else_end_at, branch_end_at, tabled, IsBlockTable}
 use Rattle.f77_legal.specs.Frames.{HaveOneFrame}
 use Rattle.f77_legal.specs.LabelTable.{distinct, IsLabelTable}
 use Rattle.f77_legal.specs.LoopTable.{IsRangeTable}
@@ -12,11 +12,11 @@ use Rattle.f77_legal.specs.declared.blocks.Blocks.{Blocks}
 use Rattle.f77_legal.specs.declared.enclosing.Ranges.{Ranges}
 use Rattle.f77_legal.specs.declared.labels.Labels.{Labels}
 use Rattle.f77_legal.specs.declared.tables.Tables.{Tables}
-use Rattle.f77_legal.proofs.Frames.{is_block_if-framed}
+use Rattle.f77_legal.proofs.Frames.{is_block_if-framed, is_else-framed}
 use Rattle.f77_legal.proofs.FrameNames.{kind_of_same, bounds_of_same}
 use Rattle.f77_legal.proofs.Lookups.{same_kinds, same_bounds}
 use Rattle.f77_legal.proofs.SameFrame.{length_same, numbers_same, labels_same, is_double_same, place_of_same, has_at_same, block_end_same, branch_end_same}
-use Rattle.f77_legal.proofs.SameFrame.{is_in_block_same, is_closing_same, ends_else_same, begins_branch_same, branch_holds_same, terminal_same}
+use Rattle.f77_legal.proofs.SameFrame.{begins_branch_same, branch_holds_same, terminal_same}
 
 pub own_tables_serve : (tables : Tables) (program : List LineFields) → AreTables tables program → Serve tables program
 own_tables_serve tables program are = record {
@@ -41,16 +41,17 @@ module _ (p q : List LineFields) (same : HaveOneFrame p q) where
   block_end_at_same : (i : ℕ) → block_end_at p i ≡ block_end_at q i
   block_end_at_same i = λ k. if has_at_same p q same is_block_if is_block_if-framed i k then block_end_same p q same i k else None
 
+  else_end_at_same : (i : ℕ) → else_end_at p i ≡ else_end_at q i
+  else_end_at_same i = λ k. if has_at_same p q same is_else is_else-framed i k then branch_end_same p q same i k else None
+
   branch_end_at_same : (i : ℕ) → branch_end_at p i ≡ branch_end_at q i
   branch_end_at_same i = λ k. if begins_branch_same p q same i k then branch_end_same p q same i k else None
 
   blocks_serve : (table : Blocks) → IsBlockTable table p → IsBlockTable table q
   blocks_serve table is = record {
     ends = is.ends ∙ tabled_same block_end_at block_end_at_same;
+    else_ends = is.else_ends ∙ tabled_same else_end_at else_end_at_same;
     branch_ends = is.branch_ends ∙ tabled_same branch_end_at branch_end_at_same;
-    closing = is.closing ∙ tabled_same is_end_of_block (is_closing_same p q same);
-    inside = is.inside ∙ tabled_same is_in_block (is_in_block_same p q same);
-    after_else = is.after_else ∙ tabled_same ends_else (ends_else_same p q same);
   }
 
   ranges_serve : (ranges : Ranges) → IsRangeTable ranges p → IsRangeTable ranges q

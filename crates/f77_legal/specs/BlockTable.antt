@@ -2,8 +2,8 @@
 use Rattle.std.specs.Prelude.{◌≡◌, if◌then◌else◌}
 use Rattle.std.specs.Prelude.{ℕ, List, map, Option, None}
 use Rattle.f77_program.specs.Program.{LineFields}
-use Rattle.f77_legal.specs.Blocks.{is_block_if, statement_numbers, has_at}
-use Rattle.f77_legal.specs.Blocks.{block_end, branch_end, is_in_block, is_end_of_block, ends_else, begins_branch}
+use Rattle.f77_legal.specs.Blocks.{is_block_if, is_else, statement_numbers, has_at}
+use Rattle.f77_legal.specs.Blocks.{block_end, branch_end, begins_branch}
 use Rattle.f77_legal.specs.declared.blocks.Blocks.{Blocks}
 
 -- the END IF of statement i, if that is a block IF
@@ -18,10 +18,12 @@ branch_end_at program i = if begins_branch program i then branch_end program i e
 abbrev pub tabled : {X : Type 0} → (List LineFields → ℕ → X) → List LineFields → List X
 tabled value program = map (value program) (statement_numbers program)
 
+-- the end of the branch that statement i begins, if that is an ELSE
+abbrev pub else_end_at : List LineFields → ℕ → Option ℕ
+else_end_at program i = if has_at is_else program i then branch_end program i else None
+
 -- the table has of each statement what the program says of its block and its branch
 pub record IsBlockTable (table : Blocks) (program : List LineFields) : Type 0 where
   pub ends : table.ends.items ≡ tabled block_end_at program
+  pub else_ends : table.else_ends.items ≡ tabled else_end_at program
   pub branch_ends : table.branch_ends.items ≡ tabled branch_end_at program
-  pub closing : table.closing.items ≡ tabled is_end_of_block program
-  pub inside : table.inside.items ≡ tabled is_in_block program
-  pub after_else : table.after_else.items ≡ tabled ends_else program

@@ -1,14 +1,14 @@
 -- What the table of DOs and branches has of a program. Statements are numbered from 0 here.
-use Rattle.std.specs.Prelude.{◌≡◌, ℕ, List, length, Option}
+use Rattle.std.specs.Prelude.{◌≡◌, ℕ, List, length, slice_index_or, Option, None}
 use Rattle.f77_program.specs.Program.{LineFields}
 use Rattle.f77_legal.specs.Blocks.{branch_holds}
-use Rattle.f77_legal.specs.Enclosing.{end_or_parent, in_branch}
+use Rattle.f77_legal.specs.Enclosing.{in_branch}
 use Rattle.f77_legal.specs.Loops.{terminal}
 use Rattle.f77_legal.specs.declared.enclosing.Ranges.{Ranges}
 
 -- these are the terminal statements of the DOs of the program, and the ends of its branches
 abbrev pub IsTerminals : List (Option ℕ) → List LineFields → Type 0
-IsTerminals terminals program = (d : ℕ) → end_or_parent terminals d ≡ terminal program d
+IsTerminals terminals program = (d : ℕ) → slice_index_or terminals d None ≡ terminal program d
 
 -- the ends of branches hold the same statements as the branches of the program
 abbrev pub IsBranches : List (Option ℕ) → List LineFields → Type 0

@@ -1,7 +1,6 @@
 pub mod NameTable
 pub mod LabelTable
 pub mod BlockTable
-pub mod Enclosing
 pub mod LoopTable
 pub mod Runs
 pub mod Tables

@@ -5,14 +5,15 @@
 
 ghost use Rattle.std.specs.Prelude.{◌≡◌, ◌+◌, ◌<◌, ◌^◌, ◌&&◌, ◌||◌, ◌==◌};
 ghost use Rattle.std.specs.Prelude.{ℕ, false, nat_lt, List, length, map, take, slice_index_or, Some, None, IfOk};
+ghost use Rattle.std.specs.Prelude.{if◌then◌else◌, is_some};
 ghost use Rattle.std.specs.Option.{option_map_or};
 ghost use Rattle.f77_program.specs.Program.{LineFields, line_of};
 ghost use Rattle.f77_tree.specs.Statement.{statement_of};
 ghost use Rattle.f77_legal.specs.Blocks as words;
-ghost use Rattle.f77_legal.specs.Blocks.{first_numbers, statement_behind, branch_holds, breaks_block, is_in_block};
+ghost use Rattle.f77_legal.specs.Blocks.{statement_behind, branch_holds, breaks_block};
 ghost use Rattle.f77_legal.specs.BlockTable as table;
 ghost use Rattle.f77_legal.specs.code.BlockTable as table_code;
-ghost use Rattle.f77_legal.specs.BlockTable.{tabled, IsBlockTable};
+ghost use Rattle.f77_legal.specs.BlockTable.{IsBlockTable};
 ghost use Rattle.f77_legal.specs.code.BlockTable.{is_end_among, is_before_end};
 ghost use Rattle.f77_legal.specs.Labels.{nth_statement};
 
@@ -33,14 +34,10 @@ enum Extent {
 pub struct Blocks {
     /// For a block IF its END IF.
     pub(crate) ends: Vec<Option<usize>>,
+    /// For an ELSE the statement that ends its branch.
+    pub(crate) else_ends: Vec<Option<usize>>,
     /// For a statement that begins a branch, the statement that ends the branch.
     pub(crate) branch_ends: Vec<Option<usize>>,
-    /// Whether the statement is the END IF of a block IF.
-    pub(crate) closing: Vec<bool>,
-    /// Whether the statement stands between a block IF and its END IF.
-    pub(crate) inside: Vec<bool>,
-    /// Whether the statement ends a branch that an ELSE begins.
-    pub(crate) after_else: Vec<bool>,
 }
 
 fn is_block_if(stmt: &Stmt) -> bool
@@ -61,7 +58,7 @@ fn is_else(stmt: &Stmt) -> bool
     matches!(stmt, Stmt::Else)
 }
 
-fn is_alternative(stmt: &Stmt) -> bool
+pub(crate) fn is_alternative(stmt: &Stmt) -> bool
     ensures { result ≡ words.is_alternative (statement_of stmt.now) }
 {
     matches!(stmt.form(), Form::ElseIf | Form::Else)
@@ -124,48 +121,15 @@ fn end_of(lines: &[Shared<Line>], extent: Extent, start: usize) -> Option<usize>
     None
 }
 
-/// The END IF of a block IF. None for another statement.
-#[tactic(auto, using(crate::proofs::BlockScan::block_end_is))]
-fn block_end_at(lines: &[Shared<Line>], i: usize) -> Option<usize>
+/// The end of the block or of the branch that begins at the statement `i`, if one begins there.
+fn end_if(lines: &[Shared<Line>], extent: Extent, i: usize, begins: bool) -> Option<usize>
     requires { i < length lines.now }
-    ensures { result ≡ table.block_end_at (map line_of lines.now) i }
+    ensures { result ≡ if begins then table_code.end_of (map line_of lines.now) extent i else None }
 {
-    if !is_block_if(statement(lines, i)) {
-        return None;
-    }
-    end_of(lines, Extent::Block, i)
-}
-
-/// The end of the branch that an ELSE begins. None for another statement.
-#[tactic(auto, using(crate::proofs::BlockScan::branch_end_is))]
-fn else_end_at(lines: &[Shared<Line>], i: usize) -> Option<usize>
-    requires { i < length lines.now }
-    ensures { result ≡ table_code.else_end_at (map line_of lines.now) i }
-{
-    if !is_else(statement(lines, i)) {
-        return None;
-    }
-    end_of(lines, Extent::Branch, i)
-}
-
-/// The end of the branch that the statement begins. `end` is its END IF if it is a block IF, and `inside` says whether
-/// it stands in a block.
-#[tactic(auto, using(crate::proofs::BlockScan::branch_end_is))]
-fn branch_end_at(
-    lines: &[Shared<Line>],
-    i: usize,
-    end: Option<usize>,
-    inside: bool,
-) -> Option<usize>
-    requires { i < length lines.now }
-    ensures { end ≡ table.block_end_at (map line_of lines.now) i → inside ≡ is_in_block (map line_of lines.now) i
-        → result ≡ table.branch_end_at (map line_of lines.now) i }
-{
-    let begins = end.is_some() || (is_alternative(statement(lines, i)) && inside);
     if !begins {
         return None;
     }
-    end_of(lines, Extent::Branch, i)
+    end_of(lines, extent, i)
 }
 
 /// The statement behind this one: the next, or the END IF of the block where the next is an ELSE IF or ELSE (11.6 to
@@ -181,126 +145,58 @@ pub fn next(lines: &[Shared<Line>], i: usize) -> Option<usize>
     }
 }
 
-#[tactic(auto, using(crate::proofs::FirstNumbers::table_more))]
-fn block_ends(alloc: Global, lines: &[Shared<Line>]) -> Result<Vec<Option<usize>>, AllocError>
-    ensures made { IfOk result (λ ends. ends.items ≡ tabled table.block_end_at (map line_of lines.now)) }
-{
-    let mut ends = Vec::with_capacity(alloc, lines.len())?;
-    for i in 0..lines.len() {
-        ends.push(block_end_at(lines, i))?;
-    }
-    Ok(ends)
-}
-
-#[tactic(auto, using(crate::proofs::FirstNumbers::table_more))]
-fn else_ends(alloc: Global, lines: &[Shared<Line>]) -> Result<Vec<Option<usize>>, AllocError>
-    ensures made { IfOk result (λ ends. ends.items ≡ tabled table_code.else_end_at (map line_of lines.now)) }
-{
-    let mut ends = Vec::with_capacity(alloc, lines.len())?;
-    for i in 0..lines.len() {
-        ends.push(else_end_at(lines, i))?;
-    }
-    Ok(ends)
-}
-
 /// The end for the statement `i`. None past the last statement.
-fn end_in(ends: &[Option<usize>], i: usize) -> Option<usize>
+pub(crate) fn end_in(ends: &[Option<usize>], i: usize) -> Option<usize>
     ensures { result ≡ slice_index_or ends.now i None }
 {
     ends.get(i).copied().flatten()
 }
 
-/// The entry for the statement `i`. False past the last statement.
-fn is_marked(marks: &[bool], i: usize) -> bool
-    ensures { result ≡ slice_index_or marks.now i false }
+/// Whether the statement `i` is one of the ends.
+fn is_end(ends: &[Option<usize>], i: usize) -> bool
+    ensures { result ≡ is_end_among ends.now i }
 {
-    marks.get(i).copied().unwrap_or(false)
+    ends.iter().any(|end| end.is_some_and(|place| place == i))
 }
 
-/// Sets the entry of the statement that is the end, if there is one.
-fn mark(marks: &mut [bool], end: Option<usize>)
-    ensures marked { (k : ℕ) → k < length marks.old
-        → slice_index_or marks.new k false
-        ≡ (slice_index_or marks.old k false || option_map_or (λ e. e == k) end false) }
-    ensures long { length marks.new ≡ length marks.old }
+/// Whether a statement before `i` has its end behind `i`.
+fn is_inside(ends: &[Option<usize>], i: usize) -> bool
+    ensures { result ≡ is_before_end (take i ends.now) i }
 {
-    let Some(place) = end else {
-        return;
-    };
-    if place < marks.len() {
-        marks[place] = true;
-    }
+    ends.iter()
+        .take(i)
+        .any(|end| end.is_some_and(|place| i < place))
 }
 
-/// For each statement, whether it is one of the ends.
-fn ends_marked(alloc: Global, ends: &[Option<usize>]) -> Result<Vec<bool>, AllocError>
-    ensures made { IfOk result (λ marks. marks.items ≡ map (is_end_among ends.now) (first_numbers (length ends.now))) }
+/// Whether the statement `i` begins a branch. `end` is its END IF if it is a block IF, and `ends` has those of the
+/// statements before it.
+fn begins_branch(stmt: &Stmt, end: Option<usize>, ends: &[Option<usize>], i: usize) -> bool
+    ensures { result ≡ (is_some end
+        || (words.is_alternative (statement_of stmt.now) && is_before_end (take i ends.now) i)) }
 {
-    let mut marks = vec![in alloc; false; ends.len()]?;
-    for end in ends {
-        mark(&mut marks, *end);
-    }
-    Ok(marks)
-}
-
-/// The last of the ends so far and this one, as a number; 0 where there is none.
-fn furthest(reach: usize, end: Option<usize>) -> usize
-    ensures { (k : ℕ) → nat_lt k result ≡ (nat_lt k reach || option_map_or (nat_lt k) end false) }
-{
-    match end {
-        None => reach,
-        Some(place) => reach.max(place),
-    }
-}
-
-/// For each statement, whether a statement before it has its end behind it.
-#[tactic(auto, using(crate::proofs::FirstNumbers::table_more))]
-fn insides(alloc: Global, ends: &[Option<usize>]) -> Result<Vec<bool>, AllocError>
-    ensures made { IfOk result
-        (λ inside. inside.items ≡ map (λ k. is_before_end (take k ends.now) k) (first_numbers (length ends.now))) }
-{
-    let mut inside = Vec::with_capacity(alloc, ends.len())?;
-    let mut reach: usize = 0;
-    for i in 0..ends.len() {
-        inside.push(i < reach)?;
-        reach = furthest(reach, ends[i]);
-    }
-    Ok(inside)
-}
-
-fn branch_ends(
-    alloc: Global,
-    lines: &[Shared<Line>],
-    ends: &[Option<usize>],
-    inside: &[bool],
-) -> Result<Vec<Option<usize>>, AllocError>
-    ensures made { ends.now ≡ tabled table.block_end_at (map line_of lines.now)
-        → inside.now ≡ tabled is_in_block (map line_of lines.now)
-        → IfOk result (λ found. found.items ≡ tabled table.branch_end_at (map line_of lines.now)) }
-{
-    let mut found = Vec::with_capacity(alloc, lines.len())?;
-    for i in 0..lines.len() {
-        found.push(branch_end_at(lines, i, end_in(ends, i), is_marked(inside, i)))?;
-    }
-    Ok(found)
+    end.is_some() || (is_alternative(stmt) && is_inside(ends, i))
 }
 
 impl Blocks {
-    /// The table of these lines. Its time grows with the lines, and with those in each block and branch.
+    /// The table of these lines.
     pub(crate) fn of(alloc: Global, lines: &[Shared<Line>]) -> Result<Blocks, AllocError>
-        ensures made { IfOk result (λ blocks. IsBlockTable blocks (map line_of lines.now)) }
+        ensures { IfOk result (λ blocks. IsBlockTable blocks (map line_of lines.now)) }
     {
-        let ends = block_ends(alloc, lines)?;
-        let inside = insides(alloc, &ends)?;
-        let branch_ends = branch_ends(alloc, lines, &ends, &inside)?;
-        let closing = ends_marked(alloc, &ends)?;
-        let after_else = ends_marked(alloc, &else_ends(alloc, lines)?)?;
+        let mut ends = Vec::with_capacity(alloc, lines.len())?;
+        let mut else_ends = Vec::with_capacity(alloc, lines.len())?;
+        let mut branch_ends = Vec::with_capacity(alloc, lines.len())?;
+        for i in 0..lines.len() {
+            let stmt = statement(lines, i);
+            let end = end_if(lines, Extent::Block, i, is_block_if(stmt));
+            let begins = begins_branch(stmt, end, &ends, i);
+            else_ends.push(end_if(lines, Extent::Branch, i, is_else(stmt)))?;
+            branch_ends.push(end_if(lines, Extent::Branch, i, begins))?;
+            ends.push(end)?;
+        }
         Ok(Blocks {
             ends,
+            else_ends,
             branch_ends,
-            closing,
-            inside,
-            after_else,
         })
     }
 
@@ -311,9 +207,9 @@ impl Blocks {
             return end_in(&self.ends, i).is_none();
         }
         if is_end_if(stmt) {
-            return !is_marked(&self.closing, i);
+            return !is_end(&self.ends, i);
         }
-        is_alternative(stmt) && (!is_marked(&self.inside, i) || is_marked(&self.after_else, i))
+        is_alternative(stmt) && (!is_inside(&self.ends, i) || is_end(&self.else_ends, i))
     }
 
     /// Whether the statement with this number is a block IF, ELSE IF, ELSE or END IF that is not nested (11.6 to 11.9).

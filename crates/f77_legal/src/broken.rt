@@ -58,18 +58,14 @@ impl Flaws {
     fn check_kind(&mut self, own: Kind, required: Kind)
         ensures { Adds self.old self.new true (comparing.same_kind own required) true }
     {
-        if !same_kind(own, required) {
-            self.kinds = true;
-        }
+        self.kinds |= !same_kind(own, required);
     }
 
     /// Notes whether bounds, or numbers of subscripts or arguments, are right.
     fn check_bounds(&mut self, are_right: bool)
         ensures { Adds self.old self.new true true are_right }
     {
-        if !are_right {
-            self.bounds = true;
-        }
+        self.bounds |= !are_right;
     }
 
     /// Checks a name with so many subscripts, and gives its kind: INTEGER where the name is not in the table.
@@ -229,32 +225,6 @@ fn earlier(first: Option<(Clause, u32)>, clause: Option<Clause>, line: u32) -> O
 }
 
 impl Tables {
-    /// The first clause on labels, blocks and loops that the statement breaks.
-    fn first_of_control(&self, lines: &[Shared<Line>], i: usize, stmt: &Stmt) -> Option<Clause>
-        ensures { let program = map line_of lines.now in Serve self.now program
-            → result ≡ find (λ clause. breaks clause program i (statement_of stmt.now)) legal.control_clauses }
-    {
-        if names_no_label(&self.labels, stmt) {
-            return Some(Clause::NamedLabels);
-        }
-        if jumps_badly(&self.labels, lines, stmt) {
-            return Some(Clause::Targets);
-        }
-        if ends_badly(&self.labels, lines, stmt) {
-            return Some(Clause::Terminals);
-        }
-        if self.blocks.breaks(lines, i) || self.ranges.breaks_range(i) {
-            return Some(Clause::Nests);
-        }
-        if self.jumps_in(i, stmt) {
-            return Some(Clause::Jumps);
-        }
-        if sets_variable(&self.ranges, lines, i, stmt) {
-            return Some(Clause::Variables);
-        }
-        None
-    }
-
     /// The first clause, in the order of test, that the statement breaks. `flaws` is what was found of its expressions.
     fn first_clause(
         &self,
@@ -274,7 +244,25 @@ impl Tables {
         if flaws.bounds {
             return Some(Clause::Bounds);
         }
-        self.first_of_control(lines, i, stmt)
+        if names_no_label(&self.labels, stmt) {
+            return Some(Clause::NamedLabels);
+        }
+        if jumps_badly(&self.labels, lines, stmt) {
+            return Some(Clause::Targets);
+        }
+        if ends_badly(&self.labels, lines, stmt) {
+            return Some(Clause::Terminals);
+        }
+        if self.blocks.breaks(lines, i) || self.ranges.breaks_range(i) {
+            return Some(Clause::Nests);
+        }
+        if self.jumps_in(i, stmt) {
+            return Some(Clause::Jumps);
+        }
+        if sets_variable(&self.ranges, lines, i, stmt) {
+            return Some(Clause::Variables);
+        }
+        None
     }
 
     /// The first clause, in the order of test, that `stmt` breaks if it stands in the place of statement `i`, counted

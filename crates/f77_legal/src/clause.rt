@@ -32,16 +32,7 @@ impl Clause {
     pub(crate) fn rank(self) -> u32
         ensures { result ≡ broken.rank self }
     {
-        match self {
-            Clause::Kinds => 0,
-            Clause::Bounds => 1,
-            Clause::NamedLabels => 2,
-            Clause::Targets => 3,
-            Clause::Terminals => 4,
-            Clause::Nests => 5,
-            Clause::Jumps => 6,
-            Clause::Variables => 7,
-        }
+        self as u32
     }
 
     /// Whether the clause is tested before the labels of the program.

@@ -29,10 +29,5 @@ fn is_shape(item: &Decl) -> bool
 pub(crate) fn are_shapes(items: &[Decl]) -> bool
     ensures { result ≡ list_all dimensions.is_shape (map decl_of items.now) }
 {
-    for item in items {
-        if !is_shape(item) {
-            return false;
-        }
-    }
-    true
+    items.iter().all(|item| is_shape(item))
 }

@@ -1,221 +1,85 @@
 //! What encloses each statement: the ranges of DOs and the branches around it. From these follows
 //! where control may go.
 //!
-//! Only the innermost DO or branch around a statement, its parent, is kept: a list of all that
-//! enclose it would take memory quadratic in the depth. The others are found by walking from parent
-//! to parent. The parent of a statement is the one before it, or the first on the walk from that
-//! one that holds the statement, so one pass finds all parents.
-//!
-//! In a program that is not legal ranges may overlap, and the parent of a parent need not hold the statement. All that
-//! hold it are among its ancestors, so each reader asks of an ancestor whether it does.
+//! What encloses a statement is looked for among all statements of the program. A legal program has few (C14), so no
+//! list of what encloses each is kept.
 
-ghost use Rattle.std.specs.Prelude.{◌≡◌, ◌&&◌, ◌==◌, false, not, List, length, IfOk};
-ghost use Rattle.std.specs.Iterator.{YieldsFirst, item_count};
-ghost use Rattle.std.specs.Option.{option_map_or};
+ghost use Rattle.std.specs.Prelude.{◌≡◌, ◌&&◌, ◌||◌, not, List, IfOk};
 ghost use Rattle.f77_program.specs.Program.{LineFields};
 ghost use Rattle.f77_legal.specs.Enclosing as enclosing;
-ghost use Rattle.f77_legal.specs.code.Enclosing as enclosing_code;
+ghost use Rattle.f77_legal.specs.LoopTable.{IsRangeTable};
 ghost use Rattle.f77_legal.specs.Loops as loops;
+ghost use Rattle.f77_legal.specs.code.LoopTable as table;
 
+use crate::blocks::end_in;
 use std::alloc::{AllocError, Global};
 
-/// The ends of DOs and of branches, and the parent of each statement: the innermost DO or branch that holds it.
+/// The ends of DOs and of branches. Each list has an entry for each statement, in order.
 #[derive(Drop)]
 pub struct Ranges {
     pub(crate) terminals: Vec<Option<usize>>,
     pub(crate) branch_ends: Vec<Option<usize>>,
-    pub(crate) parents: Vec<Option<usize>>,
-    ghost innermost: { parents.items
-        ≡ enclosing.parents_of terminals.items branch_ends.items (length terminals.items) },
-}
-
-/// A walk from a statement to its parent, to the parent of that, and so on.
-#[derive(Drop)]
-pub(crate) struct Ancestors<'a> {
-    parents: &'a [Option<usize>],
-    next: Option<usize>,
-    ghost falling: { enclosing_code.IsFalling parents.now },
-}
-
-impl<'a> Iterator for Ancestors<'a> {
-    ghost use Rattle.f77_legal.specs.code.LoopTable.{ancestors_left};
-
-    type Item = usize;
-
-    ghost next_gives = { YieldsFirst ancestors_left };
-
-    ghost remaining = { item_count ancestors_left };
-
-    fn next(&mut self) -> Option<usize> {
-        let next = self.next?;
-        self.next = parent(self.parents, next);
-        Some(next)
-    }
-}
-
-fn parent(parents: &[Option<usize>], k: usize) -> Option<usize>
-    ensures { result ≡ enclosing.end_or_parent parents.now k }
-{
-    parents.get(k).copied().flatten()
-}
-
-fn in_range(terminals: &[Option<usize>], d: usize, k: usize) -> bool
-    ensures { result ≡ enclosing.is_in_do_range terminals.now d k }
-{
-    match terminals.get(d) {
-        Some(Some(terminal)) => d < k && k <= *terminal,
-        _ => false,
-    }
-}
-
-fn in_branch(branch_ends: &[Option<usize>], i: usize, k: usize) -> bool
-    ensures { result ≡ enclosing.in_branch branch_ends.now i k }
-{
-    match branch_ends.get(i) {
-        Some(Some(end)) => i < k && k < *end,
-        _ => false,
-    }
-}
-
-fn holds(terminals: &[Option<usize>], branch_ends: &[Option<usize>], k: usize, i: usize) -> bool
-    ensures { result ≡ enclosing.holds terminals.now branch_ends.now k i }
-{
-    in_range(terminals, i, k) || in_branch(branch_ends, i, k)
-}
-
-/// The innermost statement that encloses `k`: the one before it, or one that encloses that one.
-fn innermost(
-    parents: &[Option<usize>],
-    terminals: &[Option<usize>],
-    branch_ends: &[Option<usize>],
-    k: usize,
-) -> Option<usize>
-    requires { parents.now ≡ enclosing.parents_of terminals.now branch_ends.now k }
-    ensures { result ≡ enclosing.innermost_enclosing terminals.now branch_ends.now k }
-{
-    let mut before = Ancestors {
-        parents,
-        next: k.checked_sub(1),
-    };
-    before.find(|i| holds(terminals, branch_ends, k, *i))
-}
-
-fn parents_of(
-    alloc: Global,
-    terminals: &[Option<usize>],
-    branch_ends: &[Option<usize>],
-) -> Result<Vec<Option<usize>>, AllocError>
-    ensures parents { IfOk result
-        (λ parents. parents.items
-        ≡ enclosing.parents_of terminals.now branch_ends.now (length terminals.now)) }
-{
-    let mut parents = Vec::new(alloc);
-    for k in 0..terminals.len() {
-        let parent = innermost(&parents, terminals, branch_ends, k);
-        parents.push(parent)?;
-    }
-    Ok(parents)
-}
-
-/// Whether the DO `d` has `i` in its range and not `k`.
-fn is_left(terminals: &[Option<usize>], d: usize, i: usize, k: usize) -> bool
-    ensures { result ≡ (enclosing.is_in_do_range terminals.now d i
-        && not (enclosing.is_in_do_range terminals.now d k)) }
-{
-    in_range(terminals, d, i) && !in_range(terminals, d, k)
-}
-
-fn ends_at(terminals: &[Option<usize>], d: usize, t: usize) -> bool
-    ensures { result ≡ option_map_or (λ e. e == t) (enclosing.end_or_parent terminals.now d) false }
-{
-    match terminals.get(d) {
-        Some(Some(terminal)) => *terminal == t,
-        _ => false,
-    }
-}
-
-fn precedes(d: usize, other: Option<usize>) -> bool
-    ensures { result ≡ enclosing_code.precedes d other }
-{
-    match other {
-        Some(other) => d < other,
-        None => false,
-    }
 }
 
 impl Ranges {
-    ghost use Rattle.f77_legal.specs.code.LoopTable as table;
-    ghost use Rattle.f77_legal.specs.LoopTable.{IsTerminals, IsBranches, IsRangeTable};
-
-    /// The table of a program, made from the terminal statements of its DOs and the ends of its branches.
-    pub(crate) fn of(
-        alloc: Global,
-        terminals: Vec<Option<usize>>,
-        branch_ends: Vec<Option<usize>>,
-    ) -> Result<Ranges, AllocError>
-        ensures table { IfOk result (λ ranges. (program : List LineFields) → length terminals.items ≡ length program
-            → IsTerminals terminals.items program
-            → IsBranches branch_ends.items program → IsRangeTable ranges program) }
-    {
-        let parents = parents_of(alloc, &terminals, &branch_ends)?;
-        Ok(Ranges {
-            terminals,
-            branch_ends,
-            parents,
-        })
-    }
-
     /// The terminal statement of the DO with this number (11.10). None if it is no DO.
-    #[tactic(auto, using(crate::proofs::LoopTables::terminal_is))]
     pub fn terminal(&self, d: usize) -> Option<usize>
         ensures { (program : List LineFields) → IsRangeTable self.now program → result ≡ loops.terminal program d }
     {
-        self.terminals.get(d).copied().flatten()
+        end_in(&self.terminals, d)
     }
 
-    /// The ancestors of `k`, the innermost first. All statements that enclose `k` are among them,
-    /// and where ranges overlap, others too.
-    pub(crate) fn ancestors(&self, k: usize) -> Ancestors<'_>
-        ensures { table.ancestors_left result ≡ table.ancestors_of self.now k }
-    {
-        Ancestors {
-            parents: &self.parents,
-            next: parent(&self.parents, k),
-        }
-    }
-
+    /// Whether the range of the DO `d` holds statement `k`.
     pub(crate) fn in_range(&self, d: usize, k: usize) -> bool
         ensures { result ≡ enclosing.is_in_do_range self.now.terminals.items d k }
     {
-        in_range(&self.terminals, d, k)
+        match end_in(&self.terminals, d) {
+            Some(terminal) => d < k && k <= terminal,
+            None => false,
+        }
     }
 
-    fn holds(&self, k: usize, i: usize) -> bool
-        ensures { result ≡ table.holds_by self.now k i }
+    /// Whether statement `k` stands in the branch that `b` begins.
+    fn in_branch(&self, b: usize, k: usize) -> bool
+        ensures { result ≡ enclosing.in_branch self.now.branch_ends.items b k }
     {
-        holds(&self.terminals, &self.branch_ends, k, i)
+        match end_in(&self.branch_ends, b) {
+            Some(end) => b < k && k < end,
+            None => false,
+        }
     }
 
-    fn leaves_range(&self, i: usize, k: usize) -> bool
-        ensures { result ≡ table.leaves_range self.now i k }
+    fn holds(&self, k: usize, d: usize) -> bool
+        ensures { result ≡ table.holds_by self.now k d }
     {
-        self.ancestors(i).any(|d| is_left(&self.terminals, d, i, k))
+        self.in_range(d, k) || self.in_branch(d, k)
     }
 
-    fn leaves_branch(&self, i: usize, k: usize) -> bool
-        ensures { result ≡ table.leaves_branch self.now i k }
+    /// Whether the DO `d` has `i` in its range and not `k`.
+    fn is_left(&self, i: usize, k: usize, d: usize) -> bool
+        ensures { result ≡ table.is_left_by_table self.now i k d }
     {
-        self.ancestors(i).any(|b| in_branch(&self.branch_ends, b, i)
-            && !in_branch(&self.branch_ends, b, k))
+        self.in_range(d, i) && !self.in_range(d, k)
+    }
+
+    fn leaves_branch(&self, i: usize, k: usize, b: usize) -> bool
+        ensures { result ≡ table.leaves_branch self.now i k b }
+    {
+        self.in_branch(b, i) && !self.in_branch(b, k)
+    }
+
+    /// Whether `e` begins a branch that holds one of `d` and `t` alone, or a range that holds `d` and not `t`.
+    fn separates(&self, d: usize, t: usize, e: usize) -> bool
+        ensures { result ≡ table.separates self.now d t e }
+    {
+        self.leaves_branch(d, t, e) || self.leaves_branch(t, d, e) || self.is_left(d, t, e)
     }
 
     fn ends_outside(&self, d: usize, terminal: usize) -> bool
-        ensures { result ≡ table.ends_outside_by_table self.now d terminal }
+        ensures { (program : List LineFields)
+            → IsRangeTable self.now program → result ≡ loops.ends_outside program d terminal }
     {
-        terminal <= d
-            || self.leaves_branch(d, terminal)
-            || self.leaves_branch(terminal, d)
-            || self.leaves_range(d, terminal)
+        terminal <= d || (0..self.terminals.len()).any(|e| self.separates(d, terminal, e))
     }
 
     /// Whether the DO `d` ends before it begins, in another branch, or outside of a range that holds it (11.10).
@@ -233,11 +97,9 @@ impl Ranges {
         ensures left { IfOk result (λ left. (program : List LineFields)
             → IsRangeTable self.now program → left.items ≡ loops.left_by program i j) }
     {
-        let mut left: Vec<usize> = self
-            .ancestors(i)
-            .filter(|d| is_left(&self.terminals, *d, i, j))
+        let left: Vec<usize> = (0..self.terminals.len())
+            .filter(|d| self.is_left(i, j, *d))
             .collect(alloc)?;
-        left.reverse();
         Ok(left)
     }
 
@@ -247,33 +109,48 @@ impl Ranges {
             (λ ends. (program : List LineFields) → IsRangeTable self.now program → loops.AreNested program
             → ends.items ≡ loops.loops_ending program t) }
     {
-        let ends: Vec<usize> = self
-            .ancestors(t)
-            .filter(|d| ends_at(&self.terminals, *d, t))
+        let mut ends: Vec<usize> = (0..self.terminals.len())
+            .filter(|d| self.ends_at(t, *d))
             .collect(alloc)?;
+        ends.reverse();
         Ok(ends)
     }
 
-    /// Whether something holds `j` and not `i`.
-    fn enters(&self, i: usize, j: usize) -> bool
-        ensures { result ≡ table.enters self.now i j }
+    fn ends_at(&self, t: usize, d: usize) -> bool
+        ensures { result ≡ table.ends_at_by_table self.now t d }
     {
-        self.ancestors(j)
-            .any(|d| self.holds(j, d) && !self.holds(i, d))
+        match end_in(&self.terminals, d) {
+            Some(terminal) => terminal == t,
+            None => false,
+        }
     }
 
-    /// Whether something holds `i` and not `j`, and begins before the innermost that holds `j`.
-    fn crosses(&self, i: usize, j: usize) -> bool
-        ensures { result ≡ table.crosses self.now i j }
+    /// Whether `d` holds `j`, and not `i` or, where control has left something before, even so.
+    fn enters(&self, left: bool, i: usize, j: usize, d: usize) -> bool
+        ensures { result ≡ (table.holds_by self.now j d && (left || not (table.holds_by self.now i d))) }
     {
-        let innermost = parent(&self.parents, j);
-        self.ancestors(i).any(|d| self.holds(i, d) && !self.holds(j, d) && precedes(d, innermost))
+        self.holds(j, d) && (left || !self.holds(i, d))
     }
 
-    /// Whether control enters a range or a branch from outside where it goes from `i` to `j` (11.10.8, 11.6 to 11.8).
+    /// Whether `d` holds `i` and not `j`.
+    fn leaves(&self, i: usize, j: usize, d: usize) -> bool
+        ensures { result ≡ (table.holds_by self.now i d && not (table.holds_by self.now j d)) }
+    {
+        self.holds(i, d) && !self.holds(j, d)
+    }
+
+    /// Whether control enters a range or a branch from outside where it goes from `i` to `j` (11.10.8, 11.6 to 11.8):
+    /// one of those that hold `j` does not hold `i`, or begins behind one that holds `i` and not `j`.
     pub(crate) fn goes_in(&self, i: usize, j: usize) -> bool
         ensures { (program : List LineFields) → IsRangeTable self.now program → result ≡ loops.goes_in program i j }
     {
-        self.enters(i, j) || self.crosses(i, j)
+        let mut left = false;
+        for d in 0..self.terminals.len() {
+            if self.enters(left, i, j, d) {
+                return true;
+            }
+            left |= self.leaves(i, j, d);
+        }
+        false
     }
 }

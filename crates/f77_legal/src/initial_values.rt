@@ -134,18 +134,8 @@ fn is_filled(names: &Names, group: &DataGroup) -> bool
     is_used_up(rest)
 }
 
-/// Notes a name of DATA, and says whether it was noted before.
-#[tactic(auto, using(crate::proofs::Misplaced::held_more))]
-fn note<'a>(seen: &mut IndexSet<&'a Name>, name: &'a Name) -> Result<bool, AllocError>
-    ensures before { IfOk result (λ before. before ≡ list_any (bytes_eq name.now) (names_held seen.old.keys)) }
-    ensures noted { IfOk result
-        (λ before. before ≡ false → names_held seen.new.keys ≡ names_held seen.old.keys ++ name.now ∷ []) }
-{
-    let is_new = seen.insert(name)?;
-    Ok(!is_new)
-}
-
 /// Notes a name of DATA, and says whether it is a dummy argument or was noted before.
+#[tactic(auto, using(crate::proofs::Misplaced::held_more))]
 fn is_misplaced<'a>(
     names: &Names,
     seen: &mut IndexSet<&'a Name>,
@@ -159,7 +149,8 @@ fn is_misplaced<'a>(
     if names.is_dummy(name) {
         return Ok(true);
     }
-    note(seen, name)
+    let is_new = seen.insert(name)?;
+    Ok(!is_new)
 }
 
 /// Notes names of DATA in order, up to the first that may not stand there. Says whether there is one.
@@ -180,38 +171,9 @@ fn are_misplaced<'a>(
     Ok(false)
 }
 
-/// Notes the names of groups in order, up to the first that may not stand there. Says whether there is one.
-fn are_groups_misplaced<'a>(
-    names: &Names,
-    seen: &mut IndexSet<&'a Name>,
-    groups: &'a [DataGroup],
-) -> Result<bool, AllocError>
-    ensures misplaced { IfOk result
-        (λ bad. bad ≡ misplaces (dummy_at names.now) (names_held seen.old.keys) (names_of_groups
-        (map data_group_of groups.now))) }
-    ensures noted { IfOk result (λ bad. bad ≡ false → names_held seen.new.keys
-        ≡ names_held seen.old.keys ++ names_of_groups (map data_group_of groups.now)) }
-{
-    for group in groups {
-        if are_misplaced(names, seen, &group.names)? {
-            return Ok(true);
-        }
-    }
-    Ok(false)
-}
-
-fn is_one_unfilled(names: &Names, groups: &[DataGroup]) -> bool
-    ensures { result
-        ≡ list_any (λ g. not (fills (array_bounds names.now) (kind_at names.now) g)) (map data_group_of groups.now) }
-{
-    for group in groups {
-        if !is_filled(names, group) {
-            return true;
-        }
-    }
-    false
-}
-
+/// Whether groups of DATA break the clause on DATA, behind those whose names are noted. Where they do not, their own
+/// names are noted.
+#[tactic(auto, using(crate::proofs::Misplaced::none_noted))]
 fn groups_break<'a>(
     names: &Names,
     seen: &mut IndexSet<&'a Name>,
@@ -224,30 +186,25 @@ fn groups_break<'a>(
     ensures noted { IfOk result (λ bad. bad ≡ false → names_held seen.new.keys
         ≡ names_held seen.old.keys ++ names_of_groups (map data_group_of groups.now)) }
 {
-    if are_groups_misplaced(names, seen, groups)? {
-        return Ok(true);
+    for group in groups {
+        if are_misplaced(names, seen, &group.names)? {
+            return Ok(true);
+        }
+        if !is_filled(names, group) {
+            return Ok(true);
+        }
     }
-    Ok(is_one_unfilled(names, groups))
+    Ok(false)
 }
 
-/// Whether the statement breaks the clause on DATA, behind statements whose names of DATA are noted. Where it does not,
-/// its own names are noted.
-#[tactic(auto, using(crate::proofs::Misplaced::none_noted, crate::proofs::Forms::no_groups))]
-fn breaks_data<'a>(
-    names: &Names,
-    seen: &mut IndexSet<&'a Name>,
-    stmt: &'a Stmt,
-) -> Result<bool, AllocError>
-    ensures breaks { IfOk result
-        (λ bad. bad
-        ≡ breaks_data (array_bounds names.now) (kind_at names.now) (dummy_at names.now) (names_held seen.old.keys)
-        (statement_of stmt.now)) }
-    ensures noted { IfOk result (λ bad. bad ≡ false → names_held seen.new.keys
-        ≡ names_held seen.old.keys ++ names_of_groups (groups_of (statement_of stmt.now))) }
+/// The groups of a DATA statement. None for another statement.
+#[tactic(auto, using(crate::proofs::Forms::no_groups))]
+fn data_groups(stmt: &Stmt) -> &[DataGroup]
+    ensures { map data_group_of result.now ≡ groups_of (statement_of stmt.now) }
 {
     match stmt {
-        Stmt::Preset { groups } => groups_break(names, seen, groups),
-        _ => Ok(false),
+        Stmt::Preset { groups } => groups,
+        _ => &[],
     }
 }
 
@@ -257,7 +214,7 @@ pub(crate) fn first_bad_data(
     names: &Names,
     lines: &[Shared<Line>],
 ) -> Result<Option<u32>, AllocError>
-    ensures line { IsNameTable names.now (map line_of lines.now)
+    ensures { IsNameTable names.now (map line_of lines.now)
         → IfOk result
         (λ line. line
         ≡ slice_get
@@ -265,7 +222,7 @@ pub(crate) fn first_bad_data(
 {
     let mut seen = IndexSet::new(alloc);
     for line in lines {
-        if breaks_data(names, &mut seen, &line.stmt)? {
+        if groups_break(names, &mut seen, data_groups(&line.stmt))? {
             return Ok(Some(line.line));
         }
     }

@@ -21,21 +21,12 @@ pub fn result_kind(operator: Operator) -> Kind
     ensures { result ≡ kinds.result_kind operator }
 {
     match operator {
-        Operator::Equivalent
-        | Operator::NotEquivalent
-        | Operator::Or
-        | Operator::And
-        | Operator::Less
-        | Operator::LessOrEqual
-        | Operator::Equal
-        | Operator::NotEqual
-        | Operator::GreaterOrEqual
-        | Operator::Greater => Kind::Logical,
         Operator::Add
         | Operator::Subtract
         | Operator::Multiply
         | Operator::Divide
         | Operator::Power => Kind::Integer,
+        _ => Kind::Logical,
     }
 }
 
@@ -46,16 +37,6 @@ pub(crate) fn operand_kind(operator: Operator) -> Kind
     match operator {
         Operator::Equivalent | Operator::NotEquivalent | Operator::Or | Operator::And =>
             Kind::Logical,
-        Operator::Less
-        | Operator::LessOrEqual
-        | Operator::Equal
-        | Operator::NotEqual
-        | Operator::GreaterOrEqual
-        | Operator::Greater
-        | Operator::Add
-        | Operator::Subtract
-        | Operator::Multiply
-        | Operator::Divide
-        | Operator::Power => Kind::Integer,
+        _ => Kind::Integer,
     }
 }

@@ -16,6 +16,7 @@ ghost use Rattle.f77_legal.specs.code.LabelTable.{noted};
 ghost use Rattle.f77_legal.specs.Labels as clause;
 ghost use Rattle.f77_legal.specs.Labels.{is_double, label_place};
 
+use crate::blocks::is_alternative;
 use f77_program::Line;
 use f77_tree::{Form, Shared, Stmt};
 use indexmap::IndexMap;
@@ -39,7 +40,7 @@ pub struct Labels {
 impl Labels {
     /// The labels of these lines.
     pub(crate) fn of(alloc: Global, lines: &[Shared<Line>]) -> Result<Labels, AllocError>
-        ensures table { IfOk result (λ table. IsLabelTable table (map line_of lines.now)) }
+        ensures { IfOk result (λ table. IsLabelTable table (map line_of lines.now)) }
     {
         let mut labels = Labels {
             places: IndexMap::new(alloc),
@@ -54,21 +55,16 @@ impl Labels {
     fn place_with(&self, label: u32, i: usize) -> Place
         ensures { result ≡ noted (get nat_eq self.now.places label) i }
     {
-        match self.places.get(&label) {
-            Some(place) => Place {
-                first: place.first,
-                again: true,
-            },
-            None => Place {
-                first: i,
-                again: false,
-            },
+        let before = self.places.get(&label);
+        Place {
+            first: before.map_or(i, |place| place.first),
+            again: before.is_some(),
         }
     }
 
     /// Adds the label of statement `i`, if it has one. The table has those of the statements before it.
     fn note(&mut self, i: usize, line: &Line) -> Result<(), AllocError>
-        ensures table { OnOk result ((program : List LineFields) → IsLabelTable self.old program → length program ≡ i
+        ensures { OnOk result ((program : List LineFields) → IsLabelTable self.old program → length program ≡ i
             → IsLabelTable self.new (program ++ line_of line.now ∷ [])) }
     {
         let Some(label) = line.label else {
@@ -79,30 +75,22 @@ impl Labels {
         Ok(())
     }
 
-    /// The first label that a later statement has too.
-    fn first_again(&self) -> Option<u32>
-        ensures first { result ≡ option_map (λ e. e.0) (find (λ e. e.1.again) self.now.places.entries) }
-        ensures unique { IsUnique nat_eq self.now.places }
-    {
-        let (label, _) = self.places.iter().find(|(_, place)| place.again)?;
-        Some(*label)
-    }
-
     /// The first label that stands on two statements (3.4).
-    #[tactic(auto, using(crate::proofs::LabelTables::first_double))]
     pub(crate) fn first_double(&self) -> Option<u32>
         ensures { (program : List LineFields) → IsLabelTable self.now program
             → result ≡ slice_get (filter (is_double program) (clause.labels program)) 0 }
     {
-        self.first_again()
+        self.places
+            .iter()
+            .find(|(_, place)| place.again)
+            .map(|(label, _)| *label)
     }
 
     /// The number of the first statement with the label, from 0.
     pub fn place(&self, label: u32) -> Option<usize>
         ensures { (program : List LineFields) → IsLabelTable self.now program → result ≡ label_place program label }
     {
-        let place = self.places.get(&label)?;
-        Some(place.first)
+        self.places.get(&label).map(|place| place.first)
     }
 
     /// Whether the label, if any, stands on no statement.
@@ -110,10 +98,7 @@ impl Labels {
         ensures { (program : List LineFields) → IsLabelTable self.now program
             → result ≡ option_map_or (λ label. not (is_some (label_place program label))) label false }
     {
-        match label {
-            Some(label) => self.place(label).is_none(),
-            None => false,
-        }
+        label.is_some_and(|label| self.place(label).is_none())
     }
 
     /// The first statement with the label, if there is one.
@@ -165,15 +150,7 @@ pub(crate) fn names_no_label(labels: &Labels, stmt: &Stmt) -> bool
 pub(crate) fn is_target(stmt: &Stmt) -> bool
     ensures { result ≡ clause.is_target (statement_of stmt.now) }
 {
-    !matches!(
-        stmt.form(),
-        Form::Subroutine
-            | Form::Declare
-            | Form::Dimension
-            | Form::Preset
-            | Form::ElseIf
-            | Form::Else
-    )
+    stmt.form().is_executable() && !is_alternative(stmt)
 }
 
 /// Whether the label, if any, stands on a statement where control may not go.
@@ -183,10 +160,9 @@ fn leads_badly(labels: &Labels, lines: &[Shared<Line>], label: Option<u32>) -> b
         (λ label. option_map_or (λ target. not (clause.is_target target))
         (clause.statement_with (map line_of lines.now) label) false) label false }
 {
-    match labels.statement_with(lines, label) {
-        Some(target) => !is_target(target),
-        None => false,
-    }
+    labels
+        .statement_with(lines, label)
+        .is_some_and(|target| !is_target(target))
 }
 
 /// Whether a jump of the statement leads to a statement where control may not go.
@@ -202,26 +178,14 @@ pub(crate) fn jumps_badly(labels: &Labels, lines: &[Shared<Line>], stmt: &Stmt) 
     false
 }
 
-/// Whether the statement may be the terminal statement of a DO (11.10).
+/// Whether the statement may be the terminal statement of a DO (11.10): an action that is no jump but a computed GO TO,
+/// or a logical IF.
 pub fn is_terminal(stmt: &Stmt) -> bool
     ensures { result ≡ clause.is_terminal (statement_of stmt.now) }
 {
-    !matches!(
+    matches!(
         stmt.form(),
-        Form::Subroutine
-            | Form::Declare
-            | Form::Dimension
-            | Form::Preset
-            | Form::Goto
-            | Form::ArithIf
-            | Form::BlockIf
-            | Form::ElseIf
-            | Form::Else
-            | Form::EndIf
-            | Form::Loop
-            | Form::Return
-            | Form::Stop
-            | Form::End
+        Form::Assign | Form::ComputedGoto | Form::LogicalIf | Form::Continue | Form::Trap
     )
 }
 
@@ -230,8 +194,7 @@ pub(crate) fn ends_badly(labels: &Labels, lines: &[Shared<Line>], stmt: &Stmt) -
     ensures { IsLabelTable labels.now (map line_of lines.now)
         → result ≡ clause.ends_badly (map line_of lines.now) (statement_of stmt.now) }
 {
-    match labels.statement_with(lines, terminal_label(stmt)) {
-        Some(last) => !is_terminal(last),
-        None => false,
-    }
+    labels
+        .statement_with(lines, terminal_label(stmt))
+        .is_some_and(|last| !is_terminal(last))
 }

@@ -20,7 +20,6 @@ use crate::clause::Clause;
 use crate::fault::CheckFault;
 use crate::heading::unit;
 use crate::initial_values::first_bad_data;
-use crate::labels::Labels;
 use crate::names::Names;
 use crate::tables::Tables;
 use f77_program::Line;
@@ -46,6 +45,23 @@ fn check_names(names: &Names, lines: &[Shared<Line>]) -> Result<(), CheckFault>
     Ok(())
 }
 
+/// The first fault of a name, a statement or a label. No memory is taken for it.
+fn check_statements(tables: &Tables, lines: &[Shared<Line>]) -> Result<(), CheckFault>
+    ensures { AreTables tables.now (map line_of lines.now) → ReportsFirst result
+        (name_faults (map line_of lines.now) ++ statement_faults (map line_of lines.now)) }
+{
+    check_names(&tables.names, lines)?;
+    let first = tables.first_of_all(lines);
+    check_expressions(first)?;
+    if let Some(label) = tables.labels.first_double() {
+        return Err(CheckFault::DoubleLabel(label));
+    }
+    match first {
+        Some((clause, line)) => Err(clause.fault(line)),
+        None => Ok(()),
+    }
+}
+
 /// The fault of the first breach, if that is of a clause on expressions.
 fn check_expressions(first: Option<(Clause, u32)>) -> Result<(), CheckFault>
     ensures { (program : List LineFields) → first ≡ first_breach program
@@ -58,38 +74,6 @@ fn check_expressions(first: Option<(Clause, u32)>) -> Result<(), CheckFault>
         return Err(clause.fault(line));
     }
     Ok(())
-}
-
-/// The fault of the first breach, where no clause on expressions is broken.
-fn check_control(first: Option<(Clause, u32)>) -> Result<(), CheckFault>
-    ensures { (program : List LineFields) → first ≡ first_breach program
-        → clause_faults expression_clauses program ≡ []
-        → ReportsFirst result (clause_faults control_clauses program) }
-{
-    match first {
-        Some((clause, line)) => Err(clause.fault(line)),
-        None => Ok(()),
-    }
-}
-
-fn check_labels(labels: &Labels) -> Result<(), CheckFault>
-    ensures { (program : List LineFields) → IsLabelTable labels.now program
-        → ReportsFirst result (label_faults program) }
-{
-    match labels.first_double() {
-        Some(label) => Err(CheckFault::DoubleLabel(label)),
-        None => Ok(()),
-    }
-}
-
-fn check_data(alloc: Global, names: &Names, lines: &[Shared<Line>]) -> Result<(), CheckFault>
-    ensures { IsNameTable names.now (map line_of lines.now)
-        → ReportsFirstFault result (data_faults (map line_of lines.now)) }
-{
-    match first_bad_data(alloc, names, lines)? {
-        Some(line) => Err(CheckFault::BadData(line)),
-        None => Ok(()),
-    }
 }
 
 fn check_size(names: &Names, lines: &[Shared<Line>]) -> Result<(), CheckFault>
@@ -113,11 +97,9 @@ pub fn judge(alloc: Global, tables: &Tables, lines: &[Shared<Line>]) -> Result<(
         → AreTables tables.now program
         → slice_get (name_faults program ++ statement_faults program) 0 ≡ Some fault → result ≡ Err fault }
 {
-    check_names(&tables.names, lines)?;
-    let first = tables.first_of_all(lines);
-    check_expressions(first)?;
-    check_labels(&tables.labels)?;
-    check_control(first)?;
-    check_data(alloc, &tables.names, lines)?;
+    check_statements(tables, lines)?;
+    if let Some(line) = first_bad_data(alloc, &tables.names, lines)? {
+        return Err(CheckFault::BadData(line));
+    }
     check_size(&tables.names, lines)
 }

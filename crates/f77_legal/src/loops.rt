@@ -1,13 +1,14 @@
 //! DO variables: which variable a statement sets, and which it may not set.
 
 ghost use Rattle.std.specs.Prelude.{◌≡◌, false, map, option_map};
+ghost use Rattle.std.specs.List.{list_any};
 ghost use Rattle.std.specs.Option.{option_and_then, option_map_or};
 ghost use Rattle.std.specs.Str.{bytes_eq};
 ghost use Rattle.f77_program.specs.Program.{line_of};
 ghost use Rattle.f77_tree.specs.Statement.{statement_of};
+ghost use Rattle.f77_legal.specs.Blocks.{statement_numbers};
 ghost use Rattle.f77_legal.specs.Labels.{nth_statement};
 ghost use Rattle.f77_legal.specs.Loops as loops;
-ghost use Rattle.f77_legal.specs.code.LoopTable as table;
 ghost use Rattle.f77_legal.specs.LoopTable.{IsRangeTable};
 
 use crate::enclosing::Ranges;
@@ -37,34 +38,24 @@ pub(crate) fn variable_of(stmt: &Stmt) -> Option<&Name>
     }
 }
 
-fn variable_at(lines: &[Shared<Line>], d: usize) -> Option<&Name>
-    ensures { option_map (λ name. name.now) result
-        ≡ option_and_then loops.do_variable_of (nth_statement (map line_of lines.now) d) }
-{
-    match lines.get(d) {
-        Some(line) => variable_of(&line.stmt),
-        None => None,
-    }
-}
-
 fn is_variable_at(lines: &[Shared<Line>], name: &Name, d: usize) -> bool
     ensures { result ≡ option_map_or (bytes_eq name.now)
         (option_and_then loops.do_variable_of (nth_statement (map line_of lines.now) d)) false }
 {
-    match variable_at(lines, d) {
-        Some(variable) => name == variable,
+    match lines.get(d) {
+        Some(line) => variable_of(&line.stmt).is_some_and(|variable| name == variable),
         None => false,
     }
 }
 
 fn is_held_with(ranges: &Ranges, lines: &[Shared<Line>], i: usize, name: &Name) -> bool
-    ensures { result ≡ table.is_held_with ranges.now (map line_of lines.now) i name.now }
+    ensures { IsRangeTable ranges.now (map line_of lines.now)
+        → result ≡ list_any (loops.holds_with (map line_of lines.now) i name.now) (statement_numbers (map line_of lines.now)) }
 {
-    ranges.ancestors(i).any(|d| ranges.in_range(d, i) && is_variable_at(lines, name, d))
+    (0..lines.len()).any(|d| ranges.in_range(d, i) && is_variable_at(lines, name, d))
 }
 
 /// Whether `stmt`, as statement `i`, sets the variable of a DO whose range holds it (11.10.5).
-#[tactic(auto, using(crate::proofs::LoopTables::held_with_is))]
 pub(crate) fn sets_variable(ranges: &Ranges, lines: &[Shared<Line>], i: usize, stmt: &Stmt) -> bool
     ensures { IsRangeTable ranges.now (map line_of lines.now)
         → result ≡ loops.sets_variable (map line_of lines.now) i (statement_of stmt.now) }

@@ -51,24 +51,16 @@ pub struct Names {
 }
 
 impl Times {
-    fn is_never(self) -> bool
+    pub(crate) fn is_never(self) -> bool
         ensures { result ≡ table_code.is_never self }
     {
-        match self {
-            Times::Never => true,
-            Times::Once => false,
-            Times::More => false,
-        }
+        matches!(self, Times::Never)
     }
 
     fn is_more(self) -> bool
         ensures { result ≡ table_code.is_more self }
     {
-        match self {
-            Times::Never => false,
-            Times::Once => false,
-            Times::More => true,
-        }
+        matches!(self, Times::More)
     }
 }
 
@@ -165,10 +157,7 @@ impl Names {
     pub fn kind(&self, name: &Name) -> Kind
         ensures { result ≡ kind_at self.now name.now }
     {
-        match self.said_of(name) {
-            Some(facts) => facts.kind,
-            None => Kind::Integer,
-        }
+        self.said_of(name).map_or(Kind::Integer, |facts| facts.kind)
     }
 
     /// The bounds of a name: none for a variable.
@@ -185,10 +174,8 @@ impl Names {
     pub(crate) fn is_dummy(&self, name: &Name) -> bool
         ensures { result ≡ dummy_at self.now name.now }
     {
-        match self.said_of(name) {
-            Some(facts) => !facts.dummy.is_never(),
-            None => false,
-        }
+        self.said_of(name)
+            .is_some_and(|facts| !facts.dummy.is_never())
     }
 
     /// The number of names.
@@ -198,32 +185,15 @@ impl Names {
         self.facts.len()
     }
 
-    fn find_real(&self) -> Option<(&Name, &Facts)>
-        ensures { option_map deref_pair result
-            ≡ find (λ e. table_code.is_real_entry (entry_of e)) self.now.facts.entries }
-    {
-        self.facts
-            .iter()
-            .find(|(name, facts)| is_real_entry(name, facts))
-    }
-
     /// The first name that is REAL by its first letter (4.1.2).
     pub(crate) fn first_real(&self) -> Option<&Name>
         ensures { (program : List LineFields) → IsNameTable self.now program
             → option_map (λ name. name.now) result ≡ slice_get (filter (is_real program) (symbols program)) 0 }
     {
-        self.find_real().map(|(name, _)| name)
-    }
-
-    fn find_twice(&self, unit: Option<&Name>) -> Option<(&Name, &Facts)>
-        ensures { option_map deref_pair result
-            ≡ find
-            (λ e. table_code.is_twice_entry (option_map (λ n. n.now) unit.entry) (entry_of e))
-            self.now.facts.entries }
-    {
         self.facts
             .iter()
-            .find(|(name, facts)| is_twice_entry(name, facts, unit))
+            .find(|(name, facts)| is_real_entry(name, facts))
+            .map(|(name, _)| name)
     }
 
     /// The first name that is typed, given bounds or a dummy argument twice, or that is also the name of the unit or of
@@ -233,7 +203,10 @@ impl Names {
             → IsNameTable self.now program → option_map (λ n. n.now) unit.entry ≡ unit_name program
             → option_map (λ name. name.now) result ≡ slice_get (filter (is_twice program) (symbols program)) 0 }
     {
-        self.find_twice(unit).map(|(name, _)| name)
+        self.facts
+            .iter()
+            .find(|(name, facts)| is_twice_entry(name, facts, unit))
+            .map(|(name, _)| name)
     }
 
     /// The number of elements of all arrays, or the largest `u64` if it is larger.

@@ -8,21 +8,6 @@ ghost use Rattle.f77_legal.specs.Frames.{framed};
 
 use f77_tree::{Form, Name, Stmt};
 
-/// Whether the statement is a DO with this label and this variable.
-fn is_loop_with(stmt: &Stmt, terminal: u32, name: &Name) -> bool
-    ensures { result ≡ true
-        → framed (statement_of stmt.now) ≡ Statement.Loop terminal name.now (Tree.Number 0) (Tree.Number 0) None }
-{
-    match stmt {
-        Stmt::Loop {
-            label,
-            variable,
-            ..
-        } => *label == terminal && variable == name,
-        _ => false,
-    }
-}
-
 /// Whether the frame has CONTINUE in the place of a statement of this form.
 fn is_framed_out(form: Form) -> bool
     ensures { result ≡ frames.is_framed_out form }
@@ -39,17 +24,24 @@ fn is_framed_out(form: Form) -> bool
 pub fn keeps_frame(old: &Stmt, new: &Stmt) -> bool
     ensures { result ≡ true → framed (statement_of new.now) ≡ framed (statement_of old.now) }
 {
-    match old {
-        Stmt::Loop {
-            label,
-            variable,
-            ..
-        } => is_loop_with(new, *label, variable),
-        Stmt::BlockIf { .. } => matches!(new, Stmt::BlockIf { .. }),
-        Stmt::ElseIf { .. } => matches!(new, Stmt::ElseIf { .. }),
-        Stmt::Else => matches!(new, Stmt::Else),
-        Stmt::EndIf => matches!(new, Stmt::EndIf),
-        Stmt::End => matches!(new, Stmt::End),
+    match (old, new) {
+        (
+            Stmt::Loop {
+                label,
+                variable,
+                ..
+            },
+            Stmt::Loop {
+                label: new_label,
+                variable: new_variable,
+                ..
+            },
+        ) => label == new_label && variable == new_variable,
+        (Stmt::BlockIf { .. }, Stmt::BlockIf { .. })
+        | (Stmt::ElseIf { .. }, Stmt::ElseIf { .. })
+        | (Stmt::Else, Stmt::Else)
+        | (Stmt::EndIf, Stmt::EndIf)
+        | (Stmt::End, Stmt::End) => true,
         _ => is_framed_out(old.form()) && is_framed_out(new.form()),
     }
 }

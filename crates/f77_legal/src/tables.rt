@@ -3,15 +3,13 @@
 
 ghost use Rattle.std.specs.Prelude.{◌≡◌, List, map, IfOk, false};
 ghost use Rattle.std.specs.Option.{option_map_or};
-ghost use Rattle.f77_legal.specs.Blocks.{first_numbers};
 ghost use Rattle.f77_legal.specs.Labels.{label_place};
 ghost use Rattle.f77_program.specs.Program.{LineFields, line_of};
 ghost use Rattle.f77_tree.specs.Statement.{statement_of};
 ghost use Rattle.f77_legal.specs.Loops as loops;
 ghost use Rattle.f77_legal.specs.LabelTable.{IsLabelTable};
-ghost use Rattle.f77_legal.specs.BlockTable.{IsBlockTable};
 ghost use Rattle.f77_legal.specs.Tables.{AreTables, Serve};
-ghost use Rattle.f77_legal.specs.code.Tables.{terminal_of, closed_branch_end};
+ghost use Rattle.f77_legal.specs.code.Tables.{terminal_of};
 
 use crate::blocks::Blocks;
 use crate::enclosing::Ranges;
@@ -43,28 +41,12 @@ fn terminals(
     labels: &Labels,
     lines: &[Shared<Line>],
 ) -> Result<Vec<Option<usize>>, AllocError>
-    ensures terminals { IfOk result (λ ends. (program : List LineFields) → IsLabelTable labels.now program
+    ensures { IfOk result (λ ends. (program : List LineFields) → IsLabelTable labels.now program
         → ends.items ≡ map (λ line. terminal_of program (statement_of line.stmt)) lines.now) }
 {
     let mut ends = Vec::new(alloc);
     for line in lines {
         ends.push(terminal(labels, &line.stmt))?;
-    }
-    Ok(ends)
-}
-
-/// For each statement the end of the branch that it begins, if it begins one.
-fn branch_ends(
-    alloc: Global,
-    blocks: &Blocks,
-    count: usize,
-) -> Result<Vec<Option<usize>>, AllocError>
-    ensures ends { IfOk result (λ ends. (program : List LineFields) → IsBlockTable blocks.now program
-        → ends.items ≡ map (closed_branch_end program) (first_numbers count)) }
-{
-    let mut ends = Vec::new(alloc);
-    for i in 0..count {
-        ends.push(blocks.branch_end(i))?;
     }
     Ok(ends)
 }
@@ -77,9 +59,10 @@ impl Tables {
         let names = Names::of(alloc, lines)?;
         let labels = Labels::of(alloc, lines)?;
         let blocks = Blocks::of(alloc, lines)?;
-        let terminals = terminals(alloc, &labels, lines)?;
-        let branch_ends = branch_ends(alloc, &blocks, lines.len())?;
-        let ranges = Ranges::of(alloc, terminals, branch_ends)?;
+        let ranges = Ranges {
+            terminals: terminals(alloc, &labels, lines)?,
+            branch_ends: Vec::from_slice(alloc, &blocks.branch_ends)?,
+        };
         Ok(Tables {
             names,
             labels,
@@ -95,13 +78,9 @@ impl Tables {
             ≡ option_map_or
             (λ label. option_map_or (loops.goes_in program i) (label_place program label) false) label false }
     {
-        let Some(label) = label else {
-            return false;
-        };
-        match self.labels.place(label) {
-            Some(j) => self.ranges.goes_in(i, j),
-            None => false,
-        }
+        label
+            .and_then(|label| self.labels.place(label))
+            .is_some_and(|j| self.ranges.goes_in(i, j))
     }
 
     /// Whether a jump of `stmt`, as statement `i`, leads into a range or a branch.

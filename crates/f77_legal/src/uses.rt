@@ -35,19 +35,7 @@ impl Times {
     {
         match self {
             Times::Never => Times::Once,
-            Times::Once => Times::More,
-            Times::More => Times::More,
-        }
-    }
-
-    /// The kind that was given first: `new` is given now, `old` was given before.
-    fn first_kind(self, new: Kind, old: Kind) -> Kind
-        ensures { result ≡ first_said self new old }
-    {
-        match self {
-            Times::Never => new,
-            Times::Once => old,
-            Times::More => old,
+            _ => Times::More,
         }
     }
 }
@@ -68,39 +56,30 @@ impl Facts {
     fn note_kind(&mut self, kind: Kind)
         ensures { facts_fields self.new ≡ with_kind (facts_fields self.old) kind }
     {
-        self.kind = self.typed.first_kind(kind, self.kind);
-        self.typed = self.typed.next();
-    }
-
-    fn note_shape(&mut self, alloc: Global, bounds: &[u32]) -> Result<(), AllocError>
-        ensures noted { OnOk result (facts_fields self.new ≡ with_shape (facts_fields self.old) bounds.now) }
-    {
-        match self.dimensioned {
-            Times::Never => {
-                self.bounds = Vec::from_slice(alloc, bounds)?;
-                self.dimensioned = Times::Once;
-                Ok(())
-            }
-            Times::Once => {
-                self.dimensioned = Times::More;
-                Ok(())
-            }
-            Times::More => Ok(()),
+        let before = self.typed;
+        self.typed = before.next();
+        if before.is_never() {
+            self.kind = kind;
         }
     }
 
     #[tactic(auto, using(crate::proofs::Noting::bounds_given))]
     fn note_bounds(&mut self, alloc: Global, bounds: &[u32]) -> Result<(), AllocError>
-        ensures noted { OnOk result (facts_fields self.new ≡ facts_with_bounds (facts_fields self.old) bounds.now) }
+        ensures { OnOk result (facts_fields self.new ≡ facts_with_bounds (facts_fields self.old) bounds.now) }
     {
         if bounds.is_empty() {
             return Ok(());
         }
-        self.note_shape(alloc, bounds)
+        let before = self.dimensioned;
+        self.dimensioned = before.next();
+        if before.is_never() {
+            self.bounds = Vec::from_slice(alloc, bounds)?;
+        }
+        Ok(())
     }
 
     fn note(&mut self, alloc: Global, said: Said) -> Result<(), AllocError>
-        ensures noted { OnOk result
+        ensures { OnOk result
             ((name : List ℕ) → facts_fields self.new
             ≡ with_fact (facts_fields self.old) (use_of name said.entry)) }
     {
@@ -121,7 +100,7 @@ impl Facts {
 
 impl Names {
     fn add(&mut self, alloc: Global, name: &Name, said: Said) -> Result<(), AllocError>
-        ensures noted { get bytes_eq self.old.facts name.now ≡ None
+        ensures { get bytes_eq self.old.facts name.now ≡ None
             → OnOk result
             (table_entries self.new
             ≡ with_use (table_entries self.old) (use_of name.now said.entry)) }
@@ -133,7 +112,7 @@ impl Names {
     }
 
     fn note(&mut self, alloc: Global, name: &Name, said: Said) -> Result<(), AllocError>
-        ensures noted { OnOk result
+        ensures { OnOk result
             (table_entries self.new
             ≡ with_use (table_entries self.old) (use_of name.now said.entry)) }
     {
@@ -145,7 +124,7 @@ impl Names {
 
     /// Notes that the names of a statement occur.
     fn note_names(&mut self, alloc: Global, stmt: &Stmt) -> Result<(), AllocError>
-        ensures noted { OnOk result
+        ensures { OnOk result
             (table_entries self.new
             ≡ with_uses (table_entries self.old)
             (map NameUse.Plain (names_of (statement_of stmt.now)))) }
@@ -159,7 +138,7 @@ impl Names {
     }
 
     fn note_dummies(&mut self, alloc: Global, names: &[Name]) -> Result<(), AllocError>
-        ensures noted { OnOk result
+        ensures { OnOk result
             (table_entries self.new
             ≡ with_uses (table_entries self.old) (map NameUse.Dummy names.now)) }
     {
@@ -170,7 +149,7 @@ impl Names {
     }
 
     fn note_typed(&mut self, alloc: Global, kind: Kind, items: &[Decl]) -> Result<(), AllocError>
-        ensures noted { OnOk result (table_entries self.new
+        ensures { OnOk result (table_entries self.new
             ≡ with_uses (table_entries self.old)
             (map (NameUse.Typed kind) (map decl_of items.now))) }
     {
@@ -181,7 +160,7 @@ impl Names {
     }
 
     fn note_dimensioned(&mut self, alloc: Global, items: &[Decl]) -> Result<(), AllocError>
-        ensures noted { OnOk result (table_entries self.new
+        ensures { OnOk result (table_entries self.new
             ≡ with_uses (table_entries self.old)
             (map NameUse.Dimensioned (map decl_of items.now))) }
     {
@@ -194,7 +173,7 @@ impl Names {
     /// Notes what a statement says of its names.
     #[tactic(auto, using(crate::proofs::Forms::plain_uses))]
     pub(crate) fn note_statement(&mut self, alloc: Global, stmt: &Stmt) -> Result<(), AllocError>
-        ensures noted { OnOk result
+        ensures { OnOk result
             (table_entries self.new
             ≡ with_uses (table_entries self.old) (uses_of (statement_of stmt.now))) }
     {

@@ -1,13 +1,12 @@
 -- What the table of blocks has of a program.
 -- Private functions and proofs alone cite what stands here.
 use Rattle.std.specs.Prelude.{◌+◌, ◌-◌, ◌&&◌, ◌||◌, ◌==◌, if◌then◌else◌}
-use Rattle.std.specs.Prelude.{ℕ, Bool, false, not, nat_lt, is_some, List, slice_index_or, Option, None}
+use Rattle.std.specs.Prelude.{ℕ, Bool, false, not, nat_lt, is_some, List, slice_index_or, take, Option, None}
 use Rattle.std.specs.List.{find, list_any}
 use Rattle.std.specs.Option.{option_map_or}
 use Rattle.f77_program.specs.Program.{LineFields}
 use Rattle.f77_tree.specs.Statement.{Statement}
-use Rattle.f77_legal.specs.Blocks.{is_block_if, is_end_if, is_else, is_alternative, statement_numbers, has_at, is_level}
-use Rattle.f77_legal.specs.Blocks.{branch_end}
+use Rattle.f77_legal.specs.Blocks.{is_block_if, is_end_if, is_alternative, statement_numbers, has_at, is_level}
 use Rattle.f77_legal.specs.declared.blocks.Blocks.{Blocks}
 use Rattle.f77_legal.specs.declared.blocks.Extent.{Extent}
 use Rattle.f77_legal.specs.declared.blocks.Extent.TheVariants.{Block, Branch}
@@ -27,9 +26,6 @@ abbrev pub depth_behind : Statement → ℕ → ℕ
 depth_behind statement depth =
     if is_block_if statement then depth + 1 else (if is_end_if statement then depth - 1 else depth)
 
-abbrev pub else_end_at : List LineFields → ℕ → Option ℕ
-else_end_at program i = if has_at is_else program i then branch_end program i else None
-
 -- k is one of the ends
 abbrev pub is_end_among : List (Option ℕ) → ℕ → Bool
 is_end_among ends k = list_any (λ end. option_map_or (λ place. place == k) end false) ends
@@ -42,6 +38,6 @@ is_before_end ends k = list_any (λ end. option_map_or (nat_lt k) end false) end
 abbrev pub is_misplaced : Blocks → Statement → ℕ → Bool
 is_misplaced table statement i =
     if is_block_if statement then not (is_some (slice_index_or table.ends.items i None))
-    else (if is_end_if statement then not (slice_index_or table.closing.items i false)
+    else (if is_end_if statement then not (is_end_among table.ends.items i)
     else (is_alternative statement
-    && (not (slice_index_or table.inside.items i false) || slice_index_or table.after_else.items i false)))
+    && (not (is_before_end (take i table.ends.items) i) || is_end_among table.else_ends.items i)))

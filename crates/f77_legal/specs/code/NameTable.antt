@@ -21,13 +21,19 @@ use Rattle.f77_legal.specs.NameTable.{FactsFields, Entries}
 -- how often something was said, after it is said once more
 abbrev pub once_more : Times → Times
 once_more Never = Once
-once_more Once = More
-once_more More = More
+once_more _ = More
 
+abbrev pub is_never : Times → Bool
+is_never Never = true
+is_never _ = false
+
+abbrev pub is_more : Times → Bool
+is_more More = true
+is_more _ = false
+
+-- what was said first, where `new` is said now and `old` was said before
 abbrev pub first_said : {X : Type 0} → Times → X → X → X
-first_said Never new old = new
-first_said Once new old = old
-first_said More new old = old
+first_said before new old = if is_never before then new else old
 
 abbrev pub with_kind : FactsFields → Kind → FactsFields
 with_kind facts kind = record facts { typed = once_more facts.typed; kind = first_said facts.typed kind facts.kind }
@@ -69,18 +75,8 @@ use_of name (said.Typed kind bounds) = NameUse.Typed kind (record { name = name;
 use_of name (said.Dimensioned bounds) = NameUse.Dimensioned (record { name = name; bounds = bounds.now })
 use_of name said.Plain = NameUse.Plain name
 
--- What is read off the entries: how often something was said; whether a name is REAL by its first letter, or is
--- declared twice where the unit has this name; the number of elements of an array.
-abbrev pub is_never : Times → Bool
-is_never Never = true
-is_never Once = false
-is_never More = false
-
-abbrev pub is_more : Times → Bool
-is_more Never = false
-is_more Once = false
-is_more More = true
-
+-- What is read off the entries: whether a name is REAL by its first letter, or is declared twice where the unit has this
+-- name; the number of elements of an array.
 abbrev pub dummy_at : Names → Symbol → Bool
 dummy_at names name = option_map_or (λ facts. not (is_never facts.dummy)) (get bytes_eq names.facts name) false
 

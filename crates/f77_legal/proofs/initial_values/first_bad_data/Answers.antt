@@ -2,22 +2,23 @@ use Rattle.std.proofs.Common.{sym, ap, ◌∙◌, map, Some}
 use Rattle.f77_program.specs.Program.{line_of}
 use Rattle.f77_legal.specs.NameTable.{kind_at, array_bounds}
 use Rattle.f77_legal.specs.code.NameTable.{dummy_at}
-use Rattle.f77_legal.specs.code.Runs.{breaks_data, names_held}
+use Rattle.f77_legal.specs.InitialValues.{groups_of}
+use Rattle.f77_legal.specs.code.Runs.{groups_break, names_held}
 use Rattle.f77_legal.proofs.FirstBad.{bad_here, none_bad, first_is}
 use Rattle.f77_legal.proofs.initial_values.first_bad_data.Goals as goal
 
-pub returns-then-branch-clause-line : goal.returns-then-branch-clause-line
-returns-then-branch-clause-line c = λ table.
+pub returns-then-branch : goal.returns-then-branch
+returns-then-branch c = λ table.
     ap (λ line. Some (line_of line).line) c.deref-then-branch.ensures
     ∙ sym (c.loop-line.invariant
     ∙ bad_here (array_bounds c.args.names.now) (kind_at c.args.names.now) (dummy_at c.args.names.now) (names_held c.loop-line.seen.keys) c.args.lines.now c.loop-line.line-index
-    c.line-item.result c.in_ok-breaks_data.field-0 c.loop-line-test.true c.line-item.is (c.in_ok-breaks_data.ensures.breaks
-    ∙ ap (λ line. breaks_data (array_bounds c.args.names.now) (kind_at c.args.names.now) (dummy_at c.args.names.now)
-    (names_held c.loop-line.seen.keys) (line_of line).stmt) c.deref.ensures) c.if-branch.true)
+    c.line-item.result c.in_ok-groups_break.field-0 c.loop-line-test.true c.line-item.is (c.in_ok-groups_break.ensures.breaks
+    ∙ ap (groups_break (array_bounds c.args.names.now) (kind_at c.args.names.now) (dummy_at c.args.names.now) (names_held c.loop-line.seen.keys))
+    (c.data_groups.ensures ∙ ap (λ line. groups_of (line_of line).stmt) c.deref.ensures)) c.if-branch.true)
     ∙ first_is c.args.names.now (map line_of c.args.lines.now) table
 
-pub returns-clause-line : goal.returns-clause-line
-returns-clause-line c = λ table.
+pub returns : goal.returns
+returns c = λ table.
     sym (c.loop-line.invariant
     ∙ none_bad (array_bounds c.args.names.now) (kind_at c.args.names.now) (dummy_at c.args.names.now) (names_held c.loop-line.seen.keys) c.args.lines.now c.loop-line.line-index c.loop-line-test.false)
     ∙ first_is c.args.names.now (map line_of c.args.lines.now) table

@@ -1,39 +1,28 @@
-use Rattle.std.proofs.Common.{◌≡◌, ◌⊎◌, ◌++◌, inl, inr, map, rules, Some}
+use Rattle.std.proofs.Common.{◌≡◌, ◌++◌, [], map, ap, sym, rules, Some, ◌∙◌}
 use Rattle.std.specs.Prelude.{slice_get}
 use Rattle.f77_program.specs.Program.{line_of}
-use Rattle.f77_legal.specs.Legal.{clause_faults, control_clauses, data_faults, expression_clauses, faults, label_faults, name_faults, too_large_faults}
-use Rattle.f77_legal.specs.declared.fault.CheckFault.TheVariants.{Memory}
-use Rattle.f77_legal.proofs.First.{first_before, first_behind}
+use Rattle.f77_legal.specs.declared.fault.CheckFault.TheVariants.{BadData}
+use Rattle.f77_legal.specs.Legal.{faults, too_large_faults}
+use Rattle.f77_legal.proofs.First.{early_found, late_found, late_reported, first_of, empty_from}
 use Rattle.f77_legal.proofs.legal.judge.Goals as goal
 
-pub returns-in_err-check_control-clause-reports : goal.returns-in_err-check_control-clause-reports
-returns-in_err-check_control-clause-reports c = λ tables.
+pub returns-in_err-check_statements-clause-reports : goal.returns-in_err-check_statements-clause-reports
+returns-in_err-check_statements-clause-reports c = λ tables.
     let p = map line_of c.args.lines.now in
-    let fault = c.in_err-check_control.field-0.0 in
-    let first = c.first_of_all-first.ensures tables in
-    let none = c.in_ok-check_expressions.ensures p first in
-    let found : slice_get (faults p) 0 ≡ Some fault =
-    first_behind (name_faults p) _ fault (c.in_ok-check_names.ensures tables.names)
-    (first_behind (clause_faults expression_clauses p) _ fault none
-    (first_behind (label_faults p) _ fault (c.in_ok-check_labels.ensures p tables.labels)
-    (first_before (clause_faults control_clauses p) (data_faults p ++ too_large_faults p) fault (c.in_err-check_control.ensures p first none)))) in
+    let fault = c.in_err-check_statements.field-0.0 in
+    let found : slice_get (faults p) 0 ≡ Some fault = early_found p fault (c.in_err-check_statements.ensures tables) in
     search rules
 
-pub returns-in_err-check_data-clause-reports : goal.returns-in_err-check_data-clause-reports
-returns-in_err-check_data-clause-reports c = λ tables.
+pub returns-in-Some-clause-reports : goal.returns-in-Some-clause-reports
+returns-in-Some-clause-reports c = λ tables.
     let p = map line_of c.args.lines.now in
-    let fault = c.in_err-check_data.field-0.0 in
-    let first = c.first_of_all-first.ensures tables in
-    let none = c.in_ok-check_expressions.ensures p first in
-    let found : (fault ≡ Memory) ⊎ (slice_get (faults p) 0 ≡ Some fault) =
-    elim (c.in_err-check_data.ensures tables.names) [
-      | inl memory ↦ inl memory
-      | inr bad ↦
-          inr
-          (first_behind (name_faults p) _ fault (c.in_ok-check_names.ensures tables.names)
-          (first_behind (clause_faults expression_clauses p) _ fault none
-          (first_behind (label_faults p) _ fault (c.in_ok-check_labels.ensures p tables.labels)
-          (first_behind (clause_faults control_clauses p) _ fault (c.in_ok-check_control.ensures p first none)
-          (first_before (data_faults p) (too_large_faults p) fault bad)))))
-    ] in
+    let line = c.in_ok-line.ensures tables.names in
+    let found : slice_get (faults p) 0 ≡ Some (BadData c.in-Some.line) =
+    late_found p (BadData c.in-Some.line) (c.in_ok-check_statements.ensures tables) (first_of BadData _ (too_large_faults p) c.in-Some.line (sym line ∙ c.in-Some.is)) in
     search rules
+
+pub returns-clause-reports : goal.returns-clause-reports
+returns-clause-reports c = λ tables.
+    let p = map line_of c.args.lines.now in
+    let line = c.in_ok-line.ensures tables.names in
+    late_reported p c.check_size.result (c.in_ok-check_statements.ensures tables) (ap (map BadData) (empty_from _ (sym line ∙ c.in_default.is))) (c.check_size.ensures tables.names)

@@ -1,9 +1,18 @@
-use Rattle.std.proofs.Common.{rules, ◌≡◌, ap, ◌∙◌, option_map}
+use Rattle.std.proofs.Common.{rules, tests, ◌≡◌, ap, ◌∙◌, option_map}
+use Rattle.std.specs.List.{find}
 use Rattle.std.specs.Map.Iter.{deref_pair}
+use Rattle.std.proofs.lemmas.Iterator.Consumers.{YieldsList-from_rest}
+use Rattle.std.proofs.lemmas.Iterator.Search.{find_from_yields_List}
+use Rattle.f77_legal.specs.NameTable.{entry_of}
+use Rattle.f77_legal.specs.code.NameTable.{is_twice_entry}
 use Rattle.f77_legal.proofs.Lookups.{first_twice_is}
 use Rattle.f77_legal.proofs.names.Names.first_twice.Goals as goal
 
 pub returns : goal.returns
 returns c =
-    let same : option_map (λ n. n.now) c.map.result ≡ option_map (λ e. e.0) (option_map deref_pair c.find_twice.result) = search rules in
-    λ program is unit. same ∙ ap (option_map (λ e. e.0)) c.find_twice.ensures ∙ first_twice_is c.args.self.now program is (option_map (λ n. n.now) c.args.unit) unit
+    let own = option_map (λ n. n.now) c.args.unit in
+    let found : option_map deref_pair c.find.result ≡ find (λ e. is_twice_entry own (entry_of e)) c.args.self.now.facts.entries =
+    find_from_yields_List (λ e. is_twice_entry own (entry_of e)) _ _ c.find.result c.find.ensures.ran
+    (YieldsList-from_rest c.args.self.now.facts.entries c.iter.ensures.rest) (λ x b q k. search (rules, tests)) in
+    let same : option_map (λ n. n.now) c.map.result ≡ option_map (λ e. e.0) (option_map deref_pair c.find.result) = search rules in
+    λ program is unit. same ∙ ap (option_map (λ e. e.0)) found ∙ first_twice_is c.args.self.now program is own unit

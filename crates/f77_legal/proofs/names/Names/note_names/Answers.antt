@@ -15,8 +15,8 @@ loop-node-preserved c =
     ∙ (λ i. with_name (c.loop-node.invariant i) (c.name.ensures i))
     ∙ sym (names_more (table_entries c.args.self.now) c.deref-node-items.result.now c.loop-node.node-index c.node-item.result c.loop-node-test.true c.node-item.is)
 
-pub returns-clause-noted : goal.returns-clause-noted
-returns-clause-noted c =
+pub returns : goal.returns
+returns c =
     let whole : take c.loop-node.node-index c.deref-node-items.result.now ≡ c.deref-node-items.result.now = grind (arith, common_steps) in
     c.loop-node.invariant
     ∙ ap (λ z. with_names (table_entries c.args.self.now) (map node_of z)) (whole ∙ c.deref-node-items.ensures.value)

@@ -1,0 +1,19 @@
+use Rattle.std.proofs.Common.{rules, tests, ◌≡◌, ap, ◌∙◌, ℕ}
+use Rattle.std.specs.Prelude.{nat_eq, option_map}
+use Rattle.std.specs.List.{find}
+use Rattle.std.specs.Map.Iter.{deref_pair}
+use Rattle.std.proofs.lemmas.Iterator.Consumers.{YieldsList-from_rest}
+use Rattle.std.proofs.lemmas.Iterator.Search.{find_from_yields_List}
+use Rattle.indexmap.specs.IndexMap.{IsUnique}
+use Rattle.f77_legal.specs.declared.labels.Place.{Place}
+use Rattle.f77_legal.proofs.LabelTables.{first_double}
+use Rattle.f77_legal.proofs.labels.Labels.first_double.Goals as goal
+
+pub returns : goal.returns
+returns c =
+    let places = c.args.self.now.places in
+    let found : option_map deref_pair c.find.result ≡ find (λ (e : ℕ × Place). e.1.again) places.entries =
+    find_from_yields_List (λ (e : ℕ × Place). e.1.again) _ _ c.find.result c.find.ensures.ran (YieldsList-from_rest places.entries c.iter.ensures.rest) (λ x b q k. search (rules, tests)) in
+    let same : c.map.result ≡ option_map (λ (e : ℕ × Place). e.0) (option_map deref_pair c.find.result) = search rules in
+    let unique : IsUnique nat_eq places = search rules in
+    λ program is. same ∙ ap (option_map (λ (e : ℕ × Place). e.0)) found ∙ first_double c.args.self.now program unique is
