@@ -1,7 +1,7 @@
 -- What a table of loops and branches says of its program.
 use Rattle.std.proofs.Common.{◌≡◌, ◌<◌, ◌≤◌, ◌+◌, ◌-◌, ℕ, suc, length, List, [], ◌∷◌, Some, None, Bool, true, false, refl, sym, ◌∙◌, ap, arith, map}
 use Rattle.std.specs.Prelude.{filter, reverse, ◌&&◌, ◌||◌, ◌==◌, not, nat_lt, nat_le}
-use Rattle.std.specs.List.{list_any, list_all, range_with_len}
+use Rattle.std.specs.List.{list_any, range_with_len}
 use Rattle.std.specs.Option.{option_and_then, option_map_or}
 use Rattle.std.specs.Str.{bytes_eq}
 use Rattle.std.proofs.lemmas.Bool.Decides.{nat_tests}
@@ -9,9 +9,9 @@ use Rattle.std.proofs.lemmas.List.{length-map}
 use Rattle.f77_program.specs.Program.{LineFields, line_of}
 use Rattle.f77_program.specs.declared.program.Line.{Line}
 use Rattle.f77_legal.specs.Blocks.{first_numbers, statement_numbers, branch_holds}
-use Rattle.f77_legal.specs.Enclosing.{is_in_do_range, in_branch}
+use Rattle.f77_legal.specs.Enclosing.{is_in_do_range}
 use Rattle.f77_legal.specs.Labels.{nth_statement}
-use Rattle.f77_legal.specs.Loops.{terminal, range_holds, is_left, left_by, ends_at, loops_ending, ends_outside, breaks_range, goes_in, do_variable_of, holds_with}
+use Rattle.f77_legal.specs.Loops.{terminal, range_holds, is_left, left_by, loops_ending, ends_outside, breaks_range, goes_in, do_variable_of, holds_with}
 use Rattle.f77_legal.specs.LoopTable.{IsRangeTable}
 use Rattle.f77_legal.specs.Names.{Symbol}
 use Rattle.f77_legal.specs.code.LoopTable.{holds_by, is_left_by_table, separates, ends_at_by_table, enters}

@@ -1,6 +1,6 @@
 -- Which DOs and branches hold a statement, from the ends of DOs and of branches. Statements are
 -- numbered from 0 here.
-use Rattle.std.specs.Prelude.{◌&&◌, ◌||◌}
+use Rattle.std.specs.Prelude.{◌&&◌}
 use Rattle.std.specs.Prelude.{ℕ, Bool, false, nat_lt, nat_le, List, slice_index_or, Option, None}
 use Rattle.std.specs.Option.{option_map_or}
 

@@ -1,8 +1,7 @@
-use Rattle.std.proofs.Common.{◌≡◌, ◌++◌, ◌||◌, true, false, not, rules, tests, sym, ap, ◌∙◌, refl}
-use Rattle.f77_tree.specs.Data.{data_group_of}
+use Rattle.std.proofs.Common.{◌≡◌, ◌++◌, sym, ap, ◌∙◌}
 use Rattle.f77_legal.specs.NameTable.{array_bounds, kind_at}
 use Rattle.f77_legal.specs.code.NameTable.{dummy_at}
-use Rattle.f77_legal.specs.code.Runs.{fills, misplaces, names_held}
+use Rattle.f77_legal.specs.code.Runs.{misplaces, names_held}
 use Rattle.f77_legal.proofs.Misplaced.{group_misplaced, group_unfilled, group_passed, group_held}
 use Rattle.f77_legal.proofs.initial_values.groups_break.Goals as goal
 

@@ -1,4 +1,4 @@
-use Rattle.std.proofs.Common.{◌≡◌, ◌++◌, [], map, ap, sym, rules, Some, ◌∙◌}
+use Rattle.std.proofs.Common.{◌≡◌, map, ap, sym, rules, Some, ◌∙◌}
 use Rattle.std.specs.Prelude.{slice_get}
 use Rattle.f77_program.specs.Program.{line_of}
 use Rattle.f77_legal.specs.declared.fault.CheckFault.TheVariants.{BadData}

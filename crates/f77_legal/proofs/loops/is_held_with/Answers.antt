@@ -1,6 +1,5 @@
-use Rattle.std.proofs.Common.{◌≡◌, rules, tests, arith, map, refl, false, length, ap, ◌∙◌}
+use Rattle.std.proofs.Common.{rules, tests, arith, map, refl, false, length, ◌∙◌}
 use Rattle.std.specs.Prelude.{◌&&◌}
-use Rattle.std.specs.List.{list_any, range_with_len}
 use Rattle.std.specs.Option.{option_and_then, option_map_or}
 use Rattle.std.specs.Str.{bytes_eq}
 use Rattle.f77_program.specs.Program.{line_of}

@@ -1,4 +1,4 @@
-use Rattle.std.proofs.Common.{◌≡◌, rules, tests, arith, ap, length, ◌∙◌}
+use Rattle.std.proofs.Common.{◌≡◌, rules, tests, arith, length, ◌∙◌}
 use Rattle.std.specs.Prelude.{filter}
 use Rattle.std.specs.List.{range_with_len}
 use Rattle.std.proofs.lemmas.Result.{IfOk-at_ok}
