@@ -215,13 +215,10 @@ fn earlier(first: Option<(Clause, u32)>, clause: Option<Clause>, line: u32) -> O
     let Some(clause) = clause else {
         return first;
     };
-    let Some((other, _)) = first else {
-        return Some((clause, line));
-    };
-    if clause.rank() < other.rank() {
-        return Some((clause, line));
+    if first.is_some_and(|(other, _)| other.rank() <= clause.rank()) {
+        return first;
     }
-    first
+    Some((clause, line))
 }
 
 impl Tables {

@@ -33,20 +33,14 @@ impl Ranges {
     pub(crate) fn in_range(&self, d: usize, k: usize) -> bool
         ensures { result ≡ enclosing.is_in_do_range self.now.terminals.items d k }
     {
-        match end_in(&self.terminals, d) {
-            Some(terminal) => d < k && k <= terminal,
-            None => false,
-        }
+        end_in(&self.terminals, d).is_some_and(|terminal| d < k && k <= terminal)
     }
 
     /// Whether statement `k` stands in the branch that `b` begins.
     fn in_branch(&self, b: usize, k: usize) -> bool
         ensures { result ≡ enclosing.in_branch self.now.branch_ends.items b k }
     {
-        match end_in(&self.branch_ends, b) {
-            Some(end) => b < k && k < end,
-            None => false,
-        }
+        end_in(&self.branch_ends, b).is_some_and(|end| b < k && k < end)
     }
 
     fn holds(&self, k: usize, d: usize) -> bool
@@ -119,10 +113,7 @@ impl Ranges {
     fn ends_at(&self, t: usize, d: usize) -> bool
         ensures { result ≡ table.ends_at_by_table self.now t d }
     {
-        match end_in(&self.terminals, d) {
-            Some(terminal) => terminal == t,
-            None => false,
-        }
+        end_in(&self.terminals, d) == Some(t)
     }
 
     /// Whether `d` holds `j`, and not `i` or, where control has left something before, even so.

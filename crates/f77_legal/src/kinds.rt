@@ -10,10 +10,7 @@ use f77_tree::{Kind, Operator};
 pub(crate) fn same_kind(left: Kind, right: Kind) -> bool
     ensures { result ≡ comparing.same_kind left right }
 {
-    match left {
-        Kind::Integer => matches!(right, Kind::Integer),
-        Kind::Logical => matches!(right, Kind::Logical),
-    }
+    left == right
 }
 
 /// The kind of the result of an operator (ANSI X3.9-1978, 6.1, 6.3 and 6.4).

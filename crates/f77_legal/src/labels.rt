@@ -129,12 +129,7 @@ fn jumps_nowhere(labels: &Labels, stmt: &Stmt) -> bool
     ensures { (program : List LineFields) → IsLabelTable labels.now program
         → result ≡ list_any (λ label. not (is_some (label_place program label))) (jumps_of (statement_of stmt.now)) }
 {
-    for k in 0..stmt.jump_count() {
-        if labels.misses(stmt.jump(k)) {
-            return true;
-        }
-    }
-    false
+    (0..stmt.jump_count()).any(|k| labels.misses(stmt.jump(k)))
 }
 
 /// Whether the statement names a label that stands on no statement.
@@ -170,12 +165,7 @@ pub(crate) fn jumps_badly(labels: &Labels, lines: &[Shared<Line>], stmt: &Stmt) 
     ensures { IsLabelTable labels.now (map line_of lines.now)
         → result ≡ clause.jumps_badly (map line_of lines.now) (statement_of stmt.now) }
 {
-    for k in 0..stmt.jump_count() {
-        if leads_badly(labels, lines, stmt.jump(k)) {
-            return true;
-        }
-    }
-    false
+    (0..stmt.jump_count()).any(|k| leads_badly(labels, lines, stmt.jump(k)))
 }
 
 /// Whether the statement may be the terminal statement of a DO (11.10): an action that is no jump but a computed GO TO,

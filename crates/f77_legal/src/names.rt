@@ -209,17 +209,6 @@ impl Names {
             .map(|(name, _)| name)
     }
 
-    /// The number of elements of all arrays, or the largest `u64` if it is larger.
-    fn elements(&self) -> u64
-        ensures { result
-            ≡ min (sum (map (λ f. table_code.array_size (facts_fields f)) (values self.now.facts))) (2 ^ 64 - 1) }
-    {
-        self.facts.values().fold(
-            0,
-            |total: u64, facts| total.saturating_add(array_size(facts)),
-        )
-    }
-
     /// Whether all arrays together have more elements than `limit`.
     pub(crate) fn has_over(&self, limit: u32) -> bool
         ensures { (program : List LineFields) → IsNameTable self.now program
@@ -228,6 +217,10 @@ impl Names {
             (sum (map (initial_values.element_count program)
             (filter (is_array program) (symbols program)))) }
     {
-        self.elements() > u64::from(limit)
+        let elements = self.facts.values().fold(
+            0,
+            |total: u64, facts| total.saturating_add(array_size(facts)),
+        );
+        elements > u64::from(limit)
     }
 }

@@ -88,11 +88,6 @@ impl Tables {
         ensures { (program : List LineFields)
             → Serve self.now program → result ≡ loops.jumps_in program i (statement_of stmt.now) }
     {
-        for k in 0..stmt.jump_count() {
-            if self.leads_in(i, stmt.jump(k)) {
-                return true;
-            }
-        }
-        false
+        (0..stmt.jump_count()).any(|k| self.leads_in(i, stmt.jump(k)))
     }
 }
