@@ -23,7 +23,7 @@ ghost use Rattle.f77_tree.specs.declared.tree.Kind.TheVariants.{Integer};
 
 use crate::clause::Clause;
 use crate::dimensions::{are_shapes, takes};
-use crate::kinds::{operand_kind, result_kind, same_kind};
+use crate::kinds::{operand_kind, result_kind};
 use crate::labels::{ends_badly, jumps_badly, names_no_label};
 use crate::loops::sets_variable;
 use crate::names::Names;
@@ -58,7 +58,7 @@ impl Flaws {
     fn check_kind(&mut self, own: Kind, required: Kind)
         ensures { Adds self.old self.new true (comparing.same_kind own required) true }
     {
-        self.kinds |= !same_kind(own, required);
+        self.kinds |= own != required;
     }
 
     /// Notes whether bounds, or numbers of subscripts or arguments, are right.

@@ -19,7 +19,6 @@ ghost use Rattle.f77_legal.specs.InitialValues.{product, groups_of, has_bad_data
 ghost use Rattle.f77_legal.specs.code.Runs.{kinds_in, kinds_left, behind_kinds, fills, misplaces};
 ghost use Rattle.f77_legal.specs.code.Runs.{names_of_groups, groups_break, breaks_data, names_held};
 
-use crate::kinds::same_kind;
 use crate::names::Names;
 use f77_program::Line;
 use f77_tree::{Constant, DataGroup, Kind, Name, Shared, Stmt, Value};
@@ -70,7 +69,7 @@ struct Remaining<'a> {
 fn may_give(rest: Remaining<'_>, kind: Kind) -> bool
     ensures { result ≡ (rest.entry.times == 0 || comparing.same_kind kind rest.entry.kind) }
 {
-    rest.times == 0 || same_kind(kind, rest.kind)
+    rest.times == 0 || kind == rest.kind
 }
 
 /// What is left behind `needed` values of this kind. None if other values stand among them, or too

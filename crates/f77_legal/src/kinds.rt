@@ -2,16 +2,9 @@
 //! asked from the top of an expression, and nothing is inferred.
 
 ghost use Rattle.std.specs.Prelude.{◌≡◌};
-ghost use Rattle.f77_tree.specs.Comparing as comparing;
 ghost use Rattle.f77_legal.specs.Kinds as kinds;
 
 use f77_tree::{Kind, Operator};
-
-pub(crate) fn same_kind(left: Kind, right: Kind) -> bool
-    ensures { result ≡ comparing.same_kind left right }
-{
-    left == right
-}
 
 /// The kind of the result of an operator (ANSI X3.9-1978, 6.1, 6.3 and 6.4).
 pub fn result_kind(operator: Operator) -> Kind
