@@ -50,7 +50,8 @@ fn is_variable_at(lines: &[Shared<Line>], name: &Name, d: usize) -> bool
 
 fn is_held_with(ranges: &Ranges, lines: &[Shared<Line>], i: usize, name: &Name) -> bool
     ensures { IsRangeTable ranges.now (map line_of lines.now)
-        → result ≡ list_any (loops.holds_with (map line_of lines.now) i name.now) (statement_numbers (map line_of lines.now)) }
+        → result ≡ list_any (loops.holds_with (map line_of lines.now) i name.now)
+        (statement_numbers (map line_of lines.now)) }
 {
     (0..lines.len()).any(|d| ranges.in_range(d, i) && is_variable_at(lines, name, d))
 }

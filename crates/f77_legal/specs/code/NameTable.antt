@@ -75,8 +75,8 @@ use_of name (said.Typed kind bounds) = NameUse.Typed kind (record { name = name;
 use_of name (said.Dimensioned bounds) = NameUse.Dimensioned (record { name = name; bounds = bounds.now })
 use_of name said.Plain = NameUse.Plain name
 
--- What is read off the entries: whether a name is REAL by its first letter, or is declared twice where the unit has this
--- name; the number of elements of an array.
+-- What is read off the entries: whether a name is REAL by its first letter, or is declared twice where the unit has
+-- this name; the number of elements of an array.
 abbrev pub dummy_at : Names → Symbol → Bool
 dummy_at names name = option_map_or (λ facts. not (is_never facts.dummy)) (get bytes_eq names.facts name) false
 
