@@ -27,8 +27,8 @@ separates ranges d t e =
 abbrev pub ends_at_by_table : Ranges → ℕ → ℕ → Bool
 ends_at_by_table ranges t d = option_map_or (λ e. e == t) (slice_index_or ranges.terminals.items d None) false
 
--- one of the numbers passes `to`, where `from` fails, or where `from` passed before and `to` did not; `left` says that this
--- was so before all of them
+-- one of the numbers passes `to`, where `from` fails, or where `from` passed before and `to` did not; `left` says that
+-- this was so before all of them
 abbrev pub enters : (ℕ → Bool) → (ℕ → Bool) → Bool → List ℕ → Bool
 enters from to left [] = false
 enters from to left (d ∷ ds) = (to d && (left || not (from d))) || enters from to (left || (from d && not (to d))) ds
