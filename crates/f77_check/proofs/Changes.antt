@@ -7,7 +7,7 @@ use Rattle.std.specs.Option.{option_and_then, option_map_or}
 use Rattle.std.proofs.lemmas.Bool.{cases_lt}
 use Rattle.std.proofs.lemmas.Bool.Decides.{nat_tests}
 use Rattle.std.proofs.lemmas.List.{length-map, length-reverse}
-use Rattle.std.proofs.lemmas.Option.{same_Some, slice_get_cases, slice_get-map, slice_get_past, slice_get_read, slice_get_within}
+use Rattle.std.proofs.lemmas.Option.{same_Some, slice_get-map, slice_get_past, slice_get_read, slice_get_within}
 use Rattle.indexmap.specs.IndexMap.{keys}
 use Rattle.f77_program.specs.Patching.{patched, replaced}
 use Rattle.f77_program.specs.Program.{LineFields, IsProgram, line_of}
@@ -90,24 +90,13 @@ no_items (x ∷ xs) none = absurd (true≢false (sym none ∙ more))
     more = grind (arith, nat_tests)
 
 -- the resolved form of a statement says which DOs end at it
-pub may_stand_by : (checked : CheckedFields) → IsChecked checked → (i : ℕ) (s : Statement) → i < length checked.program → (r : Resolved)
-    → r ≡ get_or checked.statements i r → (length r.ends.items == 0) ≡ true → MayStandAt (map line_of checked.program) i s
-may_stand_by checked is i s within r read none =
-    may_stand_anywhere p i s (elim (slice_get_cases p i).1 [
-      | inl found ↦
-          let at : nth_statement p i ≡ Some found.0.stmt = ap (option_map (λ (line : LineFields). line.stmt)) found.2 in
-          sym (is.statements.each i found.0.stmt r at got).ends ∙ no_items r.ends.items none
-      | inr past ↦ let none = past.0 in absurd (omega (arith, below, none))
-    ])
-  where
-    p : List LineFields
-    p = map line_of checked.program
-
-    below : i < length p
-    below = let long = length-map checked.program line_of in omega (arith, long, within)
-
-    got : slice_get checked.statements i ≡ Some r
-    got = slice_get_read checked.statements (length p) i r (sym is.statements.count) below read
+pub may_stand_by : (checked : CheckedFields) → IsChecked checked → (i : ℕ) (s : Statement) (line : LineFields) → slice_get (map line_of checked.program) i ≡ Some line
+    → (r : Resolved) → r ≡ get_or checked.statements i r → (length r.ends.items == 0) ≡ true → MayStandAt (map line_of checked.program) i s
+may_stand_by checked is i s line at r read none =
+    let p = map line_of checked.program in
+    let got : slice_get checked.statements i ≡ Some r = slice_get_read checked.statements (length p) i r (sym is.statements.count) (slice_get_within p i line at) read in
+    may_stand_anywhere p i s
+    (sym (is.statements.each i line.stmt r (ap (option_map (λ (line : LineFields). line.stmt)) at) got).ends ∙ no_items r.ends.items none)
 
 pub statement_within : (checked : CheckedFields) → IsChecked checked → (i : ℕ) (line : LineFields) → slice_get (map line_of checked.program) i ≡ Some line
     → i < length checked.statements

@@ -70,7 +70,7 @@ module _ (names : Names) (program : List LineFields) (covers : All (λ name. is_
       ∙ among_holds (λ name. is_name_among (keys names.facts) name ≡ true) (symbols program) covers name (dummy_known program name among))
 
 -- each of a list passes
-all_at : {X : Type 0} (test : X → Bool) (xs : List X) (i : ℕ) (x : X) → list_all test xs ≡ true → i < length xs → x ≡ get_or xs i x → test x ≡ true
+pub all_at : {X : Type 0} (test : X → Bool) (xs : List X) (i : ℕ) (x : X) → list_all test xs ≡ true → i < length xs → x ≡ get_or xs i x → test x ≡ true
 all_at test [] i x all below is = absurd (omega arith)
 all_at test (y ∷ ys) zero x all below is = ap test is ∙ (and_parts (test y) (list_all test ys) all).0
 all_at test (y ∷ ys) (suc i) x all below is = all_at test ys i x (and_parts (test y) (list_all test ys) all).1 (omega arith) is

@@ -1,15 +1,17 @@
 -- What a statement, or a relation, whose names can be looked up gives its parts.
-use Rattle.std.proofs.Common.{rules, ◌≡◌, ◌∙◌, ◌&&◌, ℕ, Bool, List, true, length, Option, Some, None, refl, ap, sym, subst}
+use Rattle.std.proofs.Common.{rules, ◌≡◌, ◌≢◌, ◌∙◌, true≢false, ◌&&◌, ℕ, Bool, List, true, length, Option, Some, None, refl, ap, sym, subst}
 use Rattle.std.specs.Prelude.{◌==◌, Box, Vec, IfSome, option_map}
 use Rattle.std.specs.declared.alloc.Global.{Global}
 use Rattle.std.proofs.lemmas.Bool.{and_parts}
 use Rattle.f77_program.specs.Formed.{is_action}
 use Rattle.f77_program.specs.Program.{LineFields}
-use Rattle.f77_tree.specs.Statement.{statement_of, Statement, jumps_of}
+use Rattle.f77_tree.specs.Statement.{statement_of, stmt_step, Statement, jumps_of}
 use Rattle.f77_tree.specs.Tree.{Tree, Trees}
 use Rattle.f77_tree.specs.View.{tree_of}
 use Rattle.f77_tree.specs.declared.tree.Expr.{Expr}
-use Rattle.f77_tree.specs.declared.statement.Stmt.{Stmt}
+use Rattle.f77_tree.specs.declared.statement.Stmt.{Stmt, Assign, Goto, ComputedGoto, ArithIf, Continue, Return, Stop, Trap}
+use Rattle.f77_tree.specs.declared.statement.Stmt.TheFolds.{fold_out-Stmt}
+use Rattle.f77_tree.specs.declared.tree.Ref.{Ref}
 use Rattle.f77_tree.specs.declared.statement.Stmt.TheVariants as forms
 use Rattle.f77_tree.specs.declared.statement.Stmt.TheViews as boxed
 use Rattle.f77_tree.proofs.Views.{computed_view, logical_view}
@@ -47,15 +49,6 @@ related_ready r op o a b relation h =
       record { names = h.names; kinds = subst (λ k. is_of_kind (kind_at r.tables.names) k a ≡ true) takes kinds.0; bounds = bounds.0; kept = kept.0 },
       record { names = h.names; kinds = subst (λ k. is_of_kind (kind_at r.tables.names) k b ≡ true) takes kinds.1; bounds = bounds.1; kept = kept.1 },
     )
-
--- the statement in a logical IF
-pub inner_ready : (r : Resolver) (t : Tree) (s : Statement) → CanBeResolved r (Statement.LogicalIf t s) → CanBeResolved r s
-inner_ready r t s h = record {
-  names = h.names;
-  kinds = (and_parts _ _ h.kinds).1;
-  bounds = (and_parts _ _ h.bounds).1;
-  kept = (and_parts _ _ h.kept).1;
-}
 
 -- the parameters of a DO
 module _ (r : Resolver) (label : ℕ) (name : Symbol) (a b : Tree) (c : Option Tree) (h : CanBeResolved r (Statement.Loop label name a b c)) where
@@ -104,18 +97,39 @@ target_ready r name items t h =
 
 -- what is known of a statement of the program, by its form
 module _ (r : Resolver) (p : List LineFields) (x : Stmt) (ready : CanBeResolved r (statement_of x)) (found : AreFound p (jumps_of (statement_of x))) where
-  pub computed_ready : (labels : Vec ℕ Global) (value : Expr) (list : List ℕ) → x ≡ forms.ComputedGoto labels value → list ≡ labels.items
-      → CanBeResolved r (Statement.ComputedGoto list (tree_of value)) × AreFound p list
-  computed_ready labels value list is items =
+  pub computed_found : (labels : Vec ℕ Global) (value : Expr) (list : List ℕ) → x ≡ forms.ComputedGoto labels value → list ≡ labels.items → AreFound p list
+  computed_found labels value list is items =
       let same : statement_of x ≡ Statement.ComputedGoto list (tree_of value) =
       ap statement_of is ∙ computed_view labels value ∙ ap (λ z. Statement.ComputedGoto z (tree_of value)) (sym items) in
-      (subst (CanBeResolved r) same ready, subst (λ s. AreFound p (jumps_of s)) same found)
+      subst (λ s. AreFound p (jumps_of s)) same found
 
-  pub logical_ready : (i : ℕ) (condition : Expr) (a : Box Stmt Global) (inner : Stmt)
+  pub inner_ready : (i : ℕ) (condition : Expr) (a : Box Stmt Global) (inner : Stmt)
       → x ≡ boxed.LogicalIf condition a → inner ≡ a.value → HasEnd p i (statement_of x)
-      → CanBeResolved r (Statement.LogicalIf (tree_of condition) (statement_of inner))
-      × (AreFound p (jumps_of (statement_of inner)) × (is_action (statement_of inner) ≡ true))
-  logical_ready i condition a inner is value ends =
+      → CanBeResolved r (statement_of inner) × (AreFound p (jumps_of (statement_of inner)) × (is_action (statement_of inner) ≡ true))
+  inner_ready i condition a inner is value ends =
       let same : statement_of x ≡ Statement.LogicalIf (tree_of condition) (statement_of inner) =
       ap statement_of is ∙ logical_view condition a ∙ ap (λ z. Statement.LogicalIf (tree_of condition) (statement_of z)) (sym value) in
-      (subst (CanBeResolved r) same ready, (subst (λ s. AreFound p (jumps_of s)) same found, subst (HasEnd p i) same ends))
+      let own = subst (CanBeResolved r) same ready in (
+        record {
+          names = own.names;
+          kinds = (and_parts _ _ own.kinds).1;
+          bounds = (and_parts _ _ own.bounds).1;
+          kept = (and_parts _ _ own.kept).1;
+        },
+        (subst (λ s. AreFound p (jumps_of s)) same found, subst (HasEnd p i) same ends),
+      )
+
+-- no other statement may stand in a logical IF
+pub no_action : (x : Stmt) → is_action (statement_of x) ≡ true → ((target : Ref) (value : Expr) → x ≢ Assign target value) → ((label : ℕ) → x ≢ Goto label)
+    → ((labels : Vec ℕ Global) (value : Expr) → x ≢ ComputedGoto labels value) → ((value : Expr) (l m n : ℕ) → x ≢ ArithIf value l m n)
+    → x ≢ Continue → x ≢ Return → x ≢ Stop → x ≢ Trap → ⊥
+unfolding boxed.out-Stmt denote.Hole.Carrier.out
+no_action (Assign target value) acts a g c i n r s t = a target value refl
+no_action (Goto label) acts a g c i n r s t = g label refl
+no_action (ComputedGoto labels value) acts a g c i n r s t = c labels value refl
+no_action (ArithIf value l m k) acts a g c i n r s t = i value l m k refl
+no_action Continue acts a g c i n r s t = n refl
+no_action Return acts a g c i n r s t = r refl
+no_action Stop acts a g c i n r s t = s refl
+no_action Trap acts a g c i n r s t = t refl
+no_action x acts a g c i n r s t = true≢false (sym acts ∙ ap is_action (fold_out-Stmt Statement stmt_step x))

@@ -2,43 +2,30 @@
 use Rattle.std.proofs.Common.{◌≡◌, ◌<◌, ◌≤◌, List, ℕ, Some, length, get_or, refl, ap, sym, ◌∙◌}
 use Rattle.std.specs.Prelude.{Box, map}
 use Rattle.std.specs.declared.alloc.Global.{Global}
-use Rattle.f77_tree.specs.declared.intrinsic.Intrinsic.TheVariants.{Mod}
+use Rattle.f77_tree.specs.declared.intrinsic.Intrinsic.{Intrinsic}
+use Rattle.f77_tree.specs.declared.intrinsic.Intrinsic.TheVariants.{Mod, Iabs}
 use Rattle.f77_tree.specs.declared.operator.Operator.{Operator}
 use Rattle.f77_tree.specs.declared.operator.Sign.{Sign}
 use Rattle.f77_tree.specs.declared.operator.Sign.TheVariants.{Minus}
 use Rattle.f77_tree.specs.declared.tree.Expr.{Expr}
-use Rattle.f77_tree.specs.declared.tree.Expr.TheVariants.{rolls-Number, rolls-Signed, rolls-Not, rolls-Binary, rolls-ZeroPush}
+use Rattle.f77_tree.specs.declared.tree.Expr.TheVariants.{rolls-ZeroPush}
 use Rattle.f77_tree.specs.declared.tree.Expr.TheVariants as forms
 use Rattle.f77_tree.specs.declared.tree.Expr.TheViews as views
 use Rattle.f77_tree.specs.declared.tree.Expr.TheOpen.{Expr-F}
 use Rattle.f77_tree.specs.declared.tree.Expr.TheFolds.{fold-roll-Expr}
+use Rattle.f77_tree.proofs.Views.{number_view, signed_view, binary_view}
 use Rattle.f77_tree.specs.Tree.{Tree}
 use Rattle.f77_tree.specs.View.{tree_of, trees, expr_step, ref_step}
-use Rattle.f77_check.specs.code.Boxed.{HoldsNumber, HoldsCondition}
-use Rattle.f77_check.specs.Expression.{IsElement, IsNumber, IsCondition}
+use Rattle.f77_check.specs.code.Boxed.{HoldsNumber}
+use Rattle.f77_check.specs.Expression.{IsElement, IsNumber}
 use Rattle.f77_check.specs.Slots.{first_slot}
 use Rattle.f77_check.proofs.Items.{only_one, only_two, one_item, two_items}
-use Rattle.f77_actions.specs.Operators.{arithmetic_of, connective_of}
+use Rattle.f77_actions.specs.Operators.{arithmetic_of}
 use Rattle.f77_legal.specs.Names.{Symbol}
 use Rattle.f77_actions.specs.declared.expression.Arithmetic.{Arithmetic}
 use Rattle.f77_actions.specs.declared.expression.Arithmetic.TheVariants.{Modulus}
 use Rattle.f77_actions.specs.declared.expression.Element.TheViews as resolved
 use Rattle.f77_actions.specs.declared.expression.Number.{Number}
-use Rattle.f77_actions.specs.declared.expression.Connective.{Connective}
-use Rattle.f77_actions.specs.declared.expression.Condition.{Condition}
-use Rattle.f77_actions.specs.declared.expression.Condition.TheViews as conditions
-
-number_view : (n : ℕ) → tree_of (forms.Number n) ≡ Tree.Number n
-number_view n = ap tree_of (sym (rolls-Number n)) ∙ fold-roll-Expr Tree (List ℕ × List Tree) expr_step ref_step (Expr-F.Number n)
-
-signed_view : (sign : Sign) (a : Box Expr Global) → tree_of (views.Signed sign a) ≡ Tree.Signed sign (tree_of a.value)
-signed_view sign a = ap tree_of (sym (rolls-Signed sign a)) ∙ fold-roll-Expr Tree (List ℕ × List Tree) expr_step ref_step (Expr-F.Signed sign a)
-
-not_view : (a : Box Expr Global) → tree_of (views.Not a) ≡ Tree.Not (tree_of a.value)
-not_view a = ap tree_of (sym (rolls-Not a)) ∙ fold-roll-Expr Tree (List ℕ × List Tree) expr_step ref_step (Expr-F.Not a)
-
-binary_view : (op : Operator) (a b : Box Expr Global) → tree_of (views.Binary op a b) ≡ Tree.Binary op (tree_of a.value) (tree_of b.value)
-binary_view op a b = ap tree_of (sym (rolls-Binary op a b)) ∙ fold-roll-Expr Tree (List ℕ × List Tree) expr_step ref_step (Expr-F.Binary op a b)
 
 push_view : (a : Box Expr Global) → tree_of (views.ZeroPush a) ≡ Tree.ZeroPush (tree_of a.value)
 push_view a = ap tree_of (sym (rolls-ZeroPush a)) ∙ fold-roll-Expr Tree (List ℕ × List Tree) expr_step ref_step (Expr-F.ZeroPush a)
@@ -60,12 +47,17 @@ module _ (bounds : Symbol → List ℕ) (names : List Symbol) where
   matrix_element name sizes first xs x y p q sizes_are some_sizes few_sizes some few is also slot h k =
       rw (two_items xs x y some few is also) (sym sizes_are ∙ only_two 0 0 sizes some_sizes few_sizes, slot, h, k)
 
-  -- a call of MOD
-  pub modulus_number : (xs : List Expr) (x y : Expr) (p q : Box Number Global) → 2 ≤ length xs → length xs < 3 → x ≡ get_or xs 0 x → y ≡ get_or xs 1 y
-      → HoldsNumber bounds names (tree_of x) p → HoldsNumber bounds names (tree_of y) q
-      → IsNumber bounds names (Tree.Call Mod (trees (map tree_of xs))) (resolved.Binary Modulus p q)
+  -- calls of MOD and IABS
+  pub modulus_number : (f : Intrinsic) (xs : List Expr) (x y : Expr) (p q : Box Number Global) → f ≡ Mod → 2 ≤ length xs → length xs < 3
+      → x ≡ get_or xs 0 x → y ≡ get_or xs 1 y → HoldsNumber bounds names (tree_of x) p → HoldsNumber bounds names (tree_of y) q
+      → IsNumber bounds names (Tree.Call f (trees (map tree_of xs))) (resolved.Binary Modulus p q)
   unfolding HoldsNumber
-  modulus_number xs x y p q some few is also h k = rw (two_items xs x y some few is also) (refl, h, k)
+  modulus_number f xs x y p q is some few at also h k = rw (is, two_items xs x y some few at also) (refl, h, k)
+
+  pub absolute_number : (f : Intrinsic) (xs : List Expr) (x : Expr) (p : Box Number Global) → f ≡ Iabs → 1 ≤ length xs → length xs < 2
+      → x ≡ get_or xs 0 x → HoldsNumber bounds names (tree_of x) p → IsNumber bounds names (Tree.Call f (trees (map tree_of xs))) (resolved.Absolute p)
+  unfolding HoldsNumber
+  absolute_number f xs x p is some few at h = rw (is, one_item xs x some few at) h
 
   pub constant_number : (e : Expr) (n : ℕ) (x : Number) → e ≡ forms.Number n → IsNumber bounds names (Tree.Number n) x → IsNumber bounds names (tree_of e) x
   constant_number e n x is h = rw (is, number_view n) h
@@ -91,15 +83,3 @@ module _ (bounds : Symbol → List ℕ) (names : List Symbol) where
       → IsNumber bounds names (tree_of e) (resolved.Binary o p q)
   unfolding HoldsNumber
   binary_number e x y op o a b p q is left right operation h k = rw (is, binary_view op a b, ← left, ← right) (operation, h, k)
-
-  pub negated_condition : (e x : Expr) (a : Box Expr Global) (p : Box Condition Global) → e ≡ views.Not a → x ≡ a.value
-      → HoldsCondition bounds names (tree_of x) p → IsCondition bounds names (tree_of e) (conditions.Not p)
-  unfolding HoldsCondition
-  negated_condition e x a p is held h = rw (is, not_view a, ← held) h
-
-  pub connected_condition : (e x y : Expr) (op : Operator) (o : Connective) (a b : Box Expr Global) (p q : Box Condition Global)
-      → e ≡ views.Binary op a b → x ≡ a.value → y ≡ b.value → connective_of op ≡ Some o
-      → HoldsCondition bounds names (tree_of x) p → HoldsCondition bounds names (tree_of y) q
-      → IsCondition bounds names (tree_of e) (conditions.Connected o p q)
-  unfolding HoldsCondition
-  connected_condition e x y op o a b p q is left right connective h k = rw (is, binary_view op a b, ← left, ← right) (connective, h, k)

@@ -1,6 +1,6 @@
 -- The statements of a legal program can be resolved by its tables.
 use Rattle.std.proofs.Common.{◌≡◌, inl, inr, ℕ, zero, suc, ◌+◌, ◌==◌, true, List, [], ◌∷◌, ◌++◌, length, Some, refl, ap, sym, subst, ◌∙◌, arith}
-use Rattle.std.specs.Prelude.{IsSome, IfOk, Result, Ok, Err}
+use Rattle.std.specs.Prelude.{IsSome}
 use Rattle.std.specs.List.{list_any, slice_get}
 use Rattle.std.proofs.lemmas.List.{length-append}
 use Rattle.std.proofs.lemmas.Bool.{or_right}
@@ -70,10 +70,9 @@ resolved_at r p can i s t at x does next ends also =
     }
 
 -- a statement that is resolved, where it is known which one it is
-pub resolved_here : {E : Type 0} (p : List LineFields) (names : List Symbol) (i : ℕ) (s : Statement) → nth_statement p i ≡ Some s → (found : Result Resolved E)
-    → IfOk found (λ x. IsResolved p names i s x) → IfOk found (λ x. (t : Statement) → nth_statement p i ≡ Some t → IsResolved p names i t x)
-resolved_here p names i s at (Ok x) is = λ t also. subst (λ t. IsResolved p names i t x) (same_Some _ _ (sym at ∙ also)) is
-resolved_here p names i s at (Err e) is = is
+pub resolved_here : (p : List LineFields) (names : List Symbol) (i : ℕ) (s : Statement) → nth_statement p i ≡ Some s → (x : Resolved) → IsResolved p names i s x
+    → (t : Statement) → nth_statement p i ≡ Some t → IsResolved p names i t x
+resolved_here p names i s at x is t also = subst (λ t. IsResolved p names i t x) (same_Some _ _ (sym at ∙ also)) is
 
 -- the first n statements, resolved
 pub record AreFirst (p : List LineFields) (names : List Symbol) (n : ℕ) (list : List Resolved) : Type 0 where

@@ -1,5 +1,6 @@
 -- The kinds of the slots of a table of names, listed name by name.
-use Rattle.std.proofs.Common.{◌≡◌, ◌∙◌, true, List, [], ◌∷◌, ◌++◌, replicate, append_assoc, append-nil, sym, ap}
+use Rattle.std.proofs.Common.{arith, ◌≡◌, ◌∙◌, ℕ, ◌+◌, ◌-◌, ◌≤◌, take, true, List, [], ◌∷◌, ◌++◌, length, replicate, append_assoc, append-nil, refl, sym, ap}
+use Rattle.std.proofs.lemmas.List.{length-append, length-replicate, take_all}
 use Rattle.std.specs.List.{list_all}
 use Rattle.std.proofs.lemmas.Bool.{and_parts}
 use Rattle.indexmap.specs.IndexMap.{keys}
@@ -9,8 +10,9 @@ use Rattle.f77_legal.specs.Names.{Symbol}
 use Rattle.f77_legal.specs.NameTable.{kind_at, array_bounds}
 use Rattle.f77_legal.specs.InitialValues.{product}
 use Rattle.f77_check.specs.code.Kept.{is_kept}
-use Rattle.f77_check.specs.Slots.{slot_kinds}
+use Rattle.f77_check.specs.Slots.{slot_count, slot_kinds}
 use Rattle.f77_check.proofs.DataNames.{kept_among}
+use Rattle.f77_check.proofs.SlotCounts.{count_more}
 use Rattle.f77_check.proofs.KeptNames.{all_among}
 
 -- the kinds of the slots of these names, by the table
@@ -30,13 +32,29 @@ module _ (names : Names) where
     whole = λ i. none i ++ kinds_by names (all i);
   }
 
+  kinds_long : (list : List Symbol) → length (kinds_by names list) ≡ slot_count (array_bounds names) list
+  kinds_long [] = refl
+  kinds_long (name ∷ list) =
+      let own = replicate (product (array_bounds names name)) (kind_at names name) in
+      let whole = length-append own (kinds_by names list) in
+      let size = length-replicate (product (array_bounds names name)) (kind_at names name) in
+      let more = count_more (array_bounds names) name list in
+      let rest = kinds_long list in
+      omega (arith, whole, size, more, rest)
+
   -- the next name is in the table, and with its kinds the list has one name more
   module _ (listed : List Kind) (rest left : List Symbol) (name : Symbol) (are : AreListed names listed rest) (next : rest ≡ name ∷ left) where
     both : (is_kept names name ≡ true) × (list_all (is_kept names) left ≡ true)
     both = and_parts (is_kept names name) (list_all (is_kept names) left) (sym (ap (list_all (is_kept names)) next) ∙ are.kept)
 
-    pub next_kept : is_kept names name ≡ true
-    next_kept = both.0
+    -- no more kinds than slots
+    pub next_within : length listed + product (array_bounds names name) ≤ slot_count (array_bounds names) (keys names.facts)
+    next_within =
+        let whole = ap length are.whole ∙ kinds_long (keys names.facts) in
+        let parts = length-append listed (kinds_by names rest) in
+        let behind = kinds_long rest ∙ ap (slot_count (array_bounds names)) next in
+        let more = count_more (array_bounds names) name left in
+        omega (arith, whole, parts, behind, more)
 
     pub next_listed : (more : List Kind) → more ≡ listed ++ replicate (product (array_bounds names name)) (kind_at names name) → AreListed names more left
     next_listed more added = record {
@@ -51,3 +69,10 @@ module _ (names : Names) where
   -- where no name is left the kinds of all names are listed
   pub all_listed : (listed : List Kind) (rest : List Symbol) → AreListed names listed rest → rest ≡ [] → listed ≡ kinds_by names (keys names.facts)
   all_listed listed rest are none = sym (append-nil listed) ∙ ap (λ list. listed ++ kinds_by names list) (sym none) ∙ are.whole
+
+-- a list to which a value is added some times
+pub grown : (listed : List Kind) (n long count : ℕ) (kind : Kind) → long ≡ length listed → n ≡ long + count
+    → take n listed ++ replicate (n - long) kind ≡ listed ++ replicate count kind
+grown listed n long count kind is longer =
+    let added : n - long ≡ count = omega (arith, longer) in
+    (λ i. take_all n listed (omega (arith, is, longer)) i ++ replicate (added i) kind)

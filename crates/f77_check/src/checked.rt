@@ -1,8 +1,7 @@
 //! Checked programs: legal ones, with all that a run looks up.
 
-ghost use Rattle.std.specs.Prelude.{◌≡◌, ◌≤◌, length, map};
+ghost use Rattle.std.specs.Prelude.{◌≡◌, ◌≤◌, length, map, IfOk};
 ghost use Rattle.std.specs.Coded.{codes};
-ghost use Rattle.indexmap.specs.IndexMap.{keys};
 ghost use Rattle.f77_program.specs.Program.{line_of};
 ghost use Rattle.f77_tree.specs.contracts.tree.Expr as expr;
 ghost use Rattle.f77_tree.specs.contracts.statement.Stmt as stmt;
@@ -10,6 +9,7 @@ ghost use Rattle.f77_actions.specs.contracts.action.Action as action;
 ghost use Rattle.f77_actions.specs.contracts.expression.Condition as condition;
 ghost use Rattle.f77_actions.specs.contracts.expression.Element as element;
 ghost use Rattle.f77_actions.specs.contracts.expression.Number as number;
+ghost use Rattle.f77_legal.specs.Labels as labelled;
 ghost use Rattle.f77_check.specs.Checked.{CheckedFields, IsChecked};
 ghost use Rattle.f77_check.specs.CheckedView.{checked_fields};
 ghost use Rattle.f77_check.specs.Ready.{CanResolve};
@@ -20,6 +20,7 @@ use crate::start::Start;
 use f77_actions::Resolved;
 use f77_program::Program;
 use f77_tree::{Kind, Shared};
+use std::alloc::AllocError;
 use std::marker::Model;
 
 /// The shape of a dummy argument: its kind, and whether it is a variable or an array.
@@ -34,11 +35,12 @@ pub struct Shape {
 /// shares the lines, so that it can be used without the program that it was made of.
 #[derive(Drop)]
 pub struct Checked {
-    program: Program,
-    arguments: Shared<Vec<Shape>>,
-    resolver: Shared<Resolver>,
-    statements: Vec<Shared<Resolved>>,
-    start: Shared<Start>,
+    pub(crate) program: Program,
+    pub(crate) arguments: Shared<Vec<Shape>>,
+    /// The tables in which names and labels are looked up.
+    pub(crate) resolver: Shared<Resolver>,
+    pub(crate) statements: Vec<Shared<Resolved>>,
+    pub(crate) start: Shared<Start>,
 }
 
 impl Model for Checked {
@@ -62,26 +64,6 @@ impl Model for Checked {
 }
 
 impl Checked {
-    pub(crate) fn from_parts(
-        program: Program,
-        arguments: Shared<Vec<Shape>>,
-        resolver: Shared<Resolver>,
-        statements: Vec<Shared<Resolved>>,
-        start: Shared<Start>,
-    ) -> Checked
-        requires checked { IsChecked (checked_fields program arguments.items resolver statements.items start) }
-        requires tables { CanResolve resolver (map line_of program) }
-        ensures { result ≡ checked_fields program arguments.items resolver statements.items start }
-    {
-        Checked {
-            program,
-            arguments,
-            resolver,
-            statements,
-            start,
-        }
-    }
-
     /// The program. It takes no memory.
     pub fn program(&self) -> &Program
         ensures program { result.now ≡ self.now.program }
@@ -97,20 +79,17 @@ impl Checked {
         &self.arguments
     }
 
-    /// The shapes of the dummy arguments, to be shared.
-    pub(crate) fn shared_arguments(&self) -> &Shared<Vec<Shape>>
-        ensures { result.now.items ≡ self.now.arguments }
+    /// The labels that stand on statements, in the order of the statements.
+    pub fn labels(&self) -> Result<Vec<u32>, AllocError>
+        ensures labels { IfOk result (λ list. list.items ≡ labelled.labels (map line_of self.now.program)) }
     {
-        &self.arguments
-    }
-
-    /// The tables in which names and labels are looked up.
-    pub(crate) fn resolver(&self) -> &Shared<Resolver>
-        ensures tables { CanResolve result.now (map line_of self.now.program) }
-        ensures names { keys result.now.tables.names.facts ≡ self.now.names }
-        ensures checked { IsChecked self.now }
-    {
-        &self.resolver
+        let mut list = Vec::new(self.program.allocator());
+        for line in self.program.lines() {
+            if let Some(label) = line.label {
+                list.push(label)?;
+            }
+        }
+        Ok(list)
     }
 
     /// The number of statements, 2 to 500. It takes no memory.
@@ -141,13 +120,6 @@ impl Checked {
     pub fn start(&self) -> &Start
         ensures start { result.now ≡ self.now.start }
         ensures checked { IsChecked self.now }
-    {
-        &self.start
-    }
-
-    /// What a run of the program starts with, to be shared.
-    pub(crate) fn shared_start(&self) -> &Shared<Start>
-        ensures { result.now ≡ self.now.start }
     {
         &self.start
     }

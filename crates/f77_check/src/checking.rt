@@ -3,19 +3,20 @@
 ghost use Rattle.std.specs.Prelude.{◌≡◌, ◌⊎◌, map, IfOk, IfErr, Some};
 ghost use Rattle.f77_program.specs.Program.{line_of};
 ghost use Rattle.f77_check.specs.Checked.{shapes};
+ghost use Rattle.f77_check.specs.code.Shapes.{shape_at};
 ghost use Rattle.f77_legal.specs.Legal.{IsLegal, first_fault};
 ghost use Rattle.f77_legal.specs.Tables.{AreTables};
 ghost use Rattle.f77_legal.specs.declared.fault.CheckFault.TheVariants.{Memory};
 
-use crate::checked::Checked;
+use crate::checked::{Checked, Shape};
 use crate::resolve::Resolver;
-use crate::shapes::shapes;
 use crate::slots::Slots;
 use f77_legal::heading::arguments;
+use f77_legal::names::{Names, product};
 use f77_legal::{CheckFault, Tables, judge};
 use f77_program::{Line, Program};
-use f77_tree::Shared;
-use std::alloc::Global;
+use f77_tree::{Name, Shared};
+use std::alloc::{AllocError, Global};
 
 /// The tables of a legal program, or its first fault.
 pub(crate) fn judged(alloc: Global, lines: &[Shared<Line>]) -> Result<Tables, CheckFault>
@@ -26,6 +27,33 @@ pub(crate) fn judged(alloc: Global, lines: &[Shared<Line>]) -> Result<Tables, Ch
     let tables = Tables::of(alloc, lines)?;
     judge(alloc, &tables, lines)?;
     Ok(tables)
+}
+
+/// The shape of a name. An array with more than 4294967295 elements is said to have that many.
+fn shape(names: &Names, name: &Name) -> Shape
+    ensures { result ≡ shape_at names.now name.now }
+{
+    let bounds = names.bounds(name);
+    let elements = product(bounds).min(4_294_967_295) as u32;
+    Shape {
+        kind: names.kind(name),
+        elements: if bounds.is_empty() {
+            None
+        } else {
+            Some(elements)
+        },
+    }
+}
+
+/// The shape of each name, in order.
+fn shapes(alloc: Global, names: &Names, list: &[Name]) -> Result<Vec<Shape>, AllocError>
+    ensures { IfOk result (λ shapes. shapes.items ≡ map (shape_at names.now) list.now) }
+{
+    let mut shapes = Vec::new(alloc);
+    for name in list {
+        shapes.push(shape(names, name))?;
+    }
+    Ok(shapes)
 }
 
 /// Checks a program, and gives it with the shapes of its dummy arguments. Where the program is not legal, its first
@@ -46,11 +74,11 @@ pub fn check(alloc: Global, program: &Program) -> Result<Checked, CheckFault>
     let resolver = Resolver { tables, slots };
     let statements = resolver.all(alloc, lines)?;
     let start = resolver.start(alloc, lines)?;
-    Ok(Checked::from_parts(
-        program.clone()?,
-        Shared::new(alloc, arguments)?,
-        Shared::new(alloc, resolver)?,
+    Ok(Checked {
+        program: program.clone()?,
+        arguments: Shared::new(alloc, arguments)?,
+        resolver: Shared::new(alloc, resolver)?,
         statements,
-        Shared::new(alloc, start)?,
-    ))
+        start: Shared::new(alloc, start)?,
+    })
 }

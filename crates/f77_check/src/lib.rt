@@ -7,11 +7,9 @@
 
 mod checked;
 mod checking;
-mod labels;
 mod lookup;
 mod patching;
 mod resolve;
-mod shapes;
 mod slots;
 mod start;
 

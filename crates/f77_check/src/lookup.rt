@@ -1,60 +1,20 @@
 //! Looking up the names in expressions of a legal program.
 
-ghost use Rattle.std.specs.Prelude.{◌≡◌, ◌<◌, true, None, Some, length, map, option_map, IfOk, IfErr, IfSome, List, ℕ};
+ghost use Rattle.std.specs.Prelude.{◌≡◌, ◌<◌, length, map, option_map, IfOk, IfSome};
 ghost use Rattle.std.specs.List.{All};
 ghost use Rattle.f77_tree.specs.Tree.{Tree};
 ghost use Rattle.f77_tree.specs.View.{tree_of, trees};
-ghost use Rattle.f77_tree.specs.declared.intrinsic.Intrinsic.TheVariants.{Mod, Iabs};
 ghost use Rattle.f77_tree.specs.declared.tree.Kind.{Kind};
 ghost use Rattle.f77_tree.specs.declared.tree.Kind.TheVariants.{Integer, Logical};
 ghost use Rattle.f77_check.specs.Action.{IsIncrementation};
-ghost use Rattle.f77_check.specs.code.Boxed.{HoldsNumber, HoldsCondition};
+ghost use Rattle.f77_check.specs.code.Boxed.{HoldsNumber};
 ghost use Rattle.f77_check.specs.Expression.{IsElement, IsNumber, IsChosen, IsCondition};
-ghost use Rattle.f77_actions.specs.Operators.{arithmetic_of, relation_of, connective_of};
-ghost use Rattle.f77_tree.specs.Comparing.{same_kind};
-ghost use Rattle.f77_legal.specs.Kinds.{result_kind};
 ghost use Rattle.f77_check.specs.code.Lookup.{IsReadyTree, by_tables};
-ghost use Rattle.f77_legal.specs.Names.{Symbol};
-ghost use Rattle.f77_legal.specs.declared.fault.CheckFault.TheVariants.{Memory};
 
 use crate::resolve::Resolver;
 use f77_actions::{Arithmetic, Condition, Connective, Element, Number, Relation};
-use f77_legal::CheckFault;
-use f77_tree::{Expr, Intrinsic, Name, Operator, Sign};
-use std::alloc::Global;
-
-/// An INTEGER constant, or TooLarge where it is above 2147483647.
-fn constant(value: u32) -> Number
-    ensures { (bounds : Symbol → List ℕ) (names : List Symbol) → IsNumber bounds names (Tree.Number value) result }
-{
-    match i32::try_from(value) {
-        Ok(value) => Number::Constant(value),
-        Err(_) => Number::TooLarge,
-    }
-}
-
-/// The operation of an arithmetic operator.
-pub(crate) fn operation(operator: Operator) -> Arithmetic
-    requires { same_kind (result_kind operator) Integer ≡ true }
-    ensures { arithmetic_of operator ≡ Some result }
-{
-    match Arithmetic::of(operator) {
-        Some(operation) => operation,
-        None => unreachable!(),
-    }
-}
-
-/// The connective of a logical operator between two truth values.
-pub(crate) fn connective(operator: Operator) -> Connective
-    requires kind { same_kind (result_kind operator) Logical ≡ true }
-    requires other { relation_of operator ≡ None }
-    ensures { connective_of operator ≡ Some result }
-{
-    match Connective::of(operator) {
-        Some(connective) => connective,
-        None => unreachable!(),
-    }
-}
+use f77_tree::{Expr, Intrinsic, Name, Sign};
+use std::alloc::{AllocError, Global};
 
 impl Resolver {
     /// A variable or an array element, from its name and its subscripts.
@@ -65,11 +25,10 @@ impl Resolver {
         alloc: Global,
         name: &Name,
         subscripts: &[Expr],
-    ) -> Result<Element, CheckFault>
+    ) -> Result<Element, AllocError>
         requires { (kind : Kind)
             × IsReadyTree self.now kind (Tree.Reference name.now (trees (map tree_of subscripts.now))) }
-        ensures element { IfOk result (by_tables self.now IsElement name.now (trees (map tree_of subscripts.now))) }
-        ensures memory { IfErr result (λ fault. fault ≡ Memory) }
+        ensures { IfOk result (by_tables self.now IsElement name.now (trees (map tree_of subscripts.now))) }
     {
         let names = &self.tables.names;
         let first = self.slots.first(names, name);
@@ -94,16 +53,18 @@ impl Resolver {
         }
     }
 
-    /// An INTEGER expression.
+    /// An INTEGER expression. A constant above 2147483647 is TooLarge.
     #[cycle(numbers)]
     #[tactic(auto, using(crate::proofs::Operands::arithmetic_takes))]
-    pub(crate) fn number(&self, alloc: Global, expr: &Expr) -> Result<Number, CheckFault>
+    pub(crate) fn number(&self, alloc: Global, expr: &Expr) -> Result<Number, AllocError>
         requires { IsReadyTree self.now Integer (tree_of expr.now) }
-        ensures number { IfOk result (by_tables self.now IsNumber (tree_of expr.now)) }
-        ensures memory { IfErr result (λ fault. fault ≡ Memory) }
+        ensures { IfOk result (by_tables self.now IsNumber (tree_of expr.now)) }
     {
         match expr {
-            Expr::Number(value) => Ok(constant(*value)),
+            Expr::Number(value) => match i32::try_from(*value) {
+                Ok(value) => Ok(Number::Constant(value)),
+                Err(_) => Ok(Number::TooLarge),
+            },
             Expr::Reference(place) => {
                 Ok(Number::Element(self.element(alloc, &place.name, &place.subscripts)?))
             }
@@ -113,7 +74,7 @@ impl Resolver {
                 Sign::Minus => Ok(Number::Negated(self.boxed(alloc, operand)?)),
             },
             Expr::Binary(operator, left, right) => Ok(Number::Binary(
-                operation(*operator),
+                Arithmetic::of(*operator).unwrap(),
                 self.boxed(alloc, left)?,
                 self.boxed(alloc, right)?,
             )),
@@ -125,64 +86,35 @@ impl Resolver {
     /// An INTEGER expression, on the heap.
     #[cycle(numbers)]
     #[tactic(auto, unfolding(crate::specs::code::Boxed::HoldsNumber))]
-    pub(crate) fn boxed(&self, alloc: Global, expr: &Expr) -> Result<Box<Number>, CheckFault>
+    fn boxed(&self, alloc: Global, expr: &Expr) -> Result<Box<Number>, AllocError>
         requires { IsReadyTree self.now Integer (tree_of expr.now) }
-        ensures number { IfOk result (by_tables self.now HoldsNumber (tree_of expr.now)) }
-        ensures memory { IfErr result (λ fault. fault ≡ Memory) }
+        ensures { IfOk result (by_tables self.now HoldsNumber (tree_of expr.now)) }
     {
         Ok(Box::new(alloc, self.number(alloc, expr)?)?)
     }
 
     /// A call of an intrinsic function (15.10).
     #[cycle(numbers)]
-    pub(crate) fn call(
+    #[tactic(auto, using(f77_legal::proofs::Counts::count_trees, crate::proofs::Items::one_item, crate::proofs::Items::two_items))]
+    fn call(
         &self,
         alloc: Global,
         function: Intrinsic,
         arguments: &[Expr],
-    ) -> Result<Number, CheckFault>
+    ) -> Result<Number, AllocError>
         requires { IsReadyTree self.now Integer (Tree.Call function (trees (map tree_of arguments.now))) }
-        ensures number { IfOk result
+        ensures { IfOk result
             (by_tables self.now IsNumber (Tree.Call function (trees (map tree_of arguments.now)))) }
-        ensures memory { IfErr result (λ fault. fault ≡ Memory) }
     {
-        match function {
-            Intrinsic::Mod => self.modulus(alloc, arguments),
-            Intrinsic::Iabs => self.absolute(alloc, arguments),
-            Intrinsic::Min0 => self.chosen(alloc, Arithmetic::Least, arguments),
-            Intrinsic::Max0 => self.chosen(alloc, Arithmetic::Greatest, arguments),
-        }
-    }
-
-    /// A call of MOD.
-    #[cycle(numbers)]
-    #[tactic(auto, using(f77_legal::proofs::Counts::count_trees, crate::proofs::Items::two_items))]
-    fn modulus(&self, alloc: Global, arguments: &[Expr]) -> Result<Number, CheckFault>
-        requires { IsReadyTree self.now Integer (Tree.Call Mod (trees (map tree_of arguments.now))) }
-        ensures number { IfOk result (by_tables self.now IsNumber (Tree.Call Mod (trees (map tree_of arguments.now)))) }
-        ensures memory { IfErr result (λ fault. fault ≡ Memory) }
-    {
-        match arguments {
-            [left, right] => Ok(Number::Binary(
+        match (function, arguments) {
+            (Intrinsic::Mod, [left, right]) => Ok(Number::Binary(
                 Arithmetic::Modulus,
                 self.boxed(alloc, left)?,
                 self.boxed(alloc, right)?,
             )),
-            _ => unreachable!(),
-        }
-    }
-
-    /// A call of IABS.
-    #[cycle(numbers)]
-    #[tactic(auto, using(f77_legal::proofs::Counts::count_trees, crate::proofs::Items::one_item))]
-    fn absolute(&self, alloc: Global, arguments: &[Expr]) -> Result<Number, CheckFault>
-        requires { IsReadyTree self.now Integer (Tree.Call Iabs (trees (map tree_of arguments.now))) }
-        ensures number { IfOk result
-            (by_tables self.now IsNumber (Tree.Call Iabs (trees (map tree_of arguments.now)))) }
-        ensures memory { IfErr result (λ fault. fault ≡ Memory) }
-    {
-        match arguments {
-            [operand] => Ok(Number::Absolute(self.boxed(alloc, operand)?)),
+            (Intrinsic::Iabs, [operand]) => Ok(Number::Absolute(self.boxed(alloc, operand)?)),
+            (Intrinsic::Min0, _) => self.chosen(alloc, Arithmetic::Least, arguments),
+            (Intrinsic::Max0, _) => self.chosen(alloc, Arithmetic::Greatest, arguments),
             _ => unreachable!(),
         }
     }
@@ -194,11 +126,10 @@ impl Resolver {
         alloc: Global,
         operation: Arithmetic,
         items: &[Expr],
-    ) -> Result<Number, CheckFault>
+    ) -> Result<Number, AllocError>
         requires some { 0 < length items.now }
         requires ready { All (λ item. IsReadyTree self.now Integer (tree_of item)) items.now }
-        ensures number { IfOk result (by_tables self.now IsChosen operation (trees (map tree_of items.now))) }
-        ensures memory { IfErr result (λ fault. fault ≡ Memory) }
+        ensures { IfOk result (by_tables self.now IsChosen operation (trees (map tree_of items.now))) }
     {
         let last = items.len() - 1;
         let mut chosen = self.number(alloc, &items[last])?;
@@ -209,70 +140,40 @@ impl Resolver {
         Ok(chosen)
     }
 
-    /// A relation of two numbers.
-    pub(crate) fn related(
-        &self,
-        alloc: Global,
-        operator: Operator,
-        relation: Relation,
-        left: &Expr,
-        right: &Expr,
-    ) -> Result<Condition, CheckFault>
-        requires ready { IsReadyTree self.now Logical (Tree.Binary operator (tree_of left.now) (tree_of right.now)) }
-        requires relation { relation_of operator ≡ Some relation }
-        ensures condition { IfOk result
-            (by_tables self.now IsCondition (Tree.Binary operator (tree_of left.now) (tree_of right.now))) }
-        ensures memory { IfErr result (λ fault. fault ≡ Memory) }
-    {
-        Ok(Condition::Related(
-            relation,
-            self.number(alloc, left)?,
-            self.number(alloc, right)?,
-        ))
-    }
-
     /// A LOGICAL expression.
-    #[cycle(conditions)]
     #[tactic(auto, using(crate::proofs::Operands::connective_takes))]
-    pub(crate) fn condition(&self, alloc: Global, expr: &Expr) -> Result<Condition, CheckFault>
+    pub(crate) fn condition(&self, alloc: Global, expr: &Expr) -> Result<Condition, AllocError>
         requires { IsReadyTree self.now Logical (tree_of expr.now) }
-        ensures condition { IfOk result (by_tables self.now IsCondition (tree_of expr.now)) }
-        ensures memory { IfErr result (λ fault. fault ≡ Memory) }
+        ensures { IfOk result (by_tables self.now IsCondition (tree_of expr.now)) }
     {
         match expr {
             Expr::Truth(value) => Ok(Condition::Constant(*value)),
             Expr::Reference(place) => {
                 Ok(Condition::Element(self.element(alloc, &place.name, &place.subscripts)?))
             }
-            Expr::Not(operand) => Ok(Condition::Not(self.boxed_condition(alloc, operand)?)),
+            Expr::Not(operand) => {
+                Ok(Condition::Not(Box::new(alloc, self.condition(alloc, operand)?)?))
+            }
             Expr::Binary(operator, left, right) => match Relation::of(*operator) {
-                Some(relation) => self.related(alloc, *operator, relation, left, right),
+                Some(relation) => Ok(Condition::Related(
+                    relation,
+                    self.number(alloc, left)?,
+                    self.number(alloc, right)?,
+                )),
                 None => Ok(Condition::Connected(
-                    connective(*operator),
-                    self.boxed_condition(alloc, left)?,
-                    self.boxed_condition(alloc, right)?,
+                    Connective::of(*operator).unwrap(),
+                    Box::new(alloc, self.condition(alloc, left)?)?,
+                    Box::new(alloc, self.condition(alloc, right)?)?,
                 )),
             },
             _ => unreachable!(),
         }
     }
 
-    /// A LOGICAL expression, on the heap.
-    #[cycle(conditions)]
-    #[tactic(auto, unfolding(crate::specs::code::Boxed::HoldsCondition))]
-    fn boxed_condition(&self, alloc: Global, expr: &Expr) -> Result<Box<Condition>, CheckFault>
-        requires { IsReadyTree self.now Logical (tree_of expr.now) }
-        ensures condition { IfOk result (by_tables self.now HoldsCondition (tree_of expr.now)) }
-        ensures memory { IfErr result (λ fault. fault ≡ Memory) }
-    {
-        Ok(Box::new(alloc, self.condition(alloc, expr)?)?)
-    }
-
     /// The incrementation parameter of a DO: 1 where none is written (11.10).
-    pub(crate) fn step(&self, alloc: Global, step: &Option<Expr>) -> Result<Number, CheckFault>
+    pub(crate) fn step(&self, alloc: Global, step: &Option<Expr>) -> Result<Number, AllocError>
         requires { IfSome step.now (λ step. IsReadyTree self.now Integer (tree_of step)) }
-        ensures step { IfOk result (by_tables self.now IsIncrementation (option_map tree_of step.now)) }
-        ensures memory { IfErr result (λ fault. fault ≡ Memory) }
+        ensures { IfOk result (by_tables self.now IsIncrementation (option_map tree_of step.now)) }
     {
         match step {
             None => Ok(Number::Constant(1)),

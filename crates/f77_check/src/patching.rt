@@ -6,8 +6,8 @@
 //!
 //! Memory comes from where that of the old program came (`Program::allocator`), so no call needs an allocator.
 
-ghost use Rattle.std.specs.Prelude.{◌≡◌, ◌<◌, ◌⊎◌, ◌-◌, true, false, List, length};
-ghost use Rattle.std.specs.Prelude.{map, IfOk, IfErr, None, Some};
+ghost use Rattle.std.specs.Prelude.{◌≡◌, ◌<◌, ◌⊎◌, ◌-◌, true, false, List, length, map, slice_set};
+ghost use Rattle.std.specs.Prelude.{IfOk, IfErr, None, Some};
 ghost use Rattle.f77_program.specs.Program.{LineFields, IsProgram, line_of};
 ghost use Rattle.f77_program.specs.Patching.{Fits, replaced, patched};
 ghost use Rattle.f77_tree.specs.Statement.{statement_of};
@@ -15,8 +15,8 @@ ghost use Rattle.f77_check.specs.Checked.{shapes};
 ghost use Rattle.f77_check.specs.code.Patching.{FrameStays};
 ghost use Rattle.f77_check.specs.Patching.{IsInPlace};
 ghost use Rattle.f77_check.specs.Resolved.{IsResolved};
-ghost use Rattle.f77_legal.specs.Legal.{IsLegal, ReportsFirstFault, faults, first_fault};
-ghost use Rattle.f77_legal.specs.Alone.{MayStandAt, StandsAlone};
+ghost use Rattle.f77_legal.specs.Legal.{IsLegal, first_fault};
+ghost use Rattle.f77_legal.specs.Alone.{StandsAlone};
 ghost use Rattle.f77_legal.specs.declared.fault.CheckFault.TheVariants.{Memory};
 
 use crate::checked::Checked;
@@ -24,6 +24,7 @@ use crate::checking::{check, judged};
 use f77_actions::Resolved;
 use f77_legal::{Broken, CheckFault, is_terminal, keeps_frame};
 use f77_tree::{Shared, Stmt};
+use std::alloc::{AllocError, Global};
 
 impl Checked {
     /// Whether the statement may be put in the place of the statement with this number, counted from 1. It may if both
@@ -32,15 +33,7 @@ impl Checked {
         ensures yes { result ≡ true → Fits (map line_of self.now.program) number (statement_of stmt.now) }
         ensures no { result ≡ false → ¬ (Fits (map line_of self.now.program) number (statement_of stmt.now)) }
     {
-        self.program().fits(number, stmt)
-    }
-
-    /// Whether the statement may be put in the place of statement `i`, at which DOs may end. It takes no memory.
-    fn may_stand_at(&self, i: usize, stmt: &Stmt) -> bool
-        requires { i < length self.now.program }
-        ensures { result ≡ true → MayStandAt (map line_of self.now.program) i (statement_of stmt.now) }
-    {
-        is_terminal(stmt) || self.statements()[i].ends.is_empty()
+        self.program.fits(number, stmt)
     }
 
     /// Whether the program keeps its frame, and the statement may end the DOs that end there. It takes no memory.
@@ -49,7 +42,8 @@ impl Checked {
         ensures { result ≡ true → FrameStays (map line_of self.now.program) (number - 1) (statement_of stmt.now) }
     {
         let i = number - 1;
-        keeps_frame(&self.program().lines()[i].stmt, stmt) && self.may_stand_at(i, stmt)
+        keeps_frame(&self.program.lines()[i].stmt, stmt)
+            && (is_terminal(stmt) || self.statements[i].ends.is_empty())
     }
 
     /// What follows from the changed statement alone: true if the changed program is legal, false if the whole of it
@@ -67,8 +61,8 @@ impl Checked {
             return Ok(false);
         }
         let i = number - 1;
-        let lines = self.program().lines();
-        match self.resolver().tables.first_broken(lines, i, stmt) {
+        let lines = self.program.lines();
+        match self.resolver.tables.first_broken(lines, i, stmt) {
             Broken::Nothing => Ok(true),
             Broken::First(clause) => Err(clause.fault(lines[i].line)),
             Broken::UnknownName => Ok(false),
@@ -92,43 +86,57 @@ impl Checked {
         if self.judged_alone(number, stmt)? {
             return Ok(true);
         }
-        self.judged_as_a_whole(number, stmt)?;
+        let program = self.program.with_statement(number, stmt)?;
+        judged(program.allocator(), program.lines())?;
         Ok(false)
     }
 
     /// The resolved form of the statement in its new place, where the changed program is legal by this statement alone.
     /// With it in the place of the old one, the resolved statements are those of the changed program.
-    pub fn resolved(&self, number: usize, stmt: &Stmt) -> Result<Shared<Resolved>, CheckFault>
+    pub fn resolved(&self, number: usize, stmt: &Stmt) -> Result<Resolved, AllocError>
         requires fits { Fits (map line_of self.now.program) number (statement_of stmt.now) }
         requires alone { StandsAlone self.now.names (map line_of self.now.program) (number - 1)
             (statement_of stmt.now) }
         requires legal { IsLegal (patched (map line_of self.now.program) number (statement_of stmt.now)) }
         ensures in_place { IfOk result (IsInPlace self.now number (statement_of stmt.now)) }
-        ensures memory { IfErr result (λ fault. fault ≡ Memory) }
     {
-        let alloc = self.program().allocator();
-        let resolved = self.resolved_for(number - 1, stmt)?;
-        Ok(Shared::new(alloc, resolved)?)
+        let alloc = self.program.allocator();
+        let resolved = self.resolved_for(alloc, number - 1, stmt)?;
+        Ok(resolved)
     }
 
     /// The resolved form of statement `i` of the changed program.
-    fn resolved_for(&self, i: usize, stmt: &Stmt) -> Result<Resolved, CheckFault>
+    fn resolved_for(&self, alloc: Global, i: usize, stmt: &Stmt) -> Result<Resolved, AllocError>
         ghost program: { List LineFields }
         requires changed { program ≡ replaced (map line_of self.now.program) i (statement_of stmt.now) }
         requires alone { StandsAlone self.now.names (map line_of self.now.program) i (statement_of stmt.now) }
         requires formed { IsProgram None program }
         requires legal { IsLegal program }
-        ensures resolved { IfOk result
+        ensures { IfOk result
             (λ resolved. IsResolved program self.now.names i (statement_of stmt.now) resolved) }
-        ensures memory { IfErr result (λ fault. fault ≡ Memory) }
     {
-        let next = self.statements()[i].next;
-        self.resolver()
-            .resolved_as(self.program().allocator(), i, stmt, next)
+        let next = self.statements[i].next;
+        self.resolver.resolved(alloc, i, stmt, next)
+    }
+
+    /// The resolved statements, with this one in the place of statement `i`.
+    fn statements_with(
+        &self,
+        i: usize,
+        resolved: Resolved,
+    ) -> Result<Vec<Shared<Resolved>>, AllocError>
+        requires { i < length self.now.statements }
+        ensures { IfOk result (λ list. list.items ≡ slice_set self.now.statements i resolved) }
+    {
+        let alloc = self.program.allocator();
+        let shared = Shared::new(alloc, resolved)?;
+        let mut statements = self.statements.to_vec(alloc)?;
+        statements[i] = shared;
+        Ok(statements)
     }
 
     /// The changed program, checked, where it is legal by the changed statement alone.
-    fn patched_alone(&self, number: usize, stmt: &Stmt) -> Result<Checked, CheckFault>
+    fn patched_alone(&self, number: usize, stmt: &Stmt) -> Result<Checked, AllocError>
         requires fits { Fits (map line_of self.now.program) number (statement_of stmt.now) }
         requires alone { StandsAlone self.now.names (map line_of self.now.program) (number - 1)
             (statement_of stmt.now) }
@@ -136,19 +144,17 @@ impl Checked {
         ensures program { IfOk result (λ checked. map line_of checked.program
             ≡ patched (map line_of self.now.program) number (statement_of stmt.now)) }
         ensures arguments { IfOk result (λ checked. checked.arguments ≡ self.now.arguments) }
-        ensures memory { IfErr result (λ fault. fault ≡ Memory) }
     {
         let resolved = self.resolved(number, stmt)?;
-        let program = self.program().with_statement(number, stmt)?;
-        let mut statements = self.statements().to_vec(program.allocator())?;
-        statements[number - 1] = resolved;
-        Ok(Checked::from_parts(
+        let program = self.program.with_statement(number, stmt)?;
+        let statements = self.statements_with(number - 1, resolved)?;
+        Ok(Checked {
             program,
-            self.shared_arguments().clone()?,
-            self.resolver().clone()?,
+            arguments: self.arguments.clone()?,
+            resolver: self.resolver.clone()?,
             statements,
-            self.shared_start().clone()?,
-        ))
+            start: self.start.clone()?,
+        })
     }
 
     /// Checks the program with another statement in the place of the one with this number, counted from 1. Where it is
@@ -167,20 +173,9 @@ impl Checked {
             IfErr result (λ fault. (fault ≡ Memory) ⊎ (first_fault program ≡ Some fault)) }
     {
         if self.judged_alone(number, stmt)? {
-            return self.patched_alone(number, stmt);
+            return Ok(self.patched_alone(number, stmt)?);
         }
-        let program = self.program().with_statement(number, stmt)?;
+        let program = self.program.with_statement(number, stmt)?;
         check(program.allocator(), &program)
-    }
-
-    /// Judges the changed program as a whole.
-    fn judged_as_a_whole(&self, number: usize, stmt: &Stmt) -> Result<(), CheckFault>
-        requires { Fits (map line_of self.now.program) number (statement_of stmt.now) }
-        ensures { ReportsFirstFault result
-            (faults (patched (map line_of self.now.program) number (statement_of stmt.now))) }
-    {
-        let program = self.program().with_statement(number, stmt)?;
-        judged(program.allocator(), program.lines())?;
-        Ok(())
     }
 }

@@ -1,17 +1,15 @@
 //! Slots: the places in which a run keeps the values of variables and array elements.
 
-ghost use Rattle.std.specs.Prelude.{◌≡◌, ◌<◌, ◌^◌, true, Some, IfOk, IfErr};
+ghost use Rattle.std.specs.Prelude.{◌≡◌, ◌<◌, ◌^◌, true, Some, IfOk};
 ghost use Rattle.indexmap.specs.IndexMap.{keys};
 ghost use Rattle.f77_check.specs.code.Kept.{is_kept};
 ghost use Rattle.f77_legal.specs.NameTable.{array_bounds};
 ghost use Rattle.f77_check.specs.Slots.{slot_count, first_slot};
 ghost use Rattle.f77_check.specs.SlotTable.{IsSlotTable};
-ghost use Rattle.f77_legal.specs.declared.fault.CheckFault.TheVariants.{Memory};
 
-use f77_legal::CheckFault;
 use f77_legal::names::{Names, product};
 use f77_tree::Name;
-use std::alloc::Global;
+use std::alloc::{AllocError, Global};
 
 /// The first slot of each name, in order of first appearance, and the number of all slots.
 #[derive(Drop)]
@@ -22,10 +20,9 @@ pub(crate) struct Slots {
 
 impl Slots {
     /// The slots of these names, name by name.
-    pub(crate) fn of(alloc: Global, names: &Names) -> Result<Slots, CheckFault>
+    pub(crate) fn of(alloc: Global, names: &Names) -> Result<Slots, AllocError>
         requires { slot_count (array_bounds names.now) (keys names.now.facts) < 2 ^ 32 }
-        ensures table { IfOk result (λ slots. IsSlotTable slots names.now) }
-        ensures memory { IfErr result (λ fault. fault ≡ Memory) }
+        ensures { IfOk result (λ slots. IsSlotTable slots names.now) }
     {
         let mut first = Vec::new(alloc);
         let mut count: usize = 0;
@@ -42,9 +39,6 @@ impl Slots {
         requires kept { is_kept names.now name.now ≡ true }
         ensures { first_slot (array_bounds names.now) (keys names.now.facts) name.now ≡ Some result }
     {
-        match names.place(name) {
-            Some(n) => self.first[n],
-            None => unreachable!(),
-        }
+        self.first[names.place(name).unwrap()]
     }
 }

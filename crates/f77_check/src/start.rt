@@ -1,6 +1,6 @@
 //! What a run of a program starts with.
 
-ghost use Rattle.std.specs.Prelude.{◌≡◌, ◌++◌, true, Some, map, position, replicate, IfOk, IfErr, OnOk};
+ghost use Rattle.std.specs.Prelude.{◌≡◌, true, Some, map, position, IfOk, OnOk};
 ghost use Rattle.std.specs.List.{flat_map, list_all};
 ghost use Rattle.indexmap.specs.IndexMap.{keys};
 ghost use Rattle.f77_tree.specs.Data.{data_group_of};
@@ -11,21 +11,19 @@ ghost use Rattle.f77_check.specs.code.Initial as given;
 ghost use Rattle.f77_check.specs.code.Initial.{HasFewSlots, slots_of, groups_kept};
 ghost use Rattle.f77_check.specs.code.Kept.{is_kept};
 ghost use Rattle.f77_check.specs.code.Lookup.{by_tables};
-ghost use Rattle.f77_legal.specs.NameTable.{array_bounds, kind_at};
+ghost use Rattle.f77_legal.specs.NameTable.{kind_at};
 ghost use Rattle.f77_legal.specs.InitialValues as initial_values;
 ghost use Rattle.f77_legal.specs.InitialValues.{element_count};
 ghost use Rattle.f77_check.specs.Ready.{CanResolve};
 ghost use Rattle.f77_check.specs.Slots.{first_slot, slot_kinds};
 ghost use Rattle.f77_check.specs.Start.{IsStartOf, initial_value};
-ghost use Rattle.f77_legal.specs.declared.fault.CheckFault.TheVariants.{Memory};
 
 use crate::resolve::Resolver;
-use f77_legal::CheckFault;
 use f77_legal::heading::arguments;
 use f77_legal::names::product;
 use f77_program::Line;
 use f77_tree::{Constant, DataGroup, Kind, Name, Shared, Stmt, Value};
-use std::alloc::Global;
+use std::alloc::{AllocError, Global};
 
 /// What a run of a program starts with. Statements and slots are numbered from 0.
 #[derive(Drop)]
@@ -91,42 +89,29 @@ fn give_values(held: &mut [Option<Constant>], slots: &[usize], values: &[Value])
 }
 
 impl Resolver {
-    /// Adds the slots of a name.
-    fn add_slots(&self, slots: &mut Vec<usize>, name: &Name) -> Result<(), CheckFault>
-        requires slots { HasFewSlots self.now }
-        requires kept { is_kept self.now.tables.names name.now ≡ true }
-        ensures slots { OnOk result (slots.new.items ≡ slots.old.items ++ by_tables self.now slots_of name.now) }
-        ensures memory { IfErr result (λ fault. fault ≡ Memory) }
-    {
-        let names = &self.tables.names;
-        let first = self.slots.first(names, name);
-        for k in 0..product(names.bounds(name)) as usize {
-            slots.push(first + k)?;
-        }
-        Ok(())
-    }
-
     /// The slots of names, name by name.
-    fn slots_of(&self, alloc: Global, list: &[Name]) -> Result<Vec<usize>, CheckFault>
+    fn slots_of(&self, alloc: Global, list: &[Name]) -> Result<Vec<usize>, AllocError>
         requires slots { HasFewSlots self.now }
         requires kept { list_all (is_kept self.now.tables.names) list.now ≡ true }
-        ensures slots { IfOk result (λ slots. slots.items ≡ flat_map (by_tables self.now slots_of) list.now) }
-        ensures memory { IfErr result (λ fault. fault ≡ Memory) }
+        ensures { IfOk result (λ slots. slots.items ≡ flat_map (by_tables self.now slots_of) list.now) }
     {
+        let names = &self.tables.names;
         let mut slots = Vec::new(alloc);
         for name in list {
-            self.add_slots(&mut slots, name)?;
+            let first = self.slots.first(names, name);
+            for k in 0..product(names.bounds(name)) as usize {
+                slots.push(first + k)?;
+            }
         }
         Ok(slots)
     }
 
     /// The first slot of each name.
-    fn first_slots(&self, alloc: Global, list: &[Name]) -> Result<Vec<usize>, CheckFault>
+    fn first_slots(&self, alloc: Global, list: &[Name]) -> Result<Vec<usize>, AllocError>
         requires slots { HasFewSlots self.now }
         requires kept { list_all (is_kept self.now.tables.names) list.now ≡ true }
-        ensures slots { IfOk result
+        ensures { IfOk result
             (λ slots. map (by_tables self.now first_slot) list.now ≡ map (λ slot. Some slot) slots.items) }
-        ensures memory { IfErr result (λ fault. fault ≡ Memory) }
     {
         let mut slots = Vec::new(alloc);
         for name in list {
@@ -140,12 +125,11 @@ impl Resolver {
         alloc: Global,
         held: &mut [Option<Constant>],
         groups: &[DataGroup],
-    ) -> Result<(), CheckFault>
+    ) -> Result<(), AllocError>
         requires slots { HasFewSlots self.now }
         requires kept { groups_kept self.now.tables.names (map data_group_of groups.now) ≡ true }
-        ensures given { OnOk result
+        ensures { OnOk result
             (held.new ≡ by_tables self.now given.give_groups held.old (map data_group_of groups.now)) }
-        ensures memory { IfErr result (λ fault. fault ≡ Memory) }
     {
         for group in groups {
             let slots = self.slots_of(alloc, &group.names)?;
@@ -159,13 +143,12 @@ impl Resolver {
         &self,
         alloc: Global,
         lines: &[Shared<Line>],
-    ) -> Result<Vec<Option<Constant>>, CheckFault>
+    ) -> Result<Vec<Option<Constant>>, AllocError>
         requires { CanResolve self.now (map line_of lines.now) }
-        ensures initial { IfOk result (λ initial. initial.items ≡ flat_map
+        ensures { IfOk result (λ initial. initial.items ≡ flat_map
             (λ name. map (initial_value (map line_of lines.now) name)
             (first_numbers (element_count (map line_of lines.now) name)))
             (keys self.now.tables.names.facts)) }
-        ensures memory { IfErr result (λ fault. fault ≡ Memory) }
     {
         let mut held = vec![in alloc; None; self.slots.count]?;
         for line in lines {
@@ -174,56 +157,32 @@ impl Resolver {
         Ok(held)
     }
 
-    /// Adds the kind of a name for each of its slots.
-    fn add_kinds(&self, kinds: &mut Vec<Kind>, name: &Name) -> Result<(), CheckFault>
-        requires slots { HasFewSlots self.now }
-        requires kept { is_kept self.now.tables.names name.now ≡ true }
-        ensures kinds { OnOk result (kinds.new.items ≡ kinds.old.items
-            ++ replicate (initial_values.product (array_bounds self.now.tables.names name.now))
-            (kind_at self.now.tables.names name.now)) }
-        ensures memory { IfErr result (λ fault. fault ≡ Memory) }
-    {
-        let names = &self.tables.names;
-        let kind = names.kind(name);
-        for _slot in 0..product(names.bounds(name)) as usize {
-            kinds.push(kind)?;
-        }
-        Ok(())
-    }
-
     /// The kind of each slot.
-    fn kinds(&self, alloc: Global) -> Result<Vec<Kind>, CheckFault>
+    fn kinds(&self, alloc: Global) -> Result<Vec<Kind>, AllocError>
         requires { HasFewSlots self.now }
-        ensures kinds { IfOk result
+        ensures { IfOk result
             (λ kinds. kinds.items ≡ by_tables self.now (slot_kinds (kind_at self.now.tables.names))) }
-        ensures memory { IfErr result (λ fault. fault ≡ Memory) }
     {
         let names = &self.tables.names;
         let mut kinds = Vec::with_capacity(alloc, self.slots.count)?;
         for name in names.facts.keys() {
-            self.add_kinds(&mut kinds, name)?;
+            let count = product(names.bounds(name)) as usize;
+            kinds.resize(kinds.len() + count, names.kind(name))?;
         }
         Ok(kinds)
     }
 
     /// What a run of a legal program starts with.
-    pub(crate) fn start(&self, alloc: Global, lines: &[Shared<Line>]) -> Result<Start, CheckFault>
+    pub(crate) fn start(&self, alloc: Global, lines: &[Shared<Line>]) -> Result<Start, AllocError>
         requires { CanResolve self.now (map line_of lines.now) }
-        ensures start { IfOk result
+        ensures { IfOk result
             (λ start. IsStartOf (map line_of lines.now) (keys self.now.tables.names.facts) start) }
-        ensures memory { IfErr result (λ fault. fault ≡ Memory) }
     {
-        let Some(entry) = entry(lines) else {
-            unreachable!()
-        };
-        let dummies = self.first_slots(alloc, arguments(lines))?;
-        let initial = self.initial(alloc, lines)?;
-        let kinds = self.kinds(alloc)?;
         Ok(Start {
-            entry,
-            dummies,
-            initial,
-            kinds,
+            entry: entry(lines).unwrap(),
+            dummies: self.first_slots(alloc, arguments(lines))?,
+            initial: self.initial(alloc, lines)?,
+            kinds: self.kinds(alloc)?,
         })
     }
 }

@@ -11,6 +11,8 @@ use Rattle.f77_legal.specs.Patches.{names_pass}
 use Rattle.f77_legal.specs.Tables.{Serve}
 use Rattle.f77_legal.specs.Alone.{StandsAlone}
 use Rattle.f77_legal.specs.declared.broken.Broken.{Broken}
+use Rattle.f77_check.specs.Checked.{CheckedFields}
+use Rattle.f77_check.specs.Ready.{CanResolve}
 use Rattle.f77_check.specs.declared.resolve.Resolver.{Resolver}
 use Rattle.f77_check.proofs.Changes.{line_read, found_alone, found_fault, found_legal}
 use Rattle.f77_check.proofs.checked.Checked.judged_alone.Goals as goal
@@ -31,10 +33,11 @@ pub returns-in-Nothing-clause-alone : goal.returns-in-Nothing-clause-alone
 returns-in-Nothing-clause-alone c = λ _.
     let s = statement_of c.args.stmt.now in
     let p = map line_of c.args.self.now.program in
-    let r = c.resolver.result.now in
-    let same = c.lines-lines.ensures.lines ∙ c.program.ensures.program in
-    subst (λ names. StandsAlone names p (c.args.number - 1) s) c.resolver.ensures.names
-    (found_alone r p c.resolver.ensures.tables (c.args.number - 1) s c.requires.formed (c.if-not-frame_stays.ensures refl) c.first_broken.result
+    let r = c.self.inside.resolver in
+    let can = subst (λ (self : CheckedFields). CanResolve r (map line_of self.program)) c.self.view_is c.self.invariant.1 in
+    let same = c.lines-lines.ensures.lines ∙ ap (λ self. self.program) c.self.view_is in
+    subst (λ names. StandsAlone names p (c.args.number - 1) s) (ap (λ self. self.names) c.self.view_is)
+    (found_alone r p can (c.args.number - 1) s c.requires.formed (c.if-not-frame_stays.ensures refl) c.first_broken.result
     (of_names _ r s c.first_broken.result c.deref.ensures c.first_broken.ensures.names)
     (of_first _ r _ _ (c.args.number - 1) s c.first_broken.result c.deref.ensures same c.first_broken.ensures.first) (ap has_known_names c.in-Nothing.is))
 
@@ -42,9 +45,10 @@ pub returns-in-Nothing-clause-legal : goal.returns-in-Nothing-clause-legal
 returns-in-Nothing-clause-legal c = λ _.
     let s = statement_of c.args.stmt.now in
     let p = map line_of c.args.self.now.program in
-    let r = c.resolver.result.now in
-    let same = c.lines-lines.ensures.lines ∙ c.program.ensures.program in
-    found_legal r p c.resolver.ensures.tables (c.args.number - 1) s c.requires.formed (c.if-not-frame_stays.ensures refl) c.first_broken.result
+    let r = c.self.inside.resolver in
+    let can = subst (λ (self : CheckedFields). CanResolve r (map line_of self.program)) c.self.view_is c.self.invariant.1 in
+    let same = c.lines-lines.ensures.lines ∙ ap (λ self. self.program) c.self.view_is in
+    found_legal r p can (c.args.number - 1) s c.requires.formed (c.if-not-frame_stays.ensures refl) c.first_broken.result
     (of_names _ r s c.first_broken.result c.deref.ensures c.first_broken.ensures.names)
     (of_first _ r _ _ (c.args.number - 1) s c.first_broken.result c.deref.ensures same c.first_broken.ensures.first) (ap has_known_names c.in-Nothing.is)
     (ap clause_found c.in-Nothing.is)
@@ -54,12 +58,13 @@ returns-in-First-clause-fault c =
     let s = statement_of c.args.stmt.now in
     let p = map line_of c.args.self.now.program in
     let i = c.args.number - 1 in
-    let r = c.resolver.result.now in
-    let same = c.lines-lines.ensures.lines ∙ c.program.ensures.program in
+    let r = c.self.inside.resolver in
+    let can = subst (λ (self : CheckedFields). CanResolve r (map line_of self.program)) c.self.view_is c.self.invariant.1 in
+    let same = c.lines-lines.ensures.lines ∙ ap (λ self. self.program) c.self.view_is in
     let stays = c.if-not-frame_stays.ensures refl in
     let read = c.index-lines-i.is ∙ ap (λ lines. get_or lines i c.index-lines-i.result) same in
     let line = line_read c.args.self.now.program i c.index-lines-i.result stays.line stays.at read in
-    found_fault r p c.resolver.ensures.tables i s c.requires.formed stays c.first_broken.result
+    found_fault r p can i s c.requires.formed stays c.first_broken.result
     (of_names _ r s c.first_broken.result c.deref.ensures c.first_broken.ensures.names)
     (of_first _ r _ _ i s c.first_broken.result c.deref.ensures same c.first_broken.ensures.first) (ap has_known_names c.in-First.is)
     ∙ ap (option_map (λ clause. clause_fault clause stays.line.line)) (ap clause_found c.in-First.is)

@@ -9,7 +9,7 @@ use Rattle.f77_check.proofs.checked.Checked.labels.Goals as goal
 
 pub loop-line-preserved : goal.loop-line-preserved
 loop-line-preserved c =
-    let lines = c.lines-lines.result.now in
+    let lines = c.lines-line-items.result.now in
     let read = ap (λ (line : Line). line.label) (sym c.deref.ensures) in
     elim c.match-deref.branch [
       | in-Some+in_ok-push w ↦
@@ -23,7 +23,9 @@ loop-line-preserved c =
           ∙ sym (unlabelled lines c.loop-line.line-index c.line-item.result c.loop-line-test.true c.line-item.is (read ∙ w.in_default.is)))
     ]
 
-pub returns-clause-labels : goal.returns-clause-labels
-returns-clause-labels c =
-    let whole : take c.loop-line.line-index c.lines-lines.result.now ≡ c.lines-lines.result.now = grind (arith, common_steps) in
-    c.loop-line.invariant ∙ ap (λ lines. labels (map line_of lines)) (whole ∙ c.lines-lines.ensures.lines ∙ c.program-program.ensures.program)
+pub returns : goal.returns
+returns c = record {
+  labels =
+      let whole : take c.loop-line.line-index c.lines-line-items.result.now ≡ c.lines-line-items.result.now = grind (arith, common_steps) in
+      c.loop-line.invariant ∙ ap (λ lines. labels (map line_of lines)) (whole ∙ c.lines-line-items.ensures.lines ∙ ap (λ self. self.program) c.self.view_is);
+}

@@ -4,4 +4,4 @@ use Rattle.f77_legal.specs.Labels.{labels}
 use Rattle.f77_check.proofs.checked.Checked.labels.Given as goal
 
 abbrev pub invariant-loop-line : goal.invariant-loop-line
-invariant-loop-line l = l.list.items ≡ labels (map line_of (take l.line-index l.lines))
+invariant-loop-line l = l.list.items ≡ labels (map line_of (take l.line-index l.line-items))

@@ -29,11 +29,11 @@ loop-line-preserved c =
     let whole : take c.loop-line.held.len (c.give_groups.new.held ++ drop (length c.give_groups.new.held) c.loop-line.held.items) ≡ c.give_groups.new.held = grind (arith, common_steps) in
     whole
     ∙ line_given r c.args.lines.now c.requires c.loop-line.line-index c.line-item.result c.loop-line-test.true c.line-item.is c.loop-line.held.items c.give_groups.new.held c.loop-line.invariant
-    (c.in_ok-give_groups.ensures.given
+    (c.in_ok-give_groups.ensures
     ∙ (λ i. give_groups (array_bounds r.tables.names) (keys r.tables.names.facts) (c.deref_mut.ensures.value i)
     ((c.groups.ensures ∙ ap (λ line. groups_of (statement_of line.stmt)) c.deref.ensures) i)))
 
-pub returns-clause-initial : goal.returns-clause-initial
-returns-clause-initial c =
+pub returns : goal.returns
+returns c =
     c.loop-line.invariant
     ∙ ap (λ lines. initial_by c.args.self.now (map line_of c.args.lines.now) (map line_of lines)) (take_all c.loop-line.line-index c.args.lines.now c.loop-line-test.false)

@@ -10,4 +10,4 @@ pub loop-label-preserved : goal.loop-label-preserved
 loop-label-preserved g c =
     subst (AreJumps g.program c.args.i (take (c.loop-label.label-index + 1) c.args.labels.now)) (sym c.in_ok-push.ensures.items)
     (jumps_more g.program c.args.i c.args.labels.now c.loop-label.jumps.items c.loop-label.label-index 0 c.in_ok-jump.field-0 c.loop-label-test.true
-    c.loop-label.invariant c.in_ok-jump.ensures.jump)
+    c.loop-label.invariant c.in_ok-jump.ensures)

@@ -1,4 +1,4 @@
 use Rattle.f77_check.proofs.resolve.Resolver.resolved.Given as goal
 
-abbrev pub ghost-resolved_as : goal.ghost-resolved_as
-ghost-resolved_as g a = g.program
+abbrev pub ghost-action : goal.ghost-action
+ghost-action g a = g.program

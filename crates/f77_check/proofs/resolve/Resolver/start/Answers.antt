@@ -1,4 +1,4 @@
-use Rattle.std.proofs.Common.{map, sym, ap, ◌∙◌}
+use Rattle.std.proofs.Common.{is_some, map, sym, ap, ◌∙◌}
 use Rattle.std.specs.List.{list_all}
 use Rattle.indexmap.specs.IndexMap.{keys}
 use Rattle.f77_program.specs.Program.{line_of}
@@ -10,11 +10,10 @@ use Rattle.f77_check.proofs.FirstExecutable.{first_executable}
 use Rattle.f77_legal.proofs.Positions.{position-map}
 use Rattle.f77_check.proofs.resolve.Resolver.start.Goals as goal
 
-pub unreachable-requires : goal.unreachable-requires
-unreachable-requires c =
+pub unwrap-requires : goal.unwrap-requires
+unwrap-requires c =
     let some = first_executable (map line_of c.args.lines.now) c.requires.formed in
-    let none = sym c.in_default.is ∙ (c.entry.ensures ∙ (sym (position-map (λ line. is_executable_statement line.stmt) line_of c.args.lines.now) ∙ some.1)) in
-    absurd (cc (none))
+    ap is_some (c.entry.ensures ∙ sym (position-map (λ line. is_executable_statement line.stmt) line_of c.args.lines.now) ∙ some.1)
 
 pub first_slots-requires-clause-slots : goal.first_slots-requires-clause-slots
 first_slots-requires-clause-slots c = has_slots c.args.self.now (map line_of c.args.lines.now) c.requires
@@ -27,13 +26,13 @@ first_slots-requires-clause-kept c =
 pub kinds-requires : goal.kinds-requires
 kinds-requires c = has_slots c.args.self.now (map line_of c.args.lines.now) c.requires
 
-pub returns-clause-start : goal.returns-clause-start
-returns-clause-start c =
+pub returns : goal.returns
+returns c =
     let names = c.args.self.now.tables.names in
     let bounds = c.requires.tables.bounds in
     record {
-      entry = position-map (λ line. is_executable_statement line.stmt) line_of c.args.lines.now ∙ (sym c.entry.ensures ∙ c.in-Some.is);
-      dummies = (λ i. map (first_slot (sym bounds i) (keys names.facts)) (sym c.arguments.ensures i)) ∙ c.in_ok-dummies.ensures.slots;
-      initial = c.in_ok-initial.ensures.initial;
-      kinds = c.in_ok-kinds.ensures.kinds ∙ (λ i. slot_kinds (c.requires.tables.kinds i) (bounds i) (keys names.facts));
+      entry = position-map (λ line. is_executable_statement line.stmt) line_of c.args.lines.now ∙ (sym c.entry.ensures ∙ c.unwrap.ensures);
+      dummies = (λ i. map (first_slot (sym bounds i) (keys names.facts)) (sym c.arguments.ensures i)) ∙ c.in_ok-first_slots.ensures;
+      initial = c.in_ok-initial.ensures;
+      kinds = c.in_ok-kinds.ensures ∙ (λ i. slot_kinds (c.requires.tables.kinds i) (bounds i) (keys names.facts));
     }

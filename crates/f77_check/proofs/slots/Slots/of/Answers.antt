@@ -26,8 +26,8 @@ loop-name-preserved c =
     (counted_more bounds names c.loop-name.first.items c.loop-name.count c.loop-name.name-iterator c.loop-name.invariant c.in-Some.name.now
     c.next.new.self c.in-Some.ensures.steps c.product.result exact)
 
-pub returns-clause-table : goal.returns-clause-table
-returns-clause-table c =
+pub returns : goal.returns
+returns c =
     let all = counted_all (array_bounds c.args.names.now) (keys c.args.names.now.facts) c.loop-name.first.items c.loop-name.count
     c.loop-name.name-iterator c.loop-name.invariant c.in-None.ensures.steps.0 in
     record { first = all.0; count = all.1 }

@@ -1,6 +1,6 @@
 use Rattle.std.proofs.Common.{◌≡◌, map, take}
 use Rattle.f77_check.specs.code.Shapes.{shape_at}
-use Rattle.f77_check.proofs.shapes.shapes.Given as goal
+use Rattle.f77_check.proofs.checking.shapes.Given as goal
 
 abbrev pub invariant-loop-name : goal.invariant-loop-name
 invariant-loop-name l = l.shapes.items ≡ map (shape_at l.names) (take l.name-index l.list)

@@ -1,7 +1,7 @@
 use Rattle.std.proofs.Common.{ap, ◌∙◌, ◌++◌, ◌∷◌, []}
 use Rattle.f77_check.specs.code.Shapes.{shape_at}
 use Rattle.f77_legal.proofs.Entries.{pushed}
-use Rattle.f77_check.proofs.shapes.shapes.Goals as goal
+use Rattle.f77_check.proofs.checking.shapes.Goals as goal
 
 pub loop-name-preserved : goal.loop-name-preserved
 loop-name-preserved c =

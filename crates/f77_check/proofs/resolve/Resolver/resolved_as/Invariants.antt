@@ -1,4 +1,0 @@
-use Rattle.f77_check.proofs.resolve.Resolver.resolved_as.Given as goal
-
-abbrev pub ghost-action : goal.ghost-action
-ghost-action g a = g.program
