@@ -149,9 +149,7 @@ impl<'a> ChangedRunner<'a> {
         restore(self.checked, &mut self.code, &mut self.space.image);
         self.change = None;
         let place = number - 1;
-        let Ok(resolved) = self.checked.resolved(number, stmt) else {
-            return Err(RunFault::Memory);
-        };
+        let resolved = self.checked.resolved(number, stmt)?;
         let image = &mut self.space.image;
         let code = &mut self.code;
         put(self.alloc, self.checked, code, image, place, &resolved)?;

@@ -180,11 +180,8 @@ impl<'a> Prover<'a> {
         let number = mutant.number();
         let checked = self.plan.program();
         let stmt = mutant.statement(checked)?;
-        match checked.resolved(number, &stmt) {
-            Ok(resolved) => Ok(self.judge_in_place(alloc, number, &stmt, &resolved)?),
-            // A legal program is refused for want of memory alone.
-            Err(_) => Err(OpsFault::Memory),
-        }
+        let resolved = Shared::new(alloc, checked.resolved(number, &stmt)?)?;
+        Ok(self.judge_in_place(alloc, number, &stmt, &resolved)?)
     }
 
     /// How many steps are to be spared for the ticket's mutant, if it is equivalent then.

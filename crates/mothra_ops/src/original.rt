@@ -9,7 +9,7 @@ use crate::mutant::Mutant;
 use crate::node_lists::NodeLists;
 use f77_check::{CheckFault, Checked};
 use f77_tree::{Replacement, Stmt};
-use mothra_replacements::{OpsFault, Pools, gives, memory_fault};
+use mothra_replacements::{OpsFault, Pools, gives};
 use std::alloc::Global;
 use std::mem;
 use std::snapshot::Snapshot;
@@ -47,11 +47,7 @@ impl<'a> Original<'a> {
         ensures memory { IfErr result (λ fault. fault ≡ Memory) }
     {
         let lines = checked.program().lines();
-        let labels = match checked.labels() {
-            Ok(labels) => labels,
-            Err(fault) => return Err(memory_fault(fault)),
-        };
-        let pools = Pools::of(alloc, lines, labels)?;
+        let pools = Pools::of(alloc, lines, checked.labels()?)?;
         let nodes = NodeLists::of(alloc, lines)?;
         Ok(Original {
             checked,

@@ -17,7 +17,7 @@ ghost use Rattle.mothra_replacements.specs.Pools.{constant, pools_of, same_refer
 ghost use Rattle.mothra_replacements.specs.Pools.{pool_fields, reference_of};
 ghost use Rattle.mothra_replacements.specs.declared.fault.OpsFault.TheVariants.{Memory};
 
-use crate::fault::{OpsFault, memory_fault};
+use crate::fault::OpsFault;
 use crate::places::is_element;
 use f77_legal::Names;
 use f77_program::Line;
@@ -159,10 +159,7 @@ fn names(alloc: Global, lines: &[Shared<Line>]) -> Result<(Names, Vec<Name>, Vec
         (λ names. names.2.items ≡ filter (is_array (map line_of lines.now)) (symbols (map line_of lines.now))) }
     ensures memory { IfErr result (λ fault. fault ≡ Memory) }
 {
-    let names = match Names::of(alloc, lines) {
-        Ok(names) => names,
-        Err(fault) => return Err(memory_fault(fault)),
-    };
+    let names = Names::of(alloc, lines)?;
     let (scalars, arrays) = scalars_and_arrays(alloc, &names)?;
     Ok((names, scalars, arrays))
 }
