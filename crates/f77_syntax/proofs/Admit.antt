@@ -11,13 +11,18 @@ use Rattle.f77_tree.specs.Limits.{most_nodes, statement_constants, statement_nod
 use Rattle.f77_syntax.specs.Parsing.{IsAdmitted, IsCardRefused}
 use Rattle.f77_syntax.specs.code.Parsing.{IsOutside}
 use Rattle.f77_syntax.proofs.FormedClip.{formed_short, unformed_long}
-use Rattle.f77_syntax.proofs.StatementClip.{statement_constants_clip, statement_nodes_clip, statement_kept}
+use Rattle.f77_syntax.proofs.StatementClip.{statement_kept}
+use Rattle.f77_syntax.proofs.NodeClip.{statement_constants_clip, statement_nodes_clip}
 
 -- a text within the limits on texts, and the statement that was kept of it
 pub record Kept (text : List ℕ) (got : Statement) : Type 0 where
   pub characters : character_count text ≤ most_characters
   pub flat : ¬ (IsTooDeep text)
   pub spells : (s : Statement) × SpellsStatement text s × (got ≡ clip_statement s)
+
+pub kept_of : (text bytes : List ℕ) (got : Statement) → bytes ≡ text → character_count text ≤ most_characters → ¬ (IsTooDeep bytes)
+    → (s : Statement) × SpellsStatement bytes s × (got ≡ clip_statement s) → Kept text got
+kept_of text bytes got e few flat spells = subst (λ z. Kept z got) e (record { characters = subst (λ z. character_count z ≤ most_characters) (sym e) few; flat = flat; spells = spells })
 
 pub bad_name : (line : ℕ) (text : List ℕ) (got : Statement) → Kept text got → ¬ (IsFormed got) → IsCardRefused line text (BadName line)
 bad_name line text got k unformed =
@@ -52,7 +57,8 @@ all_well text got k f h few =
       nodes = few;
     }
 
-pub not_spelled : (line : ℕ) (text : List ℕ) (fault : SyntaxFault) → character_count text ≤ most_characters → ¬ (IsTooDeep text)
-    → (fault ≡ Memory) ⊎ ((fault ≡ Unknown line) × ((s : Statement) → ¬ (SpellsStatement text s))) → (fault ≡ Memory) ⊎ IsCardRefused line text fault
-not_spelled line text fault h flat (inl e) = inl e
-not_spelled line text fault h flat (inr p) = inr (subst (λ f. IsCardRefused line text f) (sym p.0) (IsCardRefused.unknown h flat p.1))
+pub not_spelled : (line : ℕ) (text bytes : List ℕ) (fault : SyntaxFault) → bytes ≡ text → character_count text ≤ most_characters → ¬ (IsTooDeep bytes)
+    → (fault ≡ Memory) ⊎ ((fault ≡ Unknown line) × ((s : Statement) → ¬ (SpellsStatement bytes s))) → (fault ≡ Memory) ⊎ IsCardRefused line text fault
+not_spelled line text bytes fault e h flat (inl m) = inl m
+not_spelled line text bytes fault e h flat (inr p) =
+    inr (subst (λ f. IsCardRefused line text f) (sym p.0) (IsCardRefused.unknown h (subst (λ z. ¬ (IsTooDeep z)) e flat) (subst (λ z. (s : Statement) → ¬ (SpellsStatement z s)) e p.1)))

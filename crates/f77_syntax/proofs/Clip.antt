@@ -1,15 +1,21 @@
--- Keeping a tree changes no constant's limit and no node, and within the limits it changes nothing.
-use Rattle.std.proofs.Common.{arith, ◌≡◌, ◌≤◌, ℕ, List, [], ◌∷◌, length, Bool, true, false, refl, ap}
-use Rattle.std.specs.Prelude.{nat_le, map}
+-- Keeping trees, declared names and initial values changes no limit, and within the limits it changes nothing.
+use Rattle.std.proofs.Common.{arith, ◌≡◌, ◌≤◌, ℕ, zero, suc, List, [], ◌∷◌, length, Bool, true, false, cond, refl, ap}
+use Rattle.std.specs.Prelude.{ℤ, negsuc, ◌&&◌, nat_le, map}
 use Rattle.std.specs.List.{list_all}
 use Rattle.std.proofs.lemmas.Bool.Decides.{nat_tests}
-use Rattle.std.proofs.lemmas.List.{take_all}
-use Rattle.f77_tree.specs.Tree.{Tree, Trees}
+use Rattle.std.proofs.lemmas.List.{take_all, length-map}
+use Rattle.f77_tree.specs.Tree.{Tree, Trees, DeclFields, GroupFields}
 use Rattle.f77_syntax.specs.code.View.{clipped, clip, clip_all}
 use Rattle.f77_tree.specs.Name.{is_short, cut}
-use Rattle.f77_tree.specs.Names.{short_names, all_short_names}
-use Rattle.f77_tree.proofs.Constants.{small_constants, all_small_constants}
-use Rattle.f77_syntax.proofs.NodeCounts.{nodes, all_nodes}
+use Rattle.f77_tree.specs.Names.{short_names, all_short_names, decl_name, declaration_names, has_short_group_names, data_names}
+use Rattle.f77_tree.specs.declared.data.Constant.{Constant}
+use Rattle.f77_tree.specs.declared.data.Constant.TheVariants.{Number, Truth}
+use Rattle.f77_tree.specs.declared.data.Value.{Value}
+use Rattle.f77_tree.specs.Limits.{largest_integer, magnitude, small_constant}
+use Rattle.f77_tree.specs.Declaration.{has_bounds, all_bounded}
+use Rattle.f77_syntax.specs.code.Declaration.{clip_decl}
+use Rattle.f77_syntax.specs.code.Data.{clipped_constant, clip_constant, clip_value, clip_group}
+use Rattle.f77_tree.proofs.Constants.{small_constants, all_small_constants, small_bound, decl_constants, declaration_constants, small_value, group_constants, data_constants}
 use Rattle.f77_tree.proofs.Tests.{and_true}
 
 pub constant_clip : (n : ℕ) → nat_le (clipped n) 2147483647 ≡ nat_le n 2147483647
@@ -19,35 +25,14 @@ constant_clip n = either (nat_le n 2147483647) refl
     either true e = grind (arith, nat_tests)
     either false e = grind (arith, nat_tests)
 
-mutual
-  pub constants_clip : (t : Tree) → small_constants (clip t) ≡ small_constants t
-  constants_clip (Tree.Number n) = constant_clip n
-  constants_clip (Tree.Truth b) = refl
-  constants_clip (Tree.Reference name items) = all_constants_clip items
-  constants_clip (Tree.Call f items) = all_constants_clip items
-  constants_clip (Tree.Signed sign t) = constants_clip t
-  constants_clip (Tree.Not t) = constants_clip t
-  constants_clip (Tree.Binary op a b) = rw (constants_clip a) (rw (constants_clip b) refl)
-  constants_clip (Tree.ZeroPush t) = constants_clip t
+-- lists whose items keep what is asked of them, and lists whose items are kept
+pub each_clip : {A : Type 0} (p : A → Bool) (keep : A → A) → ((x : A) → p (keep x) ≡ p x) → (xs : List A) → list_all p (map keep xs) ≡ list_all p xs
+each_clip p keep same [] = refl
+each_clip p keep same (x ∷ xs) = rw (same x, each_clip p keep same xs) refl
 
-  pub all_constants_clip : (ts : Trees) → all_small_constants (clip_all ts) ≡ all_small_constants ts
-  all_constants_clip Trees.None = refl
-  all_constants_clip (Trees.Then t ts) = rw (constants_clip t) (rw (all_constants_clip ts) refl)
-
-mutual
-  pub nodes_clip : (t : Tree) → nodes (clip t) ≡ nodes t
-  nodes_clip (Tree.Number n) = refl
-  nodes_clip (Tree.Truth b) = refl
-  nodes_clip (Tree.Reference name items) = rw (all_nodes_clip items) refl
-  nodes_clip (Tree.Call f items) = rw (all_nodes_clip items) refl
-  nodes_clip (Tree.Signed sign t) = rw (nodes_clip t) refl
-  nodes_clip (Tree.Not t) = rw (nodes_clip t) refl
-  nodes_clip (Tree.Binary op a b) = rw (nodes_clip a) (rw (nodes_clip b) refl)
-  nodes_clip (Tree.ZeroPush t) = rw (nodes_clip t) refl
-
-  pub all_nodes_clip : (ts : Trees) → all_nodes (clip_all ts) ≡ all_nodes ts
-  all_nodes_clip Trees.None = refl
-  all_nodes_clip (Trees.Then t ts) = rw (nodes_clip t) (rw (all_nodes_clip ts) refl)
+each_kept : {A : Type 0} (p : A → Bool) (keep : A → A) → ((x : A) → p x ≡ true → keep x ≡ x) → (xs : List A) → list_all p xs ≡ true → map keep xs ≡ xs
+each_kept p keep same [] h = refl
+each_kept p keep same (x ∷ xs) h = let (first, others) = and_true (p x) (list_all p xs) h in rw (same x first, each_kept p keep same xs others) refl
 
 pub small_clipped : (n : ℕ) → nat_le n 2147483647 ≡ true → clipped n ≡ n
 small_clipped n e = grind (arith, nat_tests)
@@ -56,8 +41,7 @@ pub short_cut : (name : List ℕ) → is_short name ≡ true → cut name ≡ na
 short_cut name e = let few : length name ≤ 7 = grind (arith, nat_tests) in take_all 7 name few
 
 pub short_cuts : (names : List (List ℕ)) → list_all is_short names ≡ true → map cut names ≡ names
-short_cuts [] h = refl
-short_cuts (name ∷ names) h = let (first, others) = and_true (is_short name) (list_all is_short names) h in rw (short_cut name first, short_cuts names others) refl
+short_cuts names h = each_kept is_short cut short_cut names h
 
 mutual
   pub kept : (t : Tree) → short_names t ≡ true → small_constants t ≡ true → clip t ≡ t
@@ -78,3 +62,47 @@ mutual
   all_kept (Trees.Then t ts) s h =
       let (first, others) = and_true (short_names t) (all_short_names ts) s in
       let (l, r) = and_true (small_constants t) (all_small_constants ts) h in rw (kept t first l) (rw (all_kept ts others r) refl)
+
+-- declared names
+pub all_bounded_clip : (ds : List DeclFields) → all_bounded (map clip_decl ds) ≡ all_bounded ds
+all_bounded_clip ds = each_clip has_bounds clip_decl (λ d. rw (length-map d.bounds clipped) refl) ds
+
+pub declaration_kept : (ds : List DeclFields) → declaration_names ds ≡ true → declaration_constants ds ≡ true → map clip_decl ds ≡ ds
+declaration_kept [] n h = refl
+declaration_kept (d ∷ ds) n h =
+    let (named, others_named) = and_true (decl_name d) (declaration_names ds) n in
+    let (first, others) = and_true (decl_constants d) (declaration_constants ds) h in
+    rw (short_cut d.name named, each_kept small_bound clipped small_clipped d.bounds first, declaration_kept ds others_named others) refl
+
+-- initial values
+number_clip : (z : ℤ) → nat_le (magnitude (clipped_constant z)) largest_integer ≡ nat_le (magnitude z) largest_integer
+number_clip z = either (nat_le (magnitude z) largest_integer) refl
+  where
+    either : (b : Bool) → nat_le (magnitude z) largest_integer ≡ b → nat_le (magnitude (cond b z (negsuc largest_integer))) largest_integer ≡ b
+    either true e = e
+    either false e = grind (arith, nat_tests)
+
+pub constant_limit : (c : Constant) → small_constant (clip_constant c) ≡ small_constant c
+constant_limit (Number z) = number_clip z
+constant_limit (Truth b) = refl
+
+pub least_clip : (n : ℕ) → nat_le 1 (clipped n) ≡ nat_le 1 n
+least_clip zero = refl
+least_clip (suc n) = grind (arith, nat_tests)
+
+constant_same : (c : Constant) → small_constant c ≡ true → clip_constant c ≡ c
+constant_same (Number z) h = rw h refl
+constant_same (Truth b) h = refl
+
+value_same : (v : Value) → small_value v ≡ true → clip_value v ≡ v
+value_same v h =
+    let (least, rest) = and_true (nat_le 1 v.times) (nat_le v.times largest_integer && small_constant v.constant) h in
+    let (most, fits) = and_true (nat_le v.times largest_integer) (small_constant v.constant) rest in
+    rw (small_clipped v.times most, constant_same v.constant fits) refl
+
+pub data_kept : (gs : List GroupFields) → data_names gs ≡ true → data_constants gs ≡ true → map clip_group gs ≡ gs
+data_kept [] n h = refl
+data_kept (g ∷ gs) n h =
+    let (named, others_named) = and_true (has_short_group_names g) (data_names gs) n in
+    let (first, others) = and_true (group_constants g) (data_constants gs) h in
+    rw (short_cuts g.names named, each_kept small_value clip_value value_same g.values first, data_kept gs others_named others) refl

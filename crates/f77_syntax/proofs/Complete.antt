@@ -8,8 +8,8 @@ use Rattle.std.proofs.lemmas.Bool.{le-leb}
 use Rattle.std.proofs.lemmas.Bool.Decides.{nat_tests}
 use Rattle.std.proofs.lemmas.Option.{same_Some}
 use Rattle.f77_tree.specs.declared.operator.Operator.{Operator}
-use Rattle.f77_tree.specs.declared.operator.Operator.TheVariants.{Equivalent, NotEquivalent, Or, And, Less, LessOrEqual, Equal, NotEqual}
-use Rattle.f77_tree.specs.declared.operator.Operator.TheVariants.{GreaterOrEqual, Greater, Add, Subtract, Multiply, Divide, Power}
+use Rattle.f77_tree.specs.declared.operator.Operator.TheVariants.{Equivalent}
+use Rattle.f77_tree.specs.declared.operator.Operator.TheVariants.{Multiply}
 use Rattle.f77_tree.specs.declared.operator.Sign.{Sign}
 use Rattle.f77_tree.specs.declared.operator.Sign.TheVariants.{Plus, Minus}
 use Rattle.f77_tree.specs.Operator.{symbol, sign_symbol, level, left_level, right_level}
@@ -18,10 +18,11 @@ use Rattle.f77_tree.specs.Intrinsic.{function_name, function_named}
 use Rattle.f77_syntax.proofs.Functions.{function_found, function_is_name, not_function}
 use Rattle.f77_tree.specs.Grammar.{Spells, SpellsReference, SpellsAll, is_call, truth_constant_text, is_letter, is_digit, is_word, is_name, is_number, word, past_word}
 use Rattle.f77_syntax.specs.Reading.{◌>>=◌}
-use Rattle.f77_syntax.specs.code.Reading.{operator_at, listed_by, function_listed, named_at, word_tree_at, start_at, expr_at, climb_on, climb_at, trees_at, reading}
+use Rattle.f77_syntax.specs.code.Reading.{operator_at, listed_by, function_listed, named_at, word_tree_at, start_at, expr_at, climb_on, climb_at, trees_at, reading, whole_at}
 use Rattle.f77_tree.proofs.Tests.{and_true}
 use Rattle.f77_tree.proofs.Words.{EndsWord, word_front, past_word_front, letter_word, name_words}
 use Rattle.f77_syntax.proofs.Shorter.{name_long, number_long}
+use Rattle.f77_syntax.proofs.WordTexts.{digit_word, number_words}
 use Rattle.f77_syntax.proofs.Agree.{reading_expr, reading_climb, reading_items}
 
 abbrev pub level_at : Option (Operator × List ℕ) → ℕ
@@ -43,20 +44,7 @@ closing_at own = grind (arith, nat_tests)
 -- the levels of each operator
 closing_level : (op : Operator) → closing (level op) ≡ right_level op
 closing_level Equivalent = refl
-closing_level NotEquivalent = refl
-closing_level Or = refl
-closing_level And = refl
-closing_level Less = refl
-closing_level LessOrEqual = refl
-closing_level Equal = refl
-closing_level NotEqual = refl
-closing_level GreaterOrEqual = refl
-closing_level Greater = refl
-closing_level Add = refl
-closing_level Subtract = refl
-closing_level Multiply = refl
-closing_level Divide = refl
-closing_level Power = refl
+closing_level _ = refl
 
 -- an operator goes on with its left operand
 record Tables (op : Operator) : Type 0 where
@@ -70,20 +58,7 @@ record Tables (op : Operator) : Type 0 where
 tables : (op : Operator) → Tables op
 unfolding front_level
 tables Equivalent = record { up = omega arith; left = λ own h g. omega (arith, closing_at own); high = omega arith; right = omega arith; low = omega arith; front = λ y. refl }
-tables NotEquivalent = record { up = omega arith; left = λ own h g. omega (arith, closing_at own); high = omega arith; right = omega arith; low = omega arith; front = λ y. refl }
-tables Or = record { up = omega arith; left = λ own h g. omega (arith, closing_at own); high = omega arith; right = omega arith; low = omega arith; front = λ y. refl }
-tables And = record { up = omega arith; left = λ own h g. omega (arith, closing_at own); high = omega arith; right = omega arith; low = omega arith; front = λ y. refl }
-tables Less = record { up = omega arith; left = λ own h g. omega (arith, closing_at own); high = omega arith; right = omega arith; low = omega arith; front = λ y. refl }
-tables LessOrEqual = record { up = omega arith; left = λ own h g. omega (arith, closing_at own); high = omega arith; right = omega arith; low = omega arith; front = λ y. refl }
-tables Equal = record { up = omega arith; left = λ own h g. omega (arith, closing_at own); high = omega arith; right = omega arith; low = omega arith; front = λ y. refl }
-tables NotEqual = record { up = omega arith; left = λ own h g. omega (arith, closing_at own); high = omega arith; right = omega arith; low = omega arith; front = λ y. refl }
-tables GreaterOrEqual = record { up = omega arith; left = λ own h g. omega (arith, closing_at own); high = omega arith; right = omega arith; low = omega arith; front = λ y. refl }
-tables Greater = record { up = omega arith; left = λ own h g. omega (arith, closing_at own); high = omega arith; right = omega arith; low = omega arith; front = λ y. refl }
-tables Add = record { up = omega arith; left = λ own h g. omega (arith, closing_at own); high = omega arith; right = omega arith; low = omega arith; front = λ y. refl }
-tables Subtract = record { up = omega arith; left = λ own h g. omega (arith, closing_at own); high = omega arith; right = omega arith; low = omega arith; front = λ y. refl }
-tables Multiply = record { up = omega arith; left = λ own h g. omega (arith, closing_at own); high = omega arith; right = omega arith; low = omega arith; front = λ y. refl }
-tables Divide = record { up = omega arith; left = λ own h g. omega (arith, closing_at own); high = omega arith; right = omega arith; low = omega arith; front = λ y. refl }
-tables Power = record { up = omega arith; left = λ own h g. omega (arith, closing_at own); high = omega arith; right = omega arith; low = omega arith; front = λ y. refl }
+tables _ = record { up = omega arith; left = λ own h g. omega (arith, closing_at own); high = omega arith; right = omega arith; low = omega arith; front = λ y. refl }
 
 -- the text does not begin with an asterisk, so an operator before it is not the beginning of another one
 abbrev pub NoStar : List ℕ → Type 0
@@ -94,38 +69,14 @@ operator_found : (op : Operator) (y : List ℕ) → NoStar y → operator_at (sy
 unfolding operator_at
 operator_found Multiply [] h = refl
 operator_found Multiply (c ∷ y) h = rw h refl
-operator_found Equivalent y h = refl
-operator_found NotEquivalent y h = refl
-operator_found Or y h = refl
-operator_found And y h = refl
-operator_found Less y h = refl
-operator_found LessOrEqual y h = refl
-operator_found Equal y h = refl
-operator_found NotEqual y h = refl
-operator_found GreaterOrEqual y h = refl
-operator_found Greater y h = refl
-operator_found Add y h = refl
-operator_found Subtract y h = refl
-operator_found Divide y h = refl
-operator_found Power y h = refl
+operator_found _ y h = refl
 
 -- the first character of a text that spells a tree, and of what follows it
 first_word : (c : ℕ) → is_word c ≡ true → ((c == 40) ≡ false) × ((c == 43) ≡ false) × ((c == 45) ≡ false) × ((c == 46) ≡ false) × ((c == 42) ≡ false)
 first_word c h = (grind (arith, nat_tests), grind (arith, nat_tests), grind (arith, nat_tests), grind (arith, nat_tests), grind (arith, nat_tests))
 
-digit_word : (c : ℕ) → is_digit c ≡ true → is_word c ≡ true
-digit_word c h = grind (arith, nat_tests)
-
 letter_digit : (c : ℕ) → is_letter c ≡ true → is_digit c ≡ false
 letter_digit c h = grind (arith, nat_tests)
-
-digits_words : (s : List ℕ) → list_all is_digit s ≡ true → list_all is_word s ≡ true
-digits_words [] e = refl
-digits_words (c ∷ s) e = let (first, others) = and_true (is_digit c) (list_all is_digit s) e in rw (digit_word c first) (digits_words s others)
-
-pub number_words : (s : List ℕ) → is_number s ≡ true → list_all is_word s ≡ true
-number_words [] e = cc
-number_words (c ∷ s) e = digits_words (c ∷ s) e
 
 not_number : (s : List ℕ) → is_name s ≡ true → is_number s ≡ false
 not_number [] e = refl
@@ -363,10 +314,14 @@ mutual
   complete_all (SpellsAll.more {text = text} {rest = others} {t = t} {ts = ts} p q) rest = more_read text others t ts (complete (omega arith) p) rest (complete_all q rest)
 
 -- the whole text is read
-pub whole : {text : List ℕ} {t : Tree} → Spells 1 text t → reading.expr 1 text ≡ Some (t, [])
+pub whole_read : {text : List ℕ} {t : Tree} → Spells 1 text t → reading.expr 1 text ≡ Some (t, [])
 unfolding front_level
-whole {text = text} p = ap (reading.expr 1) (sym (append-nil text)) ∙ operand_read 1 (complete (omega arith) p) [] (omega arith)
+whole_read {text = text} p = ap (reading.expr 1) (sym (append-nil text)) ∙ operand_read 1 (complete (omega arith) p) [] (omega arith)
+
+pub whole : {text : List ℕ} {t : Tree} → Spells 1 text t → whole_at text ≡ Some t
+unfolding whole_at
+whole p = rw (whole_read p) refl
 
 -- a text spells at most one tree
 pub one_tree : {text : List ℕ} {t u : Tree} → Spells 1 text t → Spells 1 text u → t ≡ u
-one_tree {t = t} {u = u} p q = ap (λ x. x.0) (same_Some (t, []) (u, []) (sym (whole p) ∙ whole q))
+one_tree {t = t} {u = u} p q = same_Some t u (sym (whole p) ∙ whole q)

@@ -1,26 +1,24 @@
 -- What the readers of initial values give, from what they call.
 use Rattle.std.proofs.Common.{arith, ◌≡◌, ◌<◌, ◌≤◌, ℕ, zero, suc, length, length-append, List, [], ◌∷◌, ◌++◌, true, false, refl, Option, Some, None, ap, sym, ◌∙◌, append_assoc, subst}
-use Rattle.std.specs.Prelude.{pos, ◌==◌, map, option_map, unwrap_or}
+use Rattle.std.specs.Prelude.{◌==◌, map, option_map, unwrap_or, ok_or}
 use Rattle.std.specs.Borrow.{Bor}
 use Rattle.std.proofs.lemmas.Option.{same_Some, none-some}
 use Rattle.f77_syntax.specs.declared.fault.ReadError.{ReadError}
-use Rattle.f77_tree.specs.declared.data.Constant.{Constant}
-use Rattle.f77_tree.specs.declared.data.Value.{Value}
 use Rattle.f77_tree.specs.declared.data.DataGroup.{DataGroup}
-use Rattle.f77_tree.specs.Grammar.{is_name, word, past_word}
 use Rattle.f77_syntax.specs.Reading.{◌>>=◌}
 use Rattle.f77_syntax.specs.code.Reading.{tree_after, past_comma}
-use Rattle.f77_tree.specs.Name.{cut}
-use Rattle.f77_syntax.specs.code.View.{clipped, Fails}
-use Rattle.f77_syntax.specs.code.Names.{name_at, names_at}
-use Rattle.f77_syntax.specs.code.Declaration.{bound_at}
+use Rattle.f77_syntax.specs.code.View.{clipped, Fails, Gives}
 use Rattle.f77_tree.specs.Tree.{GroupFields}
-use Rattle.f77_tree.specs.Data.{data_group_of, negative}
-use Rattle.f77_syntax.specs.code.Data.{initial_constant_at, truth_at, constant_at, repeat_at, data_value_at, data_values_at, with_values}
-use Rattle.f77_syntax.specs.code.Data.{group_at, with_groups, groups_within, groups_at, clip_constant, clip_value, clip_group, Finds}
+use Rattle.f77_tree.specs.Data.{data_group_of}
+use Rattle.f77_tree.specs.declared.data.Constant.{Constant}
+use Rattle.f77_tree.specs.declared.data.Value.{Value}
+use Rattle.f77_syntax.specs.declared.fault.ReadError.TheVariants.{Unknown}
+use Rattle.f77_syntax.specs.code.Declaration.{bound_at}
+use Rattle.f77_syntax.proofs.DataTexts.{value_is, group_is, group_long}
+use Rattle.f77_syntax.specs.code.Data.{constant_at, data_value_at, clip_constant, clip_value}
+use Rattle.f77_syntax.specs.code.Data.{repeat_at, group_at, with_groups, groups_within, groups_at, clip_group, Finds}
 use Rattle.f77_syntax.proofs.Gives.{fails_bind}
 use Rattle.f77_syntax.proofs.JoinedTexts.{kept_more, fronts_short}
-use Rattle.f77_syntax.proofs.DataTexts.{value_is, group_is, group_long}
 
 -- what is found, and what is read
 module _ {A B : Type 0} (keep : A → B) where
@@ -36,30 +34,9 @@ module _ {A B : Type 0} (keep : A → B) where
   pub finds_none : (found : Option (B × Bor (List ℕ))) (o : Option (A × List ℕ)) → found ≡ None → o ≡ None → Finds keep found o
   finds_none found o e f = rw (e, f) refl
 
-  pub finds_along : (found : Option (B × Bor (List ℕ))) (o p : Option (A × List ℕ)) → o ≡ p → Finds keep found p → Finds keep found o
-  finds_along found o p e h = subst (Finds keep found) (sym e) h
-
--- constants
-pub constant_none : (s : List ℕ) → length s ≡ 0 → constant_at s ≡ None
-unfolding constant_at
-constant_none [] h = refl
-constant_none (c ∷ s) h = absurd (omega arith)
-
-pub constant_plus : (s : List ℕ) → constant_at (43 ∷ s) ≡ initial_constant_at pos s
-unfolding constant_at
-constant_plus s = refl
-
-pub constant_minus : (s : List ℕ) → constant_at (45 ∷ s) ≡ initial_constant_at negative s
-unfolding constant_at
-constant_minus s = refl
-
-pub constant_dot : (s : List ℕ) → constant_at (46 ∷ s) ≡ truth_at (46 ∷ s)
-unfolding constant_at
-constant_dot s = refl
-
-pub constant_other : (c : ℕ) (s : List ℕ) → (c == 43) ≡ false → (c == 45) ≡ false → (c == 46) ≡ false → constant_at (c ∷ s) ≡ initial_constant_at pos (c ∷ s)
-unfolding constant_at
-constant_other c s plus minus dot = rw (plus, minus, dot) refl
+  pub finds_gives : (found : Option (B × Bor (List ℕ))) (o : Option (A × List ℕ)) → Finds keep found o → Gives (λ x a. (x.0 ≡ keep a.0) × (x.1.now ≡ a.1)) (ok_or found Unknown) o
+  finds_gives None o e = nothing_read o e
+  finds_gives (Some y) o e = let (x, read, same, end) = something_read o y.0 y.1.now e in (x, read, (same, end))
 
 -- repeats
 pub repeat_no_number : (s : List ℕ) → bound_at s ≡ None → repeat_at s ≡ None
@@ -107,58 +84,6 @@ value_whole s r n k y e times same end =
 
 pub value_shorter : (s : List ℕ) (x : Value × List ℕ) → data_value_at s ≡ Some x → length x.1 ≤ length s
 value_shorter s x e = fronts_short (value_is s x e)
-
--- names
-pub no_name : (s : List ℕ) → is_name (word s) ≡ false → name_at s ≡ None
-no_name s h = rw h refl
-
-pub a_name : (s : List ℕ) → is_name (word s) ≡ true → name_at s ≡ Some (word s, past_word s)
-a_name s h = rw h refl
-
--- a group
-abbrev pub group_fields : List (List ℕ) → List Value → GroupFields
-group_fields names values = record { names = names; values = values }
-
--- a group whose values have been read, before its last slash
-abbrev closing : List (List ℕ) → List Value × List ℕ → Option (GroupFields × List ℕ)
-closing names v = tree_after 47 v.1 >>= λ z. Some (group_fields names v.0, z)
-
-group_opened : (s behind inner : List ℕ) (x : List (List ℕ) × List ℕ) → names_at s ≡ Some x → behind ≡ x.1 → tree_after 47 behind ≡ Some inner
-    → group_at s ≡ (data_values_at inner >>= closing x.0)
-unfolding group_at
-group_opened s behind inner x e is slash = rw (e, ← is, slash) refl
-
-pub group_fails_names : (s : List ℕ) (e : ReadError) → Fails e (names_at s) → Fails e (group_at s)
-unfolding group_at
-group_fails_names s e f = fails_bind e (names_at s) (λ x. tree_after 47 x.1 >>= λ r. with_values x.0 r) f
-
-opening : (s behind : List ℕ) (x : List (List ℕ) × List ℕ) → names_at s ≡ Some x → behind ≡ x.1 → group_at s ≡ (tree_after 47 behind >>= λ r. with_values x.0 r)
-unfolding group_at
-opening s behind x found is = rw (found, is) refl
-
-pub group_fails_open : (s behind : List ℕ) (x : List (List ℕ) × List ℕ) (e : ReadError) → names_at s ≡ Some x → behind ≡ x.1 → Fails e (tree_after 47 behind) → Fails e (group_at s)
-group_fails_open s behind x e found is f = subst (Fails e) (sym (opening s behind x found is)) (fails_bind e (tree_after 47 behind) (λ r. with_values x.0 r) f)
-
-pub group_fails_values : (s behind inner : List ℕ) (x : List (List ℕ) × List ℕ) (e : ReadError) → names_at s ≡ Some x → behind ≡ x.1 → tree_after 47 behind ≡ Some inner
-    → Fails e (data_values_at inner) → Fails e (group_at s)
-group_fails_values s behind inner x e found is slash f =
-    subst (Fails e) (sym (group_opened s behind inner x found is slash)) (fails_bind e (data_values_at inner) (closing x.0) f)
-
-pub group_fails_close : (s behind inner end : List ℕ) (x : List (List ℕ) × List ℕ) (v : List Value × List ℕ) (e : ReadError) → names_at s ≡ Some x → behind ≡ x.1
-    → tree_after 47 behind ≡ Some inner → data_values_at inner ≡ Some v → end ≡ v.1 → Fails e (tree_after 47 end) → Fails e (group_at s)
-group_fails_close s behind inner end x v e found is slash valued at f =
-    subst (Fails e) (sym (group_opened s behind inner x found is slash ∙ ap (λ o. o >>= closing x.0) valued))
-    (fails_bind e (tree_after 47 v.1) (λ z. Some (group_fields x.0 v.0, z)) (rw at at f))
-
-pub group_whole : (s behind inner end rest z : List ℕ) (names : List (List ℕ)) (values : List Value) (x : List (List ℕ) × List ℕ) (v : List Value × List ℕ)
-    → names_at s ≡ Some x → behind ≡ x.1 → tree_after 47 behind ≡ Some inner → data_values_at inner ≡ Some v → end ≡ v.1 → tree_after 47 end ≡ Some z
-    → names ≡ map cut x.0 → values ≡ map clip_value v.0 → rest ≡ z
-    → (y : GroupFields × List ℕ) × (group_at s ≡ Some y) × ((group_fields names values ≡ clip_group y.0) × (rest ≡ y.1))
-group_whole s behind inner end rest z names values x v found is slash valued at close named same last =
-    ((group_fields x.0 v.0, z), group_opened s behind inner x found is slash ∙ ap (λ o. o >>= closing x.0) valued ∙ closes v.1 (sym at) close, (rw (named, same) refl, last))
-  where
-    closes : (r : List ℕ) → r ≡ end → tree_after 47 end ≡ Some z → closing x.0 (v.0, r) ≡ Some (group_fields x.0 v.0, z)
-    closes r e h = rw (e, h) refl
 
 pub group_shorter : (s rest : List ℕ) (x : GroupFields × List ℕ) → group_at s ≡ Some x → rest ≡ x.1 → length rest < length s
 group_shorter s rest x e end = let f = group_is s x e in rw end (omega (arith, ap length f.is, length-append f.text x.1, group_long f.spells))

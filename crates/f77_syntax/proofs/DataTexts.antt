@@ -1,6 +1,6 @@
 -- Initial values: what is read is spelled so, and what is spelled is read so.
-use Rattle.std.proofs.Common.{arith, ◌≡◌, inl, inr, ◌<◌, ℕ, zero, suc, length, length-append, List, [], ◌∷◌, ◌++◌, true}
-use Rattle.std.proofs.Common.{false, cond, refl, Option, Some, None, ap, sym, ◌∙◌, append_assoc, append-nil, subst}
+use Rattle.std.proofs.Common.{arith, ◌≡◌, inl, inr, ◌<◌, ℕ, zero, suc, length, length-append, List, [], ◌∷◌, ◌++◌, Bool, true}
+use Rattle.std.proofs.Common.{false, refl, Option, Some, None, ap, sym, ◌∙◌, append_assoc, append-nil, subst}
 use Rattle.std.specs.Prelude.{ℤ, pos, ◌==◌, codes, unwrap_or}
 use Rattle.std.specs.List.{list_all, list_any}
 use Rattle.std.specs.Str.Parse.{digits_value}
@@ -10,27 +10,26 @@ use Rattle.std.proofs.lemmas.Option.{none-some}
 use Rattle.std.proofs.lemmas.List.{nil_from_length}
 use Rattle.f77_tree.specs.declared.data.Constant.{Constant}
 use Rattle.f77_tree.specs.declared.data.Constant.TheVariants.{Number, Truth}
-use Rattle.f77_tree.specs.Grammar.{is_word, is_digit, is_letter, is_name, is_number}
+use Rattle.f77_tree.specs.Grammar.{is_digit, is_number, truth_constant_text}
 use Rattle.f77_syntax.specs.Reading.{◌>>=◌, strip}
 use Rattle.f77_syntax.specs.code.Reading.{tree_after, past_comma}
 use Rattle.f77_tree.specs.Joined.{Joined}
-use Rattle.f77_tree.specs.Declaration.{SpellsName, SpellsNumber}
+use Rattle.f77_tree.specs.Declaration.{SpellsNumber}
 use Rattle.f77_syntax.specs.code.Names.{name_at, names_at}
 use Rattle.f77_syntax.specs.code.Declaration.{bound_at}
 use Rattle.f77_tree.specs.Tree.{GroupFields}
 use Rattle.f77_tree.specs.Data.{negative, SpellsConstant, SpellsValue, SpellsGroup, SpellsGroups}
-use Rattle.f77_syntax.specs.code.Data.{initial_constant_at, truth_by, truth_at, constant_at, repeat_at, times_at, data_value_at}
-use Rattle.f77_syntax.specs.code.Data.{data_values_at, with_values, group_at, with_groups, groups_within, groups_at}
-use Rattle.f77_syntax.proofs.Steps.{along, bind_ok, chosen, strip_is}
+use Rattle.f77_syntax.specs.code.Data.{initial_constant_at, constant_at, repeat_at, times_at, data_value_at}
+use Rattle.f77_syntax.specs.code.Data.{data_values_at, group_at, with_groups, groups_within, groups_at}
+use Rattle.f77_syntax.proofs.Steps.{along, bind_ok, behind_is, chosen, strip_is, after_is}
 use Rattle.f77_tree.proofs.Tests.{and_true}
-use Rattle.f77_tree.proofs.Words.{word_front, past_word_front, name_words}
-use Rattle.f77_syntax.proofs.Gives.{after_is}
+use Rattle.f77_tree.proofs.Words.{word_front, past_word_front}
 use Rattle.f77_syntax.proofs.JoinedTexts.{Fronts, IsSound, IsRead, Stops, items_is, items_read, joined_no_equals}
-use Rattle.f77_syntax.proofs.DeclarationTexts.{names_is, name_read, number_is, number_read, number_words}
+use Rattle.f77_syntax.proofs.DeclarationTexts.{names_is, name_read, number_is, number_read, name_no_equals}
 use Rattle.f77_program.proofs.DataForms.{unsigned_spelled, minus_spelled, repeated_spelled}
 use Rattle.std.proofs.lemmas.List.Folds.{list_any-append}
 use Rattle.f77_tree.specs.declared.data.Value.{Value}
-use Rattle.f77_syntax.proofs.WordTexts.{is_equals, words_no_equals}
+use Rattle.f77_syntax.proofs.WordTexts.{is_equals, words_no_equals, number_words, names_begin, letter_no_comma}
 
 positive_is : (s : List ℕ) (x : Constant × List ℕ) → initial_constant_at pos s ≡ Some x → Fronts SpellsConstant s x
 positive_is s x e =
@@ -49,30 +48,19 @@ signed_front c sign s x spelled e =
 plus_spelled : (text : List ℕ) (n : ℕ) → SpellsNumber text n → SpellsConstant (43 ∷ text) (Number (pos n))
 plus_spelled text n (SpellsNumber.numeral h) = SpellsConstant.plus h
 
-truth_is : (s : List ℕ) (x : Constant × List ℕ) → truth_at s ≡ Some x → Fronts SpellsConstant s x
-truth_is s x e = by_texts (strip (codes ".TRUE.") s) (strip (codes ".FALSE.") s) refl refl e
-  where
-    by_texts : (o p : Option (List ℕ)) → strip (codes ".TRUE.") s ≡ o → strip (codes ".FALSE.") s ≡ p → truth_by o p ≡ Some x → Fronts SpellsConstant s x
-    by_texts (Some r) p is other found =
-        along (Fronts SpellsConstant s) (Truth true, r) x found (record { text = codes ".TRUE."; is = strip_is (codes ".TRUE.") s r is; spells = SpellsConstant.logical true })
-    by_texts None (Some r) other is found =
-        along (Fronts SpellsConstant s) (Truth false, r) x found (record { text = codes ".FALSE."; is = strip_is (codes ".FALSE.") s r is; spells = SpellsConstant.logical false })
-    by_texts None None other third found = absurd (none-some x found)
+truth_front : (b : Bool) (s r : List ℕ) (x : Constant × List ℕ) → s ≡ truth_constant_text b ++ r → Some (Truth b, r) ≡ Some x → Fronts SpellsConstant s x
+truth_front b s r x is e = along (Fronts SpellsConstant s) (Truth b, r) x e (record { text = truth_constant_text b; is = is; spells = SpellsConstant.logical b })
 
 pub constant_is : IsSound SpellsConstant constant_at
 unfolding constant_at
-constant_is [] x e = absurd (none-some x e)
-constant_is (c ∷ s) x e =
-    elim (chosen (c == 43) (initial_constant_at pos s) (cond (c == 45) (initial_constant_at negative s) (cond (c == 46) (truth_at (c ∷ s)) (initial_constant_at pos (c ∷ s)))) (Some x) e) [
-      | inl p ↦ subst (λ d. Fronts SpellsConstant (d ∷ s) x) (sym (eqb-true c 43 p.0)) (signed_front 43 pos s x plus_spelled p.1)
-      | inr p ↦ elim (chosen (c == 45) (initial_constant_at negative s) (cond (c == 46) (truth_at (c ∷ s)) (initial_constant_at pos (c ∷ s))) (Some x) p.1) [
-        | inl q ↦ subst (λ d. Fronts SpellsConstant (d ∷ s) x) (sym (eqb-true c 45 q.0)) (signed_front 45 negative s x minus_spelled q.1)
-        | inr q ↦ elim (chosen (c == 46) (truth_at (c ∷ s)) (initial_constant_at pos (c ∷ s)) (Some x) q.1) [
-          | inl r ↦ truth_is (c ∷ s) x r.1
-          | inr r ↦ positive_is (c ∷ s) x r.1
-        ]
-      ]
-    ]
+constant_is s x =
+    behind_is (Fronts SpellsConstant s x) (tree_after 43 s) (initial_constant_at pos) _ x
+    (λ r is e. subst (λ z. Fronts SpellsConstant z x) (sym (after_is 43 s r is)) (signed_front 43 pos r x plus_spelled e))
+    (behind_is (Fronts SpellsConstant s x) (tree_after 45 s) (initial_constant_at negative) _ x
+    (λ r is e. subst (λ z. Fronts SpellsConstant z x) (sym (after_is 45 s r is)) (signed_front 45 negative r x minus_spelled e))
+    (behind_is (Fronts SpellsConstant s x) (strip (codes ".TRUE.") s) (λ r. Some (Truth true, r)) _ x (λ r is. truth_front true s r x (strip_is (codes ".TRUE.") s r is))
+    (behind_is (Fronts SpellsConstant s x) (strip (codes ".FALSE.") s) (λ r. Some (Truth false, r)) _ x (λ r is. truth_front false s r x (strip_is (codes ".FALSE.") s r is))
+    (positive_is s x))))
 
 -- a front is digits and an asterisk
 record FrontsRepeat (s : List ℕ) (x : ℕ × List ℕ) : Type 0 where
@@ -114,8 +102,8 @@ data_values_is = items_is value_is
 pub group_is : IsSound SpellsGroup group_at
 unfolding group_at
 group_is s x e =
-    let (y, named, more) = bind_ok (names_at s) (λ y. tree_after 47 y.1 >>= λ r. with_values y.0 r) x e in
-    let (r, slash, rest) = bind_ok (tree_after 47 y.1) (λ r. with_values y.0 r) x more in
+    let (y, named, more) = bind_ok (names_at s) (λ y. tree_after 47 y.1 >>= λ r. data_values_at r >>= λ v. tree_after 47 v.1 >>= λ z. Some (record { names = y.0; values = v.0 }, z)) x e in
+    let (r, slash, rest) = bind_ok (tree_after 47 y.1) (λ r. data_values_at r >>= λ v. tree_after 47 v.1 >>= λ z. Some (record { names = y.0; values = v.0 }, z)) x more in
     let (v, valued, others) = bind_ok (data_values_at r) (λ v. tree_after 47 v.1 >>= λ z. Some (record { names = y.0; values = v.0 }, z)) x rest in
     let (z, close, end) = bind_ok (tree_after 47 v.1) (λ z. Some (record { names = y.0; values = v.0 }, z)) x others in
     let f = names_is s y named in
@@ -207,19 +195,9 @@ group_read (SpellsGroup.group {x = x} {y = y} p q) rest =
     ) refl
 
 -- a group begins with a letter, and so with no comma
-name_starts : (text rest : List ℕ) → is_name text ≡ true → tree_after 44 (text ++ rest) ≡ None
-name_starts [] rest h = cc
-name_starts (c ∷ text) rest h =
-    let letter = (and_true (is_letter c) (list_all is_word text) h).0 in
-    let other : (c == 44) ≡ false = grind (arith, nat_tests) in rw other refl
-
-names_start : {text : List ℕ} {names : List (List ℕ)} → Joined SpellsName text names → (rest : List ℕ) → tree_after 44 (text ++ rest) ≡ None
-names_start (Joined.last (SpellsName.named {text = t} h)) rest = name_starts t rest h
-names_start (Joined.more {rest = others} (SpellsName.named {text = t} h) p) rest = rw (append_assoc t (44 ∷ others) rest) (name_starts t (44 ∷ (others ++ rest)) h)
-
 group_starts : {text : List ℕ} {g : GroupFields} → SpellsGroup text g → (rest : List ℕ) → tree_after 44 (text ++ rest) ≡ None
 group_starts (SpellsGroup.group {x = x} {y = y} p q) rest =
-    rw (append_assoc x (47 ∷ (y ++ 47 ∷ [])) rest) (names_start p (47 ∷ ((y ++ 47 ∷ []) ++ rest)))
+    rw (append_assoc x (47 ∷ (y ++ 47 ∷ [])) rest) (letter_no_comma _ (names_begin p (47 ∷ ((y ++ 47 ∷ []) ++ rest))))
 
 groups_start : {text : List ℕ} {gs : List GroupFields} → SpellsGroups text gs → tree_after 44 text ≡ None
 groups_start (SpellsGroups.last {text = text} p) = subst (λ v. tree_after 44 v ≡ None) (append-nil text) (group_starts p [])
@@ -264,9 +242,6 @@ value_no_equals : (text : List ℕ) (v : Value) → SpellsValue text v → list_
 value_no_equals text v (SpellsValue.once p) = constant_no_equals p
 value_no_equals text v (SpellsValue.repeated digits {text = t} h p) =
     list_any-append is_equals digits (42 ∷ t) ∙ rw (words_no_equals digits (number_words digits h)) (constant_no_equals p)
-
-name_no_equals : (text name : List ℕ) → SpellsName text name → list_any is_equals text ≡ false
-name_no_equals text name (SpellsName.named h) = words_no_equals text (name_words text h)
 
 group_no_equals : {text : List ℕ} {g : GroupFields} → SpellsGroup text g → list_any is_equals text ≡ false
 group_no_equals (SpellsGroup.group {x = x} {y = y} p q) =

@@ -1,35 +1,27 @@
 -- Declared names: what is read is spelled so, and what is spelled is read so.
 use Rattle.std.proofs.Common.{arith, ◌≡◌, ℕ, List, [], ◌∷◌, ◌++◌, true, false, refl, Option, Some, None, ap, sym, ◌∙◌, append_assoc, append-nil, subst}
 use Rattle.std.specs.Prelude.{◌==◌}
-use Rattle.std.specs.List.{list_all, list_any}
+use Rattle.std.specs.List.{list_any}
 use Rattle.std.specs.Str.Parse.{digits_value}
 use Rattle.std.proofs.lemmas.Bool.Decides.{nat_tests}
-use Rattle.std.proofs.lemmas.Option.{same_Some}
-use Rattle.f77_tree.specs.Grammar.{is_word, is_digit, is_name, is_number, word, past_word}
+use Rattle.f77_tree.specs.Grammar.{is_name, is_number, word, past_word}
 use Rattle.f77_syntax.specs.Reading.{◌>>=◌}
-use Rattle.f77_syntax.specs.code.Reading.{tree_after, close_at}
-use Rattle.f77_syntax.specs.code.Assignment.{value_ended}
+use Rattle.f77_syntax.specs.code.Reading.{tree_after, close_at, value_ended}
 use Rattle.f77_tree.specs.Joined.{Joined}
 use Rattle.f77_syntax.specs.code.Joined.{items_at}
 use Rattle.f77_tree.specs.Tree.{DeclFields}
 use Rattle.f77_tree.specs.Declaration.{SpellsName, SpellsNumber, SpellsDecl, SpellsDecls}
 use Rattle.f77_syntax.specs.code.Names.{name_at, names_at}
 use Rattle.f77_syntax.specs.code.Declaration.{bound_at, bounds_at, read_bounds, decl_at, declarations_at}
-use Rattle.f77_syntax.proofs.Steps.{along, bind_ok, guarded}
-use Rattle.f77_tree.proofs.Tests.{and_true}
+use Rattle.f77_syntax.proofs.Steps.{along, bind_ok, guarded, after_is, ended_is, name_front, name_found}
 use Rattle.f77_tree.proofs.Words.{EndsWord, word_whole, word_front, past_word_front, name_words}
-use Rattle.f77_syntax.proofs.Sound.{close_is}
-use Rattle.f77_syntax.proofs.Gives.{after_is}
-use Rattle.f77_syntax.proofs.AssignmentSound.{ended_is}
 use Rattle.f77_syntax.proofs.JoinedTexts.{Fronts, IsSound, IsRead, Stops, items_is, items_read, joined_no_equals}
 use Rattle.std.proofs.lemmas.List.Folds.{list_any-append}
-use Rattle.f77_syntax.proofs.WordTexts.{is_equals, words_no_equals}
+use Rattle.f77_syntax.proofs.WordTexts.{is_equals, words_no_equals, number_words}
 
 -- declared names that are read are spelled so
 pub name_is : IsSound SpellsName name_at
-name_is s x e =
-    let (n, found) = guarded (is_name (word s)) (Some (word s, past_word s)) x e in
-    along (Fronts SpellsName s) (word s, past_word s) x found (record { text = word s; is = word_whole s; spells = SpellsName.named n })
+name_is s x e = let (is, n) = name_front s x e in record { text = x.0; is = is; spells = SpellsName.named n }
 
 pub names_is : IsSound (Joined SpellsName) names_at
 unfolding names_at
@@ -54,7 +46,7 @@ with_bounds_is name rest (Some inner) x n at e =
     let f = bounds_is inner y read in
     along (Fronts SpellsDecl (name ++ rest)) (record { name = name; bounds = y.0 }, z) x end (record {
       text = name ++ (40 ∷ (f.text ++ 41 ∷ []));
-      is = ap (λ v. name ++ v) (after_is 40 rest inner at ∙ ap (λ v. 40 ∷ v) (f.is ∙ ap (λ v. f.text ++ v) (close_is y.1 z close) ∙ sym (append_assoc f.text (41 ∷ []) z)))
+      is = ap (λ v. name ++ v) (after_is 40 rest inner at ∙ ap (λ v. 40 ∷ v) (f.is ∙ ap (λ v. f.text ++ v) (after_is 41 y.1 z close) ∙ sym (append_assoc f.text (41 ∷ []) z)))
           ∙ sym (append_assoc name (40 ∷ (f.text ++ 41 ∷ [])) z);
       spells = SpellsDecl.array n f.spells;
     })
@@ -63,10 +55,8 @@ pub decl_is : IsSound SpellsDecl decl_at
 unfolding decl_at
 decl_is s x e =
     let (y, named, rest) = bind_ok (name_at s) (λ y. read_bounds y.0 y.1 (tree_after 40 y.1)) x e in
-    let (n, found) = guarded (is_name (word s)) (Some (word s, past_word s)) y named in
-    let read : read_bounds (word s) (past_word s) (tree_after 40 (past_word s)) ≡ Some x =
-    subst (λ v. read_bounds v.0 v.1 (tree_after 40 v.1) ≡ Some x) (sym (same_Some (word s, past_word s) y found)) rest in
-    subst (λ v. Fronts SpellsDecl v x) (sym (word_whole s)) (with_bounds_is (word s) (past_word s) (tree_after 40 (past_word s)) x n refl read)
+    let (is, n) = name_front s y named in
+    subst (λ v. Fronts SpellsDecl v x) (sym is) (with_bounds_is y.0 y.1 (tree_after 40 y.1) x n refl rest)
 
 pub declarations_is : (s : List ℕ) (ds : List DeclFields) → declarations_at s ≡ Some ds → SpellsDecls s ds
 unfolding declarations_at
@@ -82,20 +72,8 @@ pub stops_word : (rest : List ℕ) → Stops rest → EndsWord rest
 stops_word [] h = tt
 stops_word (c ∷ s) h = grind (arith, nat_tests)
 
-pub number_words : (text : List ℕ) → is_number text ≡ true → list_all is_word text ≡ true
-number_words [] h = cc
-number_words (c ∷ text) h = digits (c ∷ text) h
-  where
-    digits : (text : List ℕ) → list_all is_digit text ≡ true → list_all is_word text ≡ true
-    digits [] h = refl
-    digits (c ∷ text) h =
-        let (first, others) = and_true (is_digit c) (list_all is_digit text) h in
-        let w : is_word c ≡ true = grind (arith, nat_tests) in
-        rw w (digits text others)
-
 pub name_read : IsRead SpellsName name_at
-name_read text x (SpellsName.named n) rest stops =
-    rw (word_front text rest (name_words text n) (stops_word rest stops), past_word_front text rest (name_words text n) (stops_word rest stops), n) refl
+name_read text x (SpellsName.named n) rest stops = name_found text rest n (stops_word rest stops)
 
 pub number_read : IsRead SpellsNumber bound_at
 number_read text x (SpellsNumber.numeral n) rest stops =
@@ -107,14 +85,12 @@ no_list (c ∷ s) h = let other : (c == 40) ≡ false = grind (arith, nat_tests)
 
 pub decl_read : IsRead SpellsDecl decl_at
 unfolding decl_at bounds_at
-decl_read text x (SpellsDecl.scalar n) rest stops = rw (name_read text text (SpellsName.named n) rest stops, no_list rest stops) refl
+decl_read text x (SpellsDecl.scalar n) rest stops = rw (name_found text rest n (stops_word rest stops), no_list rest stops) refl
 decl_read text x (SpellsDecl.array {name = name} {text = inner} n p) rest stops =
     rw (
       append_assoc name (40 ∷ (inner ++ 41 ∷ [])) rest,
       append_assoc inner (41 ∷ []) rest,
-      word_front name (40 ∷ (inner ++ (41 ∷ rest))) (name_words name n) refl,
-      past_word_front name (40 ∷ (inner ++ (41 ∷ rest))) (name_words name n) refl,
-      n,
+      name_found name (40 ∷ (inner ++ (41 ∷ rest))) n refl,
       items_read bound_at number_read p (41 ∷ rest) refl refl,
     ) refl
 
@@ -123,7 +99,10 @@ unfolding declarations_at
 declarations_read {s = s} p =
     let e = items_read decl_at decl_read p [] tt refl in rw (sym (append-nil s)) (rw e refl)
 
-pub number_no_equals : (text : List ℕ) (n : ℕ) → SpellsNumber text n → list_any is_equals text ≡ false
+pub name_no_equals : (text name : List ℕ) → SpellsName text name → list_any is_equals text ≡ false
+name_no_equals text name (SpellsName.named h) = words_no_equals text (name_words text h)
+
+number_no_equals : (text : List ℕ) (n : ℕ) → SpellsNumber text n → list_any is_equals text ≡ false
 number_no_equals text n (SpellsNumber.numeral h) = words_no_equals text (number_words text h)
 
 decl_no_equals : (text : List ℕ) (d : DeclFields) → SpellsDecl text d → list_any is_equals text ≡ false

@@ -3,7 +3,7 @@ use Rattle.std.proofs.Common.{arith, ◌≡◌, ◌≢◌, ◌⊎◌, inl, inr, 
 use Rattle.f77_source.specs.Card.{CardFields}
 use Rattle.f77_program.specs.declared.fault.SyntaxFault.{SyntaxFault}
 use Rattle.f77_program.specs.declared.group.Group.{Group}
-use Rattle.f77_program.specs.declared.group.Group.TheVariants.{Subroutine, Declaration, Data, Executable, End}
+use Rattle.f77_program.specs.declared.group.Group.TheVariants.{Subroutine, End}
 use Rattle.f77_tree.specs.Statement.{Statement}
 use Rattle.f77_program.specs.Group.{group_of, may_stand}
 use Rattle.f77_tree.specs.Names.{statement_names}
@@ -33,10 +33,7 @@ not_refused p (IsCardRefused.nodes h flat spells good well many) =
 -- nothing stands behind END
 pub none_behind_end : (g : Group) → may_stand (Some End) g ≡ false
 none_behind_end Subroutine = refl
-none_behind_end Declaration = refl
-none_behind_end Data = refl
-none_behind_end Executable = refl
-none_behind_end End = refl
+none_behind_end _ = refl
 
 -- no cards are a program and have a fault
 pub either_lines_or_fault : {before : Option Group} {cards : List CardFields} {lines : List LineFields} {fault : SyntaxFault} {A : Type 0}

@@ -1,7 +1,6 @@
 -- Keeping a statement makes it neither formed nor unformed: a name that is too long is too long as it is kept.
 use Rattle.std.proofs.Common.{arith, ◌≡◌, ℕ, List, [], ◌∷◌, Bool, true, false, refl, ap, sym, ◌∙◌}
 use Rattle.std.specs.Prelude.{◌&&◌, not, map, Option, Some, None, option_map}
-use Rattle.std.specs.List.{list_all}
 use Rattle.std.proofs.lemmas.Bool.Decides.{nat_tests}
 use Rattle.std.proofs.lemmas.List.{length-take}
 use Rattle.f77_tree.specs.Grammar.{is_call, is_name}
@@ -20,8 +19,7 @@ use Rattle.f77_syntax.specs.code.Declaration.{clip_decl}
 use Rattle.f77_syntax.specs.code.StatementView.{clip_statement}
 use Rattle.f77_syntax.specs.code.View.{clip, clip_all}
 use Rattle.f77_syntax.proofs.BranchGives.{action_clip}
-use Rattle.f77_syntax.proofs.Clip.{short_cut}
-use Rattle.f77_syntax.proofs.DeclarationKept.{all_bounded_clip}
+use Rattle.f77_syntax.proofs.Clip.{short_cut, each_clip, all_bounded_clip}
 
 short_clip : (name : List ℕ) → is_short name ≡ false → is_short (cut name) ≡ false
 short_clip name e = let k = length-take 7 name in grind (arith, nat_tests)
@@ -83,10 +81,6 @@ step_clip None = refl
 step_clip (Some t) = tree_clip t
 
 -- lists whose items keep what is asked of them
-each_clip : {X : Type 0} (p : X → Bool) (keep : X → X) → ((x : X) → p (keep x) ≡ p x) → (xs : List X) → list_all p (map keep xs) ≡ list_all p xs
-each_clip p keep same [] = refl
-each_clip p keep same (x ∷ xs) = rw (same x, each_clip p keep same xs) refl
-
 some_clip : {X : Type 0} (p : X → Bool) (keep : X → X) → ((x : X) → p (keep x) ≡ p x) → (xs : List X) → some_all p (map keep xs) ≡ some_all p xs
 some_clip p keep same [] = refl
 some_clip p keep same (x ∷ xs) = each_clip p keep same (x ∷ xs)

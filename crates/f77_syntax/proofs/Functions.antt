@@ -29,15 +29,11 @@ named_is name f e = by_tests (bytes_eq name (codes "MOD")) refl (bytes_eq name (
 pub function_found : (f : Intrinsic) → function_named (function_name f) ≡ Some f
 unfolding function_named
 function_found Mod = refl
-function_found Iabs = refl
-function_found Min0 = refl
-function_found Max0 = refl
+function_found _ = refl
 
 pub function_is_name : (f : Intrinsic) → is_name (function_name f) ≡ true
 function_is_name Mod = refl
-function_is_name Iabs = refl
-function_is_name Min0 = refl
-function_is_name Max0 = refl
+function_is_name _ = refl
 
 -- another name is not called
 pub no_call : (name : List ℕ) (items : Trees) → function_named name ≡ None → is_call name items ≡ false

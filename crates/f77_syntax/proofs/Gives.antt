@@ -1,10 +1,9 @@
 -- What the parser's functions give, from what they call.
 use Rattle.std.proofs.Common.{arith, ◌≡◌, ◌<◌, ℕ, length, length-append, List, [], ◌∷◌, ◌++◌, Bool, true, false, cond, refl, Option, Some, None, ap, sym, ◌∙◌, subst, Result, Ok, Err}
-use Rattle.std.specs.Prelude.{codes, ◌==◌, ◌&&◌, nat_le, IfOk, Box, map}
+use Rattle.std.specs.Prelude.{codes, ◌==◌, ◌&&◌, nat_le, IfOk, MatchResult, Box, map}
 use Rattle.std.specs.Borrow.{Bor}
 use Rattle.std.specs.declared.alloc.Global.{Global}
-use Rattle.std.proofs.lemmas.Option.{same_Some, none-some}
-use Rattle.std.proofs.lemmas.Bool.{eqb-true}
+use Rattle.std.proofs.lemmas.Option.{none-some}
 use Rattle.f77_syntax.specs.declared.fault.ReadError.{ReadError}
 use Rattle.f77_syntax.specs.declared.fault.ReadError.TheVariants.{Memory, Unknown}
 use Rattle.f77_tree.specs.declared.operator.Operator.{Operator}
@@ -22,23 +21,28 @@ use Rattle.f77_tree.specs.Intrinsic.{function_named}
 use Rattle.f77_tree.specs.Grammar.{is_name, is_number, word, past_word}
 use Rattle.f77_tree.specs.Name.{cut}
 use Rattle.f77_tree.specs.Tree.{Tree, Trees}
-use Rattle.f77_tree.specs.View.{tree_of, trees}
+use Rattle.f77_tree.specs.View.{tree_of, trees, reference_fields}
 use Rattle.f77_syntax.specs.code.View.{clip, clip_all, clipped, Fails, Gives, IsTreeStart}
 use Rattle.f77_syntax.specs.Reading.{◌>>=◌, strip}
-use Rattle.f77_syntax.specs.code.Reading.{operator_at, tree_after, close_at, closed, enclosed_at, signed_tree_at, negated_at, dotted_at, listed_by}
+use Rattle.f77_syntax.specs.code.Reading.{operator_at, tree_after, value_ended, close_at, closed, enclosed_at, signed_tree_at, negated_at, dotted_at, listed_by}
 use Rattle.f77_syntax.specs.code.Reading.{function_listed, named_at, word_tree_at, start_at, expr_at, climb_on, climb_at, more_at, trees_at, reading}
-use Rattle.f77_syntax.proofs.Steps.{guarded}
 use Rattle.f77_syntax.proofs.Sound.{sound_reading}
 use Rattle.f77_syntax.proofs.Sound as sound
 use Rattle.f77_syntax.proofs.Shorter.{spelled_long}
 use Rattle.f77_syntax.proofs.Agree.{reading_expr, reading_climb, reading_items}
-use Rattle.f77_tree.proofs.Views.{number_view, truth_view, signed_view, not_view, binary_view, reference_view}
+use Rattle.f77_tree.proofs.Views.{number_view, truth_view, signed_view, not_view, binary_view, reference_view, ref_view}
+use Rattle.f77_syntax.specs.code.Assignment.{reference_at}
 use Rattle.f77_syntax.proofs.Loops.{Climbing, Listing, before}
 
 -- a fault of the first step is that of the whole
 pub fails_bind : {A B : Type 0} (e : ReadError) (o : Option A) (f : A → Option B) → Fails e o → Fails e (o >>= f)
 fails_bind Memory o f h = tt
 fails_bind Unknown o f h = rw h refl
+
+pub gives_ended : {X A : Type 0} (Is : X → A → Type 0) (value : X) (end : List ℕ) (a : A) (rest : List ℕ) (r : Result X ReadError)
+    → MatchResult r (λ x. (x ≡ value) × ((length end == 0) ≡ true)) (λ e. (e ≡ Unknown) × ((length end == 0) ≡ false)) → Is value a → end ≡ rest → Gives Is r (value_ended a rest)
+gives_ended Is value end a rest (Ok x) h is at = (a, rw (← at, h.1) refl, subst (λ z. Is z a) (sym h.0) is)
+gives_ended Is value end a rest (Err e) h is at = subst (λ z. Fails z (value_ended a rest)) (sym h.0) (rw (← at, h.1) refl)
 
 pub fails_along : {A : Type 0} (e : ReadError) (o p : Option A) → o ≡ p → Fails e o → Fails e p
 fails_along e o p same h = subst (Fails e) same h
@@ -205,14 +209,6 @@ last_at t (c ∷ s) h = step (c == 44) h
     step true e = absurd (none-some s (sym e))
     step false e = refl
 
-pub after_is : (b : ℕ) (s r : List ℕ) → tree_after b s ≡ Some r → s ≡ b ∷ r
-after_is b [] r e = absurd (none-some r e)
-after_is b (c ∷ s) r e =
-    let (same, found) = guarded (c == b) (Some s) r e in
-    let head : c ≡ b = eqb-true c b same in
-    let tail : s ≡ r = same_Some s r found in
-    cc
-
 clip_listed : (name : List ℕ) (items : Trees) → clip (function_listed name items) ≡ listed_by (function_named name) (cut name) (clip_all items)
 clip_listed name items = by_name (function_named name)
   where
@@ -285,3 +281,8 @@ list_ends items new item rest text after x k e same end added alone =
 pub start_none : (w : ℕ) (s : List ℕ) → length s ≡ 0 → start_at reading w s ≡ None
 start_none w [] e = start_empty w
 start_none w (c ∷ s) e = absurd (omega arith)
+
+-- the reference that is assigned to
+pub reference_whole : (s rest : List ℕ) (r : Ref) (x : List ℕ × Trees × List ℕ) → reference_at s ≡ Some x → r.name ≡ cut x.0 → trees (map tree_of r.subscripts.items) ≡ clip_all x.1 → rest ≡ x.2
+    → (y : List ℕ × Trees × List ℕ) × (reference_at s ≡ Some y) × (((reference_fields r).0 ≡ cut y.0) × (trees (reference_fields r).1 ≡ clip_all y.1) × (rest ≡ y.2))
+reference_whole s rest r x e named same end = (x, e, (ap (λ p. p.0) (ref_view r) ∙ named, ap (λ p. trees p.1) (ref_view r) ∙ same, end))

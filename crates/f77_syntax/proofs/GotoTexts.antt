@@ -10,41 +10,34 @@ use Rattle.f77_tree.specs.Statement.{Statement}
 use Rattle.f77_tree.specs.Grammar.{Spells, is_digit, is_number}
 use Rattle.f77_tree.specs.StatementGrammar.{SpellsLabel, SpellsAction, optional_comma, label_number}
 use Rattle.f77_syntax.specs.Reading.{◌>>=◌}
-use Rattle.f77_syntax.specs.code.Reading.{tree_after, close_at, past_comma, start_at, expr_at, reading}
-use Rattle.f77_syntax.specs.code.Assignment.{value_ended}
+use Rattle.f77_syntax.specs.code.Reading.{tree_after, close_at, past_comma, start_at, expr_at, whole_at}
 use Rattle.f77_tree.specs.Joined.{Joined}
 use Rattle.f77_syntax.specs.code.Joined.{items_at}
 use Rattle.f77_syntax.specs.code.Label.{label_at, last_label}
-use Rattle.f77_syntax.specs.code.Goto.{selector_at, computed_at, goto_by, goto_at}
+use Rattle.f77_syntax.specs.code.Goto.{computed_at, goto_by, goto_at}
 use Rattle.f77_syntax.specs.Classification.{behind_character, class_of}
 use Rattle.f77_syntax.specs.declared.classification.Class.TheVariants.{Keyword}
-use Rattle.f77_syntax.proofs.Steps.{along, bind_ok}
+use Rattle.f77_syntax.proofs.Steps.{along, bind_ok, after_is}
 use Rattle.f77_tree.proofs.Tests.{and_true}
-use Rattle.f77_syntax.proofs.Sound.{sound_reading, close_is}
+use Rattle.f77_syntax.proofs.Sound.{whole_is}
 use Rattle.f77_syntax.proofs.Agree.{reading_expr}
 use Rattle.f77_syntax.proofs.Complete.{whole}
-use Rattle.f77_syntax.proofs.Outside.{pass}
-use Rattle.f77_syntax.proofs.Outside.{keyword_class, pass_quiet, quiet_number, equals_other}
-use Rattle.f77_syntax.proofs.AssignmentSound.{after_is, ended_is}
+use Rattle.f77_syntax.proofs.Outside.{pass, keyword_class, pass_quiet, quiet_number, equals_other}
 use Rattle.f77_syntax.proofs.JoinedTexts.{items_is, items_read}
 use Rattle.f77_syntax.proofs.LabelTexts.{label_spelled, each_label_read, last_label_is, last_label_read, past_comma_is}
 
 -- GO TO statements that are read are spelled so
 computed_is : (s : List ℕ) (u : Statement) → computed_at s ≡ Some u → SpellsAction (codes "GOTO(" ++ s) u
-unfolding computed_at selector_at
+unfolding computed_at
 computed_is s u e =
-    let (x, found, more) = bind_ok (items_at label_at s) (λ x. close_at x.1 >>= λ r. selector_at x.0 r) u e in
-    let (r, close, rest) = bind_ok (close_at x.1) (λ r. selector_at x.0 r) u more in
-    let (v, read, end) = bind_ok (reading.expr 1 (past_comma r)) (λ v. value_ended (Statement.ComputedGoto x.0 v.0) v.1) u rest in
-    let (same, none) = ended_is (Statement.ComputedGoto x.0 v.0) v.1 u end in
+    let (x, found, more) = bind_ok (items_at label_at s) (λ x. close_at x.1 >>= λ r. whole_at (past_comma r) >>= λ v. Some (Statement.ComputedGoto x.0 v)) u e in
+    let (r, close, rest) = bind_ok (close_at x.1) (λ r. whole_at (past_comma r) >>= λ v. Some (Statement.ComputedGoto x.0 v)) u more in
+    let (v, read, end) = bind_ok (whole_at (past_comma r)) (λ v. Some (Statement.ComputedGoto x.0 v)) u rest in
     let f = items_is label_spelled s x found in
-    let g = sound_reading.expr 1 (past_comma r) v read in
     let (comma, front) = past_comma_is r in
-    let value : past_comma r ≡ g.text = g.is ∙ ap (λ z. g.text ++ z) none ∙ append-nil g.text in
-    let is : s ≡ f.text ++ (41 ∷ (optional_comma comma ++ g.text)) =
-    f.is ∙ ap (λ z. f.text ++ z) (close_is x.1 r close ∙ ap (λ z. 41 ∷ z) (front ∙ ap (λ z. optional_comma comma ++ z) value)) in
-    subst (λ z. SpellsAction (codes "GOTO(" ++ z) u) (sym is)
-    (subst (λ z. SpellsAction (codes "GOTO(" ++ (f.text ++ (41 ∷ (optional_comma comma ++ g.text)))) z) same (SpellsAction.computed_go_to comma f.spells g.spells))
+    let is : s ≡ f.text ++ (41 ∷ (optional_comma comma ++ past_comma r)) = f.is ∙ ap (λ z. f.text ++ z) (after_is 41 x.1 r close ∙ ap (λ z. 41 ∷ z) front) in
+    along (SpellsAction (codes "GOTO(" ++ s)) (Statement.ComputedGoto x.0 v) u end
+    (subst (λ z. SpellsAction (codes "GOTO(" ++ z) (Statement.ComputedGoto x.0 v)) (sym is) (SpellsAction.computed_go_to comma f.spells (whole_is (past_comma r) v read)))
 
 unconditional_is : (s : List ℕ) (u : Statement) → (last_label s >>= λ l. Some (Statement.Goto l)) ≡ Some u → SpellsAction (codes "GOTO" ++ s) u
 unconditional_is s u e =
@@ -74,34 +67,29 @@ pub goto_read : (row : List ℕ) → is_number row ≡ true → goto_at row ≡ 
 unfolding goto_at
 goto_read row n = rw (not_open row n, last_label_read row n) refl
 
-comma_none : (s : List ℕ) → reading.expr 1 (44 ∷ s) ≡ None
-unfolding expr_at start_at
-comma_none s = reading_expr 1 (44 ∷ s)
+comma_none : (s : List ℕ) → whole_at (44 ∷ s) ≡ None
+unfolding whole_at expr_at start_at
+comma_none s = rw (reading_expr 1 (44 ∷ s)) refl
 
-no_comma : (y : List ℕ) (x : Tree × List ℕ) → reading.expr 1 y ≡ Some x → past_comma y ≡ y
-no_comma [] x e = refl
-no_comma (c ∷ s) x e = by_test (c == 44) refl
+no_comma : (y : List ℕ) (t : Tree) → whole_at y ≡ Some t → past_comma y ≡ y
+no_comma [] t e = refl
+no_comma (c ∷ s) t e = by_test (c == 44) refl
   where
     by_test : (b : Bool) → (c == 44) ≡ b → unwrap_or (cond b (Some s) None) (c ∷ s) ≡ c ∷ s
     by_test false h = refl
     by_test true h =
-        let at : reading.expr 1 (c ∷ s) ≡ reading.expr 1 (44 ∷ s) = ap (λ z. reading.expr 1 (z ∷ s)) (eqb-true c 44 h) in
-        absurd (none-some x (sym (comma_none s) ∙ sym at ∙ e))
+        let at : whole_at (c ∷ s) ≡ whole_at (44 ∷ s) = ap (λ z. whole_at (z ∷ s)) (eqb-true c 44 h) in
+        absurd (none-some t (sym (comma_none s) ∙ sym at ∙ e))
 
 past_optional : (comma : Bool) {y : List ℕ} {t : Tree} → Spells 1 y t → past_comma (optional_comma comma ++ y) ≡ y
 past_optional true p = refl
-past_optional false {y = y} {t = t} p = no_comma y (t, []) (whole p)
-
-selector_read : (labels : List ℕ) (comma : Bool) {y : List ℕ} {t : Tree} → Spells 1 y t
-    → selector_at labels (optional_comma comma ++ y) ≡ Some (Statement.ComputedGoto labels t)
-unfolding selector_at
-selector_read labels comma p = rw (past_optional comma p, whole p) refl
+past_optional false {y = y} {t = t} p = no_comma y t (whole p)
 
 pub computed_read : (comma : Bool) {x y labels : List ℕ} {t : Tree} → Joined SpellsLabel x labels → Spells 1 y t
     → goto_at (40 ∷ (x ++ (41 ∷ (optional_comma comma ++ y)))) ≡ Some (Statement.ComputedGoto labels t)
 unfolding goto_at computed_at
-computed_read comma {y = y} {labels = labels} l p =
-    rw (items_read label_at each_label_read l (41 ∷ (optional_comma comma ++ y)) refl refl) (selector_read labels comma p)
+computed_read comma {y = y} l p =
+    rw (items_read label_at each_label_read l (41 ∷ (optional_comma comma ++ y)) refl refl, past_optional comma p, whole p) refl
 
 -- the class of a GO TO: no equals sign stands in it
 pub goto_class : (row : List ℕ) → is_number row ≡ true → class_of (codes "GOTO" ++ row) ≡ Keyword

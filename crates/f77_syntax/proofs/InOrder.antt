@@ -25,26 +25,15 @@ from_declarations End groups h b = (0, 0, 0, ap (λ z. End ∷ z) b)
 
 more_behind : (before g : Group) (groups : List Group) → may_stand (Some before) g ≡ true → Behind g groups → Behind before (g ∷ groups)
 more_behind Subroutine Subroutine groups h b = cc
-more_behind Subroutine Declaration groups h b = from_declarations Declaration groups h b
-more_behind Subroutine Data groups h b = from_declarations Data groups h b
-more_behind Subroutine Executable groups h b = from_declarations Executable groups h b
-more_behind Subroutine End groups h b = from_declarations End groups h b
+more_behind Subroutine g groups h b = from_declarations g groups h b
 more_behind Declaration g groups h b = from_declarations g groups h b
-more_behind Data Subroutine groups h b = cc
-more_behind Data Declaration groups h b = cc
 more_behind Data Data groups h b = (suc b.0, b.1, ap (λ z. Data ∷ z) b.2)
 more_behind Data Executable groups h b = (0, suc b.0, ap (λ z. Executable ∷ z) b.1)
 more_behind Data End groups h b = (0, 0, ap (λ z. End ∷ z) b)
-more_behind Executable Subroutine groups h b = cc
-more_behind Executable Declaration groups h b = cc
-more_behind Executable Data groups h b = cc
 more_behind Executable Executable groups h b = (suc b.0, ap (λ z. Executable ∷ z) b.1)
 more_behind Executable End groups h b = (0, ap (λ z. End ∷ z) b)
-more_behind End Subroutine groups h b = cc
-more_behind End Declaration groups h b = cc
-more_behind End Data groups h b = cc
-more_behind End Executable groups h b = cc
 more_behind End End groups h b = cc
+more_behind _ _ groups h b = cc
 
 lines_behind : {before : Group} {lines : List LineFields} → IsProgram (Some before) lines → Behind before (map (λ line. group_of line.stmt) lines)
 lines_behind IsProgram.finished = refl
@@ -54,10 +43,7 @@ lines_behind {before = before} (IsProgram.next {line = line} {lines = lines} may
 -- a program begins with SUBROUTINE
 begins_with_heading : (g : Group) (groups : List Group) → may_stand None g ≡ true → Behind g groups → AreInOrder (g ∷ groups)
 begins_with_heading Subroutine groups h b = (b.0, b.1, b.2, ap (λ z. Subroutine ∷ z) b.3)
-begins_with_heading Declaration groups h b = cc
-begins_with_heading Data groups h b = cc
-begins_with_heading Executable groups h b = cc
-begins_with_heading End groups h b = cc
+begins_with_heading _ groups h b = cc
 
 pub are_in_order : (lines : List LineFields) → IsProgram None lines → AreInOrder (map (λ line. group_of line.stmt) lines)
 are_in_order [] p = elim p [ ]

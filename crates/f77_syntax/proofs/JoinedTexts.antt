@@ -12,8 +12,8 @@ use Rattle.f77_syntax.proofs.WordTexts.{is_equals}
 use Rattle.f77_syntax.specs.code.View.{Fails}
 use Rattle.f77_tree.specs.Joined.{Joined}
 use Rattle.f77_syntax.specs.code.Joined.{with_others, items_within, items_at}
-use Rattle.f77_syntax.proofs.Steps.{along, bind_ok}
-use Rattle.f77_syntax.proofs.Gives.{after_is, fails_bind}
+use Rattle.f77_syntax.proofs.Steps.{along, bind_ok, after_is}
+use Rattle.f77_syntax.proofs.Gives.{fails_bind}
 
 -- a front of s spells the item, and the rest follows it
 pub record Fronts {A : Type 0} (SpellsItem : List ℕ → A → Type 0) (s : List ℕ) (x : A × List ℕ) : Type 0 where

@@ -7,12 +7,11 @@ use Rattle.std.proofs.lemmas.Bool.Decides.{nat_tests}
 use Rattle.f77_tree.specs.Grammar.{is_digit, is_number}
 use Rattle.f77_tree.specs.StatementGrammar.{SpellsLabel, optional_comma, label_number}
 use Rattle.f77_syntax.specs.Reading.{◌>>=◌}
-use Rattle.f77_syntax.specs.code.Reading.{digits, past_digits, tree_after, past_comma}
-use Rattle.f77_syntax.specs.code.Assignment.{value_ended}
+use Rattle.f77_syntax.specs.code.Reading.{digits, past_digits, tree_after, past_comma, value_ended}
 use Rattle.f77_syntax.specs.code.Label.{label_at, last_label, label_comma}
-use Rattle.f77_syntax.proofs.Steps.{along, bind_ok, guarded}
+use Rattle.f77_syntax.proofs.Steps.{along, bind_ok, guarded, after_is, ended_is}
+use Rattle.f77_syntax.proofs.WordTexts.{number_digits}
 use Rattle.f77_tree.proofs.Tests.{and_true}
-use Rattle.f77_syntax.proofs.AssignmentSound.{after_is, ended_is}
 use Rattle.f77_syntax.proofs.JoinedTexts.{IsSound, IsRead, Stops}
 
 -- labels that are read are spelled so
@@ -79,13 +78,9 @@ digits_front (d ∷ row) rest h e =
     let (front, back) = digits_front row rest others e in
     (rw first (ap (λ z. d ∷ z) front), rw first back)
 
-row_digits : (row : List ℕ) → is_number row ≡ true → list_all is_digit row ≡ true
-row_digits [] n = cc
-row_digits (c ∷ row) n = n
-
 pub label_read : (row rest : List ℕ) → is_number row ≡ true → EndsDigits rest → label_at (row ++ rest) ≡ Some (label_number row, rest)
 unfolding label_at
-label_read row rest n e = let (front, back) = digits_front row rest (row_digits row n) e in rw (front, back, n) refl
+label_read row rest n e = let (front, back) = digits_front row rest (number_digits row n) e in rw (front, back, n) refl
 
 pub last_label_read : (row : List ℕ) → is_number row ≡ true → last_label row ≡ Some (label_number row)
 unfolding last_label

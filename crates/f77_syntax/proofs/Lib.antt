@@ -3,10 +3,7 @@ pub mod WordTexts
 pub mod JoinedTexts
 pub mod JoinedItems
 pub mod DeclarationTexts
-pub mod DeclarationKept
-pub mod DeclarationGives
 pub mod DataTexts
-pub mod DataKept
 pub mod DataGives
 pub mod Functions
 pub mod Sound
@@ -20,12 +17,9 @@ pub mod Operators
 pub mod Outside
 pub mod AssignmentSound
 pub mod LabelTexts
-pub mod LabelGives
 pub mod GotoTexts
-pub mod GotoGives
 pub mod StatementSound
 pub mod StatementComplete
-pub mod StatementGives
 pub mod BranchGives
 pub mod Clip
 pub mod StatementClip
@@ -35,7 +29,7 @@ pub mod Exact
 pub mod Cards
 pub mod Total
 pub mod InOrder
-pub mod NodeCounts
+pub mod NodeClip
 pub mod CharacterCounts
 pub mod Depths
 pub mod ReadAgain

@@ -1,26 +1,18 @@
 -- Trying operators in turn.
-use Rattle.std.proofs.Common.{◌≡◌, ◌<◌, ◌+◌, ℕ, length, List, drop, get_or, refl, Option, Some, None, sym, add-one, drop-cons, true, false}
-use Rattle.std.specs.Prelude.{nat_eq, take, option_map, IfSome}
+use Rattle.std.proofs.Common.{◌≡◌, ◌<◌, ◌+◌, ℕ, length, List, drop, get_or, refl, Option, Some, None, sym, add-one, drop-cons}
+use Rattle.std.specs.Prelude.{option_map, IfSome}
 use Rattle.std.specs.Borrow.{Bor}
-use lib.Pointwise.{pointwise}
 use Rattle.f77_tree.specs.declared.operator.Operator.{Operator}
 use Rattle.f77_tree.specs.Operator.{symbol}
 use Rattle.f77_syntax.specs.Reading.{strip}
 use Rattle.f77_syntax.specs.code.Reading.{first_operator, operator_at}
-use Rattle.f77_syntax.proofs.Steps.{strip_same, strip_other}
 use Rattle.f77_syntax.proofs.Shorter.{operator_shorter}
 
-pub found_at : (ops : List Operator) (i : ℕ) (d : Operator) (s p : List ℕ) → i < length ops → p ≡ symbol (get_or ops i d) → pointwise nat_eq (take (length p) s) p ≡ true
-    → first_operator (drop i ops) s ≡ Some (get_or ops i d, drop (length p) s)
-found_at ops i d s p h e t =
-    let same : strip (symbol (get_or ops i d)) s ≡ Some (drop (length p) s) = rw (← e) (strip_same p s t) in
-    rw (drop-cons ops i d h) (rw same refl)
+pub found_at : (ops : List Operator) (i : ℕ) (d : Operator) (s r : List ℕ) → i < length ops → strip (symbol (get_or ops i d)) s ≡ Some r → first_operator (drop i ops) s ≡ Some (get_or ops i d, r)
+found_at ops i d s r h e = rw (drop-cons ops i d h) (rw e refl)
 
-pub missed_at : (ops : List Operator) (i : ℕ) (d : Operator) (s p : List ℕ) → i < length ops → p ≡ symbol (get_or ops i d) → pointwise nat_eq (take (length p) s) p ≡ false
-    → first_operator (drop (i + 1) ops) s ≡ first_operator (drop i ops) s
-missed_at ops i d s p h e t =
-    let same : strip (symbol (get_or ops i d)) s ≡ None = rw (← e) (strip_other p s t) in
-    rw (drop-cons ops i d h, add-one) (rw same refl)
+pub missed_at : (ops : List Operator) (i : ℕ) (d : Operator) (s : List ℕ) → i < length ops → strip (symbol (get_or ops i d)) s ≡ None → first_operator (drop (i + 1) ops) s ≡ first_operator (drop i ops) s
+missed_at ops i d s h e = rw (drop-cons ops i d h, add-one) (rw e refl)
 
 pub next_shorter : (s : List ℕ) (r : Option (Operator × Bor (List ℕ))) → option_map (λ x. (x.0, x.1.now)) r ≡ operator_at s → IfSome r (λ x. length x.1.now < length s)
 next_shorter s None e = tt

@@ -4,22 +4,22 @@ use Rattle.std.specs.Prelude.{◌==◌, ◌&&◌, not, codes}
 use Rattle.std.specs.List.{list_all, list_any}
 use Rattle.std.proofs.lemmas.Bool.Decides.{nat_tests}
 use Rattle.f77_tree.specs.declared.operator.Operator.{Operator}
-use Rattle.f77_tree.specs.declared.operator.Operator.TheVariants.{Equivalent, NotEquivalent, Or, And, Less, LessOrEqual, Equal, NotEqual}
-use Rattle.f77_tree.specs.declared.operator.Operator.TheVariants.{GreaterOrEqual, Greater, Add, Subtract, Multiply, Divide, Power}
+use Rattle.f77_tree.specs.declared.operator.Operator.TheVariants.{Equivalent}
 use Rattle.f77_tree.specs.declared.operator.Sign.{Sign}
 use Rattle.f77_tree.specs.declared.operator.Sign.TheVariants.{Plus, Minus}
 use Rattle.f77_tree.specs.declared.intrinsic.Intrinsic.{Intrinsic}
-use Rattle.f77_tree.specs.declared.intrinsic.Intrinsic.TheVariants.{Mod, Iabs, Min0, Max0}
+use Rattle.f77_tree.specs.declared.intrinsic.Intrinsic.TheVariants.{Mod}
 use Rattle.f77_tree.specs.Operator.{symbol, sign_symbol}
 use Rattle.f77_tree.specs.Intrinsic.{function_name}
 use Rattle.f77_tree.specs.Tree.{Tree, Trees}
-use Rattle.f77_tree.specs.Grammar.{Spells, SpellsReference, SpellsAll, is_word, is_digit, is_name, is_number, truth_constant_text, past_word}
+use Rattle.f77_tree.specs.Grammar.{Spells, SpellsReference, SpellsAll, is_word, is_name, is_number, truth_constant_text, past_word}
 use Rattle.f77_tree.specs.StatementGrammar.{optional_comma}
 use Rattle.f77_syntax.specs.Reading.{◌>>=◌, strip}
 use Rattle.f77_syntax.specs.Classification.{deeper, behind_character, begins_with, no_equals, begins_if, class_of}
 use Rattle.f77_syntax.specs.declared.classification.Class.TheVariants.{If, Loop, Assignment, Keyword}
 use Rattle.f77_tree.proofs.Tests.{and_true}
 use Rattle.f77_syntax.proofs.Steps.{strip_is}
+use Rattle.f77_syntax.proofs.WordTexts.{number_words}
 use Rattle.f77_tree.proofs.Words.{past_word_front, name_words}
 
 -- no parenthesis, no comma and no equals sign
@@ -34,33 +34,12 @@ quiet_words [] h = refl
 quiet_words (c ∷ text) h =
     let (first, others) = and_true (is_word c) (list_all is_word text) h in rw (quiet_word c first, quiet_words text others) refl
 
-quiet_digits : (text : List ℕ) → list_all is_digit text ≡ true → list_all is_quiet text ≡ true
-quiet_digits [] h = refl
-quiet_digits (c ∷ text) h =
-    let (first, others) = and_true (is_digit c) (list_all is_digit text) h in
-    let w : is_word c ≡ true = rw first (grind (arith, nat_tests)) in
-    rw (quiet_word c w, quiet_digits text others) refl
-
 pub quiet_number : (text : List ℕ) → is_number text ≡ true → list_all is_quiet text ≡ true
-quiet_number [] h = cc
-quiet_number (c ∷ text) h = quiet_digits (c ∷ text) h
+quiet_number text h = quiet_words text (number_words text h)
 
 quiet_symbol : (op : Operator) → list_all is_quiet (symbol op) ≡ true
 quiet_symbol Equivalent = refl
-quiet_symbol NotEquivalent = refl
-quiet_symbol Or = refl
-quiet_symbol And = refl
-quiet_symbol Less = refl
-quiet_symbol LessOrEqual = refl
-quiet_symbol Equal = refl
-quiet_symbol NotEqual = refl
-quiet_symbol GreaterOrEqual = refl
-quiet_symbol Greater = refl
-quiet_symbol Add = refl
-quiet_symbol Subtract = refl
-quiet_symbol Multiply = refl
-quiet_symbol Divide = refl
-quiet_symbol Power = refl
+quiet_symbol _ = refl
 
 quiet_sign : (sign : Sign) → is_quiet (sign_symbol sign) ≡ true
 quiet_sign Plus = refl
@@ -72,9 +51,7 @@ quiet_truth false = refl
 
 quiet_function : (f : Intrinsic) → list_all is_quiet (function_name f) ≡ true
 quiet_function Mod = refl
-quiet_function Iabs = refl
-quiet_function Min0 = refl
-quiet_function Max0 = refl
+quiet_function _ = refl
 
 -- b is a closing parenthesis, a comma or an equals sign
 module _ (b : ℕ) (open_other : (40 == b) ≡ false) (quiet_other : (c : ℕ) → is_quiet c ≡ true → (c == b) ≡ false) where

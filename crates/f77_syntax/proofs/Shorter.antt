@@ -2,8 +2,7 @@
 use Rattle.std.proofs.Common.{arith, ◌≡◌, ◌<◌, ◌≤◌, ℕ, length, length-append, List, [], ◌∷◌, ◌++◌, true, false, Some, ap}
 use Rattle.std.specs.Prelude.{codes}
 use Rattle.f77_tree.specs.declared.operator.Operator.{Operator}
-use Rattle.f77_tree.specs.declared.operator.Operator.TheVariants.{Equivalent, NotEquivalent, Or, And, Less, LessOrEqual, Equal, NotEqual}
-use Rattle.f77_tree.specs.declared.operator.Operator.TheVariants.{GreaterOrEqual, Greater, Add, Subtract, Multiply, Divide, Power}
+use Rattle.f77_tree.specs.declared.operator.Operator.TheVariants.{Equivalent}
 use Rattle.f77_tree.specs.Operator.{symbol}
 use Rattle.f77_tree.specs.Tree.{Tree, Trees}
 use Rattle.f77_tree.specs.Intrinsic.{function_name}
@@ -14,20 +13,7 @@ use Rattle.f77_syntax.proofs.Sound.{Sound, operator_is}
 
 pub symbol_long : (op : Operator) → 0 < length (symbol op)
 symbol_long Equivalent = omega arith
-symbol_long NotEquivalent = omega arith
-symbol_long Or = omega arith
-symbol_long And = omega arith
-symbol_long Less = omega arith
-symbol_long LessOrEqual = omega arith
-symbol_long Equal = omega arith
-symbol_long NotEqual = omega arith
-symbol_long GreaterOrEqual = omega arith
-symbol_long Greater = omega arith
-symbol_long Add = omega arith
-symbol_long Subtract = omega arith
-symbol_long Multiply = omega arith
-symbol_long Divide = omega arith
-symbol_long Power = omega arith
+symbol_long _ = omega arith
 
 pub name_long : (s : List ℕ) → is_name s ≡ true → 0 < length s
 name_long [] e = cc

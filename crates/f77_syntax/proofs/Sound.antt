@@ -1,7 +1,7 @@
 -- Expressions: what is read is spelled so.
-use Rattle.std.proofs.Common.{arith, ◌≡◌, inl, inr, ℕ, zero, suc, length, ◌≤◌, List, [], ◌∷◌, ◌++◌, Bool, true, false, cond, subst, refl, Option, Some, None, ap, sym, ◌∙◌, append_assoc}
+use Rattle.std.proofs.Common.{arith, ◌≡◌, inl, inr, ℕ, zero, suc, length, ◌≤◌, List, [], ◌∷◌, ◌++◌, Bool, true, false, cond, subst, refl, Option, Some, None, ap, sym, ◌∙◌, append_assoc, append-nil}
 use Rattle.std.specs.Prelude.{◌==◌, ◌&&◌, nat_le, codes}
-use Rattle.std.proofs.lemmas.Option.{same_Some, none-some}
+use Rattle.std.proofs.lemmas.Option.{none-some}
 use Rattle.std.proofs.lemmas.Bool.{eqb-true, leb-true}
 use Rattle.std.specs.Str.Parse.{digits_value}
 use Rattle.f77_tree.specs.declared.operator.Operator.{Operator}
@@ -14,9 +14,9 @@ use Rattle.f77_tree.specs.Intrinsic.{function_named}
 use Rattle.f77_tree.specs.Grammar.{Spells, SpellsReference, SpellsAll, is_name, is_number, truth_constant_text, word, past_word}
 use Rattle.f77_syntax.proofs.Functions.{named_is, no_call}
 use Rattle.f77_syntax.specs.Reading.{◌>>=◌, strip}
-use Rattle.f77_syntax.specs.code.Reading.{or_operator, first_operator, operators, operator_at, Readers, close_at, closed, enclosed_at, signed_tree_at, negated_at, dotted_by}
-use Rattle.f77_syntax.specs.code.Reading.{dotted_at, listed_by, function_listed, named_at, word_tree_at, start_at, expr_at, climb_on, climb_at, more_at, trees_at, within, reading}
-use Rattle.f77_syntax.proofs.Steps.{along, bind_ok, chosen, guarded, strip_is}
+use Rattle.f77_syntax.specs.code.Reading.{or_operator, first_operator, operators, operator_at, Readers, close_at, value_ended, closed, enclosed_at, signed_tree_at, negated_at, dotted_by}
+use Rattle.f77_syntax.specs.code.Reading.{dotted_at, listed_by, function_listed, named_at, word_tree_at, start_at, expr_at, climb_on, climb_at, more_at, trees_at, within, reading, whole_at}
+use Rattle.f77_syntax.proofs.Steps.{along, bind_ok, chosen, guarded, strip_is, after_is, ended_is}
 use Rattle.f77_tree.proofs.Tests.{and_true}
 use Rattle.f77_tree.proofs.Words.{word_whole}
 
@@ -66,18 +66,10 @@ operator_is s y e = among operators e
     among [] e = absurd (none-some y e)
     among (op ∷ ops) e = choice op (strip (symbol op) s) (first_operator ops s) refl (among ops) e
 
-pub close_is : (s r : List ℕ) → close_at s ≡ Some r → s ≡ 41 ∷ r
-close_is [] r e = absurd (none-some r e)
-close_is (c ∷ s) r e =
-    let (same, found) = guarded (c == 41) (Some s) r e in
-    let head : c ≡ 41 = eqb-true c 41 same in
-    let tail : s ≡ r = same_Some s r found in
-    cc
-
 closed_is : (t : Tree) (r : List ℕ) (x : Tree × ℕ × List ℕ) → closed t r ≡ Some x → (r ≡ 41 ∷ x.2) × (t ≡ x.0) × (9 ≡ x.1)
 closed_is t s x e =
     let (r, close, found) = bind_ok (close_at s) (λ r. Some (t, 9, r)) x e in
-    along (λ x. (s ≡ 41 ∷ x.2) × (t ≡ x.0) × (9 ≡ x.1)) (t, 9, r) x found (close_is s r close, refl, refl)
+    along (λ x. (s ≡ 41 ∷ x.2) × (t ≡ x.0) × (9 ≡ x.1)) (t, 9, r) x found (after_is 41 s r close, refl, refl)
 
 module _ (R : Readers) (sound : Sound R) where
   group_is : (w : ℕ) (s : List ℕ) (x : Tree × ℕ × List ℕ) → enclosed_at R s ≡ Some x → Starts w (40 ∷ s) x
@@ -273,3 +265,13 @@ sound_reading = record {
   climb = λ w t own front s. (sound_within (length s)).climb w t own front s;
   items = λ s. (sound_within (length s)).items s;
 }
+
+-- an expression behind which nothing stands
+pub whole_is : (s : List ℕ) (t : Tree) → whole_at s ≡ Some t → Spells 1 s t
+unfolding whole_at
+whole_is s t e =
+    let (x, read, end) = bind_ok (reading.expr 1 s) (λ x. value_ended x.0 x.1) t e in
+    let (same, none) = ended_is x.0 x.1 t end in
+    let f = sound_reading.expr 1 s x read in
+    let all : s ≡ f.text = f.is ∙ ap (λ z. f.text ++ z) none ∙ append-nil f.text in
+    subst (λ z. Spells 1 z t) (sym all) (subst (Spells 1 f.text) same f.spells)

@@ -1,63 +1,21 @@
--- Keeping a statement changes no constant's limit and no node, and within the limits it changes nothing.
-use Rattle.std.proofs.Common.{◌≡◌, ◌+◌, true, refl, ap, sym, ◌∙◌}
+-- Within the limits keeping a statement changes nothing.
+use Rattle.std.proofs.Common.{◌≡◌, true, refl, ap, sym, ◌∙◌}
 use Rattle.std.specs.Prelude.{◌&&◌, Option, Some, None, option_map}
 use Rattle.std.specs.List.{list_all}
-use Rattle.std.proofs.lemmas.List.{length-map}
 use Rattle.f77_tree.specs.Tree.{Tree}
 use Rattle.f77_tree.specs.Statement.{Statement}
 use Rattle.f77_syntax.specs.code.View.{clip}
 use Rattle.f77_syntax.specs.code.StatementView.{clip_statement}
-use Rattle.f77_tree.specs.Limits.{is_label, statement_constants, statement_nodes}
+use Rattle.f77_tree.specs.Limits.{is_label, statement_constants}
 use Rattle.f77_tree.specs.Names.{of_value, statement_names, short_names, all_short_names}
-use Rattle.f77_syntax.proofs.NodeCounts.{step_nodes, count_by_part, counted_by_part}
-use Rattle.f77_tree.specs.Name.{is_short, cut}
+use Rattle.f77_tree.specs.Name.{is_short}
 use Rattle.f77_tree.proofs.Constants.{small_constants, all_small_constants, by_part, decided_by_part}
 use Rattle.f77_tree.proofs.Tests.{and_true}
-use Rattle.f77_syntax.proofs.Clip.{constants_clip, all_constants_clip, nodes_clip, all_nodes_clip, short_cut, short_cuts, kept, all_kept}
-use Rattle.f77_syntax.proofs.DeclarationKept.{declaration_constants_clip, declaration_nodes_clip, declaration_kept}
-use Rattle.f77_syntax.proofs.DataKept.{data_constants_clip, data_nodes_clip, data_kept}
-
-step_constants_clip : (c : Option Tree) → of_value small_constants (option_map clip c) ≡ of_value small_constants c
-step_constants_clip None = refl
-step_constants_clip (Some t) = constants_clip t
-
-step_nodes_clip : (c : Option Tree) → step_nodes (option_map clip c) ≡ step_nodes c
-step_nodes_clip None = refl
-step_nodes_clip (Some t) = nodes_clip t
+use Rattle.f77_syntax.proofs.Clip.{short_cut, short_cuts, kept, all_kept, declaration_kept, data_kept}
 
 step_kept : (c : Option Tree) → of_value short_names c ≡ true → of_value small_constants c ≡ true → option_map clip c ≡ c
 step_kept None s h = refl
 step_kept (Some t) s h = ap Some (kept t s h)
-
-constants_by_part : (s : Statement) → by_part (clip_statement s) ≡ by_part s
-constants_by_part (Statement.Subroutine name names) = refl
-constants_by_part (Statement.Declare kind ds) = declaration_constants_clip ds
-constants_by_part (Statement.Dimension ds) = declaration_constants_clip ds
-constants_by_part (Statement.Preset gs) = data_constants_clip gs
-constants_by_part (Statement.Assign name items t) = rw (all_constants_clip items, constants_clip t) refl
-constants_by_part (Statement.Goto label) = refl
-constants_by_part (Statement.ComputedGoto labels t) = rw (constants_clip t) refl
-constants_by_part (Statement.ArithIf t l m n) = rw (constants_clip t) refl
-constants_by_part (Statement.LogicalIf t s) = rw (constants_clip t, constants_by_part s) refl
-constants_by_part (Statement.BlockIf t) = constants_clip t
-constants_by_part (Statement.ElseIf t) = constants_clip t
-constants_by_part (Statement.Loop label name a b c) = rw (constants_clip a, constants_clip b, step_constants_clip c) refl
-constants_by_part _ = refl
-
-nodes_by_part : (s : Statement) → count_by_part (clip_statement s) ≡ count_by_part s
-nodes_by_part (Statement.Subroutine name names) = ap (λ n. 1 + n) (length-map names cut)
-nodes_by_part (Statement.Declare kind ds) = ap (λ n. 1 + n) (declaration_nodes_clip ds)
-nodes_by_part (Statement.Dimension ds) = ap (λ n. 1 + n) (declaration_nodes_clip ds)
-nodes_by_part (Statement.Preset gs) = ap (λ n. 1 + n) (data_nodes_clip gs)
-nodes_by_part (Statement.Assign name items t) = rw (all_nodes_clip items, nodes_clip t) refl
-nodes_by_part (Statement.Goto label) = refl
-nodes_by_part (Statement.ComputedGoto labels t) = rw (nodes_clip t) refl
-nodes_by_part (Statement.ArithIf t l m n) = rw (nodes_clip t) refl
-nodes_by_part (Statement.LogicalIf t s) = rw (nodes_clip t, nodes_by_part s) refl
-nodes_by_part (Statement.BlockIf t) = rw (nodes_clip t) refl
-nodes_by_part (Statement.ElseIf t) = rw (nodes_clip t) refl
-nodes_by_part (Statement.Loop label name a b c) = rw (nodes_clip a, nodes_clip b, step_nodes_clip c) refl
-nodes_by_part _ = refl
 
 kept_by_part : (s : Statement) → statement_names s ≡ true → by_part s ≡ true → clip_statement s ≡ s
 kept_by_part (Statement.Subroutine name names) n h =
@@ -89,13 +47,6 @@ kept_by_part (Statement.Loop label name a b c) n h =
     let (second, third) = and_true (small_constants b) (of_value small_constants c) others in
     rw (short_cut name named, kept a a_named first, kept b b_named second, step_kept c c_named third) refl
 kept_by_part _ n h = refl
-
--- asked of the nodes, the answers are the same
-pub statement_constants_clip : (s : Statement) → statement_constants (clip_statement s) ≡ statement_constants s
-statement_constants_clip s = decided_by_part (clip_statement s) ∙ constants_by_part s ∙ sym (decided_by_part s)
-
-pub statement_nodes_clip : (s : Statement) → statement_nodes (clip_statement s) ≡ statement_nodes s
-statement_nodes_clip s = counted_by_part (clip_statement s) ∙ nodes_by_part s ∙ sym (counted_by_part s)
 
 pub statement_kept : (s : Statement) → statement_names s ≡ true → statement_constants s ≡ true → clip_statement s ≡ s
 statement_kept s n h = kept_by_part s n (sym (decided_by_part s) ∙ h)

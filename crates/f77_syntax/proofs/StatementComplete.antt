@@ -1,102 +1,87 @@
 -- A statement that is spelled is read so, and a text spells at most one statement.
-use Rattle.std.proofs.Common.{arith, ◌≡◌, inl, inr, subst, ℕ, ◌-◌, length, List, [], ◌∷◌, ◌++◌, Bool, true, false, refl, Some, ap, sym, ◌∙◌, append_assoc, append-nil, length-append}
+use Rattle.std.proofs.Common.{arith, ◌≡◌, inl, inr, subst, ℕ, length, List, [], ◌∷◌, ◌++◌, Bool, true, false, refl, Some, ap, sym, ◌∙◌, append_assoc, append-nil}
 use Rattle.std.specs.Prelude.{◌==◌, codes, None}
 use Rattle.std.specs.List.{list_all, list_any, join_with_byte}
 use Rattle.std.proofs.lemmas.Option.{same_Some, none-some}
 use Rattle.std.specs.Str.{bytes_eq}
 use Rattle.std.proofs.lemmas.Slice.Eq.{bytes_eq-Decides}
 use Rattle.std.proofs.lemmas.Bool.Decides.{nat_tests}
-use Rattle.std.proofs.lemmas.List.{take_at, get_or_at}
 use Rattle.std.proofs.lemmas.List.Folds.{list_any-append}
 use Rattle.f77_tree.specs.Tree.{Tree, Trees, DeclFields, GroupFields}
 use Rattle.f77_tree.specs.Statement.{Statement}
-use Rattle.f77_tree.specs.Grammar.{Spells, SpellsReference, is_letter, is_digit, is_word, is_number, is_name, word, past_word}
+use Rattle.f77_tree.specs.Grammar.{Spells, SpellsReference, is_letter, is_digit, is_word, is_number, is_name}
 use Rattle.f77_tree.specs.StatementGrammar.{SpellsAction, SpellsStatement, optional_comma, label_number, kind_keyword}
-use Rattle.f77_syntax.specs.code.Reading.{reading, past_comma}
+use Rattle.f77_syntax.specs.code.Reading.{tree_after, reading, past_comma}
 use Rattle.f77_syntax.specs.code.Assignment.{reference_at, assign_at}
 use Rattle.f77_syntax.specs.code.Names.{name_at, names_at}
 use Rattle.f77_tree.specs.Joined.{Joined}
-use Rattle.f77_syntax.specs.code.Joined.{items_at}
-use Rattle.f77_syntax.proofs.JoinedTexts.{items_read}
-use Rattle.f77_syntax.specs.code.Subroutine.{dummies_at, before_close, subroutine_at}
-use Rattle.f77_syntax.specs.code.Label.{labels_at}
+use Rattle.f77_syntax.proofs.JoinedTexts.{items_read, joined_no_equals}
+use Rattle.f77_syntax.specs.code.Subroutine.{dummies_at, subroutine_at}
 use Rattle.f77_syntax.specs.code.Condition.{arithmetic_at, condition_at}
-use Rattle.f77_syntax.specs.code.DoLoop.{control_at, parameters_at, loop_at}
+use Rattle.f77_syntax.specs.code.DoLoop.{control_at, step_at, parameters_at, loop_at}
 use Rattle.f77_syntax.specs.Classification.{begins_with, begins_if, class_of, statement_class}
-use Rattle.f77_syntax.specs.code.Statement.{word_statement, simple_at, simple_action_at, action_at, begins_digit, branch_at, else_at, specification_at, keyword_at, statement_at}
+use Rattle.f77_syntax.specs.code.Statement.{word_statement, simple_at, simple_action_at, action_at, begins_digit, branch_at, else_at, keyword_at, statement_at}
 use Rattle.f77_syntax.specs.declared.classification.Class.TheVariants.{Keyword}
 use Rattle.f77_tree.proofs.Tests.{and_true}
-use Rattle.f77_tree.proofs.Words.{word_front, past_word_front, name_words}
-use Rattle.f77_syntax.proofs.Shorter.{name_long}
-use Rattle.f77_syntax.proofs.Complete.{complete, complete_all, operand_read, ends_item, whole}
-use Rattle.f77_syntax.proofs.Outside.{pass}
-use Rattle.f77_syntax.proofs.Outside.{no_equals_sign, if_class, assign_class, loop_class, keyword_class, equals_other}
-use Rattle.f77_syntax.proofs.WordTexts.{is_equals, words_no_equals}
+use Rattle.f77_tree.proofs.Words.{name_words}
+use Rattle.f77_syntax.proofs.Complete.{complete, complete_all, operand_read, ends_item, whole, whole_read}
+use Rattle.f77_syntax.proofs.Outside.{pass, no_equals_sign, if_class, assign_class, loop_class, keyword_class, equals_other}
+use Rattle.f77_syntax.proofs.WordTexts.{is_equals, words_no_equals, BeginsLetter, name_begins, names_begin, letter_no_comma}
+use Rattle.f77_syntax.proofs.Steps.{name_found}
 use Rattle.f77_tree.specs.Declaration.{SpellsName, SpellsDecls, all_bounded}
 use Rattle.f77_tree.specs.Data.{SpellsGroups}
 use Rattle.f77_tree.specs.declared.tree.Kind.{Kind}
 use Rattle.f77_tree.specs.declared.tree.Kind.TheVariants.{Integer, Logical}
 use Rattle.f77_syntax.proofs.LabelTexts.{EndsDigits, label_read, last_label_read, label_comma_read}
 use Rattle.f77_syntax.proofs.GotoTexts.{goto_read, goto_class, computed_read, computed_class}
-use Rattle.f77_syntax.proofs.DeclarationTexts.{name_read, declarations_read, declaration_no_equals}
+use Rattle.f77_syntax.proofs.DeclarationTexts.{name_read, name_no_equals, declarations_read, declaration_no_equals}
 use Rattle.f77_syntax.proofs.DataTexts.{groups_read, data_no_equals}
 
 -- names joined by commas
-joined_no_equals : (names : List (List ℕ)) → list_all is_name names ≡ true → list_any is_equals (join_with_byte 44 names) ≡ false
-joined_no_equals [] h = refl
-joined_no_equals (n ∷ []) h = words_no_equals n (name_words n (and_true (is_name n) true h).0)
-joined_no_equals (n ∷ m ∷ names) h =
-    let (first, others) = and_true (is_name n) (list_all is_name (m ∷ names)) h in
-    list_any-append is_equals n (44 ∷ join_with_byte 44 (m ∷ names)) ∙ rw (words_no_equals n (name_words n first)) (joined_no_equals (m ∷ names) others)
-
 names_spelled : (n : List ℕ) (names : List (List ℕ)) → list_all is_name (n ∷ names) ≡ true → Joined SpellsName (join_with_byte 44 (n ∷ names)) (n ∷ names)
 names_spelled n [] h = Joined.last (SpellsName.named (and_true (is_name n) true h).0)
 names_spelled n (m ∷ names) h =
     let (first, others) = and_true (is_name n) (list_all is_name (m ∷ names)) h in Joined.more (SpellsName.named first) (names_spelled m names others)
 
-joined_long : (n : List ℕ) (names : List (List ℕ)) → is_name n ≡ true → (length (join_with_byte 44 (n ∷ names)) == 0) ≡ false
-joined_long n [] h = let l = name_long n h in grind (arith, nat_tests)
-joined_long n (m ∷ names) h = let l = length-append n (44 ∷ join_with_byte 44 (m ∷ names)) in grind (arith, nat_tests)
+names_no_equals : (names : List (List ℕ)) → list_all is_name names ≡ true → list_any is_equals (join_with_byte 44 names) ≡ false
+names_no_equals [] h = refl
+names_no_equals (n ∷ names) h = joined_no_equals name_no_equals (names_spelled n names h)
 
-pub dummies_read : (names : List (List ℕ)) → list_all is_name names ≡ true → dummies_at (join_with_byte 44 names) ≡ Some names
+not_close : (s : List ℕ) → BeginsLetter s → tree_after 41 s ≡ None
+not_close [] l = absurd l
+not_close (c ∷ s) l = let other : (c == 41) ≡ false = grind (arith, nat_tests) in rw other refl
+
+dummies_read : (names : List (List ℕ)) → list_all is_name names ≡ true → dummies_at (join_with_byte 44 names ++ 41 ∷ []) ≡ Some (names, [])
 unfolding dummies_at names_at
 dummies_read [] h = refl
 dummies_read (n ∷ names) h =
-    let all : List ℕ = join_with_byte 44 (n ∷ names) in
-    let read : items_at name_at all ≡ Some (n ∷ names, []) = ap (items_at name_at) (sym (append-nil all)) ∙ items_read name_at name_read (names_spelled n names h) [] tt refl in
-    rw (joined_long n names (and_true (is_name n) (list_all is_name names) h).0, read) refl
+    let p = names_spelled n names h in
+    rw (not_close (join_with_byte 44 (n ∷ names) ++ 41 ∷ []) (names_begin p (41 ∷ [])), items_read name_at name_read p (41 ∷ []) refl refl) refl
 
-before_close_found : (s : List ℕ) → before_close (s ++ 41 ∷ []) ≡ Some s
-before_close_found s =
-    let l : length (s ++ 41 ∷ []) - 1 ≡ length s = omega (arith, length-append s (41 ∷ [])) in
-    rw (l, get_or_at s 41 [] 0 (length s) refl, take_at s (41 ∷ []) (length s) refl) refl
+not_empty : (c : ℕ) (s : List ℕ) → (length (c ∷ s) == 0) ≡ false
+not_empty c s = grind (arith, nat_tests)
 
 -- a name at the front
 subroutine_read : (name : List ℕ) → is_name name ≡ true → subroutine_at name ≡ Some (Statement.Subroutine name [])
 unfolding subroutine_at
 subroutine_read name n =
-    let w : word name ≡ name = ap word (sym (append-nil name)) ∙ word_front name [] (name_words name n) tt in
-    let p : past_word name ≡ [] = ap past_word (sym (append-nil name)) ∙ past_word_front name [] (name_words name n) tt in
-    rw (w, p, n) refl
+    let read : name_at name ≡ Some (name, []) = ap name_at (sym (append-nil name)) ∙ name_found name [] n tt in rw read refl
 
 subroutine_of_read : (name : List ℕ) (names : List (List ℕ)) → is_name name ≡ true → list_all is_name names ≡ true
     → subroutine_at (name ++ (40 ∷ (join_with_byte 44 names ++ 41 ∷ []))) ≡ Some (Statement.Subroutine name names)
 unfolding subroutine_at
 subroutine_of_read name names n all =
-    let rest : List ℕ = 40 ∷ (join_with_byte 44 names ++ 41 ∷ []) in
-    rw (word_front name (40 ∷ (join_with_byte 44 names ++ 41 ∷ [])) (name_words name n) refl, past_word_front name (40 ∷ (join_with_byte 44 names ++ 41 ∷ [])) (name_words name n) refl, n)
-    (rw (before_close_found (join_with_byte 44 names), dummies_read names all) refl)
+    rw (name_found name (40 ∷ (join_with_byte 44 names ++ 41 ∷ [])) n refl, not_empty 40 (join_with_byte 44 names ++ 41 ∷ []), dummies_read names all) refl
 
 -- a reference before an equals sign
 reference_read : {x name : List ℕ} {items : Trees} → SpellsReference x name items → (y : List ℕ) → reference_at (x ++ (61 ∷ y)) ≡ Some (name, items, 61 ∷ y)
 unfolding reference_at
 reference_read (SpellsReference.scalar {name = name} n) y =
-    rw (word_front name (61 ∷ y) (name_words name n) refl, past_word_front name (61 ∷ y) (name_words name n) refl, n) refl
+    rw (name_found name (61 ∷ y) n refl) refl
 reference_read (SpellsReference.element {name = name} {text = text} {items = items} n l) y =
     let shape : (name ++ (40 ∷ (text ++ 41 ∷ []))) ++ (61 ∷ y) ≡ name ++ (40 ∷ (text ++ (41 ∷ (61 ∷ y)))) =
     append_assoc name (40 ∷ (text ++ 41 ∷ [])) (61 ∷ y) ∙ ap (λ z. name ++ (40 ∷ z)) (append_assoc text (41 ∷ []) (61 ∷ y)) in
-    rw (shape, word_front name (40 ∷ (text ++ (41 ∷ (61 ∷ y)))) (name_words name n) refl, past_word_front name (40 ∷ (text ++ (41 ∷ (61 ∷ y)))) (name_words name n) refl, n)
-    (rw (complete_all l (61 ∷ y)) refl)
+    rw (shape, name_found name (40 ∷ (text ++ (41 ∷ (61 ∷ y)))) n refl, complete_all l (61 ∷ y)) refl
 
 assign_read : {x name : List ℕ} {items : Trees} → SpellsReference x name items → {y : List ℕ} {t : Tree} → Spells 1 y t → assign_at (x ++ (61 ∷ y)) ≡ Some (Statement.Assign name items t)
 unfolding assign_at
@@ -105,7 +90,7 @@ assign_read r {y = y} p = rw (reference_read r y, whole p) refl
 -- labels
 arithmetic_read : (t : Tree) (l m n : List ℕ) → is_number l ≡ true → is_number m ≡ true → is_number n ≡ true
     → arithmetic_at t (l ++ (44 ∷ (m ++ (44 ∷ n)))) ≡ Some (Statement.ArithIf t (label_number l) (label_number m) (label_number n))
-unfolding arithmetic_at labels_at
+unfolding arithmetic_at
 arithmetic_read t l m n h i j = rw (label_comma_read l (m ++ (44 ∷ n)) h, label_comma_read m n i, last_label_read n j) refl
 
 -- conditions
@@ -122,16 +107,6 @@ row_begins (c ∷ row) rest n =
     (other, first)
 
 -- a statement that may stand in a logical IF begins with a letter
-pub record BeginsLetter (s : List ℕ) : Type 0 where
-  pub first : ℕ
-  pub others : List ℕ
-  pub is : s ≡ first ∷ others
-  pub letter : is_letter first ≡ true
-
-name_begins : (name rest : List ℕ) → is_name name ≡ true → BeginsLetter (name ++ rest)
-name_begins [] rest n = cc
-name_begins (c ∷ name) rest n = record { first = c; others = name ++ rest; is = refl; letter = (and_true (is_letter c) (list_all is_word name) n).0 }
-
 reference_begins : {x name : List ℕ} {items : Trees} → SpellsReference x name items → (rest : List ℕ) → BeginsLetter (x ++ rest)
 reference_begins (SpellsReference.scalar {name = name} n) rest = name_begins name rest n
 reference_begins (SpellsReference.element {name = name} {text = text} n l) rest =
@@ -139,20 +114,11 @@ reference_begins (SpellsReference.element {name = name} {text = text} n l) rest 
 
 action_begins : {s : List ℕ} {u : Statement} → SpellsAction s u → BeginsLetter s
 action_begins (SpellsAction.assign {y = y} r p) = reference_begins r (61 ∷ y)
-action_begins (SpellsAction.go_to row n) = record { first = 71; others = codes "OTO" ++ row; is = refl; letter = refl }
-action_begins (SpellsAction.computed_go_to {x = x} {y = y} comma l p) =
-    record { first = 71; others = codes "OTO(" ++ (x ++ (41 ∷ (optional_comma comma ++ y))); is = refl; letter = refl }
-action_begins (SpellsAction.arithmetic_if {x = x} l m n p h i j) =
-    record { first = 73; others = codes "F(" ++ (x ++ (41 ∷ (l ++ (44 ∷ (m ++ (44 ∷ n)))))); is = refl; letter = refl }
-action_begins SpellsAction.go_on = record { first = 67; others = codes "ONTINUE"; is = refl; letter = refl }
-action_begins SpellsAction.return = record { first = 82; others = codes "ETURN"; is = refl; letter = refl }
-action_begins SpellsAction.stop = record { first = 83; others = codes "TOP"; is = refl; letter = refl }
+action_begins _ = refl
 
 letter_begins : (s : List ℕ) → BeginsLetter s → (begins_with 61 s ≡ false) × (begins_digit s ≡ false)
-letter_begins s b =
-    let other : (b.first == 61) ≡ false = let l = b.letter in grind (arith, nat_tests) in
-    let digit : is_digit b.first ≡ false = let l = b.letter in grind (arith, nat_tests) in
-    rw b.is (other, digit)
+letter_begins [] l = absurd l
+letter_begins (c ∷ s) l = (grind (arith, nat_tests), grind (arith, nat_tests))
 
 action_read : {s : List ℕ} {u : Statement} → SpellsAction s u → action_at s ≡ Some u
 unfolding action_at simple_action_at class_of begins_if simple_at word_statement
@@ -196,9 +162,6 @@ arithmetic_branch t l m n h i j =
         let same : l ++ (44 ∷ (m ++ (44 ∷ n))) ≡ codes "THEN" = (bytes_eq-Decides (l ++ (44 ∷ (m ++ (44 ∷ n)))) (codes "THEN")).0 e in
         let wrong : begins_digit (codes "THEN") ≡ true = ap begins_digit (sym same) ∙ (row_begins l (44 ∷ (m ++ (44 ∷ n))) h).1 in cc
 
-not_empty : (c : ℕ) (s : List ℕ) → (length (c ∷ s) == 0) ≡ false
-not_empty c s = grind (arith, nat_tests)
-
 -- ELSE IF
 else_if_read : {x : List ℕ} {t : Tree} → Spells 1 x t → statement_at (codes "ELSEIF(" ++ (x ++ codes ")THEN")) ≡ Some (Statement.ElseIf t)
 unfolding statement_at keyword_at else_at
@@ -209,11 +172,7 @@ else_if_read {x = x} p =
 -- DO
 past_optional : (comma : Bool) (name rest : List ℕ) → is_name name ≡ true → past_comma (optional_comma comma ++ (name ++ rest)) ≡ name ++ rest
 past_optional true name rest n = refl
-past_optional false [] rest n = cc
-past_optional false (c ∷ name) rest n =
-    let l = (and_true (is_letter c) (list_all is_word name) n).0 in
-    let other : (c == 44) ≡ false = grind (arith, nat_tests) in
-    rw other refl
+past_optional false name rest n = rw (letter_no_comma (name ++ rest) (name_begins name rest n)) refl
 
 ends_row : (comma : Bool) (name rest : List ℕ) → is_name name ≡ true → EndsDigits (optional_comma comma ++ (name ++ rest))
 ends_row true name rest n = refl
@@ -224,20 +183,23 @@ control_read : (row name rest : List ℕ) (comma : Bool) → is_number row ≡ t
     → control_at (row ++ (optional_comma comma ++ (name ++ (61 ∷ rest)))) ≡ Some (label_number row, name, rest)
 unfolding control_at
 control_read row name rest comma n m =
-    rw (label_read row (optional_comma comma ++ (name ++ (61 ∷ rest))) n (ends_row comma name (61 ∷ rest) m), past_optional comma name (61 ∷ rest) m)
-    (rw (word_front name (61 ∷ rest) (name_words name m) refl, past_word_front name (61 ∷ rest) (name_words name m) refl, m) refl)
+    rw (
+      label_read row (optional_comma comma ++ (name ++ (61 ∷ rest))) n (ends_row comma name (61 ∷ rest) m),
+      past_optional comma name (61 ∷ rest) m,
+      name_found name (61 ∷ rest) m refl,
+    ) refl
 
 before_comma : {x : List ℕ} {t : Tree} → Spells 1 x t → (rest : List ℕ) → reading.expr 1 (x ++ (44 ∷ rest)) ≡ Some (t, 44 ∷ rest)
 before_comma p rest = operand_read 1 (complete (omega arith) p) (44 ∷ rest) (ends_item 44 rest (inr refl))
 
 parameters_read : {x y : List ℕ} {a b : Tree} (label : ℕ) (name : List ℕ) → Spells 1 x a → Spells 1 y b → parameters_at label name (x ++ (44 ∷ y)) ≡ Some (Statement.Loop label name a b None)
-unfolding parameters_at
-parameters_read {y = y} label name p q = rw (before_comma p y, whole q) refl
+unfolding step_at
+parameters_read {y = y} label name p q = rw (before_comma p y, whole_read q) refl
 
 parameters_by : {x y z : List ℕ} {a b c : Tree} (label : ℕ) (name : List ℕ) → Spells 1 x a → Spells 1 y b → Spells 1 z c
     → parameters_at label name (x ++ (44 ∷ (y ++ (44 ∷ z)))) ≡ Some (Statement.Loop label name a b (Some c))
-unfolding parameters_at
-parameters_by {y = y} {z = z} label name p q r = rw (before_comma p (y ++ (44 ∷ z)), before_comma q z, whole r) refl
+unfolding step_at
+parameters_by {y = y} {z = z} label name p q r = rw (before_comma p (y ++ (44 ∷ z)), before_comma q z, not_empty 44 z, whole r) refl
 
 loop_read : {x y : List ℕ} {a b : Tree} (row name : List ℕ) (comma : Bool) → is_number row ≡ true → is_name name ≡ true → Spells 1 x a → Spells 1 y b
     → statement_at (codes "DO" ++ (row ++ (optional_comma comma ++ (name ++ (61 ∷ (x ++ (44 ∷ y))))))) ≡ Some (Statement.Loop (label_number row) name a b None)
@@ -262,7 +224,7 @@ arguments_no_equals : (name : List ℕ) (names : List (List ℕ)) → is_name na
     → list_any is_equals (name ++ (40 ∷ (join_with_byte 44 names ++ 41 ∷ []))) ≡ false
 arguments_no_equals name names n all =
     list_any-append is_equals name (40 ∷ (join_with_byte 44 names ++ 41 ∷ []))
-    ∙ rw (words_no_equals name (name_words name n), list_any-append is_equals (join_with_byte 44 names) (41 ∷ []), joined_no_equals names all) refl
+    ∙ rw (words_no_equals name (name_words name n), list_any-append is_equals (join_with_byte 44 names) (41 ∷ []), names_no_equals names all) refl
 
 -- declarations and DATA
 declare_class : (kind : Kind) {text : List ℕ} {ds : List DeclFields} → SpellsDecls text ds → class_of (kind_keyword kind ++ text) ≡ Keyword
@@ -276,21 +238,21 @@ preset_class : {text : List ℕ} {gs : List GroupFields} → SpellsGroups text g
 preset_class {text = text} p = keyword_class (codes "DATA" ++ text) refl (no_equals_sign (codes "DATA" ++ text) 0 (data_no_equals p))
 
 declare_read : (kind : Kind) {text : List ℕ} {ds : List DeclFields} → SpellsDecls text ds → statement_at (kind_keyword kind ++ text) ≡ Some (Statement.Declare kind ds)
-unfolding statement_at keyword_at specification_at
+unfolding statement_at keyword_at
 declare_read Integer p = rw (declare_class Integer p, declarations_read p) refl
 declare_read Logical p = rw (declare_class Logical p, declarations_read p) refl
 
 dimension_read : {text : List ℕ} {ds : List DeclFields} → SpellsDecls text ds → all_bounded ds ≡ true → statement_at (codes "DIMENSION" ++ text) ≡ Some (Statement.Dimension ds)
-unfolding statement_at keyword_at specification_at
+unfolding statement_at keyword_at
 dimension_read p h = rw (dimension_class p, declarations_read p, h) refl
 
 preset_read : {text : List ℕ} {gs : List GroupFields} → SpellsGroups text gs → statement_at (codes "DATA" ++ text) ≡ Some (Statement.Preset gs)
-unfolding statement_at keyword_at specification_at
+unfolding statement_at keyword_at
 preset_read p = rw (preset_class p, groups_read p) refl
 
 -- a statement that may stand in a logical IF, by itself
 alone_read : {s : List ℕ} {u : Statement} → SpellsAction s u → statement_at s ≡ Some u
-unfolding statement_at keyword_at specification_at class_of begins_if simple_at word_statement
+unfolding statement_at keyword_at class_of begins_if simple_at word_statement
 alone_read (SpellsAction.assign r p) = rw (assign_class r p) (assign_read r p)
 alone_read (SpellsAction.go_to row n) = rw (goto_class row n, goto_read row n) refl
 alone_read (SpellsAction.computed_go_to comma l p) = rw (computed_class comma l p, computed_read comma l p) refl
@@ -302,7 +264,7 @@ alone_read SpellsAction.stop = refl
 
 -- what is spelled is read
 pub statement_read : {s : List ℕ} {u : Statement} → SpellsStatement s u → statement_at s ≡ Some u
-unfolding statement_at keyword_at specification_at else_at class_of begins_if simple_at word_statement branch_at
+unfolding statement_at keyword_at else_at class_of begins_if simple_at word_statement branch_at
 statement_read (SpellsStatement.action p) = alone_read p
 statement_read (SpellsStatement.subroutine {name = name} n) =
     subroutine_whole_read name (Statement.Subroutine name []) (words_no_equals name (name_words name n)) (subroutine_read name n)

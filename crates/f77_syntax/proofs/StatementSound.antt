@@ -1,60 +1,45 @@
 -- A statement that is read is spelled so.
-use Rattle.std.proofs.Common.{arith, ◌≡◌, ◌⊎◌, inl, inr, Bool, ℕ, ◌+◌, ◌-◌, ◌<◌, length, List, [], ◌∷◌, ◌++◌, true, cond, subst, refl, Option, Some, None, ap, sym, ◌∙◌, append-nil, take, get_or}
+use Rattle.std.proofs.Common.{◌≡◌, ◌⊎◌, inl, inr, Bool, ℕ, length, List, [], ◌∷◌, ◌++◌, true, cond, subst, refl, Option, Some, None, ap, sym, ◌∙◌, append-nil}
 use Rattle.std.specs.Prelude.{◌==◌, codes}
 use Rattle.std.specs.Str.{bytes_eq}
 use Rattle.std.specs.List.{list_all, join_with_byte}
 use Rattle.std.proofs.lemmas.Option.{same_Some, none-some}
 use Rattle.std.proofs.lemmas.Bool.{eqb-true}
 use Rattle.std.proofs.lemmas.Slice.Eq.{bytes_eq-Decides}
-use Rattle.std.proofs.lemmas.List.{take-append-drop, drop_more, drop_all, nil_from_length}
+use Rattle.std.proofs.lemmas.List.{nil_from_length}
 use Rattle.f77_tree.specs.Tree.{Tree}
 use Rattle.f77_tree.specs.Statement.{Statement}
-use Rattle.f77_tree.specs.Grammar.{Spells, is_number, is_name, word, past_word}
+use Rattle.f77_tree.specs.Grammar.{Spells, is_number, is_name}
 use Rattle.f77_tree.specs.StatementGrammar.{SpellsAction, SpellsStatement, optional_comma, label_number, kind_keyword}
 use Rattle.f77_syntax.specs.Reading.{◌>>=◌, strip}
-use Rattle.f77_syntax.specs.code.Reading.{tree_after, close_at, reading, past_comma}
-use Rattle.f77_syntax.specs.code.Assignment.{value_ended}
-use Rattle.f77_syntax.specs.code.Names.{names_at}
+use Rattle.f77_syntax.specs.code.Reading.{tree_after, behind, close_at, value_ended, reading, past_comma, whole_at}
+use Rattle.f77_syntax.specs.code.Names.{name_at, names_at}
 use Rattle.f77_tree.specs.Joined.{Joined}
 use Rattle.f77_tree.specs.code.Joined.{some_all}
 use Rattle.f77_program.proofs.JoinedForms.{joined_all}
-use Rattle.f77_syntax.specs.code.Subroutine.{dummies_at, before_close, arguments_at, subroutine_at}
-use Rattle.f77_syntax.specs.code.Label.{label_at, last_label, label_comma, labels_at}
+use Rattle.f77_syntax.specs.code.Subroutine.{dummies_at, arguments_at, subroutine_at}
+use Rattle.f77_syntax.specs.code.Label.{label_at, last_label, label_comma}
 use Rattle.f77_syntax.specs.code.Condition.{arithmetic_at, condition_at}
 use Rattle.f77_syntax.specs.code.DoLoop.{control_at, step_at, parameters_at, loop_at}
 use Rattle.f77_program.specs.Formed.{is_action}
 use Rattle.f77_syntax.specs.Classification.{class_of}
-use Rattle.f77_syntax.specs.code.Statement.{word_statement, simple_by, simple_at, actions_only, simple_action_at, action_by, action_at, begins_digit, branch_at, else_at}
-use Rattle.f77_syntax.specs.code.Statement.{declared_at, dimension_at, data_at, specification_by, specification_at, keyword_by, keyword_at, statement_by, statement_at}
+use Rattle.f77_syntax.specs.code.Statement.{word_statement, simple_at, actions_only, simple_action_at, action_by, action_at, begins_digit, branch_at, else_at}
+use Rattle.f77_syntax.specs.code.Statement.{keyword_at, statement_by, statement_at}
+use Rattle.f77_syntax.specs.code.Goto.{goto_at}
 use Rattle.f77_syntax.specs.declared.classification.Class.{Class}
 use Rattle.f77_syntax.specs.declared.classification.Class.TheVariants.{If, Loop, Assignment, Keyword}
-use Rattle.f77_syntax.proofs.Steps.{along, bind_ok, chosen, guarded, strip_is}
-use Rattle.f77_tree.proofs.Words.{word_whole}
-use Rattle.f77_syntax.proofs.Sound.{sound_reading, close_is}
+use Rattle.f77_syntax.proofs.Steps.{along, bind_ok, behind_is, chosen, guarded, strip_is, after_is, ended_is, name_front}
+use Rattle.f77_syntax.proofs.Sound.{sound_reading, whole_is}
 use Rattle.f77_tree.specs.Declaration.{SpellsName, all_bounded}
-use Rattle.f77_syntax.specs.code.Declaration.{declarations_at}
-use Rattle.f77_syntax.specs.code.Data.{groups_at}
+use Rattle.f77_syntax.specs.code.Declaration.{declarations_at, declared_at, dimension_at}
+use Rattle.f77_syntax.specs.code.Data.{groups_at, data_at}
 use Rattle.f77_tree.specs.declared.tree.Kind.{Kind}
 use Rattle.f77_tree.specs.declared.tree.Kind.TheVariants.{Integer, Logical}
 use Rattle.f77_syntax.proofs.LabelTexts.{label_is, last_label_is, label_comma_is, past_comma_is}
 use Rattle.f77_syntax.proofs.GotoTexts.{goto_is}
 use Rattle.f77_syntax.proofs.DeclarationTexts.{names_is, declarations_is}
 use Rattle.f77_syntax.proofs.DataTexts.{groups_is}
-use Rattle.f77_syntax.proofs.AssignmentSound.{after_is, assign_is, ended_is}
-
-pub before_close_is : (s r : List ℕ) → before_close s ≡ Some r → s ≡ r ++ 41 ∷ []
-before_close_is s r e =
-    let (last, found) = guarded (get_or s (length s - 1) 0 == 41) (Some (take (length s - 1) s)) r e in
-    by_length s r last (same_Some (take (length s - 1) s) r found)
-  where
-    by_length : (s r : List ℕ) → (get_or s (length s - 1) 0 == 41) ≡ true → take (length s - 1) s ≡ r → s ≡ r ++ 41 ∷ []
-    by_length [] r last found = cc
-    by_length (c ∷ s) r last found =
-        let n : length (c ∷ s) - 1 < length (c ∷ s) = omega arith in
-        let one = drop_more (c ∷ s) (length (c ∷ s) - 1) 0 n in
-        let none = drop_all (length (c ∷ s) - 1 + 1) (c ∷ s) (omega arith) in
-        let at = eqb-true (get_or (c ∷ s) (length (c ∷ s) - 1) 0) 41 last in
-        sym (take-append-drop (length (c ∷ s) - 1) (c ∷ s)) ∙ ap (λ z. take (length (c ∷ s) - 1) (c ∷ s) ++ z) (one ∙ rw (at, none) refl) ∙ ap (λ z. z ++ 41 ∷ []) found
+use Rattle.f77_syntax.proofs.AssignmentSound.{assign_is}
 
 -- names joined by commas
 named : (text name : List ℕ) → SpellsName text name → is_name name ≡ true
@@ -69,47 +54,59 @@ joined_names (Joined.last (SpellsName.named h)) = (refl, rw h refl)
 joined_names (Joined.more {xs = names} (SpellsName.named {text = n} h) p) =
     let (is, all) = joined_names p in (ap (λ z. n ++ (44 ∷ z)) is ∙ comma_before n names (joined_all is_name named p), rw h all)
 
-pub dummies_is : (s : List ℕ) (names : List (List ℕ)) → dummies_at s ≡ Some names → (s ≡ join_with_byte 44 names) × (list_all is_name names ≡ true)
+dummies_is : (s : List ℕ) (x : List (List ℕ) × List ℕ) → dummies_at s ≡ Some x → (s ≡ join_with_byte 44 x.0 ++ (41 ∷ x.1)) × (list_all is_name x.0 ≡ true)
 unfolding dummies_at
-dummies_is s names e =
-    elim (chosen (length s == 0) (Some []) (names_at s >>= λ x. value_ended x.0 x.1) (Some names) e) [
-      | inl p ↦ let none : s ≡ [] = nil_from_length s (eqb-true (length s) 0 p.0) in along (λ ns. (s ≡ join_with_byte 44 ns) × (list_all is_name ns ≡ true)) [] names p.1 (none, refl)
-      | inr p ↦
-          let (x, read, end) = bind_ok (names_at s) (λ x. value_ended x.0 x.1) names p.1 in
-          let f = names_is s x read in
-          let (same, none) = ended_is x.0 x.1 names end in
-          let (is, all) = joined_names f.spells in
-          (f.is ∙ ap (λ v. f.text ++ v) none ∙ append-nil f.text ∙ is ∙ ap (join_with_byte 44) same, subst (λ ns. list_all is_name ns ≡ true) same all)
-    ]
+dummies_is s x = behind_is (Named x) (tree_after 41 s) (λ r. Some ([], r)) _ x (λ r is e. along Named ([], r) x e (after_is 41 s r is, refl)) some
+  where
+    Named : List (List ℕ) × List ℕ → Type 0
+    Named x = (s ≡ join_with_byte 44 x.0 ++ (41 ∷ x.1)) × (list_all is_name x.0 ≡ true)
 
-arguments_is : (name r : List ℕ) (t : Statement) → is_name name ≡ true → arguments_at name r ≡ Some t → SpellsStatement (codes "SUBROUTINE" ++ (name ++ r)) t
-arguments_is name [] t n e = along (SpellsStatement (codes "SUBROUTINE" ++ (name ++ []))) (Statement.Subroutine name []) t e (rw (append-nil name) (SpellsStatement.subroutine n))
-arguments_is name (c ∷ r) t n e =
-    let (open_at, rest) = guarded (c == 40) (before_close r >>= λ s. dummies_at s >>= λ names. Some (Statement.Subroutine name names)) t e in
-    let (s, close, more) = bind_ok (before_close r) (λ s. dummies_at s >>= λ names. Some (Statement.Subroutine name names)) t rest in
-    let (names, found, end) = bind_ok (dummies_at s) (λ names. Some (Statement.Subroutine name names)) t more in
-    let open_is : c ≡ 40 = eqb-true c 40 open_at in
-    let (is, all) = dummies_is s names found in
-    let whole : c ∷ r ≡ 40 ∷ (join_with_byte 44 names ++ 41 ∷ []) = ap (λ v. v ∷ r) open_is ∙ ap (λ v. 40 ∷ v) (before_close_is r s close ∙ ap (λ v. v ++ 41 ∷ []) is) in
-    along (SpellsStatement (codes "SUBROUTINE" ++ (name ++ (c ∷ r)))) (Statement.Subroutine name names) t end (rw whole (SpellsStatement.subroutine_of names n all))
+    some : (names_at s >>= λ y. close_at y.1 >>= λ r. Some (y.0, r)) ≡ Some x → Named x
+    some e =
+        let (y, read, more) = bind_ok (names_at s) (λ y. close_at y.1 >>= λ r. Some (y.0, r)) x e in
+        let (r, close, end) = bind_ok (close_at y.1) (λ r. Some (y.0, r)) x more in
+        let f = names_is s y read in
+        let (is, all) = joined_names f.spells in
+        along Named (y.0, r) x end (f.is ∙ ap (λ v. v ++ y.1) is ∙ ap (λ v. join_with_byte 44 y.0 ++ v) (after_is 41 y.1 r close), all)
+
+arguments_is : (name s : List ℕ) (u : Statement) → is_name name ≡ true → arguments_at name s ≡ Some u → SpellsStatement (codes "SUBROUTINE" ++ (name ++ s)) u
+arguments_is name s u n e = elim (chosen (length s == 0) (Some (Statement.Subroutine name [])) _ (Some u) e) [
+  | inl p ↦
+      let none : s ≡ [] = nil_from_length s (eqb-true (length s) 0 p.0) in
+      along (SpellsStatement (codes "SUBROUTINE" ++ (name ++ s))) (Statement.Subroutine name []) u p.1
+      (subst (λ z. SpellsStatement (codes "SUBROUTINE" ++ (name ++ z)) (Statement.Subroutine name [])) (sym none) (rw (append-nil name) (SpellsStatement.subroutine n)))
+  | inr p ↦
+      let (r, open_at, more) = bind_ok (tree_after 40 s) (λ r. dummies_at r >>= λ x. value_ended (Statement.Subroutine name x.0) x.1) u p.1 in
+      let (x, found, end) = bind_ok (dummies_at r) (λ x. value_ended (Statement.Subroutine name x.0) x.1) u more in
+      let (same, none) = ended_is (Statement.Subroutine name x.0) x.1 u end in
+      let (is, all) = dummies_is r x found in
+      let whole : s ≡ 40 ∷ (join_with_byte 44 x.0 ++ 41 ∷ []) = after_is 40 s r open_at ∙ ap (λ v. 40 ∷ v) (is ∙ ap (λ v. join_with_byte 44 x.0 ++ (41 ∷ v)) none) in
+      subst (SpellsStatement (codes "SUBROUTINE" ++ (name ++ s))) same
+      (subst (λ z. SpellsStatement (codes "SUBROUTINE" ++ (name ++ z)) (Statement.Subroutine name x.0)) (sym whole) (SpellsStatement.subroutine_of x.0 n all))
+]
+
+subroutine_is : (s : List ℕ) (u : Statement) → subroutine_at s ≡ Some u → SpellsStatement (codes "SUBROUTINE" ++ s) u
+unfolding subroutine_at
+subroutine_is s u e =
+    let (x, read, rest) = bind_ok (name_at s) (λ x. arguments_at x.0 x.1) u e in
+    let (is, n) = name_front s x read in
+    subst (λ z. SpellsStatement (codes "SUBROUTINE" ++ z) u) (sym is) (arguments_is x.0 x.1 u n rest)
 
 -- what an arithmetic IF has behind its parentheses
 arithmetic_is : (x s : List ℕ) (t : Tree) (u : Statement) → Spells 1 x t → arithmetic_at t s ≡ Some u → SpellsAction (codes "IF(" ++ (x ++ (41 ∷ s))) u
-unfolding arithmetic_at labels_at
+unfolding arithmetic_at
 arithmetic_is x s t u p e =
-    let (l, three, end) = bind_ok (labels_at s) (λ l. Some (Statement.ArithIf t l.0 l.1 l.2)) u e in
-    let (a, first, more) = bind_ok (label_comma s) (λ a. label_comma a.1 >>= λ b. last_label b.1 >>= λ n. Some (a.0, b.0, n)) l three in
-    let (b, second, rest) = bind_ok (label_comma a.1) (λ b. last_label b.1 >>= λ n. Some (a.0, b.0, n)) l more in
-    let (n, third, all) = bind_ok (last_label b.1) (λ n. Some (a.0, b.0, n)) l rest in
+    let (a, first, more) = bind_ok (label_comma s) (λ a. label_comma a.1 >>= λ b. last_label b.1 >>= λ n. Some (Statement.ArithIf t a.0 b.0 n)) u e in
+    let (b, second, rest) = bind_ok (label_comma a.1) (λ b. last_label b.1 >>= λ n. Some (Statement.ArithIf t a.0 b.0 n)) u more in
+    let (n, third, end) = bind_ok (last_label b.1) (λ n. Some (Statement.ArithIf t a.0 b.0 n)) u rest in
     let f = label_comma_is s a first in
     let g = label_comma_is a.1 b second in
     let h = last_label_is b.1 n third in
     let last : b.1 ≡ h.row = h.is ∙ append-nil h.row in
     let is : s ≡ f.row ++ (44 ∷ (g.row ++ (44 ∷ h.row))) = f.is ∙ ap (λ z. f.row ++ (44 ∷ z)) (g.is ∙ ap (λ z. g.row ++ (44 ∷ z)) last) in
     let made = SpellsAction.arithmetic_if f.row g.row h.row p f.number g.number h.number in
-    along (SpellsAction (codes "IF(" ++ (x ++ (41 ∷ s)))) (Statement.ArithIf t l.0 l.1 l.2) u end
-    (along (λ k. SpellsAction (codes "IF(" ++ (x ++ (41 ∷ s))) (Statement.ArithIf t k.0 k.1 k.2)) (a.0, b.0, n) l all
-    (subst (λ z. SpellsAction (codes "IF(" ++ (x ++ (41 ∷ z))) (Statement.ArithIf t a.0 b.0 n)) (sym is) (rw (f.value, g.value, h.value) at made)))
+    along (SpellsAction (codes "IF(" ++ (x ++ (41 ∷ s)))) (Statement.ArithIf t a.0 b.0 n) u end
+    (subst (λ z. SpellsAction (codes "IF(" ++ (x ++ (41 ∷ z))) (Statement.ArithIf t a.0 b.0 n)) (sym is) (rw (f.value, g.value, h.value) at made))
 
 -- the condition of an IF
 pub record FrontsCondition (s : List ℕ) (t : Tree) (rest : List ℕ) : Type 0 where
@@ -126,7 +123,7 @@ condition_is s x e =
     let f = sound_reading.expr 1 r y read in
     along (λ w. FrontsCondition s w.0 w.1) (y.0, z) x end (record {
       text = f.text;
-      is = strip_is (codes "IF(") s r front ∙ ap (λ v. codes "IF(" ++ v) (f.is ∙ ap (λ v. f.text ++ v) (close_is y.1 z close));
+      is = strip_is (codes "IF(") s r front ∙ ap (λ v. codes "IF(" ++ v) (f.is ∙ ap (λ v. f.text ++ v) (after_is 41 y.1 z close));
       spells = f.spells;
     })
 
@@ -147,30 +144,20 @@ word_statement_is s u =
     (words_are s (codes "ENDIF") Statement.EndIf _ u SpellsStatement.end_if
     (words_are s (codes "END") Statement.End None u SpellsStatement.end (λ e. absurd (none-some u e))))))
 
+-- a statement by what stands behind a keyword, or else another
+behind_word_is : (word s : List ℕ) (read : List ℕ → Option Statement) (other : Option Statement) (u : Statement) → ((r : List ℕ) → read r ≡ Some u → SpellsStatement (word ++ r) u)
+    → (other ≡ Some u → SpellsStatement s u) → behind (strip word s) read other ≡ Some u → SpellsStatement s u
+behind_word_is word s read other u spelled =
+    behind_is (SpellsStatement s u) (strip word s) read other u (λ r is e. subst (λ z. SpellsStatement z u) (sym (strip_is word s r is)) (spelled r e))
+
 simple_is : (s : List ℕ) (u : Statement) → simple_at s ≡ Some u → SpellsStatement s u
 unfolding simple_at
-simple_is s u e = by_goto (strip (codes "GOTO") s) refl e
-  where
-    by_goto : (o : Option (List ℕ)) → strip (codes "GOTO") s ≡ o → simple_by s o ≡ Some u → SpellsStatement s u
-    by_goto None is e = word_statement_is s u e
-    by_goto (Some r) is e = subst (λ z. SpellsStatement z u) (sym (strip_is (codes "GOTO") s r is)) (SpellsStatement.action (goto_is r u e))
+simple_is s u = behind_word_is (codes "GOTO") s goto_at (word_statement s) u (λ r e. SpellsStatement.action (goto_is r u e)) (word_statement_is s u)
 
 -- a statement that may stand in a logical IF
 action_from : {s : List ℕ} {u : Statement} → SpellsStatement s u → is_action u ≡ true → SpellsAction s u
 action_from (SpellsStatement.action p) h = p
-action_from (SpellsStatement.subroutine n) h = cc
-action_from (SpellsStatement.subroutine_of names n all) h = cc
-action_from (SpellsStatement.declare kind p) h = cc
-action_from (SpellsStatement.dimension p b) h = cc
-action_from (SpellsStatement.preset p) h = cc
-action_from (SpellsStatement.logical_if p q) h = cc
-action_from (SpellsStatement.block_if p) h = cc
-action_from (SpellsStatement.else_if p) h = cc
-action_from SpellsStatement.otherwise h = cc
-action_from SpellsStatement.end_if h = cc
-action_from (SpellsStatement.loop row comma n m p q) h = cc
-action_from (SpellsStatement.loop_by row comma n m p q r) h = cc
-action_from SpellsStatement.end h = cc
+action_from _ h = cc
 
 action_is : (s : List ℕ) (u : Statement) → action_at s ≡ Some u → SpellsAction s u
 unfolding action_at simple_action_at
@@ -234,28 +221,15 @@ preset_is s u e =
     let (gs, found, end) = bind_ok (groups_at s) (λ gs. Some (Statement.Preset gs)) u e in
     along (SpellsStatement (codes "DATA" ++ s)) (Statement.Preset gs) u end (SpellsStatement.preset (groups_is s gs found))
 
-specification_is : (s : List ℕ) (u : Statement) → specification_at s ≡ Some u → SpellsStatement s u
-unfolding specification_at
-specification_is s u e = by_word (strip (codes "INTEGER") s) (strip (codes "LOGICAL") s) (strip (codes "DIMENSION") s) (strip (codes "DATA") s) refl refl refl refl e
-  where
-    by_word : (a b c d : Option (List ℕ)) → strip (codes "INTEGER") s ≡ a → strip (codes "LOGICAL") s ≡ b → strip (codes "DIMENSION") s ≡ c → strip (codes "DATA") s ≡ d
-        → specification_by s a b c d ≡ Some u → SpellsStatement s u
-    by_word (Some r) b c d is f g h e = subst (λ z. SpellsStatement z u) (sym (strip_is (codes "INTEGER") s r is)) (declared_is Integer r u e)
-    by_word None (Some r) c d is f g h e = subst (λ z. SpellsStatement z u) (sym (strip_is (codes "LOGICAL") s r f)) (declared_is Logical r u e)
-    by_word None None (Some r) d is f g h e = subst (λ z. SpellsStatement z u) (sym (strip_is (codes "DIMENSION") s r g)) (dimension_is r u e)
-    by_word None None None (Some r) is f g h e = subst (λ z. SpellsStatement z u) (sym (strip_is (codes "DATA") s r h)) (preset_is r u e)
-    by_word None None None None is f g h e = simple_is s u e
-
 keyword_is : (s : List ℕ) (u : Statement) → keyword_at s ≡ Some u → SpellsStatement s u
-unfolding keyword_at subroutine_at
-keyword_is s u e = by_keyword (strip (codes "SUBROUTINE") s) (strip (codes "ELSE") s) refl refl e
-  where
-    by_keyword : (o p : Option (List ℕ)) → strip (codes "SUBROUTINE") s ≡ o → strip (codes "ELSE") s ≡ p → keyword_by s o p ≡ Some u → SpellsStatement s u
-    by_keyword (Some r) p is other e =
-        let (n, found) = guarded (is_name (word r)) (arguments_at (word r) (past_word r)) u e in
-        subst (λ z. SpellsStatement z u) (sym (strip_is (codes "SUBROUTINE") s r is ∙ ap (λ z. codes "SUBROUTINE" ++ z) (word_whole r))) (arguments_is (word r) (past_word r) u n found)
-    by_keyword None (Some r) is other e = subst (λ z. SpellsStatement z u) (sym (strip_is (codes "ELSE") s r other)) (else_is r u e)
-    by_keyword None None is other e = specification_is s u e
+unfolding keyword_at
+keyword_is s u =
+    behind_word_is (codes "SUBROUTINE") s subroutine_at _ u (λ r. subroutine_is r u)
+    (behind_word_is (codes "ELSE") s else_at _ u (λ r. else_is r u)
+    (behind_word_is (codes "INTEGER") s (declared_at Integer) _ u (λ r. declared_is Integer r u)
+    (behind_word_is (codes "LOGICAL") s (declared_at Logical) _ u (λ r. declared_is Logical r u)
+    (behind_word_is (codes "DIMENSION") s dimension_at _ u (λ r. dimension_is r u)
+    (behind_word_is (codes "DATA") s data_at _ u (λ r. preset_is r u) (simple_is s u))))))
 
 -- the label and the DO variable of a DO
 pub record FrontsControl (s : List ℕ) (label : ℕ) (name rest : List ℕ) : Type 0 where
@@ -269,16 +243,16 @@ pub record FrontsControl (s : List ℕ) (label : ℕ) (name rest : List ℕ) : T
 control_is : (s : List ℕ) (x : ℕ × List ℕ × List ℕ) → control_at s ≡ Some x → FrontsControl s x.0 x.1 x.2
 unfolding control_at
 control_is s x e =
-    let (y, found, more) = bind_ok (label_at s) (λ y. cond (is_name (word (past_comma y.1))) (tree_after 61 (past_word (past_comma y.1)) >>= λ r. Some (y.0, word (past_comma y.1), r)) None) x e in
-    let (n, rest) = guarded (is_name (word (past_comma y.1))) (tree_after 61 (past_word (past_comma y.1)) >>= λ r. Some (y.0, word (past_comma y.1), r)) x more in
-    let (r, equals, end) = bind_ok (tree_after 61 (past_word (past_comma y.1))) (λ r. Some (y.0, word (past_comma y.1), r)) x rest in
+    let (y, found, more) = bind_ok (label_at s) (λ y. name_at (past_comma y.1) >>= λ z. tree_after 61 z.1 >>= λ r. Some (y.0, z.0, r)) x e in
+    let (z, read, rest) = bind_ok (name_at (past_comma y.1)) (λ z. tree_after 61 z.1 >>= λ r. Some (y.0, z.0, r)) x more in
+    let (r, equals, end) = bind_ok (tree_after 61 z.1) (λ r. Some (y.0, z.0, r)) x rest in
     let f = label_is s y found in
     let (comma, behind) = past_comma_is y.1 in
-    along (λ w. FrontsControl s w.0 w.1 w.2) (y.0, word (past_comma y.1), r) x end (record {
+    let (is, n) = name_front (past_comma y.1) z read in
+    along (λ w. FrontsControl s w.0 w.1 w.2) (y.0, z.0, r) x end (record {
       row = f.row;
       comma = comma;
-      is = f.is ∙ ap (λ z. f.row ++ z) (behind ∙ ap (λ z. optional_comma comma ++ z) (word_whole (past_comma y.1)
-          ∙ ap (λ z. word (past_comma y.1) ++ z) (after_is 61 (past_word (past_comma y.1)) r equals)));
+      is = f.is ∙ ap (λ v. f.row ++ v) (behind ∙ ap (λ v. optional_comma comma ++ v) (is ∙ ap (λ v. z.0 ++ v) (after_is 61 z.1 r equals)));
       number = f.number;
       value = f.value;
       named = n;
@@ -286,17 +260,16 @@ control_is s x e =
 
 -- the parameters of a DO
 step_is : (s : List ℕ) (c : Option Tree) → step_at s ≡ Some c → ((s ≡ []) × (c ≡ None)) ⊎ ((z : List ℕ) × (t : Tree) × (s ≡ 44 ∷ z) × (c ≡ Some t) × Spells 1 z t)
-step_is [] c e = inl (refl, sym (same_Some None c e))
-step_is (d ∷ s) c e =
-    let (comma, rest) = guarded (d == 44) (reading.expr 1 s >>= λ x. value_ended (Some x.0) x.1) c e in
-    let (x, read, end) = bind_ok (reading.expr 1 s) (λ x. value_ended (Some x.0) x.1) c rest in
-    let (same, none) = ended_is (Some x.0) x.1 c end in
-    let f = sound_reading.expr 1 s x read in
-    let whole : s ≡ f.text = f.is ∙ ap (λ z. f.text ++ z) none ∙ append-nil f.text in
-    inr (s, x.0, ap (λ z. z ∷ s) (eqb-true d 44 comma), sym same, subst (λ z. Spells 1 z x.0) (sym whole) f.spells)
+unfolding step_at
+step_is s c e = elim (chosen (length s == 0) (Some None) _ (Some c) e) [
+  | inl p ↦ inl (nil_from_length s (eqb-true (length s) 0 p.0), sym (same_Some None c p.1))
+  | inr p ↦
+      let (r, comma, more) = bind_ok (tree_after 44 s) (λ r. whole_at r >>= λ t. Some (Some t)) c p.1 in
+      let (t, read, end) = bind_ok (whole_at r) (λ t. Some (Some t)) c more in
+      inr (r, t, after_is 44 s r comma, sym (same_Some (Some t) c end), whole_is r t read)
+]
 
 loop_whole : (s name rest : List ℕ) (label : ℕ) (u : Statement) → FrontsControl s label name rest → parameters_at label name rest ≡ Some u → SpellsStatement (codes "DO" ++ s) u
-unfolding parameters_at
 loop_whole s name rest label u f e =
     let (a, first, more) = bind_ok (reading.expr 1 rest) (λ a. tree_after 44 a.1 >>= λ r. reading.expr 1 r >>= λ b. step_at b.1 >>= λ c. Some (Statement.Loop label name a.0 b.0 c)) u e in
     let (r, comma, others) = bind_ok (tree_after 44 a.1) (λ r. reading.expr 1 r >>= λ b. step_at b.1 >>= λ c. Some (Statement.Loop label name a.0 b.0 c)) u more in

@@ -1,9 +1,14 @@
 -- Taking apart a chain of steps that may fail.
-use Rattle.std.proofs.Common.{◌≡◌, ◌⊎◌, inl, inr, ℕ, List, [], ◌∷◌, ◌++◌, Bool, true, false, cond, subst, refl, Option, Some, None}
+use Rattle.std.proofs.Common.{arith, ◌≡◌, ◌⊎◌, inl, inr, ℕ, List, [], ◌∷◌, ◌++◌, Bool, true, false, cond, subst, refl, Option, Some, None, ap, sym, ◌∙◌}
 use Rattle.std.proofs.lemmas.Option.{same_Some, none-some}
 use Rattle.std.proofs.lemmas.Bool.{eqb-true}
+use Rattle.f77_tree.specs.Grammar.{is_name, word, past_word}
+use Rattle.f77_tree.proofs.Words.{EndsWord, word_whole, word_front, past_word_front, name_words}
 use Rattle.f77_syntax.specs.Reading.{◌>>=◌, strip}
-use Rattle.std.specs.Prelude.{◌==◌, ◌&&◌, nat_eq, length, take, drop}
+use Rattle.f77_syntax.specs.code.Reading.{tree_after, behind, value_ended}
+use Rattle.f77_syntax.specs.code.Names.{name_at}
+use Rattle.std.specs.Prelude.{◌==◌, ◌&&◌, ◌+◌, nat_eq, length, take, drop, option_map, MatchOption}
+use Rattle.std.specs.Borrow.{Bor}
 use lib.Pointwise.{pointwise}
 use Rattle.f77_tree.proofs.Tests.{and_true}
 
@@ -19,6 +24,11 @@ pub chosen : {A : Type 0} (b : Bool) (x y z : A) → cond b x y ≡ z → ((b �
 chosen true x y z e = inl (refl, e)
 chosen false x y z e = inr (refl, e)
 
+pub behind_is : {A : Type 0} (P : Type 0) (o : Option (List ℕ)) (read : List ℕ → Option A) (other : Option A) (x : A)
+    → ((r : List ℕ) → o ≡ Some r → read r ≡ Some x → P) → (other ≡ Some x → P) → behind o read other ≡ Some x → P
+behind_is P None read other x found more e = more e
+behind_is P (Some r) read other x found more e = found r refl e
+
 -- a test that has to hold for there to be an answer
 pub guarded : {A : Type 0} (b : Bool) (x : Option A) (z : A) → cond b x None ≡ Some z → (b ≡ true) × (x ≡ Some z)
 guarded true x z e = (refl, e)
@@ -33,13 +43,35 @@ strip_is (c ∷ p) (d ∷ s) r e =
     let head : d ≡ c = eqb-true d c same in
     cc
 
+pub after_is : (b : ℕ) (s r : List ℕ) → tree_after b s ≡ Some r → s ≡ b ∷ r
+after_is b [] r e = absurd (none-some r e)
+after_is b (c ∷ s) r e =
+    let (same, found) = guarded (c == b) (Some s) r e in
+    let head : c ≡ b = eqb-true c b same in
+    let tail : s ≡ r = same_Some s r found in
+    cc
+
+-- a value behind which nothing has to stand
+pub ended_is : {A : Type 0} (x : A) (rest : List ℕ) (y : A) → value_ended x rest ≡ Some y → (x ≡ y) × (rest ≡ [])
+ended_is x [] y e = (same_Some x y e, refl)
+ended_is x (c ∷ rest) y e = absurd (let h = guarded (length (c ∷ rest) == 0) (Some x) y e in let z = eqb-true (length (c ∷ rest)) 0 h.0 in omega arith)
+
+-- a name is a front of the text
+pub name_front : (s : List ℕ) (x : List ℕ × List ℕ) → name_at s ≡ Some x → (s ≡ x.0 ++ x.1) × (is_name x.0 ≡ true)
+name_front s x e =
+    let (n, found) = guarded (is_name (word s)) (Some (word s, past_word s)) x e in
+    along (λ x. (s ≡ x.0 ++ x.1) × (is_name x.0 ≡ true)) (word s, past_word s) x found (word_whole s, n)
+
+pub name_found : (name rest : List ℕ) → is_name name ≡ true → EndsWord rest → name_at (name ++ rest) ≡ Some (name, rest)
+name_found name rest n ends = rw (word_front name rest (name_words name n) ends, past_word_front name rest (name_words name n) ends, n) refl
+
 -- what std's test of a prefix says
-pub strip_same : (p s : List ℕ) → pointwise nat_eq (take (length p) s) p ≡ true → strip p s ≡ Some (drop (length p) s)
+strip_same : (p s : List ℕ) → pointwise nat_eq (take (length p) s) p ≡ true → strip p s ≡ Some (drop (length p) s)
 strip_same [] s e = refl
 strip_same (c ∷ p) [] e = cc
 strip_same (c ∷ p) (d ∷ s) e = let (first, others) = and_true (nat_eq d c) (pointwise nat_eq (take (length p) s) p) e in rw first (strip_same p s others)
 
-pub strip_other : (p s : List ℕ) → pointwise nat_eq (take (length p) s) p ≡ false → strip p s ≡ None
+strip_other : (p s : List ℕ) → pointwise nat_eq (take (length p) s) p ≡ false → strip p s ≡ None
 strip_other [] s e = cc
 strip_other (c ∷ p) [] e = refl
 strip_other (c ∷ p) (d ∷ s) e = step (nat_eq d c) (strip_other p s) e
@@ -47,3 +79,9 @@ strip_other (c ∷ p) (d ∷ s) e = step (nat_eq d c) (strip_other p s) e
     step : (b : Bool) → (pointwise nat_eq (take (length p) s) p ≡ false → strip p s ≡ None) → (b && pointwise nat_eq (take (length p) s) p) ≡ false → cond b (strip p s) None ≡ None
     step true more h = more h
     step false more h = refl
+
+pub strip_gives : (p s : List ℕ) (r : Option (Bor (List ℕ)))
+    → MatchOption r (pointwise nat_eq (take (length p) s) p ≡ false) (λ x. (pointwise nat_eq (take (length p) s) p ≡ true) × (x.now ≡ drop (length p) s) × (length x.now + length p ≡ length s))
+    → option_map (λ x. x.now) r ≡ strip p s
+strip_gives p s None h = sym (strip_other p s h)
+strip_gives p s (Some x) h = ap Some h.1 ∙ sym (strip_same p s h.0)

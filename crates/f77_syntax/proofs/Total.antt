@@ -7,7 +7,7 @@ use Rattle.f77_source.specs.Card.{CardFields}
 use Rattle.f77_program.specs.declared.fault.SyntaxFault.{SyntaxFault}
 use Rattle.f77_program.specs.declared.fault.SyntaxFault.TheVariants.{Unknown, BadName, BadConstant, TooDeep, TooLong, AfterEnd}
 use Rattle.f77_program.specs.declared.group.Group.{Group}
-use Rattle.f77_program.specs.declared.group.Group.TheVariants.{Subroutine, Declaration, Data, Executable, End}
+use Rattle.f77_program.specs.declared.group.Group.TheVariants.{End}
 use Rattle.f77_tree.specs.Statement.{Statement}
 use Rattle.f77_program.specs.Group.{group_of, may_stand}
 use Rattle.f77_syntax.specs.TextLimits.{open_behind, most_open, character_count, most_characters, IsTooDeep}
@@ -94,11 +94,8 @@ admitted_or_refused line text = by_length (nat_le (character_count text) most_ch
 
 end_or_not : (before : Option Group) → (before ≡ Some End) ⊎ (before ≢ Some End)
 end_or_not None = inr (λ e. cc)
-end_or_not (Some Subroutine) = inr (λ e. cc)
-end_or_not (Some Declaration) = inr (λ e. cc)
-end_or_not (Some Data) = inr (λ e. cc)
-end_or_not (Some Executable) = inr (λ e. cc)
 end_or_not (Some End) = inl refl
+end_or_not (Some _) = inr (λ e. cc)
 
 no_cards : (before : Option Group) → (before ≡ Some End) ⊎ (before ≢ Some End) → HasLinesOrFault before []
 no_cards before (inl e) = inl ([], rw e AreLines.finished)

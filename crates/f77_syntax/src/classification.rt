@@ -1,9 +1,10 @@
-//! The class of a statement, found from its text as a whole. No word is reserved and blanks are gone, so `DO10I=1` and
-//! `DO10I=1,5` differ by the comma alone.
+//! What a statement's text is as a whole: its length, its depth, and the class of the statement. No word is reserved
+//! and blanks are gone, so `DO10I=1` and `DO10I=1,5` differ by the comma alone.
 
-ghost use Rattle.std.specs.Prelude.{◌≡◌, ◌<◌, option_map};
 ghost use Rattle.f77_syntax.specs.Classification as classification;
+ghost use Rattle.std.specs.Prelude.{◌≡◌, ◌<◌, option_map, true, false};
 ghost use Rattle.f77_syntax.specs.Classification.{behind_character, class_of};
+ghost use Rattle.f77_syntax.specs.TextLimits.{IsTooDeep, character_count};
 
 /// The class of a statement: which function reads it (ANSI X3.9-1978, 3.3).
 #[derive(Clone, Copy, Debug, PartialEq, Eq)]
@@ -73,4 +74,31 @@ pub(crate) fn class_of(text: &[u8]) -> Class
         return Class::Loop;
     }
     Class::Assignment
+}
+
+/// The largest number of characters that the text of a statement may have: 20 lines of 66.
+pub(crate) const MOST_CHARACTERS: usize = 1320;
+
+const MOST_OPEN: usize = 40;
+
+/// The number of characters of the text.
+pub(crate) fn character_count(text: &str) -> usize
+    ensures { result ≡ character_count text.now }
+{
+    text.chars().count()
+}
+
+/// Whether at some place of the text more than 40 parentheses are open.
+pub(crate) fn is_too_deep(text: &[u8]) -> bool
+    ensures deep { result ≡ true → IsTooDeep text.now }
+    ensures flat { result ≡ false → ¬ (IsTooDeep text.now) }
+{
+    let mut depth: usize = 0;
+    for c in text {
+        depth = deeper(depth, *c);
+        if depth > MOST_OPEN {
+            return true;
+        }
+    }
+    false
 }

@@ -1,18 +1,84 @@
-//! Reading DATA: names with their initial values.
+//! Reading DATA statements: names with their initial values.
 
-ghost use Rattle.std.specs.Prelude.{◌≡◌, ◌<◌, ◌≤◌, length, IfOk};
-ghost use Rattle.f77_syntax.specs.code.Data.{repeat_at, data_value_at, data_values_at, group_at, groups_at};
-ghost use Rattle.f77_syntax.specs.code.Data.{Finds, IsValue, AreDataValues, IsGroup, AreGroups};
-ghost use Rattle.f77_syntax.specs.code.Reading.{tree_after};
+ghost use Rattle.f77_tree.specs.Data as initial;
+ghost use Rattle.std.specs.Prelude.{◌≡◌, ◌≤◌, length, pos, IfSome, ◌<◌, IfOk};
+ghost use Rattle.f77_syntax.specs.code.Declaration.{bound_at};
+ghost use Rattle.f77_syntax.specs.code.Data.{initial_constant_at, constant_at, clip_constant, clipped_constant, Finds};
+ghost use Rattle.f77_syntax.specs.code.Data.{repeat_at, data_value_at, data_values_at, group_at, groups_at, data_at};
+ghost use Rattle.f77_syntax.specs.code.Data.{IsValue, AreDataValues, IsGroup, AreGroups};
 ghost use Rattle.f77_syntax.specs.code.View.{clipped, Gives};
+ghost use Rattle.f77_syntax.specs.code.StatementView.{IsStatement};
 
-use crate::constants::{digits, read_constant};
-use crate::expression::{after_byte, past_comma};
+use crate::expression::{after_byte, expect_byte, past_comma};
 use crate::fault::ReadError;
-use crate::joined::joined;
-use crate::names::names;
-use f77_tree::{DataGroup, Value};
+use crate::joined::{joined, names};
+use crate::scan::{after, number};
+use f77_tree::characters::{is_number, split_word};
+use f77_tree::{Constant, DataGroup, Stmt, Value};
 use std::alloc::Global;
+
+/// The number, or -2147483648 where it is above 2147483647.
+fn above_zero(size: u32) -> i32
+    ensures { result ≡ clipped_constant (pos size) }
+{
+    i32::try_from(size).unwrap_or(i32::MIN)
+}
+
+/// The negative of the number, or -2147483648 where the number is above 2147483647.
+fn below_zero(size: u32) -> i32
+    ensures { result ≡ clipped_constant (initial.negative size) }
+{
+    match i32::try_from(size) {
+        Ok(number) => -number,
+        Err(_) => i32::MIN,
+    }
+}
+
+/// Reads digits, and gives the text behind them too.
+pub(crate) fn digits(text: &[u8]) -> Option<(u32, &[u8])>
+    ensures found { Finds clipped result (bound_at text.now) }
+    ensures shorter { IfSome result (λ x. length x.1.now ≤ length text.now) }
+{
+    let (front, rest) = split_word(text);
+    if !is_number(front) {
+        return None;
+    }
+    Some((number(front), rest))
+}
+
+fn positive(text: &[u8]) -> Option<(Constant, &[u8])>
+    ensures { Finds clip_constant result (initial_constant_at pos text.now) }
+{
+    let (size, rest) = digits(text)?;
+    Some((Constant::Number(above_zero(size)), rest))
+}
+
+fn negative(text: &[u8]) -> Option<(Constant, &[u8])>
+    ensures { Finds clip_constant result (initial_constant_at initial.negative text.now) }
+{
+    let (size, rest) = digits(text)?;
+    Some((Constant::Number(below_zero(size)), rest))
+}
+
+/// Reads a constant with its sign, and gives the text behind it too.
+#[tactic(auto, unfolding(crate::specs::code::Data::constant_at))]
+pub(crate) fn read_constant(text: &[u8]) -> Option<(Constant, &[u8])>
+    ensures { Finds clip_constant result (constant_at text.now) }
+{
+    if let Some(rest) = after_byte(text, b'+') {
+        return positive(rest);
+    }
+    if let Some(rest) = after_byte(text, b'-') {
+        return negative(rest);
+    }
+    if let Some(rest) = after(text, ".TRUE.") {
+        return Some((Constant::Truth(true), rest));
+    }
+    if let Some(rest) = after(text, ".FALSE.") {
+        return Some((Constant::Truth(false), rest));
+    }
+    positive(text)
+}
 
 /// Reads a repeat with its asterisk, and gives the text behind it too.
 fn repeat(text: &[u8]) -> Option<(u32, &[u8])>
@@ -42,27 +108,21 @@ fn values(alloc: Global, text: &[u8]) -> Result<(Vec<Value>, &[u8]), ReadError>
     joined(alloc, text, value)
 }
 
-/// The text behind a slash, which has to stand at the front.
-fn past_slash(text: &[u8]) -> Result<&[u8], ReadError>
-    ensures { Gives (λ x s. x.now ≡ s) result (tree_after 47 text.now) }
-{
-    after_byte(text, b'/').ok_or(ReadError::Unknown)
-}
-
 /// Reads names and their values between slashes, and gives the text behind them too.
+#[tactic(auto, unfolding(crate::specs::code::Data::group_at))]
 fn group(alloc: Global, text: &[u8]) -> Result<(DataGroup, &[u8]), ReadError>
     ensures found { Gives IsGroup result (group_at text.now) }
     ensures shorter { IfOk result (λ x. length x.1.now < length text.now) }
 {
     let (names, behind) = names(alloc, text)?;
-    let inner = past_slash(behind)?;
+    let inner = expect_byte(behind, b'/')?;
     let (values, end) = values(alloc, inner)?;
-    let rest = past_slash(end)?;
+    let rest = expect_byte(end, b'/')?;
     Ok((DataGroup { names, values }, rest))
 }
 
 /// Reads what follows the keyword DATA, up to the end. A comma may stand between two groups.
-pub(crate) fn groups(alloc: Global, text: &[u8]) -> Result<Vec<DataGroup>, ReadError>
+fn groups(alloc: Global, text: &[u8]) -> Result<Vec<DataGroup>, ReadError>
     ensures { Gives AreGroups result (groups_at text.now) }
 {
     let mut groups = Vec::new(alloc);
@@ -75,4 +135,12 @@ pub(crate) fn groups(alloc: Global, text: &[u8]) -> Result<Vec<DataGroup>, ReadE
         }
         rest = past_comma(behind);
     }
+}
+
+/// Reads what follows the keyword DATA.
+pub(crate) fn preset(alloc: Global, text: &[u8]) -> Result<Stmt, ReadError>
+    ensures { Gives IsStatement result (data_at text.now) }
+{
+    let groups = groups(alloc, text)?;
+    Ok(Stmt::Preset { groups })
 }

@@ -1,28 +1,26 @@
-//! Reading declared names with their bounds.
+//! Reading SUBROUTINE, INTEGER, LOGICAL and DIMENSION statements.
 
-ghost use Rattle.std.specs.Prelude.{◌≡◌, ◌≤◌, length, IfOk};
-ghost use Rattle.f77_syntax.specs.code.Declaration.{bound_at, bounds_at, decl_at};
-ghost use Rattle.f77_syntax.specs.code.Declaration.{declarations_at, AreBounds, IsDecl, AreDecls};
-ghost use Rattle.f77_syntax.specs.code.View.{clipped, Gives};
+ghost use Rattle.std.specs.Prelude.{◌≤◌, length, IfOk};
+ghost use Rattle.f77_syntax.specs.code.Declaration.{bound_at, bounds_at, decl_at, declarations_at, declared_at};
+ghost use Rattle.f77_syntax.specs.code.Declaration.{dimension_at, IsBound, AreBounds, IsDecl, AreDecls};
+ghost use Rattle.f77_syntax.specs.code.StatementView.{IsStatement};
+ghost use Rattle.f77_syntax.specs.code.View.{Gives};
+ghost use Rattle.f77_syntax.specs.code.Names.{AreNames};
+ghost use Rattle.f77_syntax.specs.code.Subroutine.{dummies_at, subroutine_at};
 
-use crate::expression::{after_byte, closed};
+use crate::data::digits;
+use crate::expression::{after_byte, ended, expect_byte};
 use crate::fault::ReadError;
-use crate::joined::joined;
-use crate::scan::number;
-use f77_tree::characters::{is_name, is_number, split_word};
-use f77_tree::{Decl, Name};
+use crate::joined::{joined, names, split_name};
+use f77_tree::{Decl, Kind, Name, Stmt, all_bounded};
 use std::alloc::Global;
 
 /// Reads a bound, and gives the text behind it too.
 fn bound(text: &[u8]) -> Result<(u32, &[u8]), ReadError>
-    ensures found { Gives (λ x a. (x.0 ≡ clipped a.0) × (x.1.now ≡ a.1)) result (bound_at text.now) }
+    ensures found { Gives IsBound result (bound_at text.now) }
     ensures shorter { IfOk result (λ x. length x.1.now ≤ length text.now) }
 {
-    let (front, rest) = split_word(text);
-    if !is_number(front) {
-        return Err(ReadError::Unknown);
-    }
-    Ok((number(front), rest))
+    digits(text).ok_or(ReadError::Unknown)
 }
 
 /// Reads bounds joined by commas, and gives the text behind them too.
@@ -33,31 +31,74 @@ fn bounds(alloc: Global, text: &[u8]) -> Result<(Vec<u32>, &[u8]), ReadError>
 }
 
 /// Reads a declared name with its bounds, if it has any, and gives the text behind it too.
+#[tactic(auto, unfolding(crate::specs::code::Declaration::decl_at))]
 fn declaration(alloc: Global, text: &[u8]) -> Result<(Decl, &[u8]), ReadError>
     ensures found { Gives IsDecl result (decl_at text.now) }
     ensures shorter { IfOk result (λ x. length x.1.now ≤ length text.now) }
 {
-    let (front, rest) = split_word(text);
-    if !is_name(front) {
-        return Err(ReadError::Unknown);
-    }
+    let (front, rest) = split_name(text)?;
     let name = Name::beginning(front);
     let Some(inner) = after_byte(rest, b'(') else {
         let bounds = Vec::new(alloc);
         return Ok((Decl { name, bounds }, rest));
     };
     let (bounds, behind) = bounds(alloc, inner)?;
-    let rest = closed(behind)?;
+    let rest = expect_byte(behind, b')')?;
     Ok((Decl { name, bounds }, rest))
 }
 
 /// Reads what follows the keyword INTEGER, LOGICAL or DIMENSION, up to the end.
-pub(crate) fn declarations(alloc: Global, text: &[u8]) -> Result<Vec<Decl>, ReadError>
+fn declarations(alloc: Global, text: &[u8]) -> Result<Vec<Decl>, ReadError>
     ensures { Gives AreDecls result (declarations_at text.now) }
 {
     let (items, end) = joined(alloc, text, |item| declaration(alloc, item))?;
-    if !end.is_empty() {
+    ended(items, end)
+}
+
+/// Reads what follows the keyword of a type statement.
+pub(crate) fn declared(alloc: Global, kind: Kind, text: &[u8]) -> Result<Stmt, ReadError>
+    ensures { Gives IsStatement result (declared_at kind text.now) }
+{
+    let items = declarations(alloc, text)?;
+    Ok(Stmt::Declare { kind, items })
+}
+
+/// Reads what follows the keyword DIMENSION.
+pub(crate) fn dimension(alloc: Global, text: &[u8]) -> Result<Stmt, ReadError>
+    ensures { Gives IsStatement result (dimension_at text.now) }
+{
+    let items = declarations(alloc, text)?;
+    if !all_bounded(&items) {
         return Err(ReadError::Unknown);
     }
-    Ok(items)
+    Ok(Stmt::Dimension { items })
+}
+
+/// Reads names joined by commas, or none, and a closing parenthesis, and gives the text behind it too.
+#[tactic(auto, unfolding(crate::specs::code::Subroutine::dummies_at))]
+fn dummies(alloc: Global, text: &[u8]) -> Result<(Vec<Name>, &[u8]), ReadError>
+    ensures { Gives AreNames result (dummies_at text.now) }
+{
+    if let Some(rest) = after_byte(text, b')') {
+        return Ok((Vec::new(alloc), rest));
+    }
+    let (names, behind) = names(alloc, text)?;
+    let rest = expect_byte(behind, b')')?;
+    Ok((names, rest))
+}
+
+/// Reads what follows the keyword SUBROUTINE.
+#[tactic(auto, unfolding(crate::specs::code::Subroutine::subroutine_at))]
+pub(crate) fn subroutine(alloc: Global, text: &[u8]) -> Result<Stmt, ReadError>
+    ensures { Gives IsStatement result (subroutine_at text.now) }
+{
+    let (front, rest) = split_name(text)?;
+    let name = Name::beginning(front);
+    if rest.is_empty() {
+        let arguments = Vec::new(alloc);
+        return Ok(Stmt::Subroutine { name, arguments });
+    }
+    let inner = expect_byte(rest, b'(')?;
+    let (arguments, end) = dummies(alloc, inner)?;
+    ended(Stmt::Subroutine { name, arguments }, end)
 }

@@ -1,7 +1,8 @@
 //! Reading expressions, by recursive descent.
 
-ghost use Rattle.std.specs.Prelude.{◌≡◌, ◌<◌, ◌≤◌, true, length, map, IfOk, option_map};
-ghost use Rattle.f77_syntax.specs.code.Reading.{reading, close_at, tree_after, past_comma};
+ghost use Rattle.std.specs.Prelude.{◌≡◌, ◌<◌, ◌≤◌, ◌==◌, true, false, length, map, IfOk, MatchResult, option_map};
+ghost use Rattle.f77_syntax.specs.declared.fault.ReadError.TheVariants.{Unknown};
+ghost use Rattle.f77_syntax.specs.code.Reading.{reading, whole_at, tree_after, past_comma};
 ghost use Rattle.f77_tree.specs.Grammar.{word, past_word};
 ghost use Rattle.f77_syntax.specs.code.Reading.{start_at, enclosed_at, signed_tree_at};
 ghost use Rattle.f77_syntax.specs.code.Reading.{negated_at, dotted_at, word_tree_at, listed_by};
@@ -9,10 +10,10 @@ ghost use Rattle.f77_tree.specs.Grammar.{is_name};
 ghost use Rattle.f77_tree.specs.Intrinsic.{function_named};
 ghost use Rattle.f77_tree.specs.Name.{cut};
 ghost use Rattle.f77_tree.specs.View.{tree_of, trees};
-ghost use Rattle.f77_syntax.specs.code.View.{Gives, IsTree, IsTreeStart, IsTreeList};
+ghost use Rattle.f77_syntax.specs.code.View.{clip, Gives, IsTree, IsTreeStart, IsTreeList};
 
 use crate::fault::ReadError;
-use crate::scan::{next_operator, number};
+use crate::scan::{after, expect, next_operator, number};
 use f77_tree::characters::{is_name, is_number, split_word};
 use f77_tree::{Expr, Intrinsic, Name, Ref, Sign};
 use std::alloc::Global;
@@ -62,7 +63,7 @@ fn group(alloc: Global, text: &[u8]) -> Result<(Expr, u8, &[u8]), ReadError>
     ensures { Gives IsTreeStart result (enclosed_at reading text.now) }
 {
     let (inner, rest) = expression(alloc, 1, text)?;
-    let rest = closed(rest)?;
+    let rest = expect_byte(rest, b')')?;
     Ok((inner, 9, rest))
 }
 
@@ -88,15 +89,13 @@ fn signed(
 fn dotted(alloc: Global, wanted: u8, text: &[u8]) -> Result<(Expr, u8, &[u8]), ReadError>
     ensures { Gives IsTreeStart result (dotted_at reading wanted text.now) }
 {
-    if let Some(rest) = text.strip_prefix(b".TRUE.") {
+    if let Some(rest) = after(text, ".TRUE.") {
         return Ok((Expr::Truth(true), 9, rest));
     }
-    if let Some(rest) = text.strip_prefix(b".FALSE.") {
+    if let Some(rest) = after(text, ".FALSE.") {
         return Ok((Expr::Truth(false), 9, rest));
     }
-    let Some(behind) = text.strip_prefix(b".NOT.") else {
-        return Err(ReadError::Unknown);
-    };
+    let behind = expect(text, ".NOT.")?;
     negated(alloc, wanted, behind)
 }
 
@@ -130,7 +129,7 @@ fn operand(alloc: Global, text: &[u8]) -> Result<(Expr, u8, &[u8]), ReadError>
         return Ok((Expr::Reference(Ref { name, subscripts }), 9, rest));
     };
     let (items, after) = list(alloc, inner)?;
-    let rest = closed(after)?;
+    let rest = expect_byte(after, b')')?;
     Ok((with_list(front, items), 9, rest))
 }
 
@@ -167,11 +166,32 @@ pub(crate) fn list(alloc: Global, text: &[u8]) -> Result<(Vec<Expr>, &[u8]), Rea
     }
 }
 
-/// The text behind a closing parenthesis, which has to stand at the front.
-pub(crate) fn closed(text: &[u8]) -> Result<&[u8], ReadError>
-    ensures { Gives (λ x s. x.now ≡ s) result (close_at text.now) }
+/// Reads an expression behind which nothing stands.
+#[tactic(auto, unfolding(crate::specs::code::Reading::whole_at))]
+pub(crate) fn whole(alloc: Global, text: &[u8]) -> Result<Expr, ReadError>
+    ensures { Gives (λ x t. tree_of x ≡ clip t) result (whole_at text.now) }
 {
-    after_byte(text, b')').ok_or(ReadError::Unknown)
+    let (value, end) = expression(alloc, 1, text)?;
+    ended(value, end)
+}
+
+/// The value that was read, if nothing stands behind it.
+pub(crate) fn ended<T: Drop>(value: T, rest: &[u8]) -> Result<T, ReadError>
+    ensures { MatchResult result
+        (λ x. (x ≡ value) × ((length rest.now == 0) ≡ true))
+        (λ e. (e ≡ Unknown) × ((length rest.now == 0) ≡ false)) }
+{
+    if !rest.is_empty() {
+        return Err(ReadError::Unknown);
+    }
+    Ok(value)
+}
+
+/// The text behind this byte, which has to stand at the front.
+pub(crate) fn expect_byte(text: &[u8], byte: u8) -> Result<&[u8], ReadError>
+    ensures { Gives (λ x s. x.now ≡ s) result (tree_after byte text.now) }
+{
+    after_byte(text, byte).ok_or(ReadError::Unknown)
 }
 
 /// The text behind this byte, if the text begins with it.

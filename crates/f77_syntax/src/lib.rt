@@ -8,27 +8,18 @@
 //!     let text = print(alloc, &program)?;              // "      SUBROUTINE A(I,K)\n   10 K=I-(I-K)\n      END\n"
 #![tactic(auto)]
 
-mod assignment;
 mod classification;
-mod condition;
-mod constants;
 mod data;
 mod declaration;
-mod do_loop;
 mod expression;
 mod fault;
-mod goto;
 mod joined;
 mod label;
 pub mod law;
-mod names;
 mod parsing;
 mod printing;
 mod scan;
-mod specification;
 mod statement;
-mod subroutine;
-mod text_limits;
 
 pub use f77_program::{Group, Line, Program, SyntaxFault, print_stmt};
 pub use f77_tree::{

@@ -5,7 +5,6 @@ ghost use Rattle.std.specs.Prelude.{IfOk, IfErr, MatchResult, map, Some, None, E
 ghost use Rattle.f77_source.specs.Card.{CardFields};
 ghost use Rattle.f77_tree.specs.StatementGrammar.{SpellsStatement};
 ghost use Rattle.f77_program.specs.Group.{group_of, may_stand};
-ghost use Rattle.f77_syntax.specs.TextLimits.{character_count, most_characters};
 ghost use Rattle.f77_tree.specs.Limits.{most_nodes, statement_constants, statement_nodes};
 ghost use Rattle.f77_syntax.specs.Parsing.{IsAdmitted, IsCardRefused, IsFirstSyntaxFault};
 ghost use Rattle.f77_syntax.specs.Parsing.{AreLines, misplaced_statement, unfinished};
@@ -15,9 +14,9 @@ ghost use Rattle.f77_tree.specs.Statement.{Statement, statement_of};
 ghost use Rattle.f77_syntax.specs.code.StatementView.{clip_statement};
 ghost use Rattle.f77_program.specs.declared.group.Group.TheVariants.{End};
 
+use crate::classification::{MOST_CHARACTERS, character_count, is_too_deep};
 use crate::fault::ReadError;
 use crate::statement::statement;
-use crate::text_limits::{MOST_CHARACTERS, character_count, is_too_deep};
 use f77_program::{Group, Line, Program, SyntaxFault, group_of, is_end, is_formed};
 use f77_source::Card;
 use f77_tree::{Shared, Stmt, are_small, nodes};
@@ -56,27 +55,8 @@ fn within_limits(alloc: Global, line: u32, stmt: &Stmt) -> Result<(), SyntaxFaul
     Ok(())
 }
 
-/// The statement that a text spells within all limits. The length of the text has been tested.
-fn limited(alloc: Global, line: u32, text: &[u8]) -> Result<Stmt, SyntaxFault>
-    requires { character_count text.now ≤ most_characters }
-    ensures { MatchResult result
-        (λ stmt. IsAdmitted text.now (statement_of stmt))
-        (λ fault. (fault ≡ SyntaxFault.Memory) ⊎ IsCardRefused line text.now fault) }
-{
-    if is_too_deep(text) {
-        return Err(SyntaxFault::TooDeep(line));
-    }
-    let stmt = spelled(alloc, line, text)?;
-    // The text spells it: where it is not formed, a name is too long.
-    if !is_formed(&stmt) {
-        return Err(SyntaxFault::BadName(line));
-    }
-    within_limits(alloc, line, &stmt)?;
-    Ok(stmt)
-}
-
 /// The statement that a text spells within all limits.
-pub(crate) fn admitted(alloc: Global, line: u32, text: &str) -> Result<Stmt, SyntaxFault>
+fn admitted(alloc: Global, line: u32, text: &str) -> Result<Stmt, SyntaxFault>
     ensures { MatchResult result
         (λ stmt. IsAdmitted text.now (statement_of stmt))
         (λ fault. (fault ≡ SyntaxFault.Memory) ⊎ IsCardRefused line text.now fault) }
@@ -84,7 +64,17 @@ pub(crate) fn admitted(alloc: Global, line: u32, text: &str) -> Result<Stmt, Syn
     if character_count(text) > MOST_CHARACTERS {
         return Err(SyntaxFault::TooLong(line));
     }
-    limited(alloc, line, text.as_bytes())
+    let bytes = text.as_bytes();
+    if is_too_deep(bytes) {
+        return Err(SyntaxFault::TooDeep(line));
+    }
+    let stmt = spelled(alloc, line, bytes)?;
+    // The text spells it: where it is not formed, a name is too long.
+    if !is_formed(&stmt) {
+        return Err(SyntaxFault::BadName(line));
+    }
+    within_limits(alloc, line, &stmt)?;
+    Ok(stmt)
 }
 
 /// The fault of a statement that may not stand here.

@@ -1,20 +1,24 @@
 //! Finding names, numbers and operators at the front of a text.
 
-ghost use Rattle.std.specs.Prelude.{◌≡◌, ◌<◌, length, true, option_map, IfSome};
+ghost use Rattle.std.specs.Prelude.{◌≡◌, ◌<◌, ◌≤◌, length, true, option_map, IfSome};
 ghost use Rattle.std.specs.Str.Parse.{digits_value};
 ghost use Rattle.f77_tree.specs.Grammar as grammar;
+ghost use Rattle.f77_syntax.specs.Reading.{strip};
 ghost use Rattle.f77_syntax.specs.code.Reading as reading;
 ghost use Rattle.f77_syntax.specs.code.Reading.{digits, past_digits, operator_at};
-ghost use Rattle.f77_syntax.specs.code.View.{clipped};
+ghost use Rattle.f77_syntax.specs.code.View.{clipped, Gives};
 
+use crate::fault::ReadError;
 use f77_tree::Operator;
 use f77_tree::characters::is_digit;
 
-/// The operators that begin with an asterisk. `**` is tried first, since `*` is its beginning.
-const STARRED: [Operator; 2] = [Operator::Power, Operator::Multiply];
-
-/// The operators that begin with a dot.
-const DOTTED: [Operator; 10] = [
+/// The operators. `**` stands before `*`, since that is its beginning.
+const OPERATORS: [Operator; 15] = [
+    Operator::Power,
+    Operator::Multiply,
+    Operator::Divide,
+    Operator::Add,
+    Operator::Subtract,
     Operator::Less,
     Operator::LessOrEqual,
     Operator::Equal,
@@ -27,10 +31,25 @@ const DOTTED: [Operator; 10] = [
     Operator::NotEquivalent,
 ];
 
+/// The text behind this word, if the text begins with it.
+pub(crate) fn after<'a>(text: &'a [u8], word: &str) -> Option<&'a [u8]>
+    ensures { option_map (λ rest. rest.now) result ≡ strip word.now text.now }
+{
+    text.strip_prefix(word.as_bytes())
+}
+
+/// The text behind this word, which has to stand at the front.
+pub(crate) fn expect<'a>(text: &'a [u8], word: &str) -> Result<&'a [u8], ReadError>
+    ensures { Gives (λ x s. x.now ≡ s) result (strip word.now text.now) }
+{
+    after(text, word).ok_or(ReadError::Unknown)
+}
+
 /// The digits at the front, and the text behind them.
 pub(crate) fn split_digits(text: &[u8]) -> (&[u8], &[u8])
     ensures front { result.0.now ≡ digits text.now }
     ensures back { result.1.now ≡ past_digits text.now }
+    ensures short { length result.1.now ≤ length text.now }
 {
     for (i, c) in text.iter().enumerate() {
         if !is_digit(*c) {
@@ -56,19 +75,12 @@ pub(crate) fn number(digits: &[u8]) -> u32
 }
 
 /// The operator at the front, and the text behind it.
+#[tactic(auto, unfolding(crate::specs::code::Reading::operator_at))]
 pub(crate) fn next_operator(text: &[u8]) -> Option<(Operator, &[u8])>
     ensures found { option_map (λ x. (x.0, x.1.now)) result ≡ operator_at text.now }
     ensures shorter { IfSome result (λ x. length x.1.now < length text.now) }
 {
-    let (first, rest) = text.split_first()?;
-    match *first {
-        b'*' => first_operator(&STARRED, text),
-        b'+' => Some((Operator::Add, rest)),
-        b'-' => Some((Operator::Subtract, rest)),
-        b'.' => first_operator(&DOTTED, text),
-        b'/' => Some((Operator::Divide, rest)),
-        _ => None,
-    }
+    first_operator(&OPERATORS, text)
 }
 
 /// The first of these operators whose text stands at the front, and the text behind it.
@@ -76,7 +88,7 @@ fn first_operator<'a>(operators: &[Operator], text: &'a [u8]) -> Option<(Operato
     ensures { option_map (λ x. (x.0, x.1.now)) result ≡ reading.first_operator operators.now text.now }
 {
     for op in operators {
-        if let Some(rest) = text.strip_prefix(op.symbol().as_bytes()) {
+        if let Some(rest) = after(text, op.symbol()) {
             return Some((*op, rest));
         }
     }

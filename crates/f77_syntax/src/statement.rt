@@ -1,32 +1,81 @@
 //! Reading a statement: by the class of its whole text, then by its keyword.
 
-ghost use Rattle.std.specs.Prelude.{◌≡◌, option_map};
-ghost use Rattle.std.specs.Str.{bytes_eq};
 ghost use Rattle.f77_syntax.specs.code.Statement as reading;
-ghost use Rattle.f77_syntax.specs.code.Statement.{simple_at, simple_action_at, action_at, branch_at};
-ghost use Rattle.f77_syntax.specs.code.Statement.{else_at, specification_at, keyword_at, statement_at};
+ghost use Rattle.f77_syntax.specs.code.Condition.{arithmetic_at, condition_at};
+ghost use Rattle.std.specs.Prelude.{◌≡◌, option_map};
 ghost use Rattle.f77_tree.specs.Tree.{Tree};
 ghost use Rattle.f77_tree.specs.View.{tree_of};
-ghost use Rattle.f77_syntax.specs.code.View.{clip, Gives};
+ghost use Rattle.f77_syntax.specs.code.View.{clip, Gives, IsTree};
+ghost use Rattle.f77_syntax.specs.code.StatementView.{IsStatement, IsReference};
+ghost use Rattle.f77_syntax.specs.code.Assignment.{reference_at, assign_at};
+ghost use Rattle.f77_syntax.specs.code.Statement.{simple_at, simple_action_at, action_at, branch_at, else_at};
+ghost use Rattle.f77_syntax.specs.code.Statement.{keyword_at, statement_at};
 ghost use Rattle.f77_tree.specs.Statement.{statement_of};
-ghost use Rattle.f77_syntax.specs.code.StatementView.{IsStatement};
 
-use crate::assignment::assignment;
 use crate::classification::{Class, class_of};
-use crate::condition::{arithmetic, condition};
-use crate::do_loop::loop_statement;
+use crate::data::preset;
+use crate::declaration::{declared, dimension, subroutine};
+use crate::expression::{after_byte, expect_byte, expression, list, whole};
 use crate::fault::ReadError;
-use crate::goto::goto;
-use crate::specification::{declared, dimension, preset};
-use crate::subroutine::subroutine;
+use crate::joined::split_name;
+use crate::label::{goto, label_comma, last_label, loop_statement};
+use crate::scan::{after, expect};
 use f77_program::is_action;
-use f77_tree::{Expr, Kind, Stmt};
+use f77_tree::{Expr, Kind, Name, Ref, Stmt};
 use std::alloc::Global;
 
-fn spells(text: &[u8], word: &str) -> bool
-    ensures { result ≡ bytes_eq text.now word.now }
+/// Reads `IF(`, an expression and `)`, and gives the text behind them too.
+#[tactic(auto, unfolding(crate::specs::code::Condition::condition_at))]
+pub(crate) fn condition(alloc: Global, text: &[u8]) -> Result<(Expr, &[u8]), ReadError>
+    ensures { Gives IsTree result (condition_at text.now) }
 {
-    text == word.as_bytes()
+    let inner = expect(text, "IF(")?;
+    let (condition, rest) = expression(alloc, 1, inner)?;
+    let rest = expect_byte(rest, b')')?;
+    Ok((condition, rest))
+}
+
+/// Reads the labels of an arithmetic IF. Nothing may stand behind them.
+#[tactic(auto, unfolding(crate::specs::code::Condition::arithmetic_at))]
+pub(crate) fn arithmetic(value: Expr, text: &[u8]) -> Result<Stmt, ReadError>
+    ensures { (t : Tree) → tree_of value ≡ clip t → Gives IsStatement result (arithmetic_at t text.now) }
+{
+    let (negative, behind) = label_comma(text)?;
+    let (zero, rest) = label_comma(behind)?;
+    let positive = last_label(rest)?;
+    Ok(Stmt::ArithIf {
+        value,
+        negative,
+        zero,
+        positive,
+    })
+}
+
+/// Reads a reference, and gives the text behind it too.
+#[tactic(auto, unfolding(crate::specs::code::Assignment::reference_at))]
+fn reference(alloc: Global, text: &[u8]) -> Result<(Ref, &[u8]), ReadError>
+    ensures { Gives IsReference result (reference_at text.now) }
+{
+    let (front, rest) = split_name(text)?;
+    let name = Name::beginning(front);
+    let Some(inner) = after_byte(rest, b'(') else {
+        let subscripts = Vec::new(alloc);
+        return Ok((Ref { name, subscripts }, rest));
+    };
+    let (subscripts, after) = list(alloc, inner)?;
+    let rest = expect_byte(after, b')')?;
+    Ok((Ref { name, subscripts }, rest))
+}
+
+/// Reads an assignment.
+#[tactic(auto, unfolding(crate::specs::code::Assignment::assign_at))]
+pub(crate) fn assignment(alloc: Global, text: &[u8]) -> Result<Stmt, ReadError>
+    ensures { Gives IsStatement result (assign_at text.now) }
+{
+    let (target, behind) = reference(alloc, text)?;
+    let rest = expect_byte(behind, b'=')?;
+    let value = whole(alloc, rest)?;
+    Ok(Stmt::Assign { target, value })
 }
 
 /// The statement that consists of one keyword alone, if the text is one.
@@ -34,19 +83,19 @@ fn spells(text: &[u8], word: &str) -> bool
 fn word_statement(text: &[u8]) -> Option<Stmt>
     ensures { option_map statement_of result ≡ reading.word_statement text.now }
 {
-    if spells(text, "CONTINUE") {
+    if text == "CONTINUE".as_bytes() {
         return Some(Stmt::Continue);
     }
-    if spells(text, "RETURN") {
+    if text == "RETURN".as_bytes() {
         return Some(Stmt::Return);
     }
-    if spells(text, "STOP") {
+    if text == "STOP".as_bytes() {
         return Some(Stmt::Stop);
     }
-    if spells(text, "ENDIF") {
+    if text == "ENDIF".as_bytes() {
         return Some(Stmt::EndIf);
     }
-    if spells(text, "END") {
+    if text == "END".as_bytes() {
         return Some(Stmt::End);
     }
     None
@@ -57,7 +106,7 @@ fn word_statement(text: &[u8]) -> Option<Stmt>
 fn simple(alloc: Global, text: &[u8]) -> Result<Stmt, ReadError>
     ensures { Gives IsStatement result (simple_at text.now) }
 {
-    if let Some(rest) = text.strip_prefix(b"GOTO") {
+    if let Some(rest) = after(text, "GOTO") {
         return goto(alloc, rest);
     }
     word_statement(text).ok_or(ReadError::Unknown)
@@ -133,38 +182,30 @@ fn otherwise(alloc: Global, text: &[u8]) -> Result<Stmt, ReadError>
     Ok(Stmt::ElseIf { condition })
 }
 
-/// Reads a declaration or DATA, or else a GO TO or a statement of one keyword alone.
-#[tactic(auto, unfolding(crate::specs::code::Statement::specification_at))]
-fn specification(alloc: Global, text: &[u8]) -> Result<Stmt, ReadError>
-    ensures { Gives IsStatement result (specification_at text.now) }
-{
-    if let Some(rest) = text.strip_prefix(b"INTEGER") {
-        return declared(alloc, Kind::Integer, rest);
-    }
-    if let Some(rest) = text.strip_prefix(b"LOGICAL") {
-        return declared(alloc, Kind::Logical, rest);
-    }
-    if let Some(rest) = text.strip_prefix(b"DIMENSION") {
-        return dimension(alloc, rest);
-    }
-    if let Some(rest) = text.strip_prefix(b"DATA") {
-        return preset(alloc, rest);
-    }
-    simple(alloc, text)
-}
-
 /// Reads a statement by its keyword.
 #[tactic(auto, unfolding(crate::specs::code::Statement::keyword_at))]
 fn keyword(alloc: Global, text: &[u8]) -> Result<Stmt, ReadError>
     ensures { Gives IsStatement result (keyword_at text.now) }
 {
-    if let Some(rest) = text.strip_prefix(b"SUBROUTINE") {
+    if let Some(rest) = after(text, "SUBROUTINE") {
         return subroutine(alloc, rest);
     }
-    if let Some(rest) = text.strip_prefix(b"ELSE") {
+    if let Some(rest) = after(text, "ELSE") {
         return otherwise(alloc, rest);
     }
-    specification(alloc, text)
+    if let Some(rest) = after(text, "INTEGER") {
+        return declared(alloc, Kind::Integer, rest);
+    }
+    if let Some(rest) = after(text, "LOGICAL") {
+        return declared(alloc, Kind::Logical, rest);
+    }
+    if let Some(rest) = after(text, "DIMENSION") {
+        return dimension(alloc, rest);
+    }
+    if let Some(rest) = after(text, "DATA") {
+        return preset(alloc, rest);
+    }
+    simple(alloc, text)
 }
 
 /// Reads a statement.

@@ -4,11 +4,12 @@ use Rattle.f77_tree.specs.Tree.{Tree}
 use Rattle.f77_tree.specs.Statement.{Statement}
 use Rattle.f77_syntax.specs.Reading.{◌>>=◌, strip}
 use Rattle.f77_syntax.specs.code.Reading.{close_at, reading}
-use Rattle.f77_syntax.specs.code.Label.{labels_at}
+use Rattle.f77_syntax.specs.code.Label.{last_label, label_comma}
 
 -- what stands behind the condition of an arithmetic IF: three labels (ANSI X3.9-1978, 11.4)
 unfoldable pub arithmetic_at : Tree → List ℕ → Option Statement
-arithmetic_at t s = labels_at s >>= λ l. Some (Statement.ArithIf t l.0 l.1 l.2)
+arithmetic_at t s =
+    label_comma s >>= λ l. label_comma l.1 >>= λ m. last_label m.1 >>= λ n. Some (Statement.ArithIf t l.0 m.0 n)
 
 -- `IF(`, an expression and `)`, and the text behind them (ANSI X3.9-1978, 11.4 to 11.7)
 unfoldable pub condition_at : List ℕ → Option (Tree × List ℕ)

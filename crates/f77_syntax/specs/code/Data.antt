@@ -6,6 +6,7 @@ use Rattle.std.specs.declared.alloc.Global.{Global}
 use Rattle.f77_tree.specs.declared.data.Constant.{Constant}
 use Rattle.f77_tree.specs.declared.data.Constant.TheVariants.{Number, Truth}
 use Rattle.f77_tree.specs.declared.data.Value.{Value}
+use Rattle.f77_tree.specs.Statement.{Statement}
 use Rattle.f77_tree.specs.declared.data.DataGroup.{DataGroup}
 use Rattle.f77_syntax.specs.code.Names.{names_at}
 use Rattle.f77_syntax.specs.code.Declaration.{bound_at}
@@ -13,7 +14,7 @@ use Rattle.f77_syntax.specs.code.Joined.{items_at}
 use Rattle.f77_tree.specs.Name.{cut}
 use Rattle.f77_tree.specs.Limits.{largest_integer, magnitude}
 use Rattle.f77_syntax.specs.Reading.{◌>>=◌, strip}
-use Rattle.f77_syntax.specs.code.Reading.{tree_after, past_comma}
+use Rattle.f77_syntax.specs.code.Reading.{tree_after, behind, past_comma}
 use Rattle.f77_tree.specs.Tree.{GroupFields}
 use Rattle.f77_syntax.specs.code.View.{clipped}
 use Rattle.f77_tree.specs.Data.{negative, data_group_of}
@@ -22,23 +23,14 @@ use Rattle.f77_tree.specs.Data.{negative, data_group_of}
 abbrev pub initial_constant_at : (ℕ → ℤ) → List ℕ → Option (Constant × List ℕ)
 initial_constant_at sign s = bound_at s >>= λ x. Some (Number (sign x.0), x.1)
 
--- a LOGICAL constant, from the texts behind .TRUE. and .FALSE.
-abbrev pub truth_by : Option (List ℕ) → Option (List ℕ) → Option (Constant × List ℕ)
-truth_by (Some r) other = Some (Truth true, r)
-truth_by None (Some r) = Some (Truth false, r)
-truth_by None None = None
-
-abbrev pub truth_at : List ℕ → Option (Constant × List ℕ)
-truth_at s = truth_by (strip (codes ".TRUE.") s) (strip (codes ".FALSE.") s)
-
 -- a number with a sign or without, .TRUE. or .FALSE. (ANSI X3.9-1978, section 9)
 unfoldable pub constant_at : List ℕ → Option (Constant × List ℕ)
-constant_at [] = None
-constant_at (c ∷ s) =
-    if c == 43 then initial_constant_at pos s
-    else if c == 45 then initial_constant_at negative s
-    else if c == 46 then truth_at (c ∷ s)
-    else initial_constant_at pos (c ∷ s)
+constant_at s =
+    behind (tree_after 43 s) (initial_constant_at pos)
+    (behind (tree_after 45 s) (initial_constant_at negative)
+    (behind (strip (codes ".TRUE.") s) (λ r. Some (Truth true, r))
+    (behind (strip (codes ".FALSE.") s) (λ r. Some (Truth false, r))
+    (initial_constant_at pos s))))
 
 -- a repeat with its asterisk
 unfoldable pub repeat_at : List ℕ → Option (ℕ × List ℕ)
@@ -55,14 +47,11 @@ data_value_at s = times_at (unwrap_or (repeat_at s) (1, s))
 unfoldable pub data_values_at : List ℕ → Option (List Value × List ℕ)
 data_values_at s = items_at data_value_at s
 
--- the names have been read: their values stand between slashes
-abbrev pub with_values : List (List ℕ) → List ℕ → Option (GroupFields × List ℕ)
-with_values names s =
-    data_values_at s >>= λ x. tree_after 47 x.1 >>= λ r. Some (record { names = names; values = x.0 }, r)
-
 -- names, and their values between slashes (ANSI X3.9-1978, section 9)
 unfoldable pub group_at : List ℕ → Option (GroupFields × List ℕ)
-group_at s = names_at s >>= λ x. tree_after 47 x.1 >>= λ r. with_values x.0 r
+group_at s =
+    names_at s >>= λ x. tree_after 47 x.1 >>= λ r. data_values_at r
+    >>= λ v. tree_after 47 v.1 >>= λ z. Some (record { names = x.0; values = v.0 }, z)
 
 -- a group has been read: behind it the text ends, or other groups stand
 abbrev pub with_groups : (List ℕ → Option (List GroupFields)) → GroupFields → List ℕ → Option (List GroupFields)
@@ -77,6 +66,10 @@ groups_within (suc n) s = group_at s >>= λ x. with_groups (groups_within n) x.0
 -- groups up to the end, of which a comma may stand between two (ANSI X3.9-1978, section 9)
 unfoldable pub groups_at : List ℕ → Option (List GroupFields)
 groups_at s = groups_within (suc (length s)) s
+
+-- DATA, from the text behind it (ANSI X3.9-1978, section 9)
+abbrev pub data_at : List ℕ → Option Statement
+data_at s = groups_at s >>= λ gs. Some (Statement.Preset gs)
 
 -- A constant as the code keeps it. Of a name the first seven characters are kept, a repeat above 2147483647 is kept as
 -- 2147483648, and a number beyond that limit as -2147483648.

@@ -9,12 +9,13 @@ use Rattle.f77_tree.specs.Grammar.{is_number, word, past_word}
 use Rattle.f77_syntax.specs.code.Joined.{items_at}
 use Rattle.f77_tree.specs.Name.{cut}
 use Rattle.f77_syntax.specs.Reading.{◌>>=◌}
-use Rattle.f77_syntax.specs.code.Reading.{tree_after, close_at}
-use Rattle.f77_syntax.specs.code.Assignment.{value_ended}
+use Rattle.f77_syntax.specs.code.Reading.{tree_after, close_at, value_ended}
 use Rattle.f77_syntax.specs.code.Names.{name_at}
 use Rattle.f77_tree.specs.Tree.{DeclFields}
 use Rattle.f77_syntax.specs.code.View.{clipped}
-use Rattle.f77_tree.specs.Declaration.{decl_of}
+use Rattle.f77_tree.specs.Declaration.{decl_of, all_bounded}
+use Rattle.f77_tree.specs.Statement.{Statement}
+use Rattle.f77_tree.specs.declared.tree.Kind.{Kind}
 
 -- a bound, and the text behind it
 abbrev pub bound_at : List ℕ → Option (ℕ × List ℕ)
@@ -38,10 +39,21 @@ decl_at s = name_at s >>= λ x. read_bounds x.0 x.1 (tree_after 40 x.1)
 unfoldable pub declarations_at : List ℕ → Option (List DeclFields)
 declarations_at s = items_at decl_at s >>= λ x. value_ended x.0 x.1
 
+-- INTEGER or LOGICAL, from the text behind it: names, with bounds or without (ANSI X3.9-1978, 8.4)
+abbrev pub declared_at : Kind → List ℕ → Option Statement
+declared_at kind s = declarations_at s >>= λ ds. Some (Statement.Declare kind ds)
+
+-- DIMENSION, from the text behind it: names that all have bounds (ANSI X3.9-1978, 8.1)
+abbrev pub dimension_at : List ℕ → Option Statement
+dimension_at s = declarations_at s >>= λ ds. if all_bounded ds then Some (Statement.Dimension ds) else None
+
 -- A declared name as the code keeps it: the first seven characters of the name, and 2147483648 for
 -- each bound above 2147483647.
 abbrev pub clip_decl : DeclFields → DeclFields
 clip_decl d = record { name = cut d.name; bounds = map clipped d.bounds }
+
+abbrev pub IsBound : ℕ × Bor (List ℕ) → ℕ × List ℕ → Type 0
+IsBound x a = (x.0 ≡ clipped a.0) × (x.1.now ≡ a.1)
 
 abbrev pub AreBounds : Vec ℕ Global × Bor (List ℕ) → List ℕ × List ℕ → Type 0
 AreBounds x a = (x.0.items ≡ map clipped a.0) × (x.1.now ≡ a.1)

@@ -2,18 +2,15 @@
 use Rattle.std.specs.Prelude.{ℕ, List, Option, Some, None}
 use Rattle.f77_tree.specs.Statement.{Statement}
 use Rattle.f77_syntax.specs.Reading.{◌>>=◌}
-use Rattle.f77_syntax.specs.code.Reading.{tree_after, close_at, past_comma, reading}
-use Rattle.f77_syntax.specs.code.Assignment.{value_ended}
+use Rattle.f77_syntax.specs.code.Reading.{tree_after, close_at, past_comma, whole_at}
 use Rattle.f77_syntax.specs.code.Joined.{items_at}
 use Rattle.f77_syntax.specs.code.Label.{label_at, last_label}
 
--- the expression behind the labels, and the comma before it, which may be left out (11.2)
-unfoldable pub selector_at : List ℕ → List ℕ → Option Statement
-selector_at labels s = reading.expr 1 (past_comma s) >>= λ x. value_ended (Statement.ComputedGoto labels x.0) x.1
-
--- what stands behind `GOTO(` (11.2)
+-- what stands behind `GOTO(`: labels, `)`, a comma that may be left out, and an expression (11.2)
 unfoldable pub computed_at : List ℕ → Option Statement
-computed_at s = items_at label_at s >>= λ x. close_at x.1 >>= λ r. selector_at x.0 r
+computed_at s =
+    items_at label_at s >>= λ x. close_at x.1
+    >>= λ r. whole_at (past_comma r) >>= λ v. Some (Statement.ComputedGoto x.0 v)
 
 -- what stands behind `GOTO`: an open parenthesis and the rest of a computed one, or else a label alone
 abbrev pub goto_by : List ℕ → Option (List ℕ) → Option Statement

@@ -4,8 +4,7 @@ use Rattle.std.specs.Borrow.{Bor}
 use Rattle.f77_tree.specs.Grammar.{is_number}
 use Rattle.f77_tree.specs.StatementGrammar.{label_number}
 use Rattle.f77_syntax.specs.Reading.{◌>>=◌}
-use Rattle.f77_syntax.specs.code.Reading.{digits, past_digits, tree_after}
-use Rattle.f77_syntax.specs.code.Assignment.{value_ended}
+use Rattle.f77_syntax.specs.code.Reading.{digits, past_digits, tree_after, value_ended}
 
 -- a row of digits as a label, and the text behind it
 unfoldable pub label_at : List ℕ → Option (ℕ × List ℕ)
@@ -18,10 +17,6 @@ last_label s = label_at s >>= λ x. value_ended x.0 x.1
 -- a label and the comma behind it, and the text behind both
 unfoldable pub label_comma : List ℕ → Option (ℕ × List ℕ)
 label_comma s = label_at s >>= λ x. tree_after 44 x.1 >>= λ r. Some (x.0, r)
-
--- three labels joined by commas
-unfoldable pub labels_at : List ℕ → Option (ℕ × ℕ × ℕ)
-labels_at s = label_comma s >>= λ x. label_comma x.1 >>= λ y. last_label y.1 >>= λ n. Some (x.0, y.0, n)
 
 -- a label and the text behind it
 abbrev pub IsLabel : ℕ × Bor (List ℕ) → ℕ × List ℕ → Type 0

@@ -15,6 +15,10 @@ name_at s = if is_name (word s) then Some (word s, past_word s) else None
 unfoldable pub names_at : List ℕ → Option (List (List ℕ) × List ℕ)
 names_at s = items_at name_at s
 
+-- the characters of a name, and the text behind them
+abbrev pub IsFront : Bor (List ℕ) × Bor (List ℕ) → List ℕ × List ℕ → Type 0
+IsFront x a = (x.0.now ≡ a.0) × (x.1.now ≡ a.1)
+
 -- a name as the code keeps it, by its first seven characters, and the text behind it
 abbrev pub IsName : Name × Bor (List ℕ) → List ℕ × List ℕ → Type 0
 IsName x a = (x.0 ≡ cut a.0) × (x.1.now ≡ a.1)

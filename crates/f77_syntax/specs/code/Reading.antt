@@ -54,6 +54,11 @@ abbrev pub tree_after : ℕ → List ℕ → Option (List ℕ)
 tree_after b [] = None
 tree_after b (c ∷ s) = if c == b then Some s else None
 
+-- by the text behind something, if it stands at the front, or else another answer
+abbrev pub behind : {A : Type 0} → Option (List ℕ) → (List ℕ → Option A) → Option A → Option A
+behind (Some r) read other = read r
+behind None read other = other
+
 -- the text behind the comma at its front, or the text itself
 abbrev pub past_comma : List ℕ → List ℕ
 past_comma s = unwrap_or (tree_after 44 s) s
@@ -61,6 +66,10 @@ past_comma s = unwrap_or (tree_after 44 s) s
 -- the text behind a closing parenthesis
 abbrev pub close_at : List ℕ → Option (List ℕ)
 close_at s = tree_after 41 s
+
+-- the value, if nothing stands behind it
+abbrev pub value_ended : {A : Type 0} → A → List ℕ → Option A
+value_ended x rest = if length rest == 0 then Some x else None
 
 -- an expression of level 9, if a closing parenthesis stands behind it
 abbrev pub closed : Tree → List ℕ → Option (Tree × ℕ × List ℕ)
@@ -150,3 +159,7 @@ reading = record {
   climb = λ w t own s. (within (length s)).climb w t own s;
   items = λ s. (within (length s)).items s;
 }
+
+-- an expression behind which nothing stands
+unfoldable pub whole_at : List ℕ → Option Tree
+whole_at s = reading.expr 1 s >>= λ x. value_ended x.0 x.1

@@ -6,14 +6,13 @@ use Rattle.f77_tree.specs.Tree.{Tree}
 use Rattle.f77_tree.specs.Statement.{Statement}
 use Rattle.f77_program.specs.Formed.{is_action}
 use Rattle.f77_syntax.specs.Reading.{◌>>=◌, strip}
+use Rattle.f77_syntax.specs.code.Reading.{behind}
 use Rattle.f77_syntax.specs.code.Assignment.{assign_at}
 use Rattle.f77_syntax.specs.code.Goto.{goto_at}
 use Rattle.f77_syntax.specs.code.Condition.{arithmetic_at, condition_at}
 use Rattle.f77_syntax.specs.code.Subroutine.{subroutine_at}
-use Rattle.f77_tree.specs.Declaration.{all_bounded}
-use Rattle.f77_syntax.specs.code.Declaration.{declarations_at}
-use Rattle.f77_syntax.specs.code.Data.{groups_at}
-use Rattle.f77_tree.specs.declared.tree.Kind.{Kind}
+use Rattle.f77_syntax.specs.code.Declaration.{declared_at, dimension_at}
+use Rattle.f77_syntax.specs.code.Data.{data_at}
 use Rattle.f77_tree.specs.declared.tree.Kind.TheVariants.{Integer, Logical}
 use Rattle.f77_syntax.specs.code.DoLoop.{loop_at}
 use Rattle.f77_syntax.specs.Classification.{class_of}
@@ -30,13 +29,9 @@ word_statement s =
     else (if bytes_eq s (codes "END") then Some Statement.End
     else None))))
 
-abbrev pub simple_by : List ℕ → Option (List ℕ) → Option Statement
-simple_by s (Some r) = goto_at r
-simple_by s None = word_statement s
-
 -- a GO TO, or a statement of one keyword alone
 unfoldable pub simple_at : List ℕ → Option Statement
-simple_at s = simple_by s (strip (codes "GOTO") s)
+simple_at s = behind (strip (codes "GOTO") s) goto_at (word_statement s)
 
 abbrev pub actions_only : Statement → Option Statement
 actions_only s = if is_action s then Some s else None
@@ -72,39 +67,16 @@ else_at s =
     if length s == 0 then Some Statement.Else
     else (condition_at s >>= λ x. if bytes_eq x.1 (codes "THEN") then Some (Statement.ElseIf x.0) else None)
 
--- INTEGER or LOGICAL, from the text behind it: names, with bounds or without (ANSI X3.9-1978, 8.4)
-abbrev pub declared_at : Kind → List ℕ → Option Statement
-declared_at kind s = declarations_at s >>= λ ds. Some (Statement.Declare kind ds)
-
--- DIMENSION, from the text behind it: names that all have bounds (ANSI X3.9-1978, 8.1)
-abbrev pub dimension_at : List ℕ → Option Statement
-dimension_at s = declarations_at s >>= λ ds. if all_bounded ds then Some (Statement.Dimension ds) else None
-
--- DATA, from the text behind it (ANSI X3.9-1978, section 9)
-abbrev pub data_at : List ℕ → Option Statement
-data_at s = groups_at s >>= λ gs. Some (Statement.Preset gs)
-
--- a statement, from the texts behind INTEGER, LOGICAL, DIMENSION and DATA
-abbrev pub specification_by : List ℕ
-    → Option (List ℕ) → Option (List ℕ) → Option (List ℕ) → Option (List ℕ) → Option Statement
-specification_by s (Some r) logical dimension preset = declared_at Integer r
-specification_by s None (Some r) dimension preset = declared_at Logical r
-specification_by s None None (Some r) preset = dimension_at r
-specification_by s None None None (Some r) = data_at r
-specification_by s None None None None = simple_at s
-
-unfoldable pub specification_at : List ℕ → Option Statement
-specification_at s = specification_by s (strip (codes "INTEGER") s) (strip (codes "LOGICAL") s)
-    (strip (codes "DIMENSION") s) (strip (codes "DATA") s)
-
--- a statement, from the texts behind SUBROUTINE and ELSE
-abbrev pub keyword_by : List ℕ → Option (List ℕ) → Option (List ℕ) → Option Statement
-keyword_by s (Some r) other = subroutine_at r
-keyword_by s None (Some r) = else_at r
-keyword_by s None None = specification_at s
-
+-- a statement by its keyword
 unfoldable pub keyword_at : List ℕ → Option Statement
-keyword_at s = keyword_by s (strip (codes "SUBROUTINE") s) (strip (codes "ELSE") s)
+keyword_at s =
+    behind (strip (codes "SUBROUTINE") s) subroutine_at
+    (behind (strip (codes "ELSE") s) else_at
+    (behind (strip (codes "INTEGER") s) (declared_at Integer)
+    (behind (strip (codes "LOGICAL") s) (declared_at Logical)
+    (behind (strip (codes "DIMENSION") s) dimension_at
+    (behind (strip (codes "DATA") s) data_at
+    (simple_at s))))))
 
 abbrev pub statement_by : Class → List ℕ → Option Statement
 statement_by If s = condition_at s >>= λ x. branch_at x.0 x.1

@@ -1,17 +1,18 @@
-use Rattle.std.proofs.Common.{◌≡◌, true, false, sym, ◌∙◌, ap}
-use Rattle.std.specs.Str.Parse.{digits_value}
-use Rattle.f77_tree.specs.Grammar.{is_number}
+use Rattle.std.proofs.Common.{◌≤◌, ℕ, List, length, Option, Some, None}
+use Rattle.std.specs.Prelude.{IfSome, IfOk, ok_or}
+use Rattle.std.specs.Borrow.{Bor}
+use Rattle.f77_syntax.specs.declared.fault.ReadError.TheVariants.{Unknown}
 use Rattle.f77_syntax.specs.code.View.{clipped}
-use Rattle.f77_syntax.proofs.DeclarationGives.{no_number, a_number}
+use Rattle.f77_syntax.specs.code.Declaration.{bound_at}
+use Rattle.f77_syntax.proofs.DataGives.{finds_gives}
 use Rattle.f77_syntax.proofs.declaration.bound.Goals as goal
 
-pub returns-then-not-is_number-clause-found : goal.returns-then-not-is_number-clause-found
-returns-then-not-is_number-clause-found c =
-    let n : is_number c.split_word.result.0.now ≡ false = cc in
-    no_number c.args.text.now (ap is_number (sym c.split_word.ensures.front) ∙ n)
-
 pub returns-clause-found : goal.returns-clause-found
-returns-clause-found c =
-    let n : is_number c.split_word.result.0.now ≡ true = cc in
-    let x = a_number c.args.text.now (ap is_number (sym c.split_word.ensures.front) ∙ n) in
-    (_, x, (c.number.ensures ∙ ap (λ w. clipped (digits_value 10 w)) c.split_word.ensures.front, c.split_word.ensures.back))
+returns-clause-found c = rw c.ok_or.ensures.value (finds_gives clipped c.digits.result (bound_at c.args.text.now) c.digits.ensures.found)
+
+short : (o : Option (ℕ × Bor (List ℕ))) (n : ℕ) → IfSome o (λ x. length x.1.now ≤ n) → IfOk (ok_or o Unknown) (λ x. length x.1.now ≤ n)
+short None n h = tt
+short (Some x) n h = h
+
+pub returns-clause-shorter : goal.returns-clause-shorter
+returns-clause-shorter c = rw c.ok_or.ensures.value (short c.digits.result (length c.args.text.now) c.digits.ensures.shorter)

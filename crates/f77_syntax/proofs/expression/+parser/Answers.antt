@@ -1,12 +1,12 @@
 use Rattle.std.proofs.Common.{arith, ◌∷◌, ◌≡◌, sym, ◌∙◌, true, false, refl, ap}
-use Rattle.std.specs.Prelude.{codes, ◌==◌, Some, ◌&&◌, nat_le}
+use Rattle.std.specs.Prelude.{◌==◌, Some, ◌&&◌, nat_le}
 use Rattle.std.proofs.lemmas.Result.{err_from_is_err_and}
 use Rattle.std.proofs.lemmas.Bool.{le-leb}
 use Rattle.std.proofs.lemmas.Bool.Decides.{nat_tests}
 use Rattle.f77_tree.specs.Operator.{level, left_level}
 use Rattle.f77_syntax.specs.code.Reading.{reading, start_at}
-use Rattle.f77_syntax.proofs.Steps.{strip_same, strip_other}
-use Rattle.f77_syntax.proofs.Gives.{start_none, start_along, after_is, alone_at, last_at, expr_fails, start_shorter, climbing_starts, climb_fails, climbing_goes_on}
+use Rattle.f77_syntax.proofs.Steps.{after_is}
+use Rattle.f77_syntax.proofs.Gives.{start_none, start_along, alone_at, last_at, expr_fails, start_shorter, climbing_starts, climb_fails, climbing_goes_on}
 use Rattle.f77_syntax.proofs.Gives.{ends_alone, ends_before, start_group, start_plus, start_minus, start_dot, start_word, group_whole, signed_whole, negated_whole}
 use Rattle.f77_syntax.proofs.Gives.{true_whole, false_whole, number_whole, scalar_whole, listed_whole, list_fails, list_goes_on, list_ends}
 use Rattle.f77_syntax.proofs.expression.+parser.Goals as goal
@@ -155,12 +155,7 @@ list-loop-items-preserved t c =
     (after_is 44 c.in_ok-item.after.now c.in-Some.next.now (sym c.in-Some.ensures)) c.in_ok-item.ensures.shorter
 
 pub dotted-returns-in-Some : goal.dotted-returns-in-Some
-dotted-returns-in-Some t c =
-    let p = c.in-Some.ensures.cases in
-    true_whole c.args.wanted c.args.text.now c.in-Some.rest.now (strip_same (codes ".TRUE.") c.args.text.now p.0 ∙ ap Some (sym p.1))
+dotted-returns-in-Some t c = true_whole c.args.wanted c.args.text.now c.in-Some.rest.now (sym c.in-Some.ensures)
 
-pub dotted-returns-in-Some-strip_prefix : goal.dotted-returns-in-Some-strip_prefix
-dotted-returns-in-Some-strip_prefix t c =
-    let p = c.in-Some-strip_prefix.ensures.cases in
-    false_whole c.args.wanted c.args.text.now c.in-Some-strip_prefix.rest.now (strip_other (codes ".TRUE.") c.args.text.now c.in_default.ensures.cases)
-    (strip_same (codes ".FALSE.") c.args.text.now p.0 ∙ ap Some (sym p.1))
+pub dotted-returns-in-Some-after : goal.dotted-returns-in-Some-after
+dotted-returns-in-Some-after t c = false_whole c.args.wanted c.args.text.now c.in-Some-after.rest.now (sym c.in_default.ensures) (sym c.in-Some-after.ensures)

@@ -1,8 +1,10 @@
-use Rattle.std.proofs.Common.{sym, ◌∙◌}
+use Rattle.std.proofs.Common.{sym, ◌∙◌, refl}
 use Rattle.f77_syntax.specs.code.StatementView.{IsStatement}
+use Rattle.f77_syntax.specs.code.Statement.{simple_action_at, action_at}
 use Rattle.f77_syntax.proofs.Gives.{gives_along}
-use Rattle.f77_syntax.proofs.BranchGives.{action_keyword}
 use Rattle.f77_syntax.proofs.statement.action.Goals as goal
 
 pub returns-in-Keyword : goal.returns-in-Keyword
-returns-in-Keyword c = gives_along IsStatement c.simple_action.result _ _ (action_keyword c.args.text.now (sym c.class_of.ensures ∙ c.in-Keyword.is)) c.simple_action.ensures
+unfolding action_at
+returns-in-Keyword c =
+    gives_along IsStatement c.simple_action.result (simple_action_at c.args.text.now) (action_at c.args.text.now) (rw (sym c.class_of.ensures ∙ c.in-Keyword.is) refl) c.simple_action.ensures

@@ -1,18 +1,21 @@
-use Rattle.std.proofs.Common.{◌≡◌, true, false, sym, ◌∙◌, ap}
+use Rattle.std.proofs.Common.{◌≡◌, true, false, refl, sym, ◌∙◌, ap}
 use Rattle.std.specs.Prelude.{codes}
 use Rattle.std.specs.Str.{bytes_eq}
-use Rattle.f77_syntax.specs.code.Statement.{begins_digit}
-use Rattle.f77_syntax.proofs.BranchGives.{branch_block, branch_logical}
+use Rattle.f77_tree.specs.Statement.{Statement}
+use Rattle.f77_tree.proofs.Views.{block_view, logical_view}
+use Rattle.f77_syntax.specs.code.Statement.{begins_digit, branch_at}
 use Rattle.f77_syntax.proofs.statement.branch.Goals as goal
 
 pub returns-then-eq : goal.returns-then-eq
-returns-then-eq c =
+unfolding branch_at
+returns-then-eq c = λ t same.
     let e : bytes_eq c.args.text.now (codes "THEN") ≡ true = ap (λ z. bytes_eq c.args.text.now z) (sym c.as_slice.ensures) ∙ sym c.eq.ensures ∙ c.if-eq.true in
-    branch_block c.args.text.now c.args.condition e
+    (Statement.BlockIf t, rw e refl, block_view c.args.condition ∙ rw same refl)
 
 pub returns : goal.returns
-returns c =
+unfolding branch_at
+returns c = λ t same.
     let e : bytes_eq c.args.text.now (codes "THEN") ≡ false = ap (λ z. bytes_eq c.args.text.now z) (sym c.as_slice.ensures) ∙ sym c.eq.ensures ∙ c.if-eq.false in
     let f : begins_digit c.args.text.now ≡ false = sym c.begins_digit.ensures ∙ c.if-begins_digit.false in
-    let g = c.in_ok-action.ensures in
-    branch_logical c.args.text.now c.args.condition c.in_ok-statement.statement _ g.0 e f g.1 g.2 c.in_ok-statement.ensures.ok
+    let (v, found, is) = c.in_ok-action.ensures in
+    (Statement.LogicalIf t v, rw (e, f, found) refl, logical_view c.args.condition c.in_ok-statement.statement ∙ rw (same, c.in_ok-statement.ensures.ok, is) refl)

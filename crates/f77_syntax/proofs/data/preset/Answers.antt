@@ -1,0 +1,7 @@
+use Rattle.std.proofs.Common.{refl, ap, ◌∙◌}
+use Rattle.f77_tree.specs.Statement.{Statement}
+use Rattle.f77_tree.proofs.Views.{preset_view}
+use Rattle.f77_syntax.proofs.data.preset.Goals as goal
+
+pub returns : goal.returns
+returns c = let (gs, read, same) = c.in_ok-groups.ensures in (Statement.Preset gs, rw read refl, preset_view c.in_ok-groups.groups ∙ ap Statement.Preset same)
