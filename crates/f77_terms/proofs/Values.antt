@@ -1,11 +1,10 @@
 -- The values of terms.
 use Rattle.std.proofs.Common.{arith, ◌≡◌, ◌<◌, ◌≤◌, ℕ, zero, suc, ◌+◌, ◌-◌, List, [], ◌∷◌, ◌++◌, length, length-drop, take, drop, get_or, add-one, ℤ, pos, sym, ap, ◌∙◌}
-use Rattle.std.specs.Prelude.{◌+ℤ◌, ◌*ℤ◌, slice_get, Option, Some, None, IfSome, Result, Ok, Err, IfOk}
+use Rattle.std.specs.Prelude.{◌+ℤ◌, ◌*ℤ◌, slice_get, slice_set, Option, Some, None, IfSome, Result, Ok, Err, IfOk}
 use Rattle.std.specs.List.{insert, remove}
 use Rattle.std.proofs.lemmas.Int.{ints}
 use Rattle.std.proofs.lemmas.List.{take_all}
 use Rattle.f77_terms.proofs.Products.{times_sum, sum_times, times_product, last_swapped}
-use Rattle.std.proofs.Math.IntN.{zero-*ℤ, *ℤ_comm}
 use Rattle.f77_terms.specs.declared.terms.Part.{Part}
 use Rattle.f77_terms.specs.Terms.{Valuation, monomial_value, part_value, parts_value}
 
@@ -15,14 +14,22 @@ parts_put v [] (suc k) part = omega (arith, ints)
 parts_put v (p ∷ ps) zero part = omega (arith, ints)
 parts_put v (p ∷ ps) (suc k) part = let rest = parts_put v ps k part in omega (arith, ints, rest)
 
-pub parts_taken : (v : Valuation) (parts : List Part) (place : ℕ) (part : Part) → place < length parts → part ≡ get_or parts place part
-    → parts_value v parts ≡ parts_value v (remove parts place) +ℤ part_value v part
-parts_taken v [] k part within is = absurd (omega arith)
-parts_taken v (p ∷ ps) zero part within is = rw is (omega (arith, ints))
-parts_taken v (p ∷ ps) (suc k) part within is = let rest = parts_taken v ps k part (omega (arith, within)) is in omega (arith, ints, rest)
+-- a part by another, and none
+pub parts_set : (v : Valuation) (parts : List Part) (place : ℕ) (old new : Part) (d : ℤ) → slice_get parts place ≡ Some old → part_value v new ≡ part_value v old +ℤ d
+    → parts_value v (slice_set parts place new) ≡ parts_value v parts +ℤ d
+parts_set v [] k old new d at e = absurd (cc (at))
+parts_set v (p ∷ ps) zero old new d at e = let same : p ≡ old = cc (at) in let here = ap (part_value v) same in omega (arith, ints, here, e)
+parts_set v (p ∷ ps) (suc k) old new d at e = let rest = parts_set v ps k old new d at e in omega (arith, ints, rest)
 
-pub zero_part : (v : Valuation) (part : Part) → part.factor ≡ pos 0 → part_value v part ≡ pos 0
-zero_part v part nothing = ap (λ z. z *ℤ monomial_value v part.monomial) nothing ∙ zero-*ℤ (monomial_value v part.monomial)
+pub parts_removed : (v : Valuation) (parts : List Part) (place : ℕ) (old : Part) (d : ℤ) → slice_get parts place ≡ Some old → part_value v old +ℤ d ≡ pos 0
+    → parts_value v (remove parts place) ≡ parts_value v parts +ℤ d
+parts_removed v [] k old d at e = absurd (cc (at))
+parts_removed v (p ∷ ps) zero old d at e = let same : p ≡ old = cc (at) in let here = ap (part_value v) same in omega (arith, ints, here, e)
+parts_removed v (p ∷ ps) (suc k) old d at e = let rest = parts_removed v ps k old d at e in omega (arith, ints, rest)
+
+-- a factor and more of it
+pub factor_more : (factor f d h : ℤ) → factor ≡ f +ℤ d → factor *ℤ h ≡ f *ℤ h +ℤ d *ℤ h
+factor_more factor f d h e = ap (λ z. z *ℤ h) e ∙ times_sum f d h
 
 -- a result goes on through a call
 pub some_then : {A : Type 0} {P Q : A → Type 0} (r : Option A) → IfSome r P → ((x : A) → P x → Q x) → IfSome r Q
@@ -65,16 +72,9 @@ both_factors factor a b s m n e f =
     ap (λ z. z *ℤ s) e ∙ ap (λ z. (a *ℤ b) *ℤ z) f ∙ sym (times_product (a *ℤ b) m n)
     ∙ ap (λ z. z *ℤ n) (last_swapped a b m) ∙ times_product (a *ℤ m) b n
 
--- the product of a constant and parts, and others
-pub all_products : (a s b t : ℤ) → (a +ℤ s) *ℤ (b +ℤ t) ≡ a *ℤ (b +ℤ t) +ℤ (b *ℤ s +ℤ s *ℤ t)
-all_products a s b t =
-    let whole = times_sum a s (b +ℤ t) in
-    let rest = sum_times s b t in
-    let turned = *ℤ_comm s b in
-    omega (arith, ints, whole, rest, turned)
-
-pub whole_times : (m a s : ℤ) → m *ℤ (a +ℤ s) ≡ m *ℤ a +ℤ m *ℤ s
-whole_times m a s = sum_times m a s
+-- a part of one factor more
+pub part_times : (factor f c h : ℤ) → factor ≡ f *ℤ c → factor *ℤ h ≡ (f *ℤ h) *ℤ c
+part_times factor f c h e = ap (λ z. z *ℤ h) e ∙ last_swapped f c h
 
 parts_pushed : (v : Valuation) (ps : List Part) (p : Part) → parts_value v (ps ++ p ∷ []) ≡ parts_value v ps +ℤ part_value v p
 parts_pushed v [] p = omega (arith, ints)

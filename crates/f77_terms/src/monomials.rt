@@ -1,6 +1,6 @@
 //! Products of atoms.
 
-ghost use Rattle.std.specs.Prelude.{◌≡◌, ◌↔◌, ◌*ℤ◌, IfSome, IsTrue};
+ghost use Rattle.std.specs.Prelude.{◌≡◌, ◌*ℤ◌, IfSome};
 ghost use Rattle.f77_terms.specs.Terms.{Valuation, monomial_value};
 
 /// One to four atoms, in rising order, whose numbers are multiplied.
@@ -12,32 +12,11 @@ pub enum Monomial {
     Four(usize, usize, usize, usize),
 }
 
-/// An atom more, at the end of two.
-fn three(a: usize, b: usize, c: usize) -> Monomial
-    ensures { (v : Valuation) → monomial_value v result ≡ (v a *ℤ v b) *ℤ v c }
+/// Two atoms in rising order.
+fn in_order(a: usize, b: usize) -> (usize, usize)
+    ensures { (v : Valuation) → v result.0 *ℤ v result.1 ≡ v a *ℤ v b }
 {
-    if b <= c {
-        Monomial::Three(a, b, c)
-    } else if a <= c {
-        Monomial::Three(a, c, b)
-    } else {
-        Monomial::Three(c, a, b)
-    }
-}
-
-/// An atom more, at the end of three.
-fn four(a: usize, b: usize, c: usize, d: usize) -> Monomial
-    ensures { (v : Valuation) → monomial_value v result ≡ ((v a *ℤ v b) *ℤ v c) *ℤ v d }
-{
-    if c <= d {
-        Monomial::Four(a, b, c, d)
-    } else if b <= d {
-        Monomial::Four(a, b, d, c)
-    } else if a <= d {
-        Monomial::Four(a, d, b, c)
-    } else {
-        Monomial::Four(d, a, b, c)
-    }
+    if a <= b { (a, b) } else { (b, a) }
 }
 
 /// An atom more, unless there are too many.
@@ -46,15 +25,21 @@ fn with_atom(monomial: Monomial, atom: usize) -> Option<Monomial>
 {
     match monomial {
         Monomial::One(a) => {
-            if a <= atom {
-                Some(Monomial::Two(a, atom))
-            } else {
-                Some(Monomial::Two(atom, a))
-            }
+            let (first, last) = in_order(a, atom);
+            Some(Monomial::Two(first, last))
         }
-        Monomial::Two(a, b) => Some(three(a, b, atom)),
-        Monomial::Three(a, b, c) => Some(four(a, b, c, atom)),
-        Monomial::Four(_, _, _, _) => None,
+        Monomial::Two(a, b) => {
+            let (b, last) = in_order(b, atom);
+            let (first, second) = in_order(a, b);
+            Some(Monomial::Three(first, second, last))
+        }
+        Monomial::Three(a, b, c) => {
+            let (c, last) = in_order(c, atom);
+            let (b, third) = in_order(b, c);
+            let (first, second) = in_order(a, b);
+            Some(Monomial::Four(first, second, third, last))
+        }
+        Monomial::Four(..) => None,
     }
 }
 
@@ -64,22 +49,8 @@ pub fn monomial_product(m: Monomial, n: Monomial) -> Option<Monomial>
 {
     match n {
         Monomial::One(a) => with_atom(m, a),
-        Monomial::Two(a, b) => {
-            let first = with_atom(m, a)?;
-            with_atom(first, b)
-        }
-        Monomial::Three(a, b, c) => {
-            let first = with_atom(m, a)?;
-            let second = with_atom(first, b)?;
-            with_atom(second, c)
-        }
-        Monomial::Four(_, _, _, _) => None,
+        Monomial::Two(a, b) => with_atom(with_atom(m, a)?, b),
+        Monomial::Three(a, b, c) => with_atom(with_atom(with_atom(m, a)?, b)?, c),
+        Monomial::Four(..) => None,
     }
-}
-
-/// They are the same.
-pub fn is_same_monomial(m: Monomial, n: Monomial) -> bool
-    ensures { IsTrue result ↔ (m ≡ n) }
-{
-    m == n
 }

@@ -5,7 +5,7 @@ ghost use Rattle.std.specs.Prelude.{slice_get, Some, IfOk, IfSome};
 ghost use Rattle.f77_terms.specs.Terms.{Valuation, monomial_value, part_value, parts_value, sum_value};
 ghost use Rattle.f77_terms.specs.Terms.{IsWorth, AddsIfDone};
 
-use crate::monomials::{Monomial, is_same_monomial, monomial_product};
+use crate::monomials::{Monomial, monomial_product};
 use std::alloc::{AllocError, Global};
 
 /// A longer term is given up.
@@ -19,7 +19,7 @@ pub struct Part {
 }
 
 /// A constant and parts: in rising order of their monomials, which differ, and with factors that are not 0.
-#[derive(Debug, Drop)]
+#[derive(Clone, Debug, Drop, PartialEq, Eq)]
 pub struct Term {
     pub constant: i64,
     pub parts: Vec<Part>,
@@ -100,53 +100,22 @@ pub fn factor_of(term: &Term, monomial: Monomial) -> i64 {
     }
 }
 
-/// Puts a part at a place.
-fn put(parts: &mut Vec<Part>, place: usize, part: Part) -> Result<(), AllocError>
-    requires { place ≤ vec_len parts.old }
-    ensures { IfOk result (λ _. (v : Valuation)
-        → parts_value v parts.new.items ≡ parts_value v parts.old.items +ℤ part_value v part) }
-{
-    parts.insert(place, part)?;
-    Ok(())
-}
-
-/// Takes the part at a place.
-fn take(parts: &mut Vec<Part>, place: usize) -> Part
+/// Adds to the factor of the part at a place, unless it gets too large.
+fn add_factor(parts: &mut Vec<Part>, place: usize, more: i64) -> bool
     requires { place < vec_len parts.old }
-    ensures len { vec_len parts.new + 1 ≡ vec_len parts.old }
-    ensures value { (v : Valuation)
-        → parts_value v parts.old.items ≡ parts_value v parts.new.items +ℤ part_value v result }
+    ensures { result ≡ true → (v : Valuation) (part : Part) → slice_get parts.old.items place ≡ Some part
+        → parts_value v parts.new.items ≡ parts_value v parts.old.items +ℤ more *ℤ monomial_value v part.monomial }
 {
-    parts.remove(place)
-}
-
-/// The sum of two parts with one monomial, unless the factor gets too large.
-fn joined(a: Part, b: Part) -> Option<Part>
-    ensures { IfSome result (λ part. (v : Valuation) → part_value v part ≡ part_value v a +ℤ part_value v b) }
-{
-    if !is_same_monomial(a.monomial, b.monomial) {
-        return None;
-    }
-    let factor = a.factor.checked_add(b.factor)?;
-    Some(Part {
-        factor,
-        monomial: a.monomial,
-    })
-}
-
-/// Adds to the part at a place, which has the monomial, unless the factor gets too large.
-fn add_there(term: &mut Term, place: usize, part: Part) -> Result<bool, AllocError>
-    requires { place < vec_len term.old.parts }
-    ensures { IfOk result (λ done. AddsIfDone term.old term.new done (λ v. part_value v part)) }
-{
-    let old = take(&mut term.parts, place);
-    let Some(both) = joined(old, part) else {
-        return Ok(false);
+    let part = part_at(parts, place);
+    let Some(factor) = part.factor.checked_add(more) else {
+        return false;
     };
-    if both.factor != 0 {
-        put(&mut term.parts, place, both)?;
+    if factor == 0 {
+        parts.remove(place);
+        return true;
     }
-    Ok(true)
+    parts[place] = Part { factor, ..part };
+    true
 }
 
 /// Adds a part, unless a factor gets too large.
@@ -157,10 +126,10 @@ fn add_part(term: &mut Term, part: Part) -> Result<bool, AllocError>
         return Ok(true);
     }
     let place = place_of(&term.parts, part.monomial);
-    if place < term.parts.len() && term.parts[place].monomial == part.monomial {
-        return add_there(term, place, part);
+    if place < term.parts.len() && part_at(&term.parts, place).monomial == part.monomial {
+        return Ok(add_factor(&mut term.parts, place, part.factor));
     }
-    put(&mut term.parts, place, part)?;
+    term.parts.insert(place, part)?;
     Ok(true)
 }
 
@@ -173,29 +142,11 @@ fn add_parts(term: &mut Term, m: i64, parts: &[Part]) -> Result<bool, AllocError
         let Some(factor) = m.checked_mul(part.factor) else {
             return Ok(false);
         };
-        let added = add_part(
-            term,
-            Part {
-                factor,
-                monomial: part.monomial,
-            },
-        )?;
-        if !added {
+        if !add_part(term, Part { factor, ..part })? {
             return Ok(false);
         }
     }
     Ok(true)
-}
-
-/// Adds a constant, unless it gets too large.
-fn add_constant(term: &mut Term, constant: i64) -> bool
-    ensures { AddsIfDone term.old term.new result (λ v. constant) }
-{
-    let Some(together) = term.constant.checked_add(constant) else {
-        return false;
-    };
-    term.constant = together;
-    true
 }
 
 /// Adds another term, so many times, unless a number gets too large.
@@ -205,9 +156,10 @@ pub fn add_multiple(term: &mut Term, m: i64, addend: &Term) -> Result<bool, Allo
     let Some(constant) = m.checked_mul(addend.constant) else {
         return Ok(false);
     };
-    if !add_constant(term, constant) {
+    let Some(together) = term.constant.checked_add(constant) else {
         return Ok(false);
-    }
+    };
+    term.constant = together;
     add_parts(term, m, &addend.parts)
 }
 
@@ -220,33 +172,21 @@ fn part_product(a: Part, b: Part) -> Option<Part>
     Some(Part { factor, monomial })
 }
 
-/// Adds the product of a part and others, unless it gets too large.
-fn add_part_times(term: &mut Term, part: Part, others: &[Part]) -> Result<bool, AllocError>
-    ensures { IfOk result (λ done. AddsIfDone term.old term.new done
-        (λ v. part_value v part *ℤ parts_value v others.now)) }
+/// Adds the product of a part and a term, unless it gets too large.
+fn add_part_times(term: &mut Term, part: Part, other: &Term) -> Result<bool, AllocError>
+    ensures { IfOk result (λ done. AddsIfDone term.old term.new done (λ v. part_value v part *ℤ sum_value v other.now)) }
 {
-    for place in 0..others.len() {
-        let other = part_at(others, place);
-        let Some(product) = part_product(part, other) else {
+    let Some(factor) = part.factor.checked_mul(other.constant) else {
+        return Ok(false);
+    };
+    if !add_part(term, Part { factor, ..part })? {
+        return Ok(false);
+    }
+    for place in 0..other.parts.len() {
+        let Some(product) = part_product(part, part_at(&other.parts, place)) else {
             return Ok(false);
         };
-        let added = add_part(term, product)?;
-        if !added {
-            return Ok(false);
-        }
-    }
-    Ok(true)
-}
-
-/// Adds the products of parts and others, unless they get too large.
-fn add_products(term: &mut Term, parts: &[Part], others: &[Part]) -> Result<bool, AllocError>
-    ensures { IfOk result (λ done. AddsIfDone term.old term.new done
-        (λ v. parts_value v parts.now *ℤ parts_value v others.now)) }
-{
-    for place in 0..parts.len() {
-        let part = part_at(parts, place);
-        let added = add_part_times(term, part, others)?;
-        if !added {
+        if !add_part(term, product)? {
             return Ok(false);
         }
     }
@@ -275,12 +215,7 @@ pub fn combined(
     ensures { IfOk result (λ made. IsWorth made (λ v. m *ℤ sum_value v a.now +ℤ n *ℤ sum_value v b.now)) }
 {
     let mut term = constant_term(alloc, 0);
-    let first = add_multiple(&mut term, m, a)?;
-    if !first {
-        return Ok(None);
-    }
-    let second = add_multiple(&mut term, n, b)?;
-    if !second {
+    if !add_multiple(&mut term, m, a)? || !add_multiple(&mut term, n, b)? {
         return Ok(None);
     }
     Ok(limited(term))
@@ -305,17 +240,13 @@ pub fn product(alloc: Global, a: &Term, b: &Term) -> Result<Option<Term>, AllocE
     ensures { IfOk result (λ made. IsWorth made (λ v. sum_value v a.now *ℤ sum_value v b.now)) }
 {
     let mut term = constant_term(alloc, 0);
-    let first = add_multiple(&mut term, a.constant, b)?;
-    if !first {
+    if !add_multiple(&mut term, a.constant, b)? {
         return Ok(None);
     }
-    let second = add_parts(&mut term, b.constant, &a.parts)?;
-    if !second {
-        return Ok(None);
-    }
-    let third = add_products(&mut term, &a.parts, &b.parts)?;
-    if !third {
-        return Ok(None);
+    for place in 0..a.parts.len() {
+        if !add_part_times(&mut term, part_at(&a.parts, place), b)? {
+            return Ok(None);
+        }
     }
     Ok(limited(term))
 }
@@ -347,5 +278,5 @@ fn are_same_parts(a: &[Part], b: &[Part]) -> bool
 fn is_same_part(a: Part, b: Part) -> bool
     ensures { result ≡ true → (v : Valuation) → part_value v a ≡ part_value v b }
 {
-    a.factor == b.factor && is_same_monomial(a.monomial, b.monomial)
+    a.factor == b.factor && a.monomial == b.monomial
 }

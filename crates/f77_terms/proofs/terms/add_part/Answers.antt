@@ -1,6 +1,19 @@
-use Rattle.std.proofs.Common.{arith}
-use Rattle.std.proofs.lemmas.Int.{ints}
+use Rattle.std.proofs.Common.{arith, rules, ◌≡◌, SFits, w64, ap, ◌∙◌}
+use Rattle.std.specs.Prelude.{◌*ℤ◌}
+use Rattle.std.proofs.lemmas.Int.{ints, to_z-of_z}
+use Rattle.f77_terms.specs.Terms.{monomial_value, parts_value}
+use Rattle.f77_terms.proofs.Values.{parts_put}
 use Rattle.f77_terms.proofs.terms.add_part.Goals as goal
 
+pub returns-then-eq : goal.returns-then-eq
+returns-then-eq c e v =
+    let factor : SFits w64 c.args.part.factor = search rules in
+    let same : c.part_at.result.monomial ≡ c.args.part.monomial = search rules in
+    let added = (simp to_z-of_z at c.add_factor.ensures) e v c.part_at.result (rw c.deref-then-place-len.ensures.value at c.part_at.ensures) in
+    let value = ap (λ m. c.args.part.factor *ℤ monomial_value v m) same in
+    omega (arith, ints, added, value)
+
 pub returns : goal.returns
-returns c done v = let put = c.in_ok-put.ensures v in omega (arith, ints, put)
+returns c done v =
+    let put = ap (parts_value v) c.in_ok-insert.ensures.items ∙ parts_put v c.args.term.now.parts.items c.place_of-place.result c.args.part in
+    omega (arith, ints, put)

@@ -12,5 +12,5 @@ loop-place-preserved c v =
     let more = times_more v c.args.parts.now c.loop-place.place c.part_at-part.result c.args.m c.part_at-part.ensures in
     let before = simp to_z-of_z at (c.loop-place.invariant v) in
     let product = factor_times c.in-Some.factor c.args.m c.part_at-part.result.factor (monomial_value v c.part_at-part.result.monomial) (simp to_z-of_z at c.in-Some.ensures.1) in
-    let added = simp to_z-of_z at (c.in_ok-added.ensures c.if-not-added.false v) in
+    let added = simp to_z-of_z at (c.in_ok-add_part.ensures c.if-not-branch.false v) in
     simp to_z-of_z (omega (arith, ints, more, before, product, added))

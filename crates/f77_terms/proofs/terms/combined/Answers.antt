@@ -11,6 +11,6 @@ returns c =
     (λ term claim v.
     let here = claim v in
     let start = c.constant_term-term.ensures v in
-    let first = simp to_z-of_z at (c.in_ok-first.ensures c.if-not-first.false v) in
-    let second = simp to_z-of_z at (c.in_ok-second.ensures c.if-not-second.false v) in
+    let first = simp to_z-of_z at (c.in_ok-add_multiple.ensures c.if-not-branch.false v) in
+    let second = simp to_z-of_z at (c.in_ok-add_multiple-2.ensures c.if-not-branch-2.false v) in
     omega (arith, ints, here, start, first, second))

@@ -1,21 +1,35 @@
-use Rattle.std.proofs.Common.{arith, rules, SFits, w64}
+use Rattle.std.proofs.Common.{arith, rules, SFits, w64, ap}
+use Rattle.std.specs.Prelude.{◌*ℤ◌}
 use Rattle.std.proofs.lemmas.Int.{ints, to_z-of_z}
-use Rattle.f77_terms.specs.Terms.{parts_value}
-use Rattle.f77_terms.proofs.Values.{some_then, all_products}
+use Rattle.std.proofs.Math.IntN.{zero-*ℤ}
+use Rattle.f77_terms.specs.Terms.{parts_value, sum_value}
+use Rattle.f77_terms.proofs.Products.{times_sum}
+use Rattle.f77_terms.proofs.Values.{some_then, more_times, all_parts}
 use Rattle.f77_terms.proofs.terms.product.Goals as goal
+
+pub loop-place-init : goal.loop-place-init
+loop-place-init c v =
+    let m : SFits w64 c.args.a.now.constant = search rules in
+    let start = c.constant_term-term.ensures v in
+    let first = simp to_z-of_z at (c.in_ok-add_multiple.ensures c.if-not-branch.false v) in
+    let none = zero-*ℤ (sum_value v c.args.b.now) in
+    omega (arith, ints, start, first, none)
+
+pub loop-place-preserved : goal.loop-place-preserved
+loop-place-preserved c v =
+    let at = rw c.deref.ensures.value at c.part_at.ensures in
+    let more = more_times v c.args.a.now.parts.items c.loop-place.place c.part_at.result (sum_value v c.args.b.now) at in
+    let before = c.loop-place.invariant v in
+    let added = c.in_ok-add_part_times.ensures c.if-not-branch-2.false v in
+    omega (arith, ints, more, before, added)
 
 pub returns : goal.returns
 returns c =
-    let a = c.args.a.now in
-    let b = c.args.b.now in
-    let m : SFits w64 c.args.a.now.constant = search rules in
-    let n : SFits w64 c.args.b.now.constant = search rules in
     some_then c.limited.result c.limited.ensures
     (λ term claim v.
     let here = claim v in
-    let start = c.constant_term-term.ensures v in
-    let first = simp to_z-of_z at (c.in_ok-first.ensures c.if-not-first.false v) in
-    let second = simp to_z-of_z at (rw c.deref.ensures.value at (c.in_ok-second.ensures c.if-not-second.false v)) in
-    let third = rw (c.deref-2.ensures.value, c.deref-3.ensures.value) at (c.in_ok-third.ensures c.if-not-third.false v) in
-    let whole = all_products a.constant (parts_value v a.parts.items) b.constant (parts_value v b.parts.items) in
-    omega (arith, ints, here, start, first, second, third, whole))
+    let before = c.loop-place.invariant v in
+    let all = all_parts v c.args.a.now.parts.items c.loop-place.place (omega arith) in
+    let products = ap (λ z. z *ℤ sum_value v c.args.b.now) all in
+    let whole = times_sum c.args.a.now.constant (parts_value v c.args.a.now.parts.items) (sum_value v c.args.b.now) in
+    omega (arith, ints, here, before, products, whole))

@@ -1,0 +1,43 @@
+use Rattle.std.proofs.Common.{arith, rules, ◌≡◌, SFits, w64, List, Some, ℕ, ℤ, pos, ap, ◌∙◌}
+use Rattle.std.specs.Prelude.{◌+ℤ◌, ◌*ℤ◌, slice_get, slice_set}
+use Rattle.std.specs.List.{remove}
+use Rattle.std.proofs.Math.IntN.{zero-*ℤ}
+use Rattle.std.proofs.lemmas.Int.{ints, to_z-of_z}
+use Rattle.f77_terms.specs.declared.terms.Part.{Part}
+use Rattle.f77_terms.specs.Terms.{Valuation, monomial_value, parts_value}
+use Rattle.f77_terms.proofs.Values.{parts_set, parts_removed, factor_more}
+use Rattle.f77_terms.proofs.terms.add_factor.Goals as goal
+
+gone : (v : Valuation) (ps : List Part) (k : ℕ) (part old : Part) (m factor : ℤ) → slice_get ps k ≡ Some part → slice_get ps k ≡ Some old
+    → factor ≡ old.factor +ℤ m → factor ≡ pos 0 → parts_value v (remove ps k) ≡ parts_value v ps +ℤ m *ℤ monomial_value v part.monomial
+gone v ps k part old m factor at there sum none =
+    let same : old ≡ part = cc (at, there) in
+    let more = factor_more factor part.factor m (monomial_value v part.monomial) (sum ∙ ap (λ (p : Part). p.factor +ℤ m) same) in
+    let nothing = ap (λ z. z *ℤ monomial_value v part.monomial) none ∙ zero-*ℤ (monomial_value v part.monomial) in
+    parts_removed v ps k part (m *ℤ monomial_value v part.monomial) at (omega (arith, ints, more, nothing))
+
+changed : (v : Valuation) (ps : List Part) (k : ℕ) (part old : Part) (m factor : ℤ) → slice_get ps k ≡ Some part → slice_get ps k ≡ Some old → factor ≡ old.factor +ℤ m
+    → parts_value v (slice_set ps k (record { factor = factor; monomial = old.monomial })) ≡ parts_value v ps +ℤ m *ℤ monomial_value v part.monomial
+changed v ps k part old m factor at there sum =
+    let same : old ≡ part = cc (at, there) in
+    let more = factor_more factor part.factor m (monomial_value v part.monomial) (sum ∙ ap (λ (p : Part). p.factor +ℤ m) same) in
+    let here = ap (λ (p : Part). factor *ℤ monomial_value v p.monomial) same in
+    parts_set v ps k part (record { factor = factor; monomial = old.monomial }) (m *ℤ monomial_value v part.monomial) at (omega (arith, ints, more, here))
+
+pub returns-then-factor-eq0 : goal.returns-then-factor-eq0
+returns-then-factor-eq0 c e v part at =
+    let old : SFits w64 c.part_at-part.result.factor = search rules in
+    let more : SFits w64 c.args.more = c.ranges.more in
+    let factor : SFits w64 c.in-Some.factor = search rules in
+    let none : c.in-Some.factor ≡ pos 0 = omega (arith, ints) in
+    ap (parts_value v) c.remove.ensures.items
+    ∙ gone v c.args.parts.now.items c.args.place part c.part_at-part.result c.args.more c.in-Some.factor at
+    (rw c.deref.ensures.value at c.part_at-part.ensures) (simp to_z-of_z at c.in-Some.ensures.1) none
+
+pub returns : goal.returns
+returns c e v part at =
+    let old : SFits w64 c.part_at-part.result.factor = search rules in
+    let more : SFits w64 c.args.more = c.ranges.more in
+    let factor : SFits w64 c.in-Some.factor = search rules in
+    simp to_z-of_z (changed v c.args.parts.now.items c.args.place part c.part_at-part.result c.args.more c.in-Some.factor at
+    (rw c.deref.ensures.value at c.part_at-part.ensures) (simp to_z-of_z at c.in-Some.ensures.1))

@@ -1,7 +1,0 @@
-use Rattle.std.proofs.Common.{◌≡◌, take}
-use Rattle.std.specs.Prelude.{◌+ℤ◌, ◌*ℤ◌}
-use Rattle.f77_terms.specs.Terms.{Valuation, parts_value, sum_value}
-use Rattle.f77_terms.proofs.terms.add_products.Given as goal
-
-abbrev pub invariant-loop-place : goal.invariant-loop-place
-invariant-loop-place l = (v : Valuation) → sum_value v l.term ≡ sum_value v l.initial.term +ℤ parts_value v (take l.place l.parts) *ℤ parts_value v l.others
