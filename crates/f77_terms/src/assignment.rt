@@ -6,7 +6,7 @@ use crate::monomials::Monomial;
 use crate::numbers::ceiling;
 use crate::paths::{Choice, Path};
 use crate::ranges::{Range, monomial_range};
-use crate::terms::{Part, Term, factor_of};
+use crate::terms::{Term, factor_of};
 use std::alloc::{AllocError, Global};
 
 /// The number of a monomial.
@@ -60,10 +60,9 @@ fn number_in(range: Range, offset: i64) -> i64 {
 impl Assignment {
     /// The number of a monomial.
     fn number_of(&self, monomial: Monomial) -> i64 {
-        for assigned in &self.list {
-            if assigned.monomial == monomial {
-                return assigned.number;
-            }
+        let mut numbers = self.list.iter();
+        if let Some(assigned) = numbers.find(|assigned| assigned.monomial == monomial) {
+            return assigned.number;
         }
         match monomial_range(&self.known, monomial) {
             Some(range) => range.low.max(0).min(range.high),
@@ -71,17 +70,13 @@ impl Assignment {
         }
     }
 
-    /// The number of a part.
-    fn part_number(&self, part: Part) -> Option<i64> {
-        self.number_of(part.monomial).checked_mul(part.factor)
-    }
-
     /// The number of a term, but for the part with this monomial, if there is one.
     fn rest_of(&self, term: &Term, left_out: Option<Monomial>) -> Option<i64> {
         let mut sum = term.constant;
         for part in &term.parts {
             if Some(part.monomial) != left_out {
-                sum = sum.checked_add(self.part_number(*part)?)?;
+                let number = self.number_of(part.monomial);
+                sum = sum.checked_add(number.checked_mul(part.factor)?)?;
             }
         }
         Some(sum)
@@ -130,71 +125,35 @@ impl Assignment {
         Ok(made)
     }
 
-    /// The term is at most 0.
-    fn is_below(&self, term: &Term) -> bool {
-        match self.rest_of(term, None) {
-            Some(number) => number <= 0,
-            None => false,
-        }
-    }
-
-    /// Each of the terms is.
+    /// Each of the terms is at most 0.
     fn are_below(&self, terms: &[Term]) -> bool {
-        for term in terms {
-            if !self.is_below(term) {
-                return false;
-            }
-        }
-        true
+        terms.iter().all(|term| matches!(self.rest_of(term, None), Some(number) if number <= 0))
     }
 
     /// A case of the choice is there.
     fn has_case(&self, choice: &Choice) -> bool {
-        for case in &choice.cases {
-            if self.are_below(&case.bounds) {
-                return true;
-            }
-        }
-        false
-    }
-
-    /// The place of the first of these terms that is 0.
-    fn first_zero(&self, terms: &[Term]) -> Option<usize> {
-        for place in 0..terms.len() {
-            if self.rest_of(&terms[place], None) == Some(0) {
-                return Some(place);
-            }
-        }
-        None
-    }
-
-    /// The place of the first of these choices of which no case is there.
-    fn first_open(&self, choices: &[Choice]) -> Option<usize> {
-        for place in 0..choices.len() {
-            if !self.has_case(&choices[place]) {
-                return Some(place);
-            }
-        }
-        None
+        choice.cases.iter().any(|case| self.are_below(&case.bounds))
     }
 
     /// No product has a number, which need not be that of its atoms.
     fn is_linear(&self) -> bool {
-        for assigned in &self.list {
-            if !matches!(assigned.monomial, Monomial::One(_)) {
-                return false;
-            }
-        }
-        true
+        self.list
+            .iter()
+            .all(|assigned| matches!(assigned.monomial, Monomial::One(_)))
     }
 
     /// By what a case with these bounds is to be split: by the first of all that the path knows with which the numbers
     /// do not fit. By nothing where all fits.
     pub fn split_of(&self, path: &Path, bounds: &[Term], next: usize) -> Option<usize> {
-        if let Some(place) = self.first_zero(&path.unequal) {
+        let mut terms = path.unequal.iter();
+        if let Some(place) = terms.position(|term| self.rest_of(term, None) == Some(0)) {
             return Some(place);
         }
-        if let Some(place) = self.first_open(&path.choices) {
+        if let Some(place) = path
+            .choices
+            .iter()
+            .position(|choice| !self.has_case(choice))
+        {
             return path.unequal.len().checked_add(place);
         }
         if self.are_below(bounds) && self.is_linear() {

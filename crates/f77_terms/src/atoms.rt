@@ -79,10 +79,9 @@ pub fn is_in_order(key: &Key, n: usize) -> bool
     match key {
         Key::Slot(_) => true,
         Key::Element(_, index) => is_within(index, n),
-        Key::Quotient(a, b) => is_within(a, n) && is_within(b, n),
-        Key::Remainder(a, b) => is_within(a, n) && is_within(b, n),
-        Key::Minimum(a, b) => is_within(a, n) && is_within(b, n),
-        Key::Maximum(a, b) => is_within(a, n) && is_within(b, n),
+        Key::Quotient(a, b) | Key::Remainder(a, b) | Key::Minimum(a, b) | Key::Maximum(a, b) => {
+            is_within(a, n) && is_within(b, n)
+        }
     }
 }
 

@@ -40,51 +40,47 @@ struct Count {
     is_minus_one: bool,
 }
 
-/// The count with one factor more.
-fn counted(count: Count, factor: i64) -> Count {
-    if factor > 0 {
-        Count {
-            above: count.above.saturating_add(1),
-            is_one: count.is_one && factor == 1,
-            ..count
+impl Count {
+    /// Counts one factor more.
+    fn add(&mut self, factor: i64) {
+        if factor > 0 {
+            self.above = self.above.saturating_add(1);
+            self.is_one &= factor == 1;
+        } else {
+            self.below = self.below.saturating_add(1);
+            self.is_minus_one &= factor == -1;
         }
-    } else {
-        Count {
-            below: count.below.saturating_add(1),
-            is_minus_one: count.is_minus_one && factor == -1,
-            ..count
+    }
+
+    /// What an elimination costs: it loses no whole numbers where the factors of one side are 1, and goes before others.
+    fn cost(&self) -> usize {
+        let pairs = self.above.saturating_mul(self.below);
+        if self.is_one || self.is_minus_one {
+            pairs
+        } else {
+            pairs.saturating_add(LOSS)
         }
     }
 }
 
 /// Counts a part.
 fn count_part(counts: &mut Vec<Count>, part: Part) -> Result<(), AllocError> {
-    for place in 0..counts.len() {
-        let count = counts[place];
+    for count in counts.iter_mut() {
         if count.monomial == part.monomial {
-            counts[place] = counted(count, part.factor);
+            count.add(part.factor);
             return Ok(());
         }
     }
-    let none = Count {
+    let mut count = Count {
         monomial: part.monomial,
         above: 0,
         below: 0,
         is_one: true,
         is_minus_one: true,
     };
-    counts.push(counted(none, part.factor))?;
+    count.add(part.factor);
+    counts.push(count)?;
     Ok(())
-}
-
-/// What an elimination costs: it loses no whole numbers where the factors of one side are 1, and goes before others.
-fn cost_of(count: Count) -> usize {
-    let pairs = count.above.saturating_mul(count.below);
-    if count.is_one || count.is_minus_one {
-        pairs
-    } else {
-        pairs.saturating_add(LOSS)
-    }
 }
 
 /// The monomial whose elimination costs least.
@@ -95,16 +91,8 @@ fn next_monomial(alloc: Global, bounds: &[Term]) -> Result<Option<Monomial>, All
             count_part(&mut counts, *part)?;
         }
     }
-    let mut least = usize::MAX;
-    let mut next = None;
-    for count in &counts {
-        let cost = cost_of(*count);
-        if cost < least {
-            least = cost;
-            next = Some(count.monomial);
-        }
-    }
-    Ok(next)
+    let least = counts.iter().min_by_key(|count| count.cost());
+    Ok(least.map(|count| count.monomial))
 }
 
 /// Adds what is known of a monomial.

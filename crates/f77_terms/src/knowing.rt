@@ -82,21 +82,11 @@ pub fn is_bounded(
     is_below(alloc, path, &bound)
 }
 
-/// The term is among these.
-fn is_among(terms: &[Term], term: &Term) -> bool {
-    for other in terms {
-        if is_same_term(other, term) {
-            return true;
-        }
-    }
-    false
-}
-
 /// Adds that a term is not 0, once.
 pub fn know_unequal(alloc: Global, path: &mut Path, term: &Term) -> Result<(), AllocError>
     ensures { IfOk result (λ _. (v : Valuation) → Holds v path.old → IsUnequal v term.now → Holds v path.new) }
 {
-    if is_among(&path.unequal, term) {
+    if path.unequal.iter().any(|other| is_same_term(other, term)) {
         return Ok(());
     }
     let apart = copy(alloc, term)?;
@@ -105,24 +95,18 @@ pub fn know_unequal(alloc: Global, path: &mut Path, term: &Term) -> Result<(), A
 
 /// A case of the choice has the atom as a part of its own.
 fn has_case_with(choice: &Choice, atom: usize) -> bool {
-    for case in &choice.cases {
-        for bound in &case.bounds {
-            if factor_of(bound, Monomial::One(atom)) != 0 {
-                return true;
-            }
-        }
-    }
-    false
+    choice.cases.iter().any(|case| {
+        case.bounds
+            .iter()
+            .any(|bound| factor_of(bound, Monomial::One(atom)) != 0)
+    })
 }
 
 /// A choice of the path is of the atom: what is known of a quotient, or of the lesser of two numbers.
 fn has_choice_of(path: &Path, atom: usize) -> bool {
-    for choice in &path.choices {
-        if has_case_with(choice, atom) {
-            return true;
-        }
-    }
-    false
+    path.choices
+        .iter()
+        .any(|choice| has_case_with(choice, atom))
 }
 
 /// Adds what is known of a quotient and a remainder, once, where the divisor is not 0.

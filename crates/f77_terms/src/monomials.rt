@@ -12,6 +12,16 @@ pub enum Monomial {
     Four(usize, usize, usize, usize),
 }
 
+/// Its atoms, the last of them again where there are fewer than four.
+pub(crate) fn atoms_of(monomial: Monomial) -> [usize; 4] {
+    match monomial {
+        Monomial::One(a) => [a, a, a, a],
+        Monomial::Two(a, b) => [a, b, b, b],
+        Monomial::Three(a, b, c) => [a, b, c, c],
+        Monomial::Four(a, b, c, d) => [a, b, c, d],
+    }
+}
+
 /// Two atoms in rising order.
 fn in_order(a: usize, b: usize) -> (usize, usize)
     ensures { (v : Valuation) → v result.0 *ℤ v result.1 ≡ v a *ℤ v b }

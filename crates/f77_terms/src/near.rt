@@ -6,78 +6,46 @@ ghost use Rattle.f77_terms.specs.Paths.{Holds, IsUnequal};
 ghost use Rattle.f77_terms.specs.Terms.{Valuation};
 
 use crate::copying::copied_choice;
-use crate::monomials::Monomial;
+use crate::monomials::atoms_of;
 use crate::paths::{Choice, Path};
 use crate::terms::{Term, copy};
 use std::alloc::{AllocError, Global};
+use std::slice;
 
 /// The atom is marked.
 fn is_marked(marks: &[bool], atom: usize) -> bool {
     atom < marks.len() && marks[atom]
 }
 
-/// An atom of the monomial is marked.
-fn is_monomial_near(marks: &[bool], monomial: Monomial) -> bool {
-    match monomial {
-        Monomial::One(a) => is_marked(marks, a),
-        Monomial::Two(a, b) => is_marked(marks, a) || is_marked(marks, b),
-        Monomial::Three(a, b, c) => {
-            is_marked(marks, a) || is_marked(marks, b) || is_marked(marks, c)
-        }
-        Monomial::Four(a, b, c, d) => {
-            is_marked(marks, a) || is_marked(marks, b) || is_marked(marks, c) || is_marked(marks, d)
-        }
-    }
-}
-
 /// An atom of the term is marked.
 fn is_near(marks: &[bool], term: &Term) -> bool {
-    for part in &term.parts {
-        if is_monomial_near(marks, part.monomial) {
-            return true;
-        }
-    }
-    false
+    term.parts.iter().any(|part| atoms_of(part.monomial)
+        .iter()
+        .any(|atom| is_marked(marks, *atom)))
 }
 
 /// Marks an atom. It tells whether it was not marked before.
 fn mark_atom(marks: &mut Vec<bool>, atom: usize) -> Result<bool, AllocError> {
-    for _ in marks.len()..atom {
-        marks.push(false)?;
+    if is_marked(marks, atom) {
+        return Ok(false);
     }
-    if marks.len() == atom {
-        marks.push(false)?;
+    if marks.len() <= atom {
+        marks.resize(atom.saturating_add(1), false)?;
     }
-    let is_new = !marks[atom];
-    marks[atom] = true;
-    Ok(is_new)
+    if atom < marks.len() {
+        marks[atom] = true;
+    }
+    Ok(true)
 }
 
-/// Marks the atoms of a monomial.
-fn mark_monomial(marks: &mut Vec<bool>, monomial: Monomial) -> Result<bool, AllocError> {
-    match monomial {
-        Monomial::One(a) => mark_atom(marks, a),
-        Monomial::Two(a, b) => {
-            let first = mark_atom(marks, a)?;
-            Ok(mark_atom(marks, b)? || first)
-        }
-        Monomial::Three(a, b, c) => {
-            let first = mark_monomial(marks, Monomial::Two(a, b))?;
-            Ok(mark_atom(marks, c)? || first)
-        }
-        Monomial::Four(a, b, c, d) => {
-            let first = mark_monomial(marks, Monomial::Two(a, b))?;
-            Ok(mark_monomial(marks, Monomial::Two(c, d))? || first)
-        }
-    }
-}
-
-/// Marks the atoms of a term.
-fn mark_term(marks: &mut Vec<bool>, term: &Term) -> Result<bool, AllocError> {
+/// Marks the atoms of terms. It tells whether one was not marked before.
+fn mark_terms(marks: &mut Vec<bool>, terms: &[Term]) -> Result<bool, AllocError> {
     let mut is_new = false;
-    for part in &term.parts {
-        if mark_monomial(marks, part.monomial)? {
-            is_new = true;
+    for term in terms {
+        for part in &term.parts {
+            for atom in atoms_of(part.monomial) {
+                is_new |= mark_atom(marks, atom)?;
+            }
         }
     }
     Ok(is_new)
@@ -87,8 +55,8 @@ fn mark_term(marks: &mut Vec<bool>, term: &Term) -> Result<bool, AllocError> {
 fn spread_terms(marks: &mut Vec<bool>, terms: &[Term]) -> Result<bool, AllocError> {
     let mut is_new = false;
     for term in terms {
-        if is_near(marks, term) && mark_term(marks, term)? {
-            is_new = true;
+        if is_near(marks, term) {
+            is_new |= mark_terms(marks, slice::from_ref(term))?;
         }
     }
     Ok(is_new)
@@ -96,28 +64,16 @@ fn spread_terms(marks: &mut Vec<bool>, terms: &[Term]) -> Result<bool, AllocErro
 
 /// A case of the choice is near.
 fn is_choice_near(marks: &[bool], choice: &Choice) -> bool {
-    for case in &choice.cases {
-        for bound in &case.bounds {
-            if is_near(marks, bound) {
-                return true;
-            }
-        }
-    }
-    false
+    choice.cases.iter().any(|case| case.bounds.iter().any(|bound| is_near(marks, bound)))
 }
 
 /// Marks the atoms of those choices that are near.
 fn spread_choices(marks: &mut Vec<bool>, choices: &[Choice]) -> Result<bool, AllocError> {
     let mut is_new = false;
     for choice in choices {
-        if !is_choice_near(marks, choice) {
-            continue;
-        }
-        for case in &choice.cases {
-            for bound in &case.bounds {
-                if mark_term(marks, bound)? {
-                    is_new = true;
-                }
+        if is_choice_near(marks, choice) {
+            for case in &choice.cases {
+                is_new |= mark_terms(marks, &case.bounds)?;
             }
         }
     }
@@ -127,9 +83,7 @@ fn spread_choices(marks: &mut Vec<bool>, choices: &[Choice]) -> Result<bool, All
 /// The atoms that are bound to those of these terms.
 fn marks_near(alloc: Global, path: &Path, terms: &[Term]) -> Result<Vec<bool>, AllocError> {
     let mut marks = Vec::new(alloc);
-    for term in terms {
-        mark_term(&mut marks, term)?;
-    }
+    mark_terms(&mut marks, terms)?;
     for _ in 0..u64::MAX {
         let below = spread_terms(&mut marks, &path.below)?;
         let unequal = spread_terms(&mut marks, &path.unequal)?;
