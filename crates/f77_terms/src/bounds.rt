@@ -4,6 +4,7 @@ ghost use Rattle.std.specs.Prelude.{◌≡◌, ◌+ℤ◌, ◌*ℤ◌, ◌≤ℤ
 ghost use Rattle.f77_terms.specs.Terms.{Valuation, parts_value, sum_value};
 ghost use Rattle.f77_terms.specs.Bounds.{IsBelow, AreBelow};
 
+use crate::copying::copied_terms;
 use crate::numbers::{ceiling, divisor_of};
 use crate::terms::{Part, Term, add_multiple, combined, constant_term, copy, part_at};
 use std::alloc::{AllocError, Global};
@@ -77,16 +78,16 @@ pub fn add_tight(alloc: Global, bounds: &mut Vec<Term>, bound: Term) -> Result<(
     Ok(())
 }
 
-/// Adds bounds of which these are copies.
-pub fn add_all(alloc: Global, bounds: &mut Vec<Term>, more: &[Term]) -> Result<(), AllocError>
-    ensures { IfOk result (λ _. (v : Valuation) → AreBelow v bounds.old.items → AreBelow v more.now
-        → AreBelow v bounds.new.items) }
+/// The bounds of two cases.
+pub fn joint_bounds(alloc: Global, a: &[Term], b: &[Term]) -> Result<Vec<Term>, AllocError>
+    ensures { IfOk result (λ bounds. (v : Valuation) → AreBelow v a.now → AreBelow v b.now → AreBelow v bounds.items) }
 {
-    for bound in more {
+    let mut bounds = copied_terms(alloc, a)?;
+    for bound in b {
         let copied = copy(alloc, bound)?;
-        add_tight(alloc, bounds, copied)?;
+        add_tight(alloc, &mut bounds, copied)?;
     }
-    Ok(())
+    Ok(bounds)
 }
 
 /// Adds that a term, m times, and a constant are at most 0, unless a number gets too large.

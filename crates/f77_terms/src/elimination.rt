@@ -9,7 +9,6 @@ ghost use Rattle.f77_terms.specs.code.Bounds.{Follow};
 use crate::bounds::{add_bound, add_combined, add_tight, is_refuted};
 use crate::copying::copied_terms;
 use crate::monomials::Monomial;
-use crate::numbers::{divisor_of_two, share};
 use crate::ranges::{Range, monomial_range};
 use crate::terms::{Part, Term, copy, factor_of, monomial_term};
 use std::alloc::{AllocError, Global};
@@ -132,53 +131,49 @@ fn add_pair(
     if below >= 0 || below == i64::MIN {
         return Ok(());
     }
-    let divisor = divisor_of_two(below, factor);
-    add_combined(
-        alloc,
-        left,
-        share(-below, divisor),
-        bound,
-        share(factor, divisor),
-        other,
-    )
+    add_combined(alloc, left, -below, bound, factor, other)
 }
 
-/// Adds what follows from a bound and each of those whose factor is below 0.
+/// Adds what follows from a bound and each of those in which the factor of the monomial is below 0.
 fn add_pairs(
     alloc: Global,
     left: &mut Vec<Term>,
     bound: &Term,
     factor: i64,
     bounds: &[Term],
-    factors: &[i64],
+    monomial: Monomial,
 ) -> Result<(), AllocError>
     requires { pos 0 ≤ℤ factor }
     ensures { IfOk result (λ _. (v : Valuation) → AreBelow v left.old.items → IsBelow v bound.now
         → AreBelow v bounds.now → AreBelow v left.new.items) }
 {
-    for place in 0..bounds.len() {
-        if place < factors.len() {
-            add_pair(alloc, left, bound, factor, &bounds[place], factors[place])?;
-        }
+    for other in bounds {
+        add_pair(
+            alloc,
+            left,
+            bound,
+            factor,
+            other,
+            factor_of(other, monomial),
+        )?;
     }
     Ok(())
 }
 
-/// Adds what follows from a bound without the monomial, of which it has this factor: itself, or what it leads to with
-/// others.
+/// Adds what follows from a bound without the monomial: itself, or what it leads to with others.
 fn add_without(
     alloc: Global,
     left: &mut Vec<Term>,
     bound: &Term,
-    factor: i64,
     bounds: &[Term],
-    factors: &[i64],
+    monomial: Monomial,
 ) -> Result<(), AllocError>
     ensures { IfOk result (λ _. (v : Valuation) → AreBelow v left.old.items → IsBelow v bound.now
         → AreBelow v bounds.now → AreBelow v left.new.items) }
 {
+    let factor = factor_of(bound, monomial);
     if factor > 0 {
-        return add_pairs(alloc, left, bound, factor, bounds, factors);
+        return add_pairs(alloc, left, bound, factor, bounds, monomial);
     }
     if factor < 0 {
         return Ok(());
@@ -187,32 +182,13 @@ fn add_without(
     add_tight(alloc, left, copied)
 }
 
-/// The factor of a monomial in each of the bounds.
-fn factors_of(alloc: Global, bounds: &[Term], monomial: Monomial) -> Result<Vec<i64>, AllocError> {
-    let mut factors = Vec::with_capacity(alloc, bounds.len())?;
-    for bound in bounds {
-        factors.push(factor_of(bound, monomial))?;
-    }
-    Ok(factors)
-}
-
 /// What follows from the bounds, without the monomial.
 fn eliminated(alloc: Global, bounds: &[Term], monomial: Monomial) -> Result<Vec<Term>, AllocError>
     ensures { IfOk result (λ left. Follow bounds.now left.items) }
 {
-    let factors = factors_of(alloc, bounds, monomial)?;
     let mut left = Vec::new(alloc);
-    for place in 0..bounds.len() {
-        if place < factors.len() {
-            add_without(
-                alloc,
-                &mut left,
-                &bounds[place],
-                factors[place],
-                bounds,
-                &factors,
-            )?;
-        }
+    for bound in bounds {
+        add_without(alloc, &mut left, bound, bounds, monomial)?;
     }
     Ok(left)
 }

@@ -1,14 +1,13 @@
-//! What is known of quotients, remainders, minima and maxima.
+//! What quotients, remainders, minima and maxima say of terms.
 
-ghost use Rattle.std.specs.Prelude.{◌≡◌, ◌≢◌, ◌⊎◌, ◌+ℤ◌, ◌*ℤ◌, ◌≤ℤ◌, ℤ, pos, negsuc, IfOk, int_div, int_rem};
-ghost use Rattle.std.specs.Int.{int_max, int_min};
+ghost use Rattle.std.specs.Prelude.{◌≡◌, ◌≢◌, ◌⊎◌, ◌+ℤ◌, ◌*ℤ◌, ◌≤ℤ◌, ℤ, pos, negsuc, IfOk, int_rem};
 ghost use Rattle.f77_terms.specs.Terms.{Valuation, sum_value};
 ghost use Rattle.f77_terms.specs.Bounds.{AreBelow};
 ghost use Rattle.f77_terms.specs.Paths.{HasCase, Holds};
 
 use crate::bounds::add_bound;
-use crate::paths::{Case, Choice, Path, add_case, add_choice, add_equal};
-use crate::terms::{Term, atom_term, combined, product};
+use crate::paths::{Case, Choice, Path, add_case, add_equal};
+use crate::terms::{Term, combined, product};
 use std::alloc::{AllocError, Global};
 
 /// Adds that a term, m times, another, n times, and a constant are at most 0, unless a number gets too large.
@@ -47,7 +46,7 @@ fn divisor_case(alloc: Global, m: i64, divisor: &Term, rest: &Term) -> Result<Ca
 }
 
 /// The divisor is above 0 or below, and the remainder of less size.
-fn divisor_cases(alloc: Global, divisor: &Term, rest: &Term) -> Result<Choice, AllocError>
+pub fn divisor_cases(alloc: Global, divisor: &Term, rest: &Term) -> Result<Choice, AllocError>
     ensures { IfOk result (λ choice. (v : Valuation) (n : ℤ) → sum_value v divisor.now ≢ pos 0
         → sum_value v rest.now ≡ int_rem n (sum_value v divisor.now) → HasCase v choice) }
 {
@@ -57,7 +56,7 @@ fn divisor_cases(alloc: Global, divisor: &Term, rest: &Term) -> Result<Choice, A
 }
 
 /// One of two cases is there.
-fn two_cases(alloc: Global, first: Case, second: Case) -> Result<Choice, AllocError>
+pub fn two_cases(alloc: Global, first: Case, second: Case) -> Result<Choice, AllocError>
     ensures { IfOk result (λ choice. (v : Valuation) → AreBelow v first.bounds.items ⊎ AreBelow v second.bounds.items
         → HasCase v choice) }
 {
@@ -80,7 +79,7 @@ fn sign_case(alloc: Global, m: i64, a: &Term, b: &Term) -> Result<Case, AllocErr
 }
 
 /// The remainder has the sign of the dividend.
-fn sign_cases(alloc: Global, dividend: &Term, rest: &Term) -> Result<Choice, AllocError>
+pub fn sign_cases(alloc: Global, dividend: &Term, rest: &Term) -> Result<Choice, AllocError>
     ensures { IfOk result (λ choice. (v : Valuation) (d : ℤ)
         → sum_value v rest.now ≡ int_rem (sum_value v dividend.now) d → HasCase v choice) }
 {
@@ -90,7 +89,7 @@ fn sign_cases(alloc: Global, dividend: &Term, rest: &Term) -> Result<Choice, All
 }
 
 /// Adds that the divisor times the quotient, and the remainder, are the dividend, unless a number gets too large.
-fn add_whole(
+pub fn add_whole(
     alloc: Global,
     path: &mut Path,
     dividend: &Term,
@@ -114,31 +113,8 @@ fn add_whole(
     add_equal(alloc, path, &whole)
 }
 
-/// Adds what is known of a quotient and a remainder, where the divisor is not 0.
-pub fn add_division(
-    alloc: Global,
-    path: &mut Path,
-    dividend: &Term,
-    divisor: &Term,
-    quotient: usize,
-    remainder: usize,
-) -> Result<(), AllocError>
-    ensures { IfOk result (λ _. (v : Valuation) → Holds v path.old
-        → v quotient ≡ int_div (sum_value v dividend.now) (sum_value v divisor.now)
-        → v remainder ≡ int_rem (sum_value v dividend.now) (sum_value v divisor.now)
-        → sum_value v divisor.now ≢ pos 0 → Holds v path.new) }
-{
-    let whole = atom_term(alloc, quotient)?;
-    let rest = atom_term(alloc, remainder)?;
-    add_whole(alloc, path, dividend, divisor, &whole, &rest)?;
-    let sizes = divisor_cases(alloc, divisor, &rest)?;
-    add_choice(path, sizes)?;
-    let signs = sign_cases(alloc, dividend, &rest)?;
-    add_choice(path, signs)
-}
-
 /// The case where a term, m times, and another, n times, are at most 0.
-fn order_case(alloc: Global, m: i64, a: &Term, n: i64, b: &Term) -> Result<Case, AllocError>
+pub fn order_case(alloc: Global, m: i64, a: &Term, n: i64, b: &Term) -> Result<Case, AllocError>
     ensures { IfOk result (λ case. (v : Valuation)
         → (pos 0 +ℤ pos 1 *ℤ (m *ℤ sum_value v a.now +ℤ n *ℤ sum_value v b.now)) ≤ℤ pos 0
         → AreBelow v case.bounds.items) }
@@ -149,7 +125,7 @@ fn order_case(alloc: Global, m: i64, a: &Term, n: i64, b: &Term) -> Result<Case,
 }
 
 /// Adds that a term, m times, and another, n times, are at most 0.
-fn add_order(
+pub fn add_order(
     alloc: Global,
     path: &mut Path,
     m: i64,
@@ -162,44 +138,4 @@ fn add_order(
         → Holds v path.new) }
 {
     add_pair_bound(alloc, &mut path.below, m, a, n, b, 0)
-}
-
-/// Adds what is known of the lesser of two terms.
-pub fn add_minimum(
-    alloc: Global,
-    path: &mut Path,
-    a: &Term,
-    b: &Term,
-    minimum: usize,
-) -> Result<(), AllocError>
-    ensures { IfOk result (λ _. (v : Valuation) → Holds v path.old
-        → v minimum ≡ int_min (sum_value v a.now) (sum_value v b.now) → Holds v path.new) }
-{
-    let least = atom_term(alloc, minimum)?;
-    add_order(alloc, path, 1, &least, -1, a)?;
-    add_order(alloc, path, 1, &least, -1, b)?;
-    let first = order_case(alloc, 1, a, -1, &least)?;
-    let second = order_case(alloc, 1, b, -1, &least)?;
-    let choice = two_cases(alloc, first, second)?;
-    add_choice(path, choice)
-}
-
-/// Adds what is known of the greater of two terms.
-pub fn add_maximum(
-    alloc: Global,
-    path: &mut Path,
-    a: &Term,
-    b: &Term,
-    maximum: usize,
-) -> Result<(), AllocError>
-    ensures { IfOk result (λ _. (v : Valuation) → Holds v path.old
-        → v maximum ≡ int_max (sum_value v a.now) (sum_value v b.now) → Holds v path.new) }
-{
-    let greatest = atom_term(alloc, maximum)?;
-    add_order(alloc, path, 1, a, -1, &greatest)?;
-    add_order(alloc, path, 1, b, -1, &greatest)?;
-    let first = order_case(alloc, 1, &greatest, -1, a)?;
-    let second = order_case(alloc, 1, &greatest, -1, b)?;
-    let choice = two_cases(alloc, first, second)?;
-    add_choice(path, choice)
 }

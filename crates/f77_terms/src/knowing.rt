@@ -6,11 +6,11 @@ ghost use Rattle.f77_terms.specs.Bounds.{IsBelow};
 ghost use Rattle.f77_terms.specs.Paths.{Holds, IsUnequal};
 ghost use Rattle.f77_terms.specs.Terms.{IsWorth, Valuation, sum_value};
 
-use crate::facts::{add_division, add_maximum, add_minimum};
+use crate::facts::{add_order, add_whole, divisor_cases, order_case, sign_cases, two_cases};
 use crate::monomials::Monomial;
-use crate::paths::{Choice, Path, add_unequal, is_below};
+use crate::paths::{Choice, Path, add_choice, add_unequal, is_below};
 use crate::ranges::term_range;
-use crate::terms::{Term, combined, constant_term, copy, factor_of, is_same_term};
+use crate::terms::{Term, atom_term, combined, constant_term, copy, factor_of, is_same_term};
 use std::alloc::{AllocError, Global};
 
 /// The number of a constant term.
@@ -126,7 +126,13 @@ pub fn know_division(
     if has_choice_of(path, remainder) {
         return Ok(());
     }
-    add_division(alloc, path, dividend, divisor, quotient, remainder)
+    let whole = atom_term(alloc, quotient)?;
+    let rest = atom_term(alloc, remainder)?;
+    add_whole(alloc, path, dividend, divisor, &whole, &rest)?;
+    let sizes = divisor_cases(alloc, divisor, &rest)?;
+    add_choice(path, sizes)?;
+    let signs = sign_cases(alloc, dividend, &rest)?;
+    add_choice(path, signs)
 }
 
 /// Adds what is known of the lesser of two terms, once.
@@ -143,7 +149,13 @@ pub fn know_minimum(
     if has_choice_of(path, minimum) {
         return Ok(());
     }
-    add_minimum(alloc, path, a, b, minimum)
+    let least = atom_term(alloc, minimum)?;
+    add_order(alloc, path, 1, &least, -1, a)?;
+    add_order(alloc, path, 1, &least, -1, b)?;
+    let first = order_case(alloc, 1, a, -1, &least)?;
+    let second = order_case(alloc, 1, b, -1, &least)?;
+    let choice = two_cases(alloc, first, second)?;
+    add_choice(path, choice)
 }
 
 /// Adds what is known of the greater of two terms, once.
@@ -160,5 +172,11 @@ pub fn know_maximum(
     if has_choice_of(path, maximum) {
         return Ok(());
     }
-    add_maximum(alloc, path, a, b, maximum)
+    let greatest = atom_term(alloc, maximum)?;
+    add_order(alloc, path, 1, a, -1, &greatest)?;
+    add_order(alloc, path, 1, b, -1, &greatest)?;
+    let first = order_case(alloc, 1, &greatest, -1, a)?;
+    let second = order_case(alloc, 1, &greatest, -1, b)?;
+    let choice = two_cases(alloc, first, second)?;
+    add_choice(path, choice)
 }

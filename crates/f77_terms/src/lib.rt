@@ -10,7 +10,7 @@ pub mod atoms;
 mod bounds;
 pub mod copying;
 mod elimination;
-pub mod facts;
+mod facts;
 pub mod knowing;
 pub mod monomials;
 mod near;

@@ -31,20 +31,3 @@ pub fn divisor_of(parts: &[Part]) -> i64
         _ => 1,
     }
 }
-
-/// The number divided by a divisor, if it is above 0, or else itself.
-pub fn share(number: i64, divisor: i64) -> i64
-    requires { pos 0 ≤ℤ number }
-    ensures { pos 0 ≤ℤ result }
-{
-    match number.checked_div(divisor) {
-        Some(quotient) if quotient > 0 => quotient,
-        _ => number,
-    }
-}
-
-/// The greatest common divisor of two numbers, or 1 if it is too large.
-pub fn divisor_of_two(a: i64, b: i64) -> i64 {
-    let divisor = common_divisor(a.unsigned_abs(), b.unsigned_abs());
-    i64::try_from(divisor).unwrap_or(1)
-}

@@ -6,10 +6,10 @@ ghost use Rattle.f77_terms.specs.Bounds.{IsBelow, AreBelow};
 ghost use Rattle.f77_terms.specs.Ranges.{IsIn, AreKnown};
 ghost use Rattle.f77_terms.specs.Paths.{IsUnequal, IsOneOf, HasCase, Holds};
 
-use crate::bounds::add_bound;
+use crate::bounds::{add_bound, joint_bounds};
 use crate::near::path_near;
 use crate::ranges::{Range, narrow_all, narrow_all_apart, set_within};
-use crate::splitting::{is_refuted_with, joint_bounds, side_case};
+use crate::splitting::{is_refuted_with, side_case};
 use crate::terms::Term;
 use std::alloc::{AllocError, Global};
 
@@ -158,15 +158,6 @@ pub fn is_below(alloc: Global, path: &Path, term: &Term) -> Result<bool, AllocEr
     refuted(alloc, path, &above.bounds)
 }
 
-/// Where the path holds, the term is not below 0.
-fn is_above(alloc: Global, path: &Path, term: &Term) -> Result<bool, AllocError>
-    ensures { IfOk result (λ yes. yes ≡ true → (v : Valuation) → Holds v path.now
-        → pos 0 ≤ℤ sum_value v term.now) }
-{
-    let below = side_case(alloc, 1, term)?;
-    refuted(alloc, path, &below.bounds)
-}
-
 /// Where the path holds, the term is 0.
 pub fn is_zero(alloc: Global, path: &Path, term: &Term) -> Result<bool, AllocError>
     ensures { IfOk result (λ yes. yes ≡ true → (v : Valuation) → Holds v path.now
@@ -175,7 +166,8 @@ pub fn is_zero(alloc: Global, path: &Path, term: &Term) -> Result<bool, AllocErr
     if !is_below(alloc, path, term)? {
         return Ok(false);
     }
-    is_above(alloc, path, term)
+    let below = side_case(alloc, 1, term)?;
+    refuted(alloc, path, &below.bounds)
 }
 
 /// The bounds that say that the term is 0.

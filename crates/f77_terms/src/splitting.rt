@@ -7,10 +7,11 @@ ghost use Rattle.f77_terms.specs.Ranges.{AreKnown};
 ghost use Rattle.f77_terms.specs.Paths.{IsUnequal, IsOneOf, HasCase, Holds};
 
 use crate::assignment::Assignment;
-use crate::bounds::{add_all, add_bound};
-use crate::copying::{copied_choice, copied_terms};
+use crate::bounds::{add_bound, joint_bounds};
+use crate::copying::copied_choice;
 use crate::elimination::{Level, are_contradictory};
-use crate::paths::{Case, Choice, Path, add_case};
+use crate::facts::two_cases;
+use crate::paths::{Case, Choice, Path};
 use crate::ranges::{Range, is_exceeded, is_void, narrow_all};
 use crate::terms::Term;
 use std::alloc::{AllocError, Global};
@@ -44,16 +45,6 @@ fn is_impossible(
     are_contradictory(alloc, work, ranges, bounds, levels)
 }
 
-/// The bounds of two cases.
-pub fn joint_bounds(alloc: Global, a: &[Term], b: &[Term]) -> Result<Vec<Term>, AllocError>
-    ensures { IfOk result (λ bounds. (v : Valuation) → AreBelow v a.now → AreBelow v b.now
-        → AreBelow v bounds.items) }
-{
-    let mut bounds = copied_terms(alloc, a)?;
-    add_all(alloc, &mut bounds, b)?;
-    Ok(bounds)
-}
-
 /// The case where a term, m times, and 1 are at most 0.
 pub fn side_case(alloc: Global, m: i64, term: &Term) -> Result<Case, AllocError>
     ensures { IfOk result (λ case. (v : Valuation) → (pos 1 +ℤ m *ℤ sum_value v term.now) ≤ℤ pos 0
@@ -70,10 +61,7 @@ fn sides(alloc: Global, term: &Term) -> Result<Choice, AllocError>
 {
     let below = side_case(alloc, 1, term)?;
     let above = side_case(alloc, -1, term)?;
-    let mut cases = Vec::new(alloc);
-    add_case(&mut cases, below)?;
-    add_case(&mut cases, above)?;
-    Ok(Choice { cases })
+    two_cases(alloc, below, above)
 }
 
 /// A choice of the path: the sides of what is not 0 come before its choices.

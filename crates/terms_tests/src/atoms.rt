@@ -2,7 +2,7 @@
 
 use crate::made::made;
 use f77_terms::atoms::{Key, interned, new_table};
-use f77_terms::facts::{add_division, add_minimum};
+use f77_terms::knowing::{know_division, know_minimum};
 use f77_terms::monomials::Monomial;
 use f77_terms::paths::{add_below, add_range, is_below, new_path};
 use f77_terms::ranges::Range;
@@ -33,7 +33,7 @@ fn knows_divisions(rt: HostRuntime) -> Result<(), Fail> {
     let dividend = atom_term(alloc, 0)?;
     let divisor = constant_term(alloc, 4);
     add_range(&mut path, 0, Range { low: 0, high: 100 })?;
-    add_division(alloc, &mut path, &dividend, &divisor, 1, 2)?;
+    know_division(alloc, &mut path, &dividend, &divisor, 1, 2)?;
     let most = made(alloc, -3, &[(1, Monomial::One(2))])?;
     assert!(rt; is_below(alloc, &path, &most)?);
     let most = made(alloc, -2, &[(1, Monomial::One(2))])?;
@@ -51,7 +51,7 @@ fn knows_minima(rt: HostRuntime) -> Result<(), Fail> {
     let mut path = new_path(alloc);
     let first = atom_term(alloc, 0)?;
     let second = atom_term(alloc, 1)?;
-    add_minimum(alloc, &mut path, &first, &second, 2)?;
+    know_minimum(alloc, &mut path, &first, &second, 2)?;
     add_below(alloc, &mut path, -1, &first, 3)?;
     add_below(alloc, &mut path, -1, &second, 5)?;
     let least = made(alloc, 3, &[(-1, Monomial::One(2))])?;

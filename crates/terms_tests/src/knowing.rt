@@ -2,7 +2,6 @@
 
 use crate::made::{X, Y, made};
 use f77_terms::copying::copied_path;
-use f77_terms::facts::add_maximum;
 use f77_terms::knowing::{
     constant_of, is_bounded, is_plainly_bounded, know_division, know_maximum, know_minimum,
     know_unequal,
@@ -101,7 +100,7 @@ fn knows_maxima(rt: HostRuntime) -> Result<(), Fail> {
     let mut path = ordered(alloc)?;
     let x = atom_term(alloc, 0)?;
     let y = atom_term(alloc, 1)?;
-    add_maximum(alloc, &mut path, &x, &y, 2)?;
+    know_maximum(alloc, &mut path, &x, &y, 2)?;
     let most = made(alloc, -4, &[(1, Monomial::One(2))])?;
     assert!(rt; is_below(alloc, &path, &most)?);
     let less = made(alloc, -3, &[(1, Monomial::One(2))])?;

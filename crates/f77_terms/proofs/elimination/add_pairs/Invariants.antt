@@ -2,6 +2,6 @@ use Rattle.f77_terms.specs.Terms.{Valuation}
 use Rattle.f77_terms.specs.Bounds.{IsBelow, AreBelow}
 use Rattle.f77_terms.proofs.elimination.add_pairs.Given as goal
 
-abbrev pub invariant-loop-place : goal.invariant-loop-place
-invariant-loop-place l =
+abbrev pub invariant-loop-other : goal.invariant-loop-other
+invariant-loop-other l =
     (v : Valuation) → AreBelow v l.initial.left.items → IsBelow v l.bound → AreBelow v l.bounds → AreBelow v l.left.items

@@ -3,7 +3,7 @@ use Rattle.std.specs.Prelude.{◌+ℤ◌, ◌*ℤ◌, int_div}
 use Rattle.std.proofs.lemmas.Int.{quot-rem}
 use Rattle.f77_terms.specs.Terms.{sum_value}
 use Rattle.f77_terms.proofs.Values.{ok_then}
-use Rattle.f77_terms.proofs.facts.add_division.Goals as goal
+use Rattle.f77_terms.proofs.knowing.know_division.Goals as goal
 
 pub returns : goal.returns
 returns c =

@@ -2,7 +2,7 @@ use Rattle.std.proofs.Common.{◌∙◌}
 use Rattle.f77_terms.specs.Terms.{sum_value}
 use Rattle.f77_terms.proofs.Values.{ok_then}
 use Rattle.f77_terms.proofs.Division.{greatest_is, either_way}
-use Rattle.f77_terms.proofs.facts.add_maximum.Goals as goal
+use Rattle.f77_terms.proofs.knowing.know_maximum.Goals as goal
 
 pub returns : goal.returns
 returns c =
