@@ -22,7 +22,7 @@ use Rattle.mothra_codes.specs.declared.op.Op.{Op}
 use Rattle.mothra_codes.specs.declared.op.Op.TheVariants.{Rsr, San, Sdl}
 use Rattle.mothra_ops.specs.Edits.{IsMember, MakesLegal, made, numbered}
 use Rattle.mothra_replacements.specs.Pools.{PoolFields, pools_of}
-use Rattle.mothra_replacements.specs.Replacements.{is_replaceable_action, acts_or_continues, gives, in_statements, replacements, stands_in}
+use Rattle.mothra_replacements.specs.Replacements.{is_replaceable_action, acts_or_continues, gives, new_statement, replacements, stands_in}
 use Rattle.mothra_ops.specs.declared.edit.Edit.{Edit}
 use Rattle.mothra_replacements.proofs.FormedCandidates.{IsFit, chosen, gives_fit}
 use Rattle.mothra_replacements.proofs.FormedNodes.{IsFormedLine, IsFormedNode, lines_formed, nodes_formed}
@@ -53,7 +53,7 @@ executable Form.End e = absurd (true≢false (sym e))
 executable _ e = refl
 
 statements_of_group : (is_site : Form → Bool) → ((form : Form) → is_site form ≡ true → acts_or_continues form ≡ true) → (new s : Statement)
-    → group_of new ≡ Executable → All (IsOfGroup s) (in_statements is_site new (NodeOf.Itself s))
+    → group_of new ≡ Executable → All (IsOfGroup s) (new_statement is_site new s)
 statements_of_group is_site executes new s group = by (is_site (form_of s)) refl
   where
     by : (b : Bool) → is_site (form_of s) ≡ b → All (IsOfGroup s) (if b && not (same_statement new s) then NodeOf.Itself new ∷ [] else [])

@@ -4,6 +4,7 @@
 //! are what was found so far (`HasCome`).
 
 ghost use Rattle.std.specs.Prelude.{◌≡◌, ◌<◌, ◌≤◌, ◌+◌, ◌^◌, ◌⊎◌, map, All, OnOk, IfOk, IfErr};
+ghost use Rattle.f77_legal.specs.declared.fault.CheckFault.TheVariants as check;
 ghost use Rattle.f77_program.specs.Program.{line_of};
 ghost use Rattle.f77_program.specs.Patching.{patched};
 ghost use Rattle.f77_tree.specs.Statement.{statement_of};
@@ -21,10 +22,10 @@ use crate::edit::Edit;
 use crate::listing::{Limits, Listing};
 use crate::original::Original;
 use crate::site::Site;
-use f77_check::Checked;
+use f77_check::{CheckFault, Checked};
 use f77_tree::Stmt;
 use mothra_codes::Op;
-use mothra_replacements::{OpsFault, gives, memory_fault};
+use mothra_replacements::{OpsFault, gives};
 use std::alloc::Global;
 
 impl Original<'_> {
@@ -149,6 +150,18 @@ pub fn edits(alloc: Global, checked: &Checked, op: Op, every: u32) -> Result<Vec
         edits.push(mutant.edit)?;
     }
     Ok(edits)
+}
+
+/// Out of memory in a check. The caller shows that no other fault of the check can come, so that none is reported as
+/// another.
+fn memory_fault(found: CheckFault) -> OpsFault
+    requires { found ≡ check.Memory }
+    ensures { result ≡ Memory }
+{
+    match found {
+        CheckFault::Memory => OpsFault::Memory,
+        _ => unreachable!(),
+    }
 }
 
 /// The program that an edit of the whole list makes, checked. Every other edit is refused.

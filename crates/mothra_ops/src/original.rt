@@ -18,7 +18,7 @@ use std::snapshot::Snapshot;
 #[derive(Drop)]
 pub(crate) struct Original<'a> {
     pub(crate) checked: &'a Checked,
-    pub(crate) pools: Pools<'a>,
+    pub(crate) pools: Pools,
     pub(crate) nodes: NodeLists<'a>,
     ghost numbered: { nodes ≡ checked.now.program } by { Coded-set nodes-code nodes checked.now.program },
 }
@@ -149,7 +149,7 @@ impl<'a> Original<'a> {
             return Ok(Vec::new(alloc));
         };
         match self.nodes.node(edit.statement, edit.position) {
-            Some(node) => gives(alloc, edit.op, &self.pools, &line.stmt, node),
+            Some(node) => Ok(gives(alloc, edit.op, &self.pools, &line.stmt, node)?),
             None => Ok(Vec::new(alloc)),
         }
     }

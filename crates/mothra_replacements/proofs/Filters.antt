@@ -1,7 +1,8 @@
--- Lists that a loop makes of the items that pass a test.
-use Rattle.std.proofs.Common.{◌≡◌, ◌<◌, ◌≤◌, ◌+◌, ◌∷◌, ◌++◌, [], ℕ, List, Bool, true, false, cond, length, map, filter, take, get_or, refl, sym, ap, ◌∙◌}
+-- Lists that a loop makes of the items that pass a test, or of which something is made.
+use Rattle.std.proofs.Common.{◌≡◌, ◌<◌, ◌≤◌, ◌+◌, ◌∷◌, ◌++◌, [], ℕ, List, Bool, true, false, Option, Some, None, cond, length, map, filter, take, get_or, refl, sym, ap, ◌∙◌}
+use Rattle.std.specs.List.{cons_option, filter_map}
 use Rattle.std.proofs.lemmas.List.{take_more, take_all, map-append, append-nil}
-use Rattle.std.proofs.lemmas.List.Elements.{filter-append}
+use Rattle.std.proofs.lemmas.List.Elements.{filter-append, filter_map-append}
 
 module _ {X V : Type 0} (p : X → Bool) (f : X → V) where
   more : (xs : List X) (i : ℕ) {x : X} (d : X) → x ≡ get_or xs i d → i < length xs
@@ -33,3 +34,15 @@ module _ {X V : Type 0} (p : X → Bool) (f : X → V) where
   pub passed : {W : Type 0} (g : W → V) (xs : List X) (i : ℕ) (old : List W) (q : V → Bool) → ((x : X) → q (f x) ≡ p x) → length xs ≤ i
       → map g old ≡ map f (filter p (take i xs)) → map g old ≡ filter q (map f xs)
   passed g xs i old q same le e = e ∙ (ap (λ ys. map f (filter p ys)) (take_all i xs le) ∙ sym (filter_map-is q xs same))
+
+-- one item more, of which h makes something or nothing
+module _ {X Y V W : Type 0} (h : X → Option Y) (f : V → X) (g : W → Y) (xs : List V) (x : V) (old : List W) (is : map g old ≡ filter_map h (map f xs)) where
+  made : (o : Option Y) → h (f x) ≡ o → filter_map h (map f (xs ++ x ∷ [])) ≡ filter_map h (map f xs) ++ cons_option o []
+  made o e =
+      ap (filter_map h) (map-append f xs (x ∷ [])) ∙ (filter_map-append h (map f xs) (f x ∷ []) ∙ ap (λ y. filter_map h (map f xs) ++ cons_option y []) e)
+
+  pub kept : {new : List W} (w : W) → h (f x) ≡ Some (g w) → new ≡ old ++ w ∷ [] → map g new ≡ filter_map h (map f (xs ++ x ∷ []))
+  kept w some pushed = ap (map g) pushed ∙ (map-append g old (w ∷ []) ∙ (ap (λ ys. ys ++ g w ∷ []) is ∙ sym (made (Some (g w)) some)))
+
+  pub dropped : h (f x) ≡ None → map g old ≡ filter_map h (map f (xs ++ x ∷ []))
+  dropped none = is ∙ sym (made None none ∙ append-nil (filter_map h (map f xs)))

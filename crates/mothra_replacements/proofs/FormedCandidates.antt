@@ -1,8 +1,10 @@
 -- An operator puts in the place of a node of a formed statement what is formed itself.
-use Rattle.std.proofs.Common.{◌≡◌, ℕ, zero, suc, ◌+◌, List, [], ◌∷◌, ◌++◌, Bool, true, false, filter, map, refl, if◌then◌else◌}
-use Rattle.std.specs.Prelude.{not, nat_eq, nat_le, nat_lt, ◌&&◌}
+use Rattle.std.proofs.Common.{◌≡◌, ℕ, zero, suc, ◌+◌, List, [], ◌∷◌, ◌++◌, Bool, true, false, Some, None, filter, refl, if◌then◌else◌}
+use Rattle.std.specs.Prelude.{not, nat_eq, nat_le, nat_lt, ◌&&◌, ◌||◌, ⊤}
 use Rattle.std.specs.List.{All}
+use Rattle.std.specs.Option.{IfSome}
 use Rattle.std.proofs.lemmas.List.Elements.{All-nil, All-cons, All-append, All-filter, All-map, All-weaker}
+use Rattle.f77_tree.specs.declared.data.Value.{Value}
 use Rattle.f77_tree.specs.declared.form.Form.{Form}
 use Rattle.f77_tree.specs.declared.operator.Operator.{Operator}
 use Rattle.f77_tree.specs.declared.operator.Operator.TheVariants as operator
@@ -10,7 +12,6 @@ use Rattle.f77_tree.specs.declared.operator.Sign.TheVariants.{Minus}
 use Rattle.f77_tree.specs.declared.tree.Kind.{Kind}
 use Rattle.f77_tree.specs.declared.tree.Kind.TheVariants.{Integer, Logical}
 use Rattle.f77_tree.specs.Comparing.{same_operator, same_tree, same_kind}
-use Rattle.f77_tree.specs.Grammar.{is_call}
 use Rattle.f77_tree.specs.Name.{is_symbolic}
 use Rattle.f77_tree.specs.Statement.{Statement, form_of, same_statement}
 use Rattle.f77_tree.specs.Tree.{Tree, Trees}
@@ -19,20 +20,19 @@ use Rattle.f77_tree.specs.Limits.{largest_integer}
 use Rattle.f77_tree.specs.Node.{NodeOf}
 use Rattle.f77_program.specs.code.Formed.{all_formed, formed, is_some_list}
 use Rattle.f77_program.proofs.Back.{reference_formed}
-use Rattle.f77_program.proofs.Forming.{a_reference}
 use Rattle.f77_legal.specs.Names.{Symbol}
 use Rattle.mothra_codes.specs.declared.op.Op.{Op}
 use Rattle.mothra_codes.specs.declared.op.Op.TheVariants.{Aar, Abs, Acr, Aor, Asr, Car, Cnr, Crp, Csr, Der, Dsa}
 use Rattle.mothra_codes.specs.declared.op.Op.TheVariants.{Glr, Lcr, Ror, Rsr, San, Sar, Scr, Sdl, Src, Svr, Uoi}
-use Rattle.mothra_replacements.specs.Pools.{PoolFields, Reference, as_tree, same_reference, scalar}
-use Rattle.mothra_replacements.specs.Replacements.{as_target, as_variable, of_elements, of_scalars, other_references}
-use Rattle.mothra_replacements.specs.Replacements.{absolute, absolute_value, is_replaceable_action, acts_or_continues, altered, are_some}
-use Rattle.mothra_replacements.specs.Replacements.{arithmetic_operators, comparable, connectors, drawn, other_operations, gives}
-use Rattle.mothra_replacements.specs.Replacements.{in_computed, in_labels, in_parts, in_place, in_places, in_statements}
-use Rattle.mothra_replacements.specs.Replacements.{in_values, in_variables, is_comparable, is_constant, is_element, is_in, is_scalar}
-use Rattle.mothra_replacements.specs.Replacements.{kind_of_expression, lowered, next_constants, operands, others, raised, relations, replacements, stands_in, truths, with_group, with_unary}
+use Rattle.mothra_replacements.specs.Pools.{PoolFields, are_some, is_operand, pool, scalar}
+use Rattle.mothra_replacements.specs.Replacements.{absolute, absolute_value, acts_or_continues, altered, arithmetic_operators, comparable, connectors, drawn}
+use Rattle.mothra_replacements.specs.Replacements.{gives, in_expression, in_label, in_statement, in_value, is_comparable, is_in, is_replaceable_action}
+use Rattle.mothra_replacements.specs.Replacements.{kind_of_expression, lowered, new_statement, next_constants, operands, other_operations, others, placed, raised}
+use Rattle.mothra_replacements.specs.Replacements.{relations, replacements, stands_in, truths, unary_of, with_group, with_subscripts, with_unary}
+use Rattle.mothra_replacements.specs.declared.operands.Operand.{Operand}
+use Rattle.mothra_replacements.specs.declared.operands.Operand.TheVariants as operand
 use Rattle.mothra_replacements.proofs.FormedNodes.{IsFormedTree, IsNamed, IsNoFunction, each_mapped, node_formed}
-use Rattle.mothra_replacements.proofs.FormedPools.{AreFormed, IsFormedReference, scalar_formed}
+use Rattle.mothra_replacements.proofs.FormedPools.{All-filter_map, AreFormed, named_formed}
 use Rattle.mothra_replacements.proofs.FormedSites.{is_fit}
 
 -- lists of expressions
@@ -48,62 +48,32 @@ one_tree t f = All-cons IsFormedTree t [] f no_trees
 two_trees : (t u : Tree) → formed is_symbolic t ≡ true → formed is_symbolic u ≡ true → AllFormed (t ∷ (u ∷ []))
 two_trees t u f g = All-cons IsFormedTree t (u ∷ []) f (one_tree u g)
 
-three_trees : (t u v : Tree) → formed is_symbolic t ≡ true → formed is_symbolic u ≡ true → formed is_symbolic v ≡ true → AllFormed (t ∷ (u ∷ (v ∷ [])))
-three_trees t u v f g h = All-cons IsFormedTree t (u ∷ (v ∷ [])) f (two_trees u v g h)
+three_of : (P : Tree → Type 0) (t u v : Tree) → P t → P u → P v → All P (t ∷ (u ∷ (v ∷ [])))
+three_of P t u v f g h = All-cons P t (u ∷ (v ∷ [])) f (All-cons P u (v ∷ []) g (All-cons P v [] h (All-nil P)))
 
 -- a property of all of either list holds of all of the list that a test chooses
 pub chosen : {X : Type 0} (P : X → Type 0) (b : Bool) (xs ys : List X) → All P xs → All P ys → All P (if b then xs else ys)
 chosen P true xs ys one other = one
 chosen P false xs ys one other = other
 
-drawn_formed : (is_site : Tree → Bool) (kinds : Symbol → Kind) (pool : List Tree) (t : Tree) → AllFormed pool → AllFormed (drawn is_site kinds pool t)
-drawn_formed is_site kinds pool t all =
-    chosen IsFormedTree (is_site t) (others kinds pool t) []
-    (All-filter (λ u. same_kind (kind_of_expression kinds u) (kind_of_expression kinds t) && not (same_tree u t)) IsFormedTree pool all) no_trees
-
--- lists of references
-abbrev AllReferences : List Reference → Type 0
-AllReferences rs = All IsFormedReference rs
-
-trees_formed : (rs : List Reference) → AllReferences rs → AllFormed (map as_tree rs)
-trees_formed rs all = All-map IsFormedTree as_tree rs all
-
-scalars_formed : (names : List Symbol) → All IsNamed names → AllReferences (map scalar names)
-scalars_formed names all = All-map IsFormedReference scalar names (All-weaker IsNamed (λ name. IsFormedReference (scalar name)) scalar_formed names all)
-
-others_formed : (kinds : Symbol → Kind) (pool : List Reference) (r : Reference) → AllReferences pool → AllReferences (other_references kinds pool r)
-others_formed kinds pool r all = All-filter (λ other. same_kind (kinds other.name) (kinds r.name) && not (same_reference other r)) IsFormedReference pool all
-
-of_elements_formed : (give : Reference → List Reference) (r : Reference) → AllReferences (give r) → AllReferences (of_elements give r)
-of_elements_formed give r all = chosen IsFormedReference (are_some r.subscripts) (give r) [] all (All-nil IsFormedReference)
-
-of_scalars_formed : (give : Reference → List Reference) (r : Reference) → AllReferences (give r) → AllReferences (of_scalars give r)
-of_scalars_formed give r all = chosen IsFormedReference (are_some r.subscripts) [] (give r) (All-nil IsFormedReference) all
-
--- a name that is not a function's is no call, with subscripts and without
-no_function : (name : Symbol) (items : Trees) → IsNoFunction name → is_call name items ≡ false
-no_function name Trees.None own = refl
-no_function name (Trees.Then t ts) own = own
-
-comparable_formed : (pools : PoolFields) → AreFormed pools → (r : Reference) → all_formed is_symbolic r.subscripts ≡ true → AllReferences (comparable pools r)
-comparable_formed pools are r f =
-    All-map IsFormedReference (λ other. record { name = other; subscripts = r.subscripts }) (filter (is_comparable pools r.name) pools.arrays)
-    (All-weaker (λ other. IsNamed other × IsNoFunction other) (λ other. IsFormedTree (Tree.Reference other r.subscripts))
-    (λ other own. rw (a_reference is_symbolic other r.subscripts (no_function other r.subscripts own.1) own.0, f) refl) (filter (is_comparable pools r.name) pools.arrays)
-    (All-filter (is_comparable pools r.name) (λ other. IsNamed other × IsNoFunction other) pools.arrays are.arrays))
-
 absolute_value_formed : (t : Tree) → formed is_symbolic t ≡ true → formed is_symbolic (absolute_value t) ≡ true
 unfolding is_some_list
 absolute_value_formed t f = rw f refl
 
-absolute_formed : (t : Tree) → formed is_symbolic t ≡ true → AllFormed (absolute t)
-absolute_formed t f =
-    three_trees (absolute_value t) (Tree.Signed Minus (absolute_value t)) (Tree.ZeroPush t) (absolute_value_formed t f) (absolute_value_formed t f) f
+absolute_formed : (kinds : Symbol → Kind) (t : Tree) → formed is_symbolic t ≡ true → AllFormed (absolute kinds t)
+absolute_formed kinds t f =
+    chosen IsFormedTree (is_operand operand.Constant t || not (same_kind (kind_of_expression kinds t) Integer)) []
+    (absolute_value t ∷ (Tree.Signed Minus (absolute_value t) ∷ (Tree.ZeroPush t ∷ []))) no_trees
+    (three_of IsFormedTree (absolute_value t) (Tree.Signed Minus (absolute_value t)) (Tree.ZeroPush t) (absolute_value_formed t f) (absolute_value_formed t f) f)
 
-unary_formed : (kind : Kind) (t : Tree) → formed is_symbolic t ≡ true → AllFormed (with_unary kind t)
-unary_formed Integer t f =
-    three_trees (Tree.Signed Minus t) (Tree.Binary operator.Add t (Tree.Number 1)) (Tree.Binary operator.Subtract t (Tree.Number 1)) f (rw f refl) (rw f refl)
-unary_formed Logical t f = one_tree (Tree.Not t) f
+unary_of_formed : (kind : Kind) (t : Tree) → formed is_symbolic t ≡ true → AllFormed (unary_of kind t)
+unary_of_formed Integer t f =
+    three_of IsFormedTree (Tree.Signed Minus t) (Tree.Binary operator.Add t (Tree.Number 1)) (Tree.Binary operator.Subtract t (Tree.Number 1)) f (rw f refl) (rw f refl)
+unary_of_formed Logical t f = one_tree (Tree.Not t) f
+
+unary_formed : (kinds : Symbol → Kind) (t : Tree) → formed is_symbolic t ≡ true → AllFormed (with_unary kinds t)
+unary_formed kinds t f =
+    chosen IsFormedTree (is_operand operand.Constant t) [] (unary_of (kind_of_expression kinds t) t) no_trees (unary_of_formed (kind_of_expression kinds t) t f)
 
 lowered_formed : (n : ℕ) → AllFormed (lowered n)
 lowered_formed zero = one_tree (Tree.Signed Minus (Tree.Number 1)) refl
@@ -140,117 +110,138 @@ IsFit node = is_fit node ≡ true
 no_nodes : All IsFit []
 no_nodes = All-nil IsFit
 
-part_fit : (ts : List Tree) → AllFormed ts → All IsFit (map NodeOf.Part ts)
-part_fit ts all = All-map IsFit NodeOf.Part ts all
+-- what may stand left of `=` or be a DO variable, if it is a reference
+abbrev IsPlace : Tree → Type 0
+IsPlace (Tree.Reference name items) = IsNamed name × (all_formed is_symbolic items ≡ true)
+IsPlace _ = ⊤
 
-target_fit : (r : Reference) → IsFormedReference r → IsFit (as_target r)
-target_fit r f = let (is, other, all) = reference_formed is_symbolic r.name r.subscripts f in rw (is, all) refl
+formed_place : (t : Tree) → IsFormedTree t → IsPlace t
+formed_place (Tree.Reference name items) f = let (is, other, all) = reference_formed is_symbolic name items f in (is, all)
+formed_place _ f = tt
 
-targets_fit : (rs : List Reference) → AllReferences rs → All IsFit (map as_target rs)
-targets_fit rs all = All-map IsFit as_target rs (All-weaker IsFormedReference (λ r. IsFit (as_target r)) target_fit rs all)
+target_fit : (old : Symbol) (olds : Trees) (t : Tree) → IsPlace t → IfSome (placed (NodeOf.Target old olds) t) IsFit
+target_fit old olds (Tree.Reference name items) place = rw (place.0, place.1) refl
+target_fit old olds _ place = tt
 
-variables_fit : (rs : List Reference) → AllReferences rs → All IsFit (map as_variable rs)
-variables_fit rs all =
-    All-map IsFit as_variable rs
-    (All-weaker IsFormedReference (λ r. IsFit (as_variable r)) (λ r f. (reference_formed is_symbolic r.name r.subscripts f).0) rs all)
-
--- what operators put in the place of expressions, of references, and of DO variables
-parts_fit : (give : Tree → List Tree) → ((t : Tree) → formed is_symbolic t ≡ true → AllFormed (give t)) → (node : NodeOf) → node_formed node ≡ true
-    → All IsFit (in_parts give node)
-parts_fit give each (NodeOf.Part t) f = part_fit (give t) (each t f)
-parts_fit give each _ f = no_nodes
-
-computed_fit : (give : Tree → List Tree) → ((t : Tree) → formed is_symbolic t ≡ true → AllFormed (give t)) → (node : NodeOf) → node_formed node ≡ true
-    → All IsFit (in_computed give node)
-computed_fit give each node f =
-    parts_fit (λ t. if is_constant t then [] else give t) (λ t g. chosen IsFormedTree (is_constant t) [] (give t) no_trees (each t g)) node f
-
-abbrev Gives : (Reference → List Reference) → Type 0
-Gives give = (r : Reference) → all_formed is_symbolic r.subscripts ≡ true → AllReferences (give r)
-
-places_fit : (give : Reference → List Reference) → Gives give → (node : NodeOf) → node_formed node ≡ true → All IsFit (in_places give node)
-places_fit give each (NodeOf.Part t) f = by t f
+variable_fit : (old : Symbol) (t : Tree) → IsPlace t → IfSome (placed (NodeOf.Named old) t) IsFit
+variable_fit old (Tree.Reference name items) place = by (are_some items)
   where
-    by : (t : Tree) → formed is_symbolic t ≡ true → All IsFit (in_places give (NodeOf.Part t))
-    by (Tree.Reference name items) f =
-        let r : Reference = record { name = name; subscripts = items } in
-        part_fit (map as_tree (give r)) (trees_formed (give r) (each r (reference_formed is_symbolic name items f).2))
-    by _ f = no_nodes
-places_fit give each (NodeOf.Target name items) f =
-    let r : Reference = record { name = name; subscripts = items } in
-    targets_fit (give r) (each r (and_true (is_symbolic name) (all_formed is_symbolic items) f).1)
-places_fit give each _ f = no_nodes
+    by : (b : Bool) → IfSome (if b then None else Some (NodeOf.Named name)) IsFit
+    by true = tt
+    by false = place.0
+variable_fit old _ place = tt
 
-in_variables_fit : (give : Reference → List Reference) → Gives give → (node : NodeOf) → node_formed node ≡ true → All IsFit (in_variables give node)
-in_variables_fit give each (NodeOf.Named name) f = variables_fit (give (scalar name)) (each (scalar name) refl)
-in_variables_fit give each (NodeOf.Itself s) f = places_fit give each (NodeOf.Itself s) f
-in_variables_fit give each (NodeOf.Target name items) f = places_fit give each (NodeOf.Target name items) f
-in_variables_fit give each (NodeOf.Part t) f = places_fit give each (NodeOf.Part t) f
-in_variables_fit give each (NodeOf.Declared d) f = no_nodes
-in_variables_fit give each (NodeOf.Labelled label) f = no_nodes
-in_variables_fit give each (NodeOf.Initial value) f = no_nodes
-
-labels_fit : (labels : List ℕ) (node : NodeOf) → All IsFit (in_labels labels node)
-labels_fit labels (NodeOf.Labelled label) =
-    each_mapped IsFit NodeOf.Labelled (filter (λ other. not (nat_eq other label)) labels) (λ other. refl)
-labels_fit labels _ = no_nodes
-
-values_fit : (node : NodeOf) → All IsFit (in_values node)
-values_fit (NodeOf.Initial value) =
-    each_mapped IsFit (λ constant. NodeOf.Initial (record { times = value.times; constant = constant })) (next_constants value.constant) (λ constant. refl)
-values_fit _ = no_nodes
-
-statements_fit : (is_site : Form → Bool) (new : Statement) → is_fit (NodeOf.Itself new) ≡ true → (node : NodeOf)
-    → All IsFit (in_statements is_site new node)
-statements_fit is_site new fit (NodeOf.Itself s) =
+statement_fit : (is_site : Form → Bool) (new s : Statement) → is_fit (NodeOf.Itself new) ≡ true → All IsFit (new_statement is_site new s)
+statement_fit is_site new s fit =
     chosen IsFit (is_site (form_of s) && not (same_statement new s)) (NodeOf.Itself new ∷ []) [] (All-cons IsFit (NodeOf.Itself new) [] fit no_nodes) no_nodes
-statements_fit is_site new fit _ = no_nodes
+
+statements_fit : (op : Op) (s : Statement) → All IsFit (in_statement op s)
+statements_fit Rsr s = statement_fit acts_or_continues Statement.Return s refl
+statements_fit San s = statement_fit acts_or_continues Statement.Trap s refl
+statements_fit Sdl s = statement_fit is_replaceable_action Statement.Continue s refl
+statements_fit _ s = no_nodes
+
+labels_fit : (op : Op) (pools : PoolFields) (label : ℕ) → All IsFit (in_label op pools label)
+labels_fit Der pools label = each_mapped IsFit NodeOf.Labelled (filter (λ other. not (nat_eq other label)) pools.labels) (λ other. refl)
+labels_fit Glr pools label = each_mapped IsFit NodeOf.Labelled (filter (λ other. not (nat_eq other label)) pools.labels) (λ other. refl)
+labels_fit _ pools label = no_nodes
+
+values_fit : (op : Op) (value : Value) → All IsFit (in_value op value)
+values_fit Dsa value =
+    each_mapped IsFit (λ constant. NodeOf.Initial (record { times = value.times; constant = constant })) (next_constants value.constant) (λ constant. refl)
+values_fit _ value = no_nodes
 
 module _ (pools : PoolFields) (are : AreFormed pools) where
-  from_references : (r : Reference) → AllReferences (other_references pools.kinds pools.references r)
-  from_references r = others_formed pools.kinds pools.references r are.references
+  pool_formed : (sort : Operand) → AllFormed (pool pools sort)
+  pool_formed operand.ArrayReference = are.references
+  pool_formed operand.Constant = are.constants
+  pool_formed operand.Scalar = are.scalars
 
-  from_scalars : (r : Reference) → AllReferences (other_references pools.kinds (map scalar pools.scalars) r)
-  from_scalars r = others_formed pools.kinds (map scalar pools.scalars) r (scalars_formed pools.scalars are.scalars)
+  drawn_formed : (new old : Operand) (t : Tree) → AllFormed (drawn pools new old t)
+  drawn_formed new old t =
+      chosen IsFormedTree (is_operand old t) (others pools.kinds (pool pools new) t) []
+      (All-filter (λ u. same_kind (kind_of_expression pools.kinds u) (kind_of_expression pools.kinds t) && not (same_tree u t)) IsFormedTree
+      (pool pools new) (pool_formed new)) no_trees
+
+  subscripts_formed : (name : Symbol) (items : Trees) → all_formed is_symbolic items ≡ true → AllFormed (with_subscripts pools name items)
+  subscripts_formed name items all =
+      All-map IsFormedTree (λ other. Tree.Reference other items) (filter (is_comparable pools name) pools.arrays)
+      (All-weaker (λ other. IsNamed other × IsNoFunction other) (λ other. IsFormedTree (Tree.Reference other items))
+      (λ other own. named_formed other items own.0 own.1 all) (filter (is_comparable pools name) pools.arrays)
+      (All-filter (is_comparable pools name) (λ other. IsNamed other × IsNoFunction other) pools.arrays are.arrays))
+
+  comparable_formed : (name : Symbol) (items : Trees) → all_formed is_symbolic items ≡ true → AllFormed (comparable pools (Tree.Reference name items))
+  comparable_formed name items all =
+      chosen IsFormedTree (are_some items) (with_subscripts pools name items) [] (subscripts_formed name items all) no_trees
+
+  comparable_of : (t : Tree) → IsFormedTree t → AllFormed (comparable pools t)
+  comparable_of (Tree.Reference name items) f = comparable_formed name items (reference_formed is_symbolic name items f).2
+  comparable_of _ f = no_trees
+
+  -- what operators put in the place of an expression is formed
+  each_formed : (op : Op) (t : Tree) → IsFormedTree t → AllFormed (in_expression op pools t)
+  each_formed Aar t f = drawn_formed operand.ArrayReference operand.ArrayReference t
+  each_formed Abs t f = absolute_formed pools.kinds t f
+  each_formed Acr t f = drawn_formed operand.ArrayReference operand.Constant t
+  each_formed Aor t f = group_formed arithmetic_operators operands operands_formed t f
+  each_formed Asr t f = drawn_formed operand.ArrayReference operand.Scalar t
+  each_formed Car t f = drawn_formed operand.Constant operand.ArrayReference t
+  each_formed Cnr t f = comparable_of t f
+  each_formed Crp t f = altered_formed t f
+  each_formed Csr t f = drawn_formed operand.Constant operand.Scalar t
+  each_formed Lcr t f =
+      group_formed connectors (λ a b. operands a b ++ truths)
+      (λ a b g h. All-append IsFormedTree (operands a b) truths (operands_formed a b g h) truths_formed) t f
+  each_formed Ror t f = group_formed relations (λ a b. truths) (λ a b g h. truths_formed) t f
+  each_formed Sar t f = drawn_formed operand.Scalar operand.ArrayReference t
+  each_formed Scr t f = drawn_formed operand.Scalar operand.Constant t
+  each_formed Src t f = drawn_formed operand.Constant operand.Constant t
+  each_formed Svr t f = drawn_formed operand.Scalar operand.Scalar t
+  each_formed Uoi t f = unary_formed pools.kinds t f
+  each_formed _ t f = no_trees
+
+  -- no other expressions than these are references
+  drawn_place : (new old : Operand) (t : Tree) → All IsPlace (drawn pools new old t)
+  drawn_place new old t = All-weaker IsFormedTree IsPlace formed_place (drawn pools new old t) (drawn_formed new old t)
+
+  no_places : All IsPlace []
+  no_places = All-nil IsPlace
+
+  unary_place : (kind : Kind) (name : Symbol) (items : Trees) → All IsPlace (unary_of kind (Tree.Reference name items))
+  unary_place Integer name items =
+      let t = Tree.Reference name items in
+      three_of IsPlace (Tree.Signed Minus t) (Tree.Binary operator.Add t (Tree.Number 1)) (Tree.Binary operator.Subtract t (Tree.Number 1)) tt tt tt
+  unary_place Logical name items = All-cons IsPlace (Tree.Not (Tree.Reference name items)) [] tt no_places
+
+  each_place : (op : Op) (name : Symbol) (items : Trees) → all_formed is_symbolic items ≡ true → All IsPlace (in_expression op pools (Tree.Reference name items))
+  each_place Aar name items f = drawn_place operand.ArrayReference operand.ArrayReference (Tree.Reference name items)
+  each_place Abs name items f =
+      let t = Tree.Reference name items in
+      let value = absolute_value t in
+      chosen IsPlace (not (same_kind (pools.kinds name) Integer)) [] (value ∷ (Tree.Signed Minus value ∷ (Tree.ZeroPush t ∷ []))) no_places
+      (three_of IsPlace value (Tree.Signed Minus value) (Tree.ZeroPush t) tt tt tt)
+  each_place Asr name items f = drawn_place operand.ArrayReference operand.Scalar (Tree.Reference name items)
+  each_place Car name items f = drawn_place operand.Constant operand.ArrayReference (Tree.Reference name items)
+  each_place Cnr name items f =
+      All-weaker IsFormedTree IsPlace formed_place (comparable pools (Tree.Reference name items)) (comparable_formed name items f)
+  each_place Csr name items f = drawn_place operand.Constant operand.Scalar (Tree.Reference name items)
+  each_place Sar name items f = drawn_place operand.Scalar operand.ArrayReference (Tree.Reference name items)
+  each_place Svr name items f = drawn_place operand.Scalar operand.Scalar (Tree.Reference name items)
+  each_place Uoi name items f = unary_place (pools.kinds name) name items
+  each_place _ name items f = no_places
 
   replacements_fit : (op : Op) (node : NodeOf) → node_formed node ≡ true → All IsFit (replacements op pools node)
-  replacements_fit Aar node f = places_fit (in_place Aar pools) (λ r g. of_elements_formed (other_references pools.kinds pools.references) r (from_references r)) node f
-  replacements_fit Abs node f =
-      computed_fit (λ t. if same_kind Integer (kind_of_expression pools.kinds t) then absolute t else [])
-      (λ t g. chosen IsFormedTree (same_kind Integer (kind_of_expression pools.kinds t)) (absolute t) [] (absolute_formed t g) no_trees) node f
-  replacements_fit Acr node f =
-      parts_fit (drawn is_constant pools.kinds (map as_tree pools.references))
-      (λ t g. drawn_formed is_constant pools.kinds (map as_tree pools.references) t (trees_formed pools.references are.references)) node f
-  replacements_fit Aor node f = parts_fit (with_group arithmetic_operators operands) (group_formed arithmetic_operators operands operands_formed) node f
-  replacements_fit Asr node f = places_fit (in_place Asr pools) (λ r g. of_scalars_formed (other_references pools.kinds pools.references) r (from_references r)) node f
-  replacements_fit Car node f =
-      parts_fit (drawn is_element pools.kinds pools.constants) (λ t g. drawn_formed is_element pools.kinds pools.constants t are.constants) node f
-  replacements_fit Cnr node f = places_fit (in_place Cnr pools) (λ r g. of_elements_formed (comparable pools) r (comparable_formed pools are r g)) node f
-  replacements_fit Crp node f = parts_fit altered altered_formed node f
-  replacements_fit Csr node f =
-      parts_fit (drawn is_scalar pools.kinds pools.constants) (λ t g. drawn_formed is_scalar pools.kinds pools.constants t are.constants) node f
-  replacements_fit Der node f = labels_fit pools.labels node
-  replacements_fit Dsa node f = values_fit node
-  replacements_fit Glr node f = labels_fit pools.labels node
-  replacements_fit Lcr node f =
-      parts_fit (with_group connectors (λ a b. operands a b ++ truths))
-      (group_formed connectors (λ a b. operands a b ++ truths)
-      (λ a b g h. All-append IsFormedTree (operands a b) truths (operands_formed a b g h) truths_formed)) node f
-  replacements_fit Ror node f = parts_fit (with_group relations (λ a b. truths)) (group_formed relations (λ a b. truths) (λ a b g h. truths_formed)) node f
-  replacements_fit Rsr node f = statements_fit acts_or_continues Statement.Return refl node
-  replacements_fit San node f = statements_fit acts_or_continues Statement.Trap refl node
-  replacements_fit Sar node f =
-      places_fit (in_place Sar pools) (λ r g. of_elements_formed (other_references pools.kinds (map scalar pools.scalars)) r (from_scalars r)) node f
-  replacements_fit Scr node f =
-      parts_fit (drawn is_constant pools.kinds (map as_tree (map scalar pools.scalars)))
-      (λ t g. drawn_formed is_constant pools.kinds (map as_tree (map scalar pools.scalars)) t
-      (trees_formed (map scalar pools.scalars) (scalars_formed pools.scalars are.scalars))) node f
-  replacements_fit Sdl node f = statements_fit is_replaceable_action Statement.Continue refl node
-  replacements_fit Src node f =
-      parts_fit (drawn is_constant pools.kinds pools.constants) (λ t g. drawn_formed is_constant pools.kinds pools.constants t are.constants) node f
-  replacements_fit Svr node f =
-      in_variables_fit (in_place Svr pools) (λ r g. of_scalars_formed (other_references pools.kinds (map scalar pools.scalars)) r (from_scalars r)) node f
-  replacements_fit Uoi node f = computed_fit (λ t. with_unary (kind_of_expression pools.kinds t) t) (λ t g. unary_formed (kind_of_expression pools.kinds t) t g) node f
+  replacements_fit op (NodeOf.Itself s) f = statements_fit op s
+  replacements_fit op (NodeOf.Target name items) f =
+      All-filter_map IsFit IsPlace (placed (NodeOf.Target name items)) (target_fit name items) (in_expression op pools (Tree.Reference name items))
+      (each_place op name items (and_true (is_symbolic name) (all_formed is_symbolic items) f).1)
+  replacements_fit op (NodeOf.Part t) f =
+      All-filter_map IsFit IsFormedTree (placed (NodeOf.Part t)) (λ u g. g) (in_expression op pools t) (each_formed op t f)
+  replacements_fit op (NodeOf.Named name) f =
+      All-filter_map IsFit IsPlace (placed (NodeOf.Named name)) (variable_fit name) (in_expression op pools (scalar name)) (each_place op name Trees.None refl)
+  replacements_fit op (NodeOf.Declared d) f = no_nodes
+  replacements_fit op (NodeOf.Labelled label) f = labels_fit op pools label
+  replacements_fit op (NodeOf.Initial value) f = values_fit op value
 
   pub gives_fit : (op : Op) (s : Statement) (node : NodeOf) → node_formed node ≡ true → All IsFit (gives op pools s node)
   gives_fit op s node f = chosen IsFit (stands_in op s) (replacements op pools node) [] (replacements_fit op node f) no_nodes

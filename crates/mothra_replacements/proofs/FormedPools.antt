@@ -1,11 +1,12 @@
 -- What the operators draw from in a legal program is formed.
-use Rattle.std.proofs.Common.{◌≡◌, List, [], ◌∷◌, Bool, true, Option, Some, None, filter, map, refl, sym, ap, if◌then◌else◌}
+use Rattle.std.proofs.Common.{◌≡◌, List, [], ◌∷◌, Bool, true, false, Option, Some, None, filter, map, refl, sym, ap, if◌then◌else◌}
 use Rattle.std.specs.Prelude.{not}
 use Rattle.std.specs.List.{All, cons_option, filter_map}
 use Rattle.std.specs.Option.{IfSome}
 use Rattle.std.proofs.lemmas.List.{map-append}
-use Rattle.std.proofs.lemmas.List.Elements.{All-nil, All-cons, All-head, All-tail, All-append, All-filter, All-same}
+use Rattle.std.proofs.lemmas.List.Elements.{All-nil, All-cons, All-head, All-tail, All-append, All-filter, All-map, All-same, All-weaker}
 use Rattle.f77_tree.specs.Comparing.{same_tree}
+use Rattle.f77_tree.specs.Grammar.{is_call}
 use Rattle.f77_tree.specs.Name.{is_symbolic}
 use Rattle.f77_tree.specs.Statement.{Statement, is_executable_statement}
 use Rattle.f77_tree.specs.Tree.{Tree, Trees}
@@ -17,22 +18,29 @@ use Rattle.f77_program.proofs.Forming.{a_reference}
 use Rattle.f77_legal.specs.Legal.{IsLegal, is_array}
 use Rattle.f77_legal.specs.Names.{Symbol, NameUse, uses, uses_of, name_in, symbols}
 use Rattle.f77_legal.proofs.Among.{once_all}
-use Rattle.mothra_replacements.specs.Pools.{PoolFields, Reference, array_reference, as_tree, constant, each_once, executable_nodes, pools_of, same_reference, scalar}
+use Rattle.mothra_replacements.specs.Pools.{PoolFields, each_once, executable_nodes, is_operand, operand_at, pools_of, scalar}
+use Rattle.mothra_replacements.specs.declared.operands.Operand.{Operand}
+use Rattle.mothra_replacements.specs.declared.operands.Operand.TheVariants as operand
 use Rattle.mothra_replacements.proofs.FormedNodes.{IsFormedLine, IsFormedNode, IsFormedTree, IsNamed, IsNoFunction, both_parts, lines_formed, nodes_formed, symbols_named, symbols_no_functions}
-
--- some text spells the reference
-abbrev pub IsFormedReference : Reference → Type 0
-IsFormedReference r = IsFormedTree (as_tree r)
 
 -- the pools hold what some text spells; the arrays bear names of no functions
 pub record AreFormed (pools : PoolFields) : Type 0 where
-  pub scalars : All IsNamed pools.scalars
+  pub scalars : All IsFormedTree pools.scalars
   pub arrays : All (λ name. IsNamed name × IsNoFunction name) pools.arrays
-  pub references : All IsFormedReference pools.references
+  pub references : All IsFormedTree pools.references
   pub constants : All IsFormedTree pools.constants
 
-pub scalar_formed : (name : Symbol) → IsNamed name → IsFormedReference (scalar name)
+scalar_formed : (name : Symbol) → IsNamed name → IsFormedTree (scalar name)
 scalar_formed name is = rw (a_reference is_symbolic name Trees.None refl is) refl
+
+-- a name that is not a function's is no call, with subscripts and without
+no_function : (name : Symbol) (items : Trees) → IsNoFunction name → is_call name items ≡ false
+no_function name Trees.None own = refl
+no_function name (Trees.Then t ts) own = own
+
+pub named_formed : (name : Symbol) (items : Trees) → IsNamed name → IsNoFunction name → all_formed is_symbolic items ≡ true
+    → IsFormedTree (Tree.Reference name items)
+named_formed name items is own all = rw (a_reference is_symbolic name items (no_function name items own) is, all) refl
 
 all_each_once : {X : Type 0} (P : X → Type 0) (same : X → X → Bool) (xs : List X) → All P xs → All P (each_once same xs)
 all_each_once P same [] all = All-nil P
@@ -40,40 +48,30 @@ all_each_once P same (x ∷ xs) all =
     All-cons P x (filter (λ y. not (same x y)) (each_once same xs)) (All-head P x xs all)
     (All-filter (λ y. not (same x y)) P (each_once same xs) (all_each_once P same xs (All-tail P x xs all)))
 
-constants_formed : (nodes : List NodeOf) → All IsFormedTree (filter_map constant nodes)
-constants_formed [] = All-nil IsFormedTree
-constants_formed (node ∷ nodes) = by node (constants_formed nodes)
+-- what a function gives of each item has a property
+pub All-filter_map : {X Y : Type 0} (P : Y → Type 0) (Q : X → Type 0) (h : X → Option Y) → ((x : X) → Q x → IfSome (h x) P)
+    → (xs : List X) → All Q xs → All P (filter_map h xs)
+All-filter_map P Q h each [] all = All-nil P
+All-filter_map {X} {Y} P Q h each (x ∷ xs) all = by (h x) (each x (All-head Q x xs all)) (All-filter_map P Q h each xs (All-tail Q x xs all))
   where
-    by_tree : (t : Tree) → All IsFormedTree (filter_map constant nodes) → All IsFormedTree (filter_map constant (NodeOf.Part t ∷ nodes))
-    by_tree (Tree.Number n) rest = All-cons IsFormedTree (Tree.Number n) (filter_map constant nodes) refl rest
-    by_tree (Tree.Truth b) rest = All-cons IsFormedTree (Tree.Truth b) (filter_map constant nodes) refl rest
-    by_tree _ rest = rest
-
-    by : (n : NodeOf) → All IsFormedTree (filter_map constant nodes) → All IsFormedTree (filter_map constant (n ∷ nodes))
-    by (NodeOf.Part t) rest = by_tree t rest
-    by _ rest = rest
+    by : (o : Option Y) → IfSome o P → All P (filter_map h xs) → All P (cons_option o (filter_map h xs))
+    by None is rest = rest
+    by (Some y) is rest = All-cons P y (filter_map h xs) is rest
 
 -- a formed node that bears the name of no function
 abbrev IsOwn : NodeOf → Type 0
 IsOwn node = IsFormedNode node × IfSome (node_name node) IsNoFunction
 
-references_formed : (nodes : List NodeOf) → All IsOwn nodes → All IsFormedReference (filter_map array_reference nodes)
-references_formed [] all = All-nil IsFormedReference
-references_formed (node ∷ nodes) all = by node (All-head IsOwn node nodes all) (references_formed nodes (All-tail IsOwn node nodes all))
-  where
-    by_tree : (t : Tree) → formed is_symbolic t ≡ true → All IsFormedReference (filter_map array_reference nodes)
-        → All IsFormedReference (filter_map array_reference (NodeOf.Part t ∷ nodes))
-    by_tree (Tree.Reference name (Trees.Then t ts)) f rest =
-        All-cons IsFormedReference (record { name = name; subscripts = Trees.Then t ts }) (filter_map array_reference nodes) f rest
-    by_tree _ f rest = rest
+if_formed : (b : Bool) (t : Tree) → IsFormedTree t → IfSome (if b then Some t else None) IsFormedTree
+if_formed true t f = f
+if_formed false t f = tt
 
-    by : (n : NodeOf) → IsOwn n → All IsFormedReference (filter_map array_reference nodes) → All IsFormedReference (filter_map array_reference (n ∷ nodes))
-    by (NodeOf.Target name (Trees.Then t ts)) own rest =
-        let (is, items) = and_true (is_symbolic name) (all_formed is_symbolic (Trees.Then t ts)) own.0 in
-        All-cons IsFormedReference (record { name = name; subscripts = Trees.Then t ts }) (filter_map array_reference nodes)
-        (rw (a_reference is_symbolic name (Trees.Then t ts) own.1 is, items) refl) rest
-    by (NodeOf.Part t) own rest = by_tree t own.0 rest
-    by _ own rest = rest
+operand_formed : (sort : Operand) (node : NodeOf) → IsOwn node → IfSome (operand_at sort node) IsFormedTree
+operand_formed sort (NodeOf.Part t) own = if_formed (is_operand sort t) t own.0
+operand_formed sort (NodeOf.Target name items) own =
+    let (is, all) = and_true (is_symbolic name) (all_formed is_symbolic items) own.0 in
+    if_formed (is_operand sort (Tree.Reference name items)) (Tree.Reference name items) (named_formed name items is own.1 all)
+operand_formed sort _ own = tt
 
 -- the names that nodes bear, one by one
 first_named : (o : Option Symbol) (names : List Symbol) → All IsNoFunction (cons_option o names) → IfSome o IsNoFunction × All IsNoFunction names
@@ -117,10 +115,14 @@ pools_formed program is legal =
     let named = symbols_named program lines in
     let others = symbols_no_functions program legal in
     let nodes = executable_nodes program in
+    let own = own_nodes program lines (once_all IsNoFunction (map name_in (uses program)) others) in
+    let operands = λ (sort : Operand). all_each_once IsFormedTree same_tree (filter_map (operand_at sort) nodes)
+    (All-filter_map IsFormedTree IsOwn (operand_at sort) (operand_formed sort) nodes own) in
+    let without = filter (λ name. not (is_array program name)) (symbols program) in
     record {
-      scalars = All-filter (λ name. not (is_array program name)) IsNamed (symbols program) named;
+      scalars = All-map IsFormedTree scalar without (All-weaker IsNamed (λ name. IsFormedTree (scalar name)) scalar_formed without
+          (All-filter (λ name. not (is_array program name)) IsNamed (symbols program) named));
       arrays = All-filter (is_array program) (λ name. IsNamed name × IsNoFunction name) (symbols program) (λ k d low. (named k d low, others k d low));
-      references = all_each_once IsFormedReference same_reference (filter_map array_reference nodes)
-          (references_formed nodes (own_nodes program lines (once_all IsNoFunction (map name_in (uses program)) others)));
-      constants = all_each_once IsFormedTree same_tree (filter_map constant nodes) (constants_formed nodes);
+      references = operands operand.ArrayReference;
+      constants = operands operand.Constant;
     }

@@ -4,7 +4,6 @@ pub mod Elements
 pub mod Ascending
 pub mod PoolLists
 pub mod PoolLines
-pub mod InPlaces
 pub mod FormedNodes
 pub mod FormedSites
 pub mod FormedPools

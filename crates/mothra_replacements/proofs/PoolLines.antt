@@ -1,11 +1,9 @@
 -- The pools of a program, found in its table of names.
-use Rattle.std.proofs.Common.{◌≡◌, ◌∷◌, [], ℕ, List, not, filter, refl, sym, ap, ◌∙◌}
+use Rattle.std.proofs.Common.{◌≡◌, ◌∷◌, [], ℕ, List, not, map, filter, refl, sym, ap, ◌∙◌}
 use Rattle.std.specs.Prelude.{is_some}
-use Rattle.std.specs.List.{filter_map}
 use Rattle.std.specs.Map.{keys_of}
 use Rattle.std.proofs.lemmas.Map.Made.{keys_of-map_values}
 use Rattle.indexmap.specs.IndexMap.{keys}
-use Rattle.f77_tree.specs.Comparing.{same_tree}
 use Rattle.f77_program.specs.Program.{LineFields}
 use Rattle.f77_tree.specs.Tree.{Tree}
 use Rattle.f77_tree.specs.declared.tree.Kind.{Kind}
@@ -16,7 +14,8 @@ use Rattle.f77_legal.specs.NameTable.{FactsFields, IsNameTable, facts_fields, fa
 use Rattle.f77_legal.specs.declared.names.Names.{Names}
 use Rattle.f77_legal.proofs.Lookups.{same_kinds, same_bounds}
 use Rattle.f77_legal.proofs.NameTables.{rows}
-use Rattle.mothra_replacements.specs.Pools.{PoolFields, Reference, pools_of, ascending, each_once, same_reference, array_reference, constant, executable_nodes}
+use Rattle.mothra_replacements.specs.Pools.{PoolFields, pools_of, ascending, operands_of, scalar}
+use Rattle.mothra_replacements.specs.declared.operands.Operand.TheVariants as operand
 
 keys_rows : (f : Symbol → FactsFields) (names : List Symbol) → keys_of (rows f names) ≡ names
 keys_rows f [] = refl
@@ -26,7 +25,7 @@ keys_are : (names : Names) (program : List LineFields) → IsNameTable names pro
 keys_are names program is =
     sym (keys_of-map_values facts_fields names.facts.entries) ∙ (ap keys_of is ∙ keys_rows (facts_of (uses program)) (symbols program))
 
-abbrev drawn_from : (Symbol → Kind) → (Symbol → List ℕ) → List Symbol → List Symbol → List Reference → List Tree → List ℕ → PoolFields
+abbrev drawn_from : (Symbol → Kind) → (Symbol → List ℕ) → List Tree → List Symbol → List Tree → List Tree → List ℕ → PoolFields
 drawn_from kinds bounds scalars arrays references constants ordered = record {
   kinds = kinds;
   bounds = bounds;
@@ -45,11 +44,11 @@ module _ (names : Names) (program : List LineFields) (is : IsNameTable names pro
   pub arrays_are : filter (λ name. is_some (some_items (array_bounds names name))) (keys names.facts) ≡ filter (is_array program) (symbols program)
   arrays_are = λ i. filter (λ name. is_some (some_items (same_bounds names program is i name))) (keys_are names program is i)
 
-  pub pools_are : (scalars arrays : List Symbol) (references : List Reference) (constants : List Tree) (ordered : List ℕ)
-      → scalars ≡ filter (λ name. not (is_array program name)) (symbols program)
+  pub pools_are : (scalars : List Tree) (arrays : List Symbol) (references constants : List Tree) (ordered : List ℕ)
+      → scalars ≡ map scalar (filter (λ name. not (is_array program name)) (symbols program))
       → arrays ≡ filter (is_array program) (symbols program)
-      → references ≡ each_once same_reference (filter_map array_reference (executable_nodes program))
-      → constants ≡ each_once same_tree (filter_map constant (executable_nodes program))
+      → references ≡ operands_of program operand.ArrayReference
+      → constants ≡ operands_of program operand.Constant
       → ordered ≡ ascending (labels program)
       → drawn_from (kind_at names) (array_bounds names) scalars arrays references constants ordered ≡ pools_of program
   pools_are scalars arrays references constants ordered without with_bounds referred constant_is sorted = λ i. record {

@@ -44,9 +44,9 @@ abbrev pools : PoolFields
 pools = record {
   kinds = λ name. Integer;
   bounds = λ name. [];
-  scalars = i ∷ (j ∷ (k ∷ []));
+  scalars = variable i ∷ (variable j ∷ (variable k ∷ []));
   arrays = m ∷ (n ∷ []);
-  references = record { name = m; subscripts = Trees.Then (variable i) Trees.None } ∷ (record { name = n; subscripts = Trees.Then (Tree.Number 1) Trees.None } ∷ []);
+  references = m_of_i ∷ (n_of_1 ∷ []);
   constants = Tree.Number 1 ∷ [];
   labels = ascending (30 ∷ (10 ∷ (20 ∷ [])));
 }

@@ -1,9 +1,9 @@
 -- What each operator puts in the place of a node (King and Offutt 1991,
 -- the operators of Mothra). A rank is a place in these lists, from 1.
-use Rattle.std.specs.Prelude.{ℕ, zero, suc, ◌+◌, ◌==◌, ◌&&◌, ◌+ℤ◌, ◌-ℤ◌, pos, nat_abs, Bool}
+use Rattle.std.specs.Prelude.{ℕ, zero, suc, ◌+◌, ◌==◌, ◌&&◌, ◌||◌, ◌+ℤ◌, ◌-ℤ◌, pos, nat_abs, Bool}
 use Rattle.std.specs.Prelude.{true, false, not, nat_eq, nat_lt, nat_le, List, [], ◌∷◌, ◌++◌}
-use Rattle.std.specs.Prelude.{length, map, filter, if◌then◌else◌}
-use Rattle.std.specs.List.{list_any}
+use Rattle.std.specs.Prelude.{length, map, filter, Option, Some, None, if◌then◌else◌}
+use Rattle.std.specs.List.{filter_map, list_any}
 use Rattle.std.specs.Str.{bytes_eq}
 use Rattle.f77_tree.specs.Comparing.{same_tree, same_operator, same_kind}
 use Rattle.f77_tree.specs.Statement.{same_statement, form_of, is_executable_statement, Statement}
@@ -11,6 +11,7 @@ use Rattle.f77_tree.specs.Limits.{largest_integer}
 use Rattle.f77_tree.specs.Node.{NodeOf}
 use Rattle.f77_tree.specs.Tree.{Tree, Trees}
 use Rattle.f77_tree.specs.declared.data.Constant.{Constant}
+use Rattle.f77_tree.specs.declared.data.Value.{Value}
 use Rattle.f77_tree.specs.Form as forms
 use Rattle.f77_tree.specs.declared.form.Form.{Form}
 use Rattle.f77_tree.specs.declared.intrinsic.Intrinsic.TheVariants.{Iabs}
@@ -21,7 +22,9 @@ use Rattle.f77_tree.specs.declared.tree.Kind.{Kind}
 use Rattle.f77_tree.specs.declared.tree.Kind.TheVariants.{Integer, Logical}
 use Rattle.f77_legal.specs.Kinds.{result_kind}
 use Rattle.f77_legal.specs.Names.{Symbol}
-use Rattle.mothra_replacements.specs.Pools.{PoolFields, Reference, as_tree, same_reference, scalar}
+use Rattle.mothra_replacements.specs.Pools.{PoolFields, are_some, is_operand, pool, scalar}
+use Rattle.mothra_replacements.specs.declared.operands.Operand.{Operand}
+use Rattle.mothra_replacements.specs.declared.operands.Operand.TheVariants as operand
 use Rattle.mothra_codes.specs.declared.op.Op.{Op}
 use Rattle.mothra_codes.specs.declared.op.Op.TheVariants.{Aar, Abs, Acr, Aor, Asr, Car, Cnr, Crp, Csr, Der, Dsa}
 use Rattle.mothra_codes.specs.declared.op.Op.TheVariants.{Glr, Lcr, Ror, Rsr, San, Sar, Scr, Sdl, Src, Svr, Uoi}
@@ -37,43 +40,16 @@ kind_of_expression kinds (Tree.Not t) = Logical
 kind_of_expression kinds (Tree.Binary op a b) = result_kind op
 kind_of_expression kinds (Tree.ZeroPush t) = Integer
 
--- a list of subscripts that is not empty: that of an array element
-abbrev pub are_some : Trees → Bool
-are_some Trees.None = false
-are_some (Trees.Then t ts) = true
-
--- an array element
-abbrev pub is_element : Tree → Bool
-is_element (Tree.Reference name subscripts) = are_some subscripts
-is_element _ = false
-
--- a scalar
-abbrev pub is_scalar : Tree → Bool
-is_scalar (Tree.Reference name subscripts) = not (are_some subscripts)
-is_scalar _ = false
-
--- a constant
-abbrev pub is_constant : Tree → Bool
-is_constant (Tree.Number n) = true
-is_constant (Tree.Truth b) = true
-is_constant _ = false
-
--- ACR, SCR, CAR, CSR and SRC: each other expression of a pool, of the same kind
+-- each other expression of a pool, of the same kind
 abbrev pub others : (Symbol → Kind) → List Tree → Tree → List Tree
-others kinds pool t = filter
+others kinds list t = filter
     (λ u. same_kind (kind_of_expression kinds u) (kind_of_expression kinds t)
-    && not (same_tree u t)) pool
+    && not (same_tree u t)) list
 
--- each other expression of a pool, of the same kind, where the expression
--- passes a test; nothing elsewhere
-abbrev pub drawn : (Tree → Bool) → (Symbol → Kind) → List Tree → Tree → List Tree
-drawn is_site kinds pool t = if is_site t then others kinds pool t else []
-
--- AAR, ASR, SAR and SVR: each other reference of a pool, of the same kind
-abbrev pub other_references : (Symbol → Kind) → List Reference → Reference → List Reference
-other_references kinds pool reference = filter
-    (λ other. same_kind (kinds other.name) (kinds reference.name)
-    && not (same_reference other reference)) pool
+-- ACR, array reference for constant, and its kin: each other operand of the
+-- first sort, of the same kind, for an operand of the second sort
+abbrev pub drawn : PoolFields → Operand → Operand → Tree → List Tree
+drawn pools new old t = if is_operand old t then others pools.kinds (pool pools new) t else []
 
 -- another array of the same kind and number of bounds
 abbrev pub is_comparable : PoolFields → Symbol → Symbol → Bool
@@ -81,26 +57,38 @@ is_comparable pools name other =
     same_kind (pools.kinds other) (pools.kinds name)
     && (length (pools.bounds other) == length (pools.bounds name) && not (bytes_eq other name))
 
+-- these subscripts behind each such array
+abbrev pub with_subscripts : PoolFields → Symbol → Trees → List Tree
+with_subscripts pools name items =
+    map (λ other. Tree.Reference other items) (filter (is_comparable pools name) pools.arrays)
+
 -- CNR: each other array of the same kind and number of bounds, with the same subscripts
-abbrev pub comparable : PoolFields → Reference → List Reference
-comparable pools reference =
-    map (λ other. record { name = other; subscripts = reference.subscripts })
-    (filter (is_comparable pools reference.name) pools.arrays)
+abbrev pub comparable : PoolFields → Tree → List Tree
+comparable pools (Tree.Reference name items) =
+    if are_some items then with_subscripts pools name items else []
+comparable pools _ = []
 
 -- IABS of an expression
 abbrev pub absolute_value : Tree → Tree
 absolute_value t = Tree.Call Iabs (Trees.Then t Trees.None)
 
--- ABS: the absolute value, its negative, and ZPUSH, which fails where the value is zero
-abbrev pub absolute : Tree → List Tree
-absolute t = absolute_value t ∷ (Tree.Signed Minus (absolute_value t) ∷ (Tree.ZeroPush t ∷ []))
+-- ABS, of INTEGER and no constant: the absolute value, its negative, and ZPUSH, which
+-- fails where the value is zero
+abbrev pub absolute : (Symbol → Kind) → Tree → List Tree
+absolute kinds t =
+    if is_operand operand.Constant t || not (same_kind (kind_of_expression kinds t) Integer) then []
+    else absolute_value t ∷ (Tree.Signed Minus (absolute_value t) ∷ (Tree.ZeroPush t ∷ []))
 
--- UOI: of INTEGER the negative, plus 1 and minus 1; of LOGICAL the negation
-abbrev pub with_unary : Kind → Tree → List Tree
-with_unary Integer t =
+-- UOI, of no constant: of INTEGER the negative, plus 1 and minus 1; of LOGICAL the negation
+abbrev pub unary_of : Kind → Tree → List Tree
+unary_of Integer t =
     Tree.Signed Minus t ∷ (Tree.Binary operator.Add t (Tree.Number 1)
     ∷ (Tree.Binary operator.Subtract t (Tree.Number 1) ∷ []))
-with_unary Logical t = Tree.Not t ∷ []
+unary_of Logical t = Tree.Not t ∷ []
+
+abbrev pub with_unary : (Symbol → Kind) → Tree → List Tree
+with_unary kinds t =
+    if is_operand operand.Constant t then [] else unary_of (kind_of_expression kinds t) t
 
 -- AOR: the arithmetic operators (ANSI X3.9-1978, 6.1)
 abbrev pub arithmetic_operators : List Operator
@@ -156,35 +144,34 @@ altered (Tree.Number n) = raised n ++ lowered n
 altered (Tree.Truth b) = Tree.Truth (not b) ∷ []
 altered _ = []
 
--- what an operator gives for an expression, as nodes; nothing for another node
-abbrev pub in_parts : (Tree → List Tree) → NodeOf → List NodeOf
-in_parts gives (NodeOf.Part t) = map NodeOf.Part (gives t)
-in_parts gives _ = []
+-- what an operator puts in the place of an expression
+abbrev pub in_expression : Op → PoolFields → Tree → List Tree
+in_expression Aar pools t = drawn pools operand.ArrayReference operand.ArrayReference t
+in_expression Abs pools t = absolute pools.kinds t
+in_expression Acr pools t = drawn pools operand.ArrayReference operand.Constant t
+in_expression Aor pools t = with_group arithmetic_operators operands t
+in_expression Asr pools t = drawn pools operand.ArrayReference operand.Scalar t
+in_expression Car pools t = drawn pools operand.Constant operand.ArrayReference t
+in_expression Cnr pools t = comparable pools t
+in_expression Crp pools t = altered t
+in_expression Csr pools t = drawn pools operand.Constant operand.Scalar t
+in_expression Lcr pools t = with_group connectors (λ a b. operands a b ++ truths) t
+in_expression Ror pools t = with_group relations (λ a b. truths) t
+in_expression Sar pools t = drawn pools operand.Scalar operand.ArrayReference t
+in_expression Scr pools t = drawn pools operand.Scalar operand.Constant t
+in_expression Src pools t = drawn pools operand.Constant operand.Constant t
+in_expression Svr pools t = drawn pools operand.Scalar operand.Scalar t
+in_expression Uoi pools t = with_unary pools.kinds t
+in_expression _ pools t = []
 
--- a reference as the target of an assignment
-abbrev pub as_target : Reference → NodeOf
-as_target reference = NodeOf.Target reference.name reference.subscripts
-
--- the name of a reference as a DO variable
-abbrev pub as_variable : Reference → NodeOf
-as_variable reference = NodeOf.Named reference.name
-
--- what an operator gives for a reference, in an expression or as a target; nothing for another node
-abbrev pub in_places : (Reference → List Reference) → NodeOf → List NodeOf
-in_places gives (NodeOf.Part (Tree.Reference name items)) =
-    map NodeOf.Part (map as_tree (gives (record { name = name; subscripts = items })))
-in_places gives (NodeOf.Target name items) =
-    map as_target (gives (record { name = name; subscripts = items }))
-in_places gives _ = []
-
--- what an operator gives for a reference, also for a DO variable, which is a scalar
-abbrev pub in_variables : (Reference → List Reference) → NodeOf → List NodeOf
-in_variables gives (NodeOf.Named name) = map as_variable (gives (scalar name))
-in_variables gives node = in_places gives node
-
--- what an operator gives for an expression that is no constant; nothing for another node
-abbrev pub in_computed : (Tree → List Tree) → NodeOf → List NodeOf
-in_computed gives = in_parts (λ t. if is_constant t then [] else gives t)
+-- an expression in the place of a node, where it may stand there: only a
+-- reference is assigned to, and a DO variable is a scalar
+abbrev pub placed : NodeOf → Tree → Option NodeOf
+placed (NodeOf.Part old) t = Some (NodeOf.Part t)
+placed (NodeOf.Target old olds) (Tree.Reference name items) = Some (NodeOf.Target name items)
+placed (NodeOf.Named old) (Tree.Reference name items) =
+    if are_some items then None else Some (NodeOf.Named name)
+placed _ _ = None
 
 -- DSA: the number plus one and less one, from -2147483647 to 2147483647; the other truth value
 abbrev pub next_constants : Constant → List Constant
@@ -192,18 +179,27 @@ next_constants (Constant.Number z) = map Constant.Number
     (filter (λ w. nat_le (nat_abs w) largest_integer) ((z +ℤ pos 1) ∷ ((z -ℤ pos 1) ∷ [])))
 next_constants (Constant.Truth b) = Constant.Truth (not b) ∷ []
 
--- DSA, for a value of DATA, with the same repetition; nothing for another node
-abbrev pub in_values : NodeOf → List NodeOf
-in_values (NodeOf.Initial value) =
+-- DSA, for a value of DATA, with the same repetition
+abbrev pub next_values : Value → List NodeOf
+next_values value =
     map (λ constant. NodeOf.Initial (record { times = value.times; constant = constant }))
     (next_constants value.constant)
-in_values _ = []
+
+-- what an operator puts in the place of a value of DATA
+abbrev pub in_value : Op → Value → List NodeOf
+in_value Dsa value = next_values value
+in_value _ value = []
 
 -- GLR and DER: each other label
-abbrev pub in_labels : List ℕ → NodeOf → List NodeOf
-in_labels labels (NodeOf.Labelled label) =
+abbrev pub other_labels : List ℕ → ℕ → List NodeOf
+other_labels labels label =
     map NodeOf.Labelled (filter (λ other. not (nat_eq other label)) labels)
-in_labels labels _ = []
+
+-- what an operator puts in the place of a label
+abbrev pub in_label : Op → PoolFields → ℕ → List NodeOf
+in_label Der pools label = other_labels pools.labels label
+in_label Glr pools label = other_labels pools.labels label
+in_label _ pools label = []
 
 -- SDL: an action that is no CONTINUE and no trap, or a logical IF
 abbrev pub is_replaceable_action : Form → Bool
@@ -218,56 +214,31 @@ acts_or_continues Form.Continue = true
 acts_or_continues form = is_replaceable_action form
 
 -- a new statement for one of such a form, unless it is the same statement
-abbrev pub in_statements : (Form → Bool) → Statement → NodeOf → List NodeOf
-in_statements is_site new (NodeOf.Itself s) =
+abbrev pub new_statement : (Form → Bool) → Statement → Statement → List NodeOf
+new_statement is_site new s =
     if is_site (form_of s) && not (same_statement new s) then NodeOf.Itself new ∷ [] else []
-in_statements is_site new _ = []
 
--- what an operator gives for an array element; nothing for a scalar
-abbrev pub of_elements : (Reference → List Reference) → Reference → List Reference
-of_elements gives r = if are_some r.subscripts then gives r else []
-
--- what an operator gives for a scalar; nothing for an array element
-abbrev pub of_scalars : (Reference → List Reference) → Reference → List Reference
-of_scalars gives r = if are_some r.subscripts then [] else gives r
-
--- AAR, ASR, CNR, SAR and SVR: the references that an operator gives for a
--- reference; none by another operator
-abbrev pub in_place : Op → PoolFields → Reference → List Reference
-in_place Aar pools = of_elements (other_references pools.kinds pools.references)
-in_place Asr pools = of_scalars (other_references pools.kinds pools.references)
-in_place Cnr pools = of_elements (comparable pools)
-in_place Sar pools = of_elements (other_references pools.kinds (map scalar pools.scalars))
-in_place Svr pools = of_scalars (other_references pools.kinds (map scalar pools.scalars))
-in_place _ pools = λ r. []
+-- what an operator puts in the place of a statement
+abbrev pub in_statement : Op → Statement → List NodeOf
+in_statement Rsr s = new_statement acts_or_continues Statement.Return s
+in_statement San s = new_statement acts_or_continues Statement.Trap s
+in_statement Sdl s = new_statement is_replaceable_action Statement.Continue s
+in_statement _ s = []
 
 -- Rule: what an operator puts there
 -- what each operator puts in the place of a node, in the order of its list
 abbrev pub replacements : Op → PoolFields → NodeOf → List NodeOf
-replacements Aar pools = in_places (in_place Aar pools)
-replacements Abs pools = in_computed
-    (λ t. if same_kind Integer (kind_of_expression pools.kinds t) then absolute t else [])
-replacements Acr pools = in_parts (drawn is_constant pools.kinds (map as_tree pools.references))
-replacements Aor pools = in_parts (with_group arithmetic_operators operands)
-replacements Asr pools = in_places (in_place Asr pools)
-replacements Car pools = in_parts (drawn is_element pools.kinds pools.constants)
-replacements Cnr pools = in_places (in_place Cnr pools)
-replacements Crp pools = in_parts altered
-replacements Csr pools = in_parts (drawn is_scalar pools.kinds pools.constants)
-replacements Der pools = in_labels pools.labels
-replacements Dsa pools = in_values
-replacements Glr pools = in_labels pools.labels
-replacements Lcr pools = in_parts (with_group connectors (λ a b. operands a b ++ truths))
-replacements Ror pools = in_parts (with_group relations (λ a b. truths))
-replacements Rsr pools = in_statements acts_or_continues Statement.Return
-replacements San pools = in_statements acts_or_continues Statement.Trap
-replacements Sar pools = in_places (in_place Sar pools)
-replacements Scr pools = in_parts
-    (drawn is_constant pools.kinds (map as_tree (map scalar pools.scalars)))
-replacements Sdl pools = in_statements is_replaceable_action Statement.Continue
-replacements Src pools = in_parts (drawn is_constant pools.kinds pools.constants)
-replacements Svr pools = in_variables (in_place Svr pools)
-replacements Uoi pools = in_computed (λ t. with_unary (kind_of_expression pools.kinds t) t)
+replacements op pools (NodeOf.Itself s) = in_statement op s
+replacements op pools (NodeOf.Target name items) =
+    filter_map (placed (NodeOf.Target name items))
+    (in_expression op pools (Tree.Reference name items))
+replacements op pools (NodeOf.Part t) =
+    filter_map (placed (NodeOf.Part t)) (in_expression op pools t)
+replacements op pools (NodeOf.Named name) =
+    filter_map (placed (NodeOf.Named name)) (in_expression op pools (scalar name))
+replacements op pools (NodeOf.Declared d) = []
+replacements op pools (NodeOf.Labelled label) = in_label op pools label
+replacements op pools (NodeOf.Initial value) = in_value op value
 
 -- a DO
 abbrev pub is_loop_form : Form → Bool

@@ -1,19 +1,22 @@
-//! What operators put in the place of an expression: other operators, other constants, a sign or an absolute value.
+//! What operators put in the place of an expression: an operand, another operator, another constant, a sign or an
+//! absolute value.
 
-ghost use Rattle.std.specs.Prelude.{◌≡◌, ◌++◌, not, map, IfOk, IfErr, OnOk};
+ghost use Rattle.std.specs.Prelude.{◌≡◌, ◌++◌, not, map, IfOk, OnOk};
 ghost use Rattle.f77_tree.specs.Comparing.{same_operator};
 ghost use Rattle.f77_tree.specs.Tree.{Tree};
 ghost use Rattle.f77_tree.specs.View.{tree_of};
 ghost use Rattle.f77_tree.specs.declared.operator.Sign.TheVariants.{Minus};
 ghost use Rattle.f77_legal.specs.NameTable.{kind_at};
+ghost use Rattle.mothra_replacements.specs.Pools.{pool_fields};
 ghost use Rattle.mothra_replacements.specs.Replacements as model;
-ghost use Rattle.mothra_replacements.specs.Replacements.{other_operations, operands, truths};
-ghost use Rattle.mothra_replacements.specs.declared.fault.OpsFault.TheVariants.{Memory};
+ghost use Rattle.mothra_replacements.specs.Replacements.{operands, other_operations, truths};
 
-use crate::fault::OpsFault;
-use f77_legal::{Names, result_kind};
+use crate::operands::{Operand, comparable, drawn, is_operand, kind_in};
+use crate::pools::Pools;
+use f77_legal::Names;
 use f77_tree::{Expr, Intrinsic, Kind, LARGEST_INTEGER, Operator, Sign};
-use std::alloc::Global;
+use mothra_codes::Op;
+use std::alloc::{AllocError, Global};
 
 const ARITHMETIC: &[Operator] = &[
     Operator::Add,
@@ -39,29 +42,9 @@ const CONNECTORS: &[Operator] = &[
     Operator::NotEquivalent,
 ];
 
-/// Whether the expression is a constant.
-pub(crate) fn is_constant(expr: &Expr) -> bool
-    ensures { result ≡ model.is_constant (tree_of expr.now) }
-{
-    matches!(expr, Expr::Number(_) | Expr::Truth(_))
-}
-
-/// The kind of an expression (ANSI X3.9-1978, 6.1, 6.3 and 6.4).
-pub(crate) fn kind_in(names: &Names, expr: &Expr) -> Kind
-    ensures { result ≡ model.kind_of_expression (kind_at names.now) (tree_of expr.now) }
-{
-    match expr {
-        Expr::Reference(place) => names.kind(&place.name),
-        Expr::Truth(_) | Expr::Not(_) => Kind::Logical,
-        Expr::Binary(operator, _, _) => result_kind(*operator),
-        _ => Kind::Integer,
-    }
-}
-
 /// The operator between copies of two operands.
-fn between(alloc: Global, operator: Operator, left: &Expr, right: &Expr) -> Result<Expr, OpsFault>
-    ensures made { IfOk result (λ made. tree_of made ≡ Tree.Binary operator (tree_of left.now) (tree_of right.now)) }
-    ensures memory { IfErr result (λ fault. fault ≡ Memory) }
+fn between(alloc: Global, operator: Operator, left: &Expr, right: &Expr) -> Result<Expr, AllocError>
+    ensures { IfOk result (λ made. tree_of made ≡ Tree.Binary operator (tree_of left.now) (tree_of right.now)) }
 {
     let left = Box::new(alloc, left.clone()?)?;
     let right = Box::new(alloc, right.clone()?)?;
@@ -81,11 +64,9 @@ fn other_operations(
     operator: Operator,
     left: &Expr,
     right: &Expr,
-) -> Result<Vec<Expr>, OpsFault>
-    ensures list { IfOk result
-        (λ list. map tree_of list.items
+) -> Result<Vec<Expr>, AllocError>
+    ensures { IfOk result (λ list. map tree_of list.items
         ≡ other_operations group.now operator (tree_of left.now) (tree_of right.now)) }
-    ensures memory { IfErr result (λ fault. fault ≡ Memory) }
 {
     let mut list = Vec::new(alloc);
     for other in group {
@@ -97,10 +78,9 @@ fn other_operations(
 }
 
 /// Adds copies of the two operands to the end of the list.
-fn add_operands(list: &mut Vec<Expr>, left: &Expr, right: &Expr) -> Result<(), OpsFault>
-    ensures added { OnOk result (map tree_of list.new.items
+fn add_operands(list: &mut Vec<Expr>, left: &Expr, right: &Expr) -> Result<(), AllocError>
+    ensures { OnOk result (map tree_of list.new.items
         ≡ map tree_of list.old.items ++ operands (tree_of left.now) (tree_of right.now)) }
-    ensures memory { IfErr result (λ fault. fault ≡ Memory) }
 {
     list.push(left.clone()?)?;
     list.push(right.clone()?)?;
@@ -108,9 +88,8 @@ fn add_operands(list: &mut Vec<Expr>, left: &Expr, right: &Expr) -> Result<(), O
 }
 
 /// Adds `.TRUE.` and `.FALSE.` to the end of the list.
-fn add_truths(list: &mut Vec<Expr>) -> Result<(), OpsFault>
-    ensures added { OnOk result (map tree_of list.new.items ≡ map tree_of list.old.items ++ truths) }
-    ensures memory { IfErr result (λ fault. fault ≡ Memory) }
+fn add_truths(list: &mut Vec<Expr>) -> Result<(), AllocError>
+    ensures { OnOk result (map tree_of list.new.items ≡ map tree_of list.old.items ++ truths) }
 {
     list.push(Expr::Truth(true))?;
     list.push(Expr::Truth(false))?;
@@ -118,10 +97,9 @@ fn add_truths(list: &mut Vec<Expr>) -> Result<(), OpsFault>
 }
 
 /// AOR: the operation with each other arithmetic operator, then each operand alone.
-pub(crate) fn arithmetic(alloc: Global, expr: &Expr) -> Result<Vec<Expr>, OpsFault>
-    ensures list { IfOk result
+fn arithmetic(alloc: Global, expr: &Expr) -> Result<Vec<Expr>, AllocError>
+    ensures { IfOk result
         (λ list. map tree_of list.items ≡ model.with_group model.arithmetic_operators operands (tree_of expr.now)) }
-    ensures memory { IfErr result (λ fault. fault ≡ Memory) }
 {
     match expr {
         Expr::Binary(operator, left, right) if ARITHMETIC.contains(operator) => {
@@ -134,10 +112,9 @@ pub(crate) fn arithmetic(alloc: Global, expr: &Expr) -> Result<Vec<Expr>, OpsFau
 }
 
 /// ROR: the comparison with each other relational operator, then `.TRUE.` and `.FALSE.`.
-pub(crate) fn relational(alloc: Global, expr: &Expr) -> Result<Vec<Expr>, OpsFault>
-    ensures list { IfOk result
+fn relational(alloc: Global, expr: &Expr) -> Result<Vec<Expr>, AllocError>
+    ensures { IfOk result
         (λ list. map tree_of list.items ≡ model.with_group model.relations (λ a b. truths) (tree_of expr.now)) }
-    ensures memory { IfErr result (λ fault. fault ≡ Memory) }
 {
     match expr {
         Expr::Binary(operator, left, right) if RELATIONS.contains(operator) => {
@@ -150,10 +127,9 @@ pub(crate) fn relational(alloc: Global, expr: &Expr) -> Result<Vec<Expr>, OpsFau
 }
 
 /// LCR: the expression with each other logical connector, then each operand alone, then `.TRUE.` and `.FALSE.`.
-pub(crate) fn logical(alloc: Global, expr: &Expr) -> Result<Vec<Expr>, OpsFault>
-    ensures list { IfOk result (λ list. map tree_of list.items
+fn logical(alloc: Global, expr: &Expr) -> Result<Vec<Expr>, AllocError>
+    ensures { IfOk result (λ list. map tree_of list.items
         ≡ model.with_group model.connectors (λ a b. operands a b ++ truths) (tree_of expr.now)) }
-    ensures memory { IfErr result (λ fault. fault ≡ Memory) }
 {
     match expr {
         Expr::Binary(operator, left, right) if CONNECTORS.contains(operator) => {
@@ -167,18 +143,16 @@ pub(crate) fn logical(alloc: Global, expr: &Expr) -> Result<Vec<Expr>, OpsFault>
 }
 
 /// A minus sign before an expression.
-fn negated(alloc: Global, expr: Expr) -> Result<Expr, OpsFault>
-    ensures made { IfOk result (λ made. tree_of made ≡ Tree.Signed Minus (tree_of expr)) }
-    ensures memory { IfErr result (λ fault. fault ≡ Memory) }
+fn negated(alloc: Global, expr: Expr) -> Result<Expr, AllocError>
+    ensures { IfOk result (λ made. tree_of made ≡ Tree.Signed Minus (tree_of expr)) }
 {
     Ok(Expr::Signed(Sign::Minus, Box::new(alloc, expr)?))
 }
 
 /// Adds the number less one to the end of the list, unless that is above the largest INTEGER. Less than 0 is -1: a
 /// sign before the constant 1.
-fn add_lowered(alloc: Global, list: &mut Vec<Expr>, number: u32) -> Result<(), OpsFault>
-    ensures added { OnOk result (map tree_of list.new.items ≡ map tree_of list.old.items ++ model.lowered number) }
-    ensures memory { IfErr result (λ fault. fault ≡ Memory) }
+fn add_lowered(alloc: Global, list: &mut Vec<Expr>, number: u32) -> Result<(), AllocError>
+    ensures { OnOk result (map tree_of list.new.items ≡ map tree_of list.old.items ++ model.lowered number) }
 {
     if number == 0 {
         list.push(negated(alloc, Expr::Number(1))?)?;
@@ -189,9 +163,8 @@ fn add_lowered(alloc: Global, list: &mut Vec<Expr>, number: u32) -> Result<(), O
 }
 
 /// CRP: a number plus one and less one, where these are not above the largest INTEGER; the other truth value.
-pub(crate) fn altered(alloc: Global, expr: &Expr) -> Result<Vec<Expr>, OpsFault>
-    ensures list { IfOk result (λ list. map tree_of list.items ≡ model.altered (tree_of expr.now)) }
-    ensures memory { IfErr result (λ fault. fault ≡ Memory) }
+fn altered(alloc: Global, expr: &Expr) -> Result<Vec<Expr>, AllocError>
+    ensures { IfOk result (λ list. map tree_of list.items ≡ model.altered (tree_of expr.now)) }
 {
     let mut list = Vec::new(alloc);
     match expr {
@@ -208,47 +181,77 @@ pub(crate) fn altered(alloc: Global, expr: &Expr) -> Result<Vec<Expr>, OpsFault>
 }
 
 /// IABS of a copy of the expression (ANSI X3.9-1978, table 5).
-fn absolute_value(alloc: Global, expr: &Expr) -> Result<Expr, OpsFault>
-    ensures made { IfOk result (λ made. tree_of made ≡ model.absolute_value (tree_of expr.now)) }
-    ensures memory { IfErr result (λ fault. fault ≡ Memory) }
+fn absolute_value(alloc: Global, expr: &Expr) -> Result<Expr, AllocError>
+    ensures { IfOk result (λ made. tree_of made ≡ model.absolute_value (tree_of expr.now)) }
 {
     let arguments = vec![in alloc; expr.clone()?]?;
     Ok(Expr::Call(Intrinsic::Iabs, arguments))
 }
 
-/// ABS: the absolute value, its negative, and ZPUSH, which fails where the value is zero.
-pub(crate) fn absolute(alloc: Global, expr: &Expr) -> Result<Vec<Expr>, OpsFault>
-    ensures list { IfOk result (λ list. map tree_of list.items ≡ model.absolute (tree_of expr.now)) }
-    ensures memory { IfErr result (λ fault. fault ≡ Memory) }
+/// ABS, of an INTEGER expression that is no constant: the absolute value, its negative, and ZPUSH, which fails where
+/// the value is zero.
+fn absolute(alloc: Global, names: &Names, expr: &Expr) -> Result<Vec<Expr>, AllocError>
+    ensures { IfOk result (λ list. map tree_of list.items ≡ model.absolute (kind_at names.now) (tree_of expr.now)) }
 {
     let mut list = Vec::new(alloc);
+    if is_operand(Operand::Constant, expr) || kind_in(names, expr) != Kind::Integer {
+        return Ok(list);
+    }
     list.push(absolute_value(alloc, expr)?)?;
     list.push(negated(alloc, absolute_value(alloc, expr)?)?)?;
     list.push(Expr::ZeroPush(Box::new(alloc, expr.clone()?)?))?;
     Ok(list)
 }
 
-/// A copy of the expression and 1, with the operator between them.
-fn with_one(alloc: Global, operator: Operator, expr: &Expr) -> Result<Expr, OpsFault>
-    ensures made { IfOk result (λ made. tree_of made ≡ Tree.Binary operator (tree_of expr.now) (Tree.Number 1)) }
-    ensures memory { IfErr result (λ fault. fault ≡ Memory) }
-{
-    between(alloc, operator, expr, &Expr::Number(1))
-}
-
-/// UOI: an INTEGER expression with a minus sign, plus 1 and minus 1; a LOGICAL one with `.NOT.`.
-pub(crate) fn with_unary(alloc: Global, kind: Kind, expr: &Expr) -> Result<Vec<Expr>, OpsFault>
-    ensures list { IfOk result (λ list. map tree_of list.items ≡ model.with_unary kind (tree_of expr.now)) }
-    ensures memory { IfErr result (λ fault. fault ≡ Memory) }
+/// UOI, of an expression that is no constant: an INTEGER one with a minus sign, plus 1 and minus 1; a LOGICAL one with
+/// `.NOT.`.
+fn with_unary(alloc: Global, names: &Names, expr: &Expr) -> Result<Vec<Expr>, AllocError>
+    ensures { IfOk result (λ list. map tree_of list.items ≡ model.with_unary (kind_at names.now) (tree_of expr.now)) }
 {
     let mut list = Vec::new(alloc);
-    match kind {
+    if is_operand(Operand::Constant, expr) {
+        return Ok(list);
+    }
+    match kind_in(names, expr) {
         Kind::Integer => {
+            let one = Expr::Number(1);
             list.push(negated(alloc, expr.clone()?)?)?;
-            list.push(with_one(alloc, Operator::Add, expr)?)?;
-            list.push(with_one(alloc, Operator::Subtract, expr)?)?;
+            list.push(between(alloc, Operator::Add, expr, &one)?)?;
+            list.push(between(alloc, Operator::Subtract, expr, &one)?)?;
         }
         Kind::Logical => list.push(Expr::Not(Box::new(alloc, expr.clone()?)?))?,
     }
     Ok(list)
+}
+
+/// What the operator puts in the place of the expression, in the order of `replacements`.
+pub(crate) fn in_expression(
+    alloc: Global,
+    op: Op,
+    pools: &Pools,
+    expr: &Expr,
+) -> Result<Vec<Expr>, AllocError>
+    ensures { IfOk result
+        (λ list. map tree_of list.items ≡ model.in_expression op (pool_fields pools.now) (tree_of expr.now)) }
+{
+    use Operand::{ArrayReference, Constant, Scalar};
+    match op {
+        Op::Aar => drawn(alloc, pools, ArrayReference, ArrayReference, expr),
+        Op::Abs => absolute(alloc, &pools.names, expr),
+        Op::Acr => drawn(alloc, pools, ArrayReference, Constant, expr),
+        Op::Aor => arithmetic(alloc, expr),
+        Op::Asr => drawn(alloc, pools, ArrayReference, Scalar, expr),
+        Op::Car => drawn(alloc, pools, Constant, ArrayReference, expr),
+        Op::Cnr => comparable(alloc, pools, expr),
+        Op::Crp => altered(alloc, expr),
+        Op::Csr => drawn(alloc, pools, Constant, Scalar, expr),
+        Op::Lcr => logical(alloc, expr),
+        Op::Ror => relational(alloc, expr),
+        Op::Sar => drawn(alloc, pools, Scalar, ArrayReference, expr),
+        Op::Scr => drawn(alloc, pools, Scalar, Constant, expr),
+        Op::Src => drawn(alloc, pools, Constant, Constant, expr),
+        Op::Svr => drawn(alloc, pools, Scalar, Scalar, expr),
+        Op::Uoi => with_unary(alloc, &pools.names, expr),
+        Op::Der | Op::Dsa | Op::Glr | Op::Rsr | Op::San | Op::Sdl => Ok(Vec::new(alloc)),
+    }
 }

@@ -1,10 +1,8 @@
 //! Why a list of edits, or the program that an edit makes, can not be returned.
 
 ghost use Rattle.std.specs.Prelude.{◌≡◌};
-ghost use Rattle.f77_legal.specs.declared.fault.CheckFault.TheVariants as check;
 ghost use Rattle.mothra_replacements.specs.declared.fault.OpsFault.TheVariants as fault;
 
-use f77_legal::CheckFault;
 use mothra_codes::Op;
 use std::alloc::{AllocError, AllocFailed};
 use thiserror::Error;
@@ -36,17 +34,5 @@ impl<T: Drop> From<AllocFailed<T>> for OpsFault {
 
     fn from(_e: AllocFailed<T>) -> OpsFault {
         OpsFault::Memory
-    }
-}
-
-/// Out of memory in a check, as a fault of the operators. A caller shows that no other fault of the
-/// check can come, so that none is reported as another.
-pub fn memory_fault(found: CheckFault) -> OpsFault
-    requires { found ≡ check.Memory }
-    ensures { result ≡ fault.Memory }
-{
-    match found {
-        CheckFault::Memory => OpsFault::Memory,
-        _ => unreachable!(),
     }
 }

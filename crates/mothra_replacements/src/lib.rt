@@ -3,14 +3,11 @@
 
 mod expressions;
 mod fault;
-mod in_expressions;
-mod in_places;
-mod places;
+mod operands;
 mod pools;
-mod replacements;
 mod replacing;
-mod statements;
 
-pub use fault::{OpsFault, memory_fault};
+pub use fault::OpsFault;
+pub use operands::Operand;
 pub use pools::Pools;
 pub use replacing::gives;

@@ -14,7 +14,7 @@ loop-other-preserved c =
     elim c.if-is_another.branch [
       | then-is_another+in_ok-between+in_ok-push w ↦ rw w.list-is
           (pushed p f tree_of c.args.group.now c.loop-other.other-index _ c.loop-other.list.items refl c.loop-other-test.true
-          (sym c.is_another.ensures ∙ w.if-is_another.true) (w.in_ok-between.ensures.made) c.loop-other.invariant w.in_ok-push.ensures.items)
+          (sym c.is_another.ensures ∙ w.if-is_another.true) w.in_ok-between.ensures c.loop-other.invariant w.in_ok-push.ensures.items)
       | else-is_another w ↦ rw w.list-is (skipped p f tree_of c.args.group.now c.loop-other.other-index _ c.loop-other.list.items refl
           c.loop-other-test.true (sym c.is_another.ensures ∙ w.if-is_another.false) c.loop-other.invariant)
     ]

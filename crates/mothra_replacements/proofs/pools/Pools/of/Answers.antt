@@ -1,12 +1,27 @@
-use Rattle.std.proofs.Common.{map, ap, ◌∙◌}
+use Rattle.std.proofs.Common.{◌≡◌, List, map, ap, ◌∙◌}
+use Rattle.std.specs.List.{filter_map}
+use Rattle.f77_tree.specs.Comparing.{same_tree}
+use Rattle.f77_tree.specs.Node.{NodeOf, node_of}
+use Rattle.f77_tree.specs.declared.node.Node.{Node}
 use Rattle.f77_program.specs.Program.{line_of}
-use Rattle.mothra_replacements.specs.Pools.{ascending}
-use Rattle.mothra_replacements.proofs.PoolLines.{pools_are}
+use Rattle.mothra_replacements.specs.Pools.{ascending, each_once, operand_at, scalar}
+use Rattle.mothra_replacements.specs.declared.operands.Operand.{Operand}
+use Rattle.mothra_replacements.specs.declared.operands.Operand.TheVariants as operand
+use Rattle.mothra_replacements.proofs.PoolLines.{scalars_are, arrays_are, pools_are}
 use Rattle.mothra_replacements.proofs.pools.Pools.of.Goals as goal
 
-pub returns-clause-pools : goal.returns-clause-pools
-returns-clause-pools c =
-    pools_are c.in_ok-names.names (map line_of c.args.lines.now) c.in_ok-names.ensures.table _ _ _ _ _
-    c.in_ok-names.ensures.scalars c.in_ok-names.ensures.arrays
-    c.in_ok-references.ensures.references c.in_ok-references.ensures.constants
-    (c.sort.ensures ∙ ap ascending c.requires)
+pub returns : goal.returns
+returns c = record {
+  pools =
+      let program = map line_of c.args.lines.now in
+      let table = c.in_ok-names.ensures.table in
+      let drawn = λ (sort : Operand) (nodes : List Node) (same : nodes ≡ c.in_ok-nodes.nodes.items).
+      ap (λ (list : List Node). each_once same_tree (filter_map (operand_at sort) (map node_of list))) same
+      ∙ ap (λ (list : List NodeOf). each_once same_tree (filter_map (operand_at sort) list)) c.in_ok-nodes.ensures in
+      pools_are c.in_ok-names.names program table _ _ _ _ _
+      (c.in_ok-scalars.ensures.scalars ∙ ap (map scalar) (scalars_are c.in_ok-names.names program table))
+      (c.in_ok-scalars.ensures.arrays ∙ arrays_are c.in_ok-names.names program table)
+      (c.in_ok-references.ensures ∙ drawn operand.ArrayReference c.deref.result.now c.deref.ensures.value)
+      (c.in_ok-constants.ensures ∙ drawn operand.Constant c.deref-2.result.now c.deref-2.ensures.value)
+      (c.sort.ensures ∙ ap ascending c.requires);
+}

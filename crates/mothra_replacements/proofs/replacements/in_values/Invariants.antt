@@ -1,7 +1,0 @@
-use Rattle.std.proofs.Common.{◌≡◌, map}
-use Rattle.f77_tree.specs.Node.{NodeOf}
-use Rattle.f77_tree.specs.Replacement.{replacement_of}
-use Rattle.mothra_replacements.proofs.replacements.in_values.Given as goal
-
-abbrev pub invariant-loop-constant : goal.invariant-loop-constant
-invariant-loop-constant l = map replacement_of l.made.items ≡ map (λ constant. NodeOf.Initial (record { times = l.times; constant = constant })) l.yielded

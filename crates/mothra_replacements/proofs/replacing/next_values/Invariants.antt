@@ -1,0 +1,8 @@
+use Rattle.std.proofs.Common.{◌≡◌, map}
+use Rattle.f77_tree.specs.Node.{NodeOf}
+use Rattle.f77_tree.specs.Replacement.{replacement_of}
+use Rattle.mothra_replacements.proofs.replacing.next_values.Given as goal
+
+abbrev pub invariant-loop-constant : goal.invariant-loop-constant
+invariant-loop-constant l =
+    map replacement_of l.list.items ≡ map (λ constant. NodeOf.Initial (record { times = l.value.times; constant = constant })) l.yielded
