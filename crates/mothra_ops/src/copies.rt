@@ -1,17 +1,15 @@
 //! Copies of the statements of a program, into which the nodes of mutants are put one after another.
 
-ghost use Rattle.std.specs.Prelude.{◌≡◌, ◌<◌, ◌+◌, ◌^◌, map, option_map, IfOk, IfErr};
+ghost use Rattle.std.specs.Prelude.{◌≡◌, ◌<◌, ◌+◌, ◌^◌, map, option_map, IfOk};
 ghost use Rattle.f77_program.specs.Program.{line_of};
 ghost use Rattle.f77_tree.specs.Replacement.{replacement_of};
 ghost use Rattle.f77_tree.specs.Statement.{statement_of};
 ghost use Rattle.mothra_ops.specs.Copies.{changed_at, copied, statements_in};
 ghost use Rattle.mothra_ops.specs.Edits.{numbered};
-ghost use Rattle.mothra_replacements.specs.declared.fault.OpsFault.TheVariants.{Memory};
 
 use f77_program::Line;
 use f77_tree::{Replacement, Shared, Stmt};
-use mothra_replacements::OpsFault;
-use std::alloc::Global;
+use std::alloc::{AllocError, Global};
 
 /// Copies of the statements of a program. A mutant's node is put into one and taken out again, so that no statement has
 /// to be copied for a mutant.
@@ -22,9 +20,8 @@ pub struct Copies {
 
 impl Copies {
     /// Copies of the statements of these lines.
-    pub fn of(alloc: Global, lines: &[Shared<Line>]) -> Result<Copies, OpsFault>
+    pub fn of(alloc: Global, lines: &[Shared<Line>]) -> Result<Copies, AllocError>
         ensures copies { IfOk result (λ copies. copied copies ≡ statements_in (map line_of lines.now)) }
-        ensures memory { IfErr result (λ fault. fault ≡ Memory) }
     {
         let mut stmts = Vec::with_capacity(alloc, lines.len())?;
         for line in lines {

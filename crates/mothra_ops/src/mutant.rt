@@ -1,6 +1,6 @@
 //! Mutants, and the texts that lists and reports have of them.
 
-ghost use Rattle.std.specs.Prelude.{◌≡◌, ◌++◌, codes, string_bytes, IfOk, IfErr, OnOk, OnErr};
+ghost use Rattle.std.specs.Prelude.{◌≡◌, ◌++◌, codes, string_bytes, IfOk, OnOk, OnErr};
 ghost use Rattle.f77_program.specs.Canonical.{statement_text};
 ghost use Rattle.f77_tree.specs.Statement.{statement_of};
 ghost use Rattle.f77_tree.specs.Replacement.{replacement_of};
@@ -8,7 +8,6 @@ ghost use Rattle.mothra_ops.specs.Copies.{copied, statements_in};
 ghost use Rattle.mothra_ops.specs.Made.{IsMadeMutant};
 ghost use Rattle.mothra_ops.specs.Mutants.{change_text, line_number_at, mutant_fields};
 ghost use Rattle.mothra_ops.specs.Mutants.{mutant_name, mutant_text, program_of};
-ghost use Rattle.mothra_replacements.specs.declared.fault.OpsFault.TheVariants.{Memory};
 
 use crate::copies::Copies;
 use crate::edit::Edit;
@@ -18,7 +17,6 @@ use f77_program::{SyntaxFault, print_stmt};
 use f77_tree::{Replacement, Stmt, swap_node};
 use itoa::Buffer;
 use mothra_codes::Op;
-use mothra_replacements::OpsFault;
 use std::alloc::{AllocError, Global};
 use std::snapshot::Snapshot;
 
@@ -64,10 +62,9 @@ impl Mutant {
     }
 
     /// The changed statement, made of the program's own.
-    pub fn statement(&self, checked: &Checked) -> Result<Stmt, OpsFault>
+    pub fn statement(&self, checked: &Checked) -> Result<Stmt, AllocError>
         requires { IsMadeMutant checked.now self.now }
         ensures statement { IfOk result (λ stmt. statement_of stmt ≡ statement_of self.now.stmt.value) }
-        ensures memory { IfErr result (λ fault. fault ≡ Memory) }
     {
         let Some(line) = checked.program().line(self.edit.statement) else {
             unreachable!()
@@ -111,12 +108,11 @@ impl Plan {
 
     /// Appends the change of a mutant of the plan: the line number of the statement, and the canonical text of the
     /// changed one.
-    pub fn push_change(&self, text: &mut String, mutant: &Mutant) -> Result<(), OpsFault>
+    pub fn push_change(&self, text: &mut String, mutant: &Mutant) -> Result<(), AllocError>
         requires { IsMadeMutant self.now.checked mutant.now }
         ensures text { OnOk result (string_bytes text.new ≡ string_bytes text.old
             ++ change_text (program_of self.now) (mutant_fields mutant.now)) }
         ensures unchanged { OnErr result (string_bytes text.new ≡ string_bytes text.old) }
-        ensures memory { IfErr result (λ fault. fault ≡ Memory) }
     {
         let alloc = *text.allocator();
         let statement = printed(alloc, &mutant.statement(self.program())?)?;
@@ -133,13 +129,12 @@ impl Plan {
         op: Op,
         number: u32,
         statement: &str,
-    ) -> Result<(), OpsFault>
+    ) -> Result<(), AllocError>
         requires statement { statement.now ≡ statement_text (statement_of mutant.now.stmt.value) }
         ensures text { OnOk result (string_bytes text.new ≡ string_bytes text.old
             ++ mutant_name self.now.every op number
             ++ codes " " ++ change_text (program_of self.now) (mutant_fields mutant.now)) }
         ensures unchanged { OnErr result (string_bytes text.new ≡ string_bytes text.old) }
-        ensures memory { IfErr result (λ fault. fault ≡ Memory) }
     {
         let mut own = name(*text.allocator(), LINE, self.every(), op, number)?;
         own.push(' ')?;
@@ -149,10 +144,9 @@ impl Plan {
 
     /// Appends the line of the operator's mutant of this number: its name, the line number of the statement that it
     /// changes, and the canonical text of the changed statement. Nothing where the plan has no such mutant.
-    pub fn push_text(&self, text: &mut String, op: Op, number: u32) -> Result<(), OpsFault>
+    pub fn push_text(&self, text: &mut String, op: Op, number: u32) -> Result<(), AllocError>
         ensures text { OnOk result (string_bytes text.new ≡ string_bytes text.old ++ mutant_text self.now op number) }
         ensures unchanged { OnErr result (string_bytes text.new ≡ string_bytes text.old) }
-        ensures memory { IfErr result (λ fault. fault ≡ Memory) }
     {
         let Some(mutant) = self.mutant(op, number) else {
             return Ok(());
@@ -167,13 +161,12 @@ impl Plan {
         alloc: Global,
         copies: &mut Copies,
         mutant: &Mutant,
-    ) -> Result<String, OpsFault>
+    ) -> Result<String, AllocError>
         requires made { IsMadeMutant self.now.checked mutant.now }
         requires copies { copied copies.old ≡ statements_in (program_of self.now) }
         ensures copies { copied copies.new ≡ copied copies.old }
         ensures text { IfOk result
             (λ text. string_bytes text ≡ statement_text (statement_of mutant.now.stmt.value)) }
-        ensures memory { IfErr result (λ fault. fault ≡ Memory) }
     {
         let (number, position) = (mutant.edit.statement, mutant.edit.position);
         let mut node = mutant.node()?;
@@ -194,12 +187,11 @@ impl Plan {
         copies: &mut Copies,
         op: Op,
         number: u32,
-    ) -> Result<(), OpsFault>
+    ) -> Result<(), AllocError>
         requires { copied copies.old ≡ statements_in (program_of self.now) }
         ensures text { OnOk result (string_bytes text.new ≡ string_bytes text.old ++ mutant_text self.now op number) }
         ensures unchanged { OnErr result (string_bytes text.new ≡ string_bytes text.old) }
         ensures copies { copied copies.new ≡ copied copies.old }
-        ensures memory { IfErr result (λ fault. fault ≡ Memory) }
     {
         let Some(mutant) = self.mutant(op, number) else {
             return Ok(());
@@ -210,13 +202,12 @@ impl Plan {
 }
 
 /// The canonical text of a statement.
-fn printed(alloc: Global, stmt: &Stmt) -> Result<String, OpsFault>
+fn printed(alloc: Global, stmt: &Stmt) -> Result<String, AllocError>
     ensures text { IfOk result (λ text. string_bytes text ≡ statement_text (statement_of stmt.now)) }
-    ensures memory { IfErr result (λ fault. fault ≡ Memory) }
 {
     match print_stmt(alloc, stmt) {
         Ok(text) => Ok(text),
-        Err(SyntaxFault::Memory) => Err(OpsFault::Memory),
+        Err(SyntaxFault::Memory) => Err(AllocError),
         Err(_) => unreachable!(),
     }
 }

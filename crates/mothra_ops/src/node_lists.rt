@@ -1,16 +1,14 @@
 //! The nodes of the statements of a program.
 
-ghost use Rattle.std.specs.Prelude.{◌≡◌, ◌<◌, ◌+◌, ◌^◌, map, option_map, slice_get, IfErr, IfOk, IfSome};
+ghost use Rattle.std.specs.Prelude.{◌≡◌, ◌<◌, ◌+◌, ◌^◌, map, option_map, slice_get, IfOk, IfSome};
 ghost use Rattle.std.specs.Option.{option_and_then};
 ghost use Rattle.f77_tree.specs.Node.{node_of};
 ghost use Rattle.f77_program.specs.Program.{line_of};
 ghost use Rattle.mothra_ops.specs.code.Original.{nodes_at};
-ghost use Rattle.mothra_replacements.specs.declared.fault.OpsFault.TheVariants.{Memory};
 
 use f77_program::Line;
 use f77_tree::{Node, Shared, nodes};
-use mothra_replacements::OpsFault;
-use std::alloc::Global;
+use std::alloc::{AllocError, Global};
 use std::marker::Model;
 
 /// The nodes of the statements of these lines. They are found once, since mutants are asked for edit by edit.
@@ -40,9 +38,8 @@ impl<'a> Model for NodeLists<'a> {
 }
 
 impl<'a> NodeLists<'a> {
-    pub(crate) fn of(alloc: Global, lines: &'a [Shared<Line>]) -> Result<NodeLists<'a>, OpsFault>
+    pub(crate) fn of(alloc: Global, lines: &'a [Shared<Line>]) -> Result<NodeLists<'a>, AllocError>
         ensures lines { IfOk result (λ lists. lists ≡ lines.now) }
-        ensures memory { IfErr result (λ fault. fault ≡ Memory) }
     {
         let mut lists = Vec::with_capacity(alloc, lines.len())?;
         for line in lines {

@@ -9,8 +9,8 @@ use crate::mutant::Mutant;
 use crate::node_lists::NodeLists;
 use f77_check::{CheckFault, Checked};
 use f77_tree::{Replacement, Stmt};
-use mothra_replacements::{OpsFault, Pools, gives};
-use std::alloc::Global;
+use mothra_replacements::{Pools, gives};
+use std::alloc::{AllocError, Global};
 use std::mem;
 use std::snapshot::Snapshot;
 
@@ -25,13 +25,12 @@ pub(crate) struct Original<'a> {
 
 impl<'a> Original<'a> {
     ghost use Rattle.std.specs.Prelude.{◌<◌, ◌+◌, ◌-◌, ◌^◌, true, length, map, option_map};
-    ghost use Rattle.std.specs.Prelude.{Some, IfOk, IfErr, IfNone, IfSome};
+    ghost use Rattle.std.specs.Prelude.{Some, IfOk, IfNone, IfSome};
     ghost use Rattle.f77_legal.specs.Alone.{StandsAlone};
     ghost use Rattle.f77_program.specs.Patching.{Fits};
     ghost use Rattle.f77_tree.specs.Replacement.{replacement_of};
     ghost use Rattle.f77_tree.specs.Sites.{changed};
     ghost use Rattle.f77_tree.specs.Statement.{Statement, statement_of};
-    ghost use Rattle.mothra_replacements.specs.declared.fault.OpsFault.TheVariants.{Memory};
     ghost use Rattle.mothra_ops.specs.code.Edits.{IsMadeBy};
     ghost use Rattle.mothra_ops.specs.Edits.{IsMutant, made};
     ghost use Rattle.mothra_ops.specs.Copies.{copied, statements_in};
@@ -41,10 +40,9 @@ impl<'a> Original<'a> {
     ghost use Rattle.mothra_replacements.specs.Pools.{pools_of};
     ghost use Rattle.mothra_replacements.specs.Pools.{pool_fields};
 
-    pub(crate) fn of(alloc: Global, checked: &'a Checked) -> Result<Original<'a>, OpsFault>
+    pub(crate) fn of(alloc: Global, checked: &'a Checked) -> Result<Original<'a>, AllocError>
         ensures original { IfOk result (λ original. IsOriginal original) }
         ensures program { IfOk result (λ original. original.checked.now ≡ checked.now) }
-        ensures memory { IfErr result (λ fault. fault ≡ Memory) }
     {
         let lines = checked.program().lines();
         let pools = Pools::of(alloc, lines, checked.labels()?)?;
@@ -57,16 +55,15 @@ impl<'a> Original<'a> {
     }
 
     /// Copies of the statements of the program.
-    pub(crate) fn copies(&self, alloc: Global) -> Result<Copies, OpsFault>
+    pub(crate) fn copies(&self, alloc: Global) -> Result<Copies, AllocError>
         ensures copies { IfOk result (λ copies. copied copies ≡ statements_in (lines_of self.now)) }
-        ensures memory { IfErr result (λ fault. fault ≡ Memory) }
     {
         Copies::of(alloc, self.checked.program().lines())
     }
 
     /// Judges a statement in the place of the one of this number, which is `old`. Where it makes a mutant, the answer
     /// says whether the statement alone shows that the mutant is legal; None where it makes none.
-    fn judged(&self, number: usize, old: &Stmt, made: &Stmt) -> Result<Option<bool>, OpsFault>
+    fn judged(&self, number: usize, old: &Stmt, made: &Stmt) -> Result<Option<bool>, AllocError>
         requires old { HasStatement (lines_of self.now) number (statement_of old.now) }
         requires fits { Fits (lines_of self.now) number (statement_of made.now) }
         ensures mutant { IfOk result
@@ -77,14 +74,13 @@ impl<'a> Original<'a> {
         ensures none { IfOk result
             (λ answer. IfNone answer
             (¬ (IsMutant (lines_of self.now) number (statement_of made.now)))) }
-        ensures memory { IfErr result (λ fault. fault ≡ Memory) }
     {
         if made == old {
             return Ok(None);
         }
         match self.checked.judge(number, made) {
             Ok(is_alone) => Ok(Some(is_alone)),
-            Err(CheckFault::Memory) => Err(OpsFault::Memory),
+            Err(CheckFault::Memory) => Err(AllocError),
             Err(_) => Ok(None),
         }
     }
@@ -95,7 +91,7 @@ impl<'a> Original<'a> {
         edit: Edit,
         node: &mut Replacement,
         copies: &mut Copies,
-    ) -> Result<Option<Mutant>, OpsFault>
+    ) -> Result<Option<Mutant>, AllocError>
         requires original { IsOriginal self.now }
         requires copies { copied copies.old ≡ statements_in (lines_of self.now) }
         requires position { edit.position + 1 < 2 ^ 64 }
@@ -108,7 +104,6 @@ impl<'a> Original<'a> {
             ((s : Statement) → HasStatement (lines_of self.now) edit.statement s
             → ¬ (IsMutant (lines_of self.now) edit.statement (changed s edit.position (replacement_of node.old))))) }
         ensures same { copied copies.new ≡ copied copies.old }
-        ensures memory { IfErr result (λ fault. fault ≡ Memory) }
     {
         let Some(line) = self.checked.program().line(edit.statement) else {
             return Ok(None);
@@ -138,18 +133,17 @@ impl<'a> Original<'a> {
         &self,
         alloc: Global,
         edit: &Edit,
-    ) -> Result<Vec<Replacement>, OpsFault>
+    ) -> Result<Vec<Replacement>, AllocError>
         ensures list { IfOk result (λ list. map replacement_of list.items
             ≡ candidates_at (pool_fields self.now.pools) (lines_of self.now) edit.now.op
             edit.now.statement edit.now.position) }
         ensures counted { IfOk result (λ list. 0 < length list.items → edit.now.position + 1 < 2 ^ 64) }
-        ensures memory { IfErr result (λ fault. fault ≡ Memory) }
     {
         let Some(line) = self.checked.program().line(edit.statement) else {
             return Ok(Vec::new(alloc));
         };
         match self.nodes.node(edit.statement, edit.position) {
-            Some(node) => Ok(gives(alloc, edit.op, &self.pools, &line.stmt, node)?),
+            Some(node) => gives(alloc, edit.op, &self.pools, &line.stmt, node),
             None => Ok(Vec::new(alloc)),
         }
     }
@@ -160,13 +154,12 @@ impl<'a> Original<'a> {
         alloc: Global,
         edit: &Edit,
         copies: &mut Copies,
-    ) -> Result<Option<Mutant>, OpsFault>
+    ) -> Result<Option<Mutant>, AllocError>
         requires original { IsOriginal self.now }
         requires copies { copied copies.old ≡ statements_in (lines_of self.now) }
         ensures made { IfOk result (λ found. IsMadeBy (lines_of self.now) edit.now
             (option_map (λ mutant. statement_of mutant.stmt.value) found)) }
         ensures own { IfOk result (λ found. IfSome found (IsMadeMutant self.now.checked.now)) }
-        ensures memory { IfErr result (λ fault. fault ≡ Memory) }
     {
         let mut candidates = self.candidates(alloc, edit)?;
         if edit.rank == 0 || edit.rank > candidates.len() {
