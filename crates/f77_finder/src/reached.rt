@@ -1,164 +1,153 @@
-//! The places that control was found to come to, with what is known there.
-
-ghost use Rattle.std.specs.Prelude.{◌≡◌, ◌<◌, length, Some};
+//! The cuts that control was found to come to, with what is known there.
 
 use crate::apart::{lies_in, taker_of};
-use crate::ordering::{Ways, order_of};
 use crate::search::Search;
-use crate::widening::{Manner, join};
+use crate::widening::join;
 use f77_code::Place;
 use f77_facts::entries::Entry;
 use f77_facts::facts::is_empty;
 use std::alloc::{AllocError, Global};
 
-/// A place that control was found to come to.
+/// So many times an entry takes in another one before its bounds are widened to thresholds, and to the ends of the
+/// range.
+const PLAIN_JOINS: u32 = 6;
+
+const JOINS_TO_THRESHOLDS: u32 = 40;
+
+/// Which ways are gone, and what becomes of entries where several lead to one cut.
+#[derive(Clone, Copy)]
+pub(crate) enum Manner {
+    /// All ways are gone; entries are joined, and widened in the end.
+    Widened,
+    /// Ways forward in the program are gone; so many entries of a cut are kept apart, and joined beyond.
+    Forward(usize),
+}
+
+/// A cut that control was found to come to.
 #[derive(Drop)]
 pub(crate) struct Reached {
     pub(crate) entry: Entry,
     /// Where control comes to from there, when it does not wait.
     pub(crate) moves: Vec<Entry>,
-    /// Where the place stands in the program.
-    pub(crate) order: usize,
     /// How often more was found to be allowed.
-    pub(crate) joins: u32,
+    joins: u32,
     /// Where control goes from here is to be found.
     pub(crate) waits: bool,
 }
 
-/// The same entry in memory of its own.
-fn copy_of(alloc: Global, entry: &Entry) -> Result<Entry, AllocError> {
-    Ok(Entry {
-        place: entry.place,
-        facts: entry.facts.to_vec(alloc)?,
-        loops: entry.loops.to_vec(alloc)?,
-    })
-}
-
-/// A place that control was not found to come to before.
-pub(crate) fn newly_reached(search: &Search<'_>, entry: &Entry) -> Result<Reached, AllocError> {
-    Ok(Reached {
-        entry: copy_of(search.alloc, entry)?,
-        moves: Vec::new(search.alloc),
-        order: order_of(search.statements, entry.place),
-        joins: 0,
-        waits: true,
-    })
-}
-
-/// The entries.
-pub(crate) fn entries_in(alloc: Global, list: Vec<Reached>) -> Result<Vec<Entry>, AllocError> {
-    let mut entries = Vec::with_capacity(alloc, list.len())?;
-    for reached in list {
-        entries.push(reached.entry)?;
+/// Where the entry stands in the program: a cut is no incrementation.
+pub(crate) fn order_of(entry: &Entry) -> usize {
+    match entry.place {
+        Place::Execute(i) | Place::Increment(i) => i,
     }
-    Ok(entries)
 }
 
-/// What becomes of what is known where control comes to a place by several ways.
-#[derive(Clone, Copy)]
-pub(crate) enum Meeting {
-    /// It is joined, and widened to thresholds in the end.
-    Widened,
-    /// It is kept apart in so many entries, and joined beyond.
-    Apart(usize),
-}
+impl Reached {
+    /// A cut that control was not found to come to before.
+    pub(crate) fn new(alloc: Global, entry: &Entry) -> Result<Reached, AllocError> {
+        Ok(Reached {
+            entry: Entry {
+                place: entry.place,
+                facts: entry.facts.to_vec(alloc)?,
+                loops: entry.loops.to_vec(alloc)?,
+            },
+            moves: Vec::new(alloc),
+            joins: 0,
+            waits: true,
+        })
+    }
 
-/// Where the place is in the list.
-fn number_of(list: &[Reached], place: Place) -> Option<usize>
-    ensures { (n : _) → result ≡ Some n → n < length list.now }
-{
-    for number in 0..list.len() {
-        if list[number].entry.place == place {
-            return Some(number);
+    /// Control comes to the cut by another way.
+    fn take_in(&mut self, entry: &Entry, manner: Manner, thresholds: &[i32]) {
+        if lies_in(entry, &self.entry) {
+            return;
         }
-    }
-    None
-}
-
-/// How an entry takes in another one, after so many times.
-fn manner_after(joins: u32, thresholds: &[i32]) -> Manner {
-    if joins < 6 {
-        return Manner::Plain;
-    }
-    if joins < 40 {
-        return Manner::ToThresholds(thresholds);
-    }
-    Manner::ToThresholds(&[])
-}
-
-/// Control comes to the place by another way.
-fn take_in(reached: &mut Reached, entry: &Entry, manner: Manner) {
-    if lies_in(entry, &reached.entry) {
-        return;
-    }
-    join(&mut reached.entry, entry, manner);
-    reached.joins = reached.joins.saturating_add(1);
-    reached.waits = true;
-}
-
-/// The entry in the list that takes in this one, if there is one.
-fn taker(list: &[Reached], entry: &Entry, meeting: Meeting) -> Option<usize>
-    ensures { (n : _) → result ≡ Some n → n < length list.now }
-{
-    match meeting {
-        Meeting::Widened => number_of(list, entry.place),
-        Meeting::Apart(room) => taker_of(list, entry, room),
+        let thresholds = match manner {
+            Manner::Widened if self.joins >= JOINS_TO_THRESHOLDS => Some(&thresholds[..0]),
+            Manner::Widened if self.joins >= PLAIN_JOINS => Some(thresholds),
+            _ => None,
+        };
+        join(&mut self.entry, entry, thresholds);
+        self.joins = self.joins.saturating_add(1);
+        self.waits = true;
     }
 }
 
-/// Control comes to a place, if the way is gone and anything is allowed there.
-fn reach(
+/// Control comes to a cut, if anything is allowed there.
+pub(crate) fn reach(
     search: &Search<'_>,
     list: &mut Vec<Reached>,
     entry: &Entry,
-    ways: Ways,
-    meeting: Meeting,
+    manner: Manner,
 ) -> Result<(), AllocError> {
-    if !ways.lead_to(order_of(search.statements, entry.place)) || is_empty(&entry.facts) {
+    if is_empty(&entry.facts) {
         return Ok(());
     }
-    let Some(number) = taker(list, entry, meeting) else {
-        return Ok(list.push(newly_reached(search, entry)?)?);
+    let room = match manner {
+        Manner::Widened => 1,
+        Manner::Forward(room) => room,
     };
-    let manner = match meeting {
-        Meeting::Widened => manner_after(list[number].joins, &search.thresholds),
-        Meeting::Apart(_) => Manner::Plain,
-    };
-    take_in(&mut list[number], entry, manner);
-    Ok(())
-}
-
-/// Control comes to places by these ways.
-pub(crate) fn reach_all(
-    search: &Search<'_>,
-    list: &mut Vec<Reached>,
-    moves: &[Entry],
-    ways: Ways,
-    meeting: Meeting,
-) -> Result<(), AllocError> {
-    for entry in moves {
-        reach(search, list, entry, ways, meeting)?;
+    let taker = taker_of(list, entry, room);
+    match taker.and_then(|number| list.get_mut(number)) {
+        Some(reached) => reached.take_in(entry, manner, &search.thresholds),
+        None => list.push(Reached::new(search.alloc, entry)?)?,
     }
     Ok(())
 }
 
-/// Follows control from an entry, which waits no more. False where the work that is left does not do.
-pub(crate) fn go_on(
+/// The cut first in the program from which control is to be followed.
+fn next_waiting(list: &[Reached]) -> Option<usize> {
+    let mut first = usize::MAX;
+    let mut chosen = None;
+    for (number, reached) in list.iter().enumerate() {
+        if reached.waits && order_of(&reached.entry) < first {
+            first = order_of(&reached.entry);
+            chosen = Some(number);
+        }
+    }
+    chosen
+}
+
+/// Follows control from the cut of this number, which waits no more. False where the work that is left does not do.
+fn go_on(
     search: &mut Search<'_>,
     list: &mut Vec<Reached>,
     number: usize,
-    ways: Ways,
-    meeting: Meeting,
-) -> Result<bool, AllocError>
-    requires { number < length list.old.items }
-{
-    let Some(moves) = search.moves_from(&list[number].entry)? else {
+    manner: Manner,
+) -> Result<bool, AllocError> {
+    let Some(reached) = list.get_mut(number) else {
         return Ok(false);
     };
-    list[number].waits = false;
-    reach_all(search, list, &moves, ways, meeting)?;
-    if number < list.len() {
-        list[number].moves = moves;
+    reached.waits = false;
+    let from = order_of(&reached.entry);
+    let Some(moves) = search.moves_from(&reached.entry)? else {
+        return Ok(false);
+    };
+    for entry in moves.iter() {
+        if matches!(manner, Manner::Widened) || from < order_of(entry) {
+            reach(search, list, entry, manner)?;
+        }
+    }
+    if let Some(reached) = list.get_mut(number) {
+        reached.moves = moves;
     }
     Ok(true)
+}
+
+/// Follows control until no cut waits. False where that is not found soon enough.
+pub(crate) fn follow(
+    search: &mut Search<'_>,
+    list: &mut Vec<Reached>,
+    manner: Manner,
+    most: usize,
+) -> Result<bool, AllocError> {
+    for _look in 0..most {
+        let Some(number) = next_waiting(list) else {
+            return Ok(true);
+        };
+        if !go_on(search, list, number, manner)? {
+            return Ok(false);
+        }
+    }
+    Ok(next_waiting(list).is_none())
 }
