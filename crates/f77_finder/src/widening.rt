@@ -19,22 +19,14 @@ fn widened(old: Known, hull: Known, thresholds: Option<&[i32]>) -> Known {
     if old.high < old.low {
         return hull;
     }
-    let Known {
-        may_lack,
-        mut low,
-        mut high,
-    } = hull;
-    if low < old.low {
-        low = threshold_below(thresholds, low);
+    let mut known = hull;
+    if hull.low < old.low {
+        known.low = threshold_below(thresholds, hull.low);
     }
-    if old.high < high {
-        high = threshold_above(thresholds, high);
+    if old.high < hull.high {
+        known.high = threshold_above(thresholds, hull.high);
     }
-    Known {
-        may_lack,
-        low,
-        high,
-    }
+    known
 }
 
 /// The old fact or the other one.
@@ -47,12 +39,7 @@ fn joined_fact(old: Fact, other: Fact, thresholds: Option<&[i32]>) -> Fact {
 
 /// The old fact or the other one. Where just one of them says that the DO is active, the old one stands.
 fn joined_loop(old: LoopFact, other: LoopFact, thresholds: Option<&[i32]>) -> LoopFact {
-    let LoopFact::Active {
-        mut fewest,
-        mut most,
-        step,
-    } = old
-    else {
+    let LoopFact::Active { fewest, most, step } = old else {
         return old;
     };
     let LoopFact::Active {
@@ -63,23 +50,21 @@ fn joined_loop(old: LoopFact, other: LoopFact, thresholds: Option<&[i32]>) -> Lo
     else {
         return old;
     };
-    if least < fewest {
-        fewest = if thresholds.is_some() {
-            least.min(1)
-        } else {
-            least
-        };
-    }
-    if most < greatest {
-        most = if thresholds.is_some() {
-            greatest.max(MOST_PASSES)
-        } else {
-            greatest
-        };
-    }
+    let (floor, ceiling) = match thresholds {
+        Some(_) => (1, MOST_PASSES),
+        None => (u64::MAX, 0),
+    };
     LoopFact::Active {
-        fewest,
-        most,
+        fewest: if least < fewest {
+            least.min(floor)
+        } else {
+            fewest
+        },
+        most: if most < greatest {
+            greatest.max(ceiling)
+        } else {
+            most
+        },
         step: widened(step, known::hull_of(step, by), thresholds),
     }
 }
