@@ -10,7 +10,6 @@ use Rattle.f77_tree.specs.Statement.{Statement, statement_of}
 use Rattle.mothra_codes.specs.declared.ticket.Ticket.{Ticket}
 use Rattle.mothra_ops.specs.Mutants.{mutant_fields, mutant_of, program_of}
 use Rattle.mothra_ops.specs.Plan.{PlanFields}
-use Rattle.mothra_replacements.specs.declared.fault.OpsFault.{OpsFault}
 use Rattle.mothra_ops.specs.declared.mutant.Mutant.{Mutant}
 use Rattle.mothra_equivalents.specs.Equivalents.{IsProved, IsProvedMutant}
 
@@ -18,7 +17,7 @@ abbrev IsOf : PlanFields → Mutant → ℕ → Type 0
 IsOf plan m spare = IsProved spare (program_of plan) (patched (program_of plan) m.edit.statement (statement_of m.stmt.value))
 
 -- the mutant that was found is the ticket's, and it was judged
-pub of_ticket : (plan : PlanFields) (ticket : Ticket) (m : Mutant) (r : Result (Option ℕ) OpsFault)
+pub of_ticket : {E : Type 0} (plan : PlanFields) (ticket : Ticket) (m : Mutant) (r : Result (Option ℕ) E)
     → Some (mutant_fields m) ≡ mutant_of plan ticket.op ticket.number
     → IfOk r (λ found. IfSome found (λ spare. IsOf plan m spare)) → IfOk r (λ found. IfSome found (λ spare. IsProvedMutant plan ticket spare))
 of_ticket plan ticket m r is known =

@@ -1,17 +1,16 @@
 //! The mutants of a plan that are proved equivalent, found one by one.
 
-ghost use Rattle.std.specs.Prelude.{◌≡◌, ◌+◌, IfErr, IfOk, OnOk};
+ghost use Rattle.std.specs.Prelude.{◌≡◌, ◌+◌, IfOk, OnOk};
 ghost use Rattle.mothra_codes.specs.Op.{index};
 ghost use Rattle.mothra_equivalents.specs.Equivalents.{AreEquivalents};
 ghost use Rattle.mothra_equivalents.specs.code.Equivalents.{AreOf, IsFront};
-ghost use Rattle.mothra_replacements.specs.declared.fault.OpsFault.TheVariants.{Memory};
 
 use crate::prover::Prover;
 use crate::suggestions::{Search, Suggestion, add_suggestions, rows_for};
 use indexmap::IndexSet;
 use mothra_codes::{Op, Ticket};
-use mothra_ops::{OpsFault, Plan};
-use std::alloc::Global;
+use mothra_ops::Plan;
+use std::alloc::{AllocError, Global};
 
 /// A mutant that is proved equivalent: no test can kill it on which the program returns or stops as many steps before
 /// the limit as are to be spared.
@@ -45,11 +44,10 @@ fn add(
     killed: &IndexSet<Ticket>,
     op: Op,
     number: u32,
-) -> Result<(), OpsFault>
+) -> Result<(), AllocError>
     ensures front { OnOk result
         (IsFront prover.old op number list.old.items → IsFront prover.old op (number + 1) list.new.items) }
     ensures plan { prover.new ≡ prover.old }
-    ensures memory { IfErr result (λ fault. fault ≡ Memory) }
 {
     let ticket = Ticket { op, number };
     if killed.contains(&ticket) {
@@ -80,11 +78,10 @@ fn add_operator(
     killed: &IndexSet<Ticket>,
     op: Op,
     count: u32,
-) -> Result<(), OpsFault>
+) -> Result<(), AllocError>
     ensures front { OnOk result
         (AreOf prover.old (index op) list.old.items → AreOf prover.old (index op + 1) list.new.items) }
     ensures plan { prover.new ≡ prover.old }
-    ensures memory { IfErr result (λ fault. fault ≡ Memory) }
 {
     for before in 0..count {
         add(
@@ -118,9 +115,8 @@ pub fn equivalents_of(
     plan: &Plan,
     killed: &IndexSet<Ticket>,
     search: Search,
-) -> Result<Found, OpsFault>
+) -> Result<Found, AllocError>
     ensures equivalents { IfOk result (λ found. AreEquivalents plan.now found.list.items) }
-    ensures memory { IfErr result (λ fault. fault ≡ Memory) }
 {
     let mut list = Vec::new(alloc);
     let mut suggestions = Vec::new(alloc);

@@ -1,6 +1,6 @@
 //! The mutants of a plan, proved equivalent one at a time.
 
-ghost use Rattle.std.specs.Prelude.{◌≡◌, IfErr, IfOk, IfSome, Some};
+ghost use Rattle.std.specs.Prelude.{◌≡◌, IfOk, IfSome, Some};
 ghost use Rattle.f77_program.specs.Patching.{patched};
 ghost use Rattle.f77_tree.specs.Statement.{statement_of};
 ghost use Rattle.f77_check.specs.Patching.{IsInPlace};
@@ -8,7 +8,6 @@ ghost use Rattle.mothra_ops.specs.Edits.{IsMutant};
 ghost use Rattle.mothra_ops.specs.Made.{IsMadeMutant};
 ghost use Rattle.mothra_ops.specs.Mutants.{program_of};
 ghost use Rattle.mothra_equivalents.specs.Equivalents.{IsProved, IsProvedMutant};
-ghost use Rattle.mothra_replacements.specs.declared.fault.OpsFault.TheVariants.{Memory};
 
 use f77_check::Resolved;
 use f77_finder::finding::entries_of;
@@ -16,7 +15,7 @@ use f77_symbolic::equivalent::Tours;
 use f77_symbolic::rows::Rows;
 use f77_tree::{Shared, Stmt};
 use mothra_codes::Ticket;
-use mothra_ops::{Mutant, OpsFault, Plan};
+use mothra_ops::{Mutant, Plan};
 use std::alloc::{AllocError, Global};
 use std::marker::Model;
 
@@ -100,9 +99,8 @@ impl<'a> Prover<'a> {
         plan: &'a Plan,
         asked: u64,
         most_rows: usize,
-    ) -> Result<Prover<'a>, OpsFault>
-        ensures plan { IfOk result (λ prover. prover ≡ plan.now) }
-        ensures memory { IfErr result (λ fault. fault ≡ Memory) }
+    ) -> Result<Prover<'a>, AllocError>
+        ensures { IfOk result (λ prover. prover ≡ plan.now) }
     {
         let checked = plan.program();
         let entries = entries_of(alloc, checked)?;
@@ -161,12 +159,11 @@ impl<'a> Prover<'a> {
 
     /// How many steps are to be spared for the mutant, if it is equivalent then. It is not asked where the change is in
     /// a declaration, in DATA or in the label of a DO.
-    fn judge(&mut self, alloc: Global, mutant: &Mutant) -> Result<Option<u32>, OpsFault>
+    fn judge(&mut self, alloc: Global, mutant: &Mutant) -> Result<Option<u32>, AllocError>
         requires { IsMadeMutant self.old.checked mutant.now }
         ensures equivalent { IfOk result (λ found. IfSome found (λ spare. IsProved spare (program_of self.old)
             (patched (program_of self.old) mutant.now.edit.statement (statement_of mutant.now.stmt.value)))) }
         ensures plan { self.new ≡ self.old }
-        ensures memory { IfErr result (λ fault. fault ≡ Memory) }
     {
         self.asked = self.asked.saturating_sub(1);
         self.rows.list.clear();
@@ -185,11 +182,10 @@ impl<'a> Prover<'a> {
     }
 
     /// How many steps are to be spared for the ticket's mutant, if it is equivalent then.
-    pub(crate) fn spare(&mut self, alloc: Global, ticket: Ticket) -> Result<Option<u32>, OpsFault>
+    pub(crate) fn spare(&mut self, alloc: Global, ticket: Ticket) -> Result<Option<u32>, AllocError>
         ensures equivalent { IfOk result
             (λ found. IfSome found (λ spare. IsProvedMutant self.old ticket spare)) }
         ensures plan { self.new ≡ self.old }
-        ensures memory { IfErr result (λ fault. fault ≡ Memory) }
     {
         match self.plan.mutant(ticket.op, ticket.number) {
             Some(mutant) => self.judge(alloc, mutant),

@@ -1,15 +1,13 @@
 //! Tests that kill mutants which are not proved equivalent: what a proof that was given up leaves is run.
 
-ghost use Rattle.std.specs.Prelude.{◌≡◌, IfErr};
 ghost use Rattle.mothra_ops.specs.Made.{IsMadeMutant};
-ghost use Rattle.mothra_replacements.specs.declared.fault.OpsFault.TheVariants.{Memory};
 
 use f77_check::{Checked, Shape};
-use f77_meaning::{Arg, Outcome, RunFault, Values};
+use f77_meaning::{Arg, Outcome, Values};
 use f77_run::{Runner, run};
 use f77_tree::Kind;
 use mothra_codes::Ticket;
-use mothra_ops::{Mutant, OpsFault, Plan};
+use mothra_ops::{Mutant, Plan};
 use std::alloc::{AllocError, Global};
 
 /// So many rows are tried for a mutant at most.
@@ -38,140 +36,76 @@ pub(crate) fn rows_for(search: Search) -> usize {
     if search.most == 0 { 0 } else { ROWS }
 }
 
-/// The number in this place of a row; 0 behind its end, and for one that 32 bits do not hold.
-fn number_at(row: &[i64], place: usize) -> i32 {
-    if place < row.len() {
-        i32::try_from(row[place]).unwrap_or(0)
-    } else {
-        0
-    }
-}
-
-/// The numbers from this place on.
-fn numbers(
-    alloc: Global,
-    row: &[i64],
-    first: usize,
-    count: usize,
-) -> Result<Values<i32>, AllocError> {
-    let mut list = Vec::with_capacity(alloc, count)?;
-    for behind in 0..count {
-        list.push(number_at(row, first.saturating_add(behind)))?;
-    }
-    Ok(Values::new(list))
-}
-
-/// The truth values from this place on.
-fn truths(
-    alloc: Global,
-    row: &[i64],
-    first: usize,
-    count: usize,
-) -> Result<Values<bool>, AllocError> {
-    let mut list = Vec::with_capacity(alloc, count)?;
-    for behind in 0..count {
-        list.push(number_at(row, first.saturating_add(behind)) != 0)?;
-    }
-    Ok(Values::new(list))
-}
-
-/// The value of a dummy argument whose slots have the numbers from this place on.
-fn argument(alloc: Global, shape: Shape, row: &[i64], first: usize) -> Result<Arg, AllocError> {
+/// The value of a dummy argument of this shape, whose slots hold these numbers.
+fn argument(alloc: Global, shape: Shape, held: Vec<i32>) -> Result<Arg, AllocError> {
+    let first = held.first().copied().unwrap_or(0);
     match (shape.kind, shape.elements) {
-        (Kind::Integer, None) => Ok(Arg::Int(number_at(row, first))),
-        (Kind::Logical, None) => Ok(Arg::Truth(number_at(row, first) != 0)),
-        (Kind::Integer, Some(count)) => Ok(Arg::Ints(numbers(alloc, row, first, count as usize)?)),
-        (Kind::Logical, Some(count)) => Ok(Arg::Truths(truths(alloc, row, first, count as usize)?)),
+        (Kind::Integer, None) => Ok(Arg::Int(first)),
+        (Kind::Logical, None) => Ok(Arg::Truth(first != 0)),
+        (Kind::Integer, Some(_)) => Ok(Arg::Ints(Values::new(held))),
+        (Kind::Logical, Some(_)) => {
+            let mut truths = Vec::with_capacity(alloc, held.len())?;
+            for number in held {
+                truths.push(number != 0)?;
+            }
+            Ok(Arg::Truths(Values::new(truths)))
+        }
     }
 }
 
-/// The values of dummy arguments of these shapes.
+/// The values of dummy arguments of these shapes, whose slots hold the numbers of the row in order; 0 behind its end,
+/// and for one that 32 bits do not hold.
 fn arguments(alloc: Global, shapes: &[Shape], row: &[i64]) -> Result<Values<Arg>, AllocError> {
     let mut list = Vec::with_capacity(alloc, shapes.len())?;
-    let mut first: usize = 0;
+    let mut slot: usize = 0;
     for shape in shapes {
-        list.push(argument(alloc, *shape, row, first)?)?;
-        first = first.saturating_add(shape.elements.unwrap_or(1) as usize);
+        let mut held = Vec::new(alloc);
+        for _ in 0..shape.elements.unwrap_or(1) {
+            let number = row.get(slot).copied().unwrap_or(0);
+            held.push(i32::try_from(number).unwrap_or(0))?;
+            slot = slot.saturating_add(1);
+        }
+        list.push(argument(alloc, *shape, held)?)?;
     }
     Ok(Values::new(list))
 }
 
-/// Want of memory; else None.
-fn unless_memory<T: Drop>(ran: Result<T, RunFault>) -> Result<Option<T>, OpsFault>
-    ensures memory { IfErr result (λ fault. fault ≡ Memory) }
-{
-    match ran {
-        Ok(found) => Ok(Some(found)),
-        Err(RunFault::Memory) => Err(OpsFault::Memory),
-        Err(RunFault::ArgumentCount | RunFault::ArgumentShape(_)) => Ok(None),
-    }
-}
-
-/// Whether the program returns or stops on a test, and the mutant, whose runner this is, does something else.
+/// Whether the program returns or stops on a test that fits, and the mutant, whose runner this is, does something else.
 fn is_killed(
     alloc: Global,
     checked: &Checked,
     mutant: &mut Runner<'_>,
     test: &[Arg],
     steps: u32,
-) -> Result<bool, OpsFault>
-    ensures memory { IfErr result (λ fault. fault ≡ Memory) }
-{
-    let Some(outcome) = unless_memory(run(alloc, checked, test, steps))? else {
-        return Ok(false);
+) -> Result<bool, AllocError> {
+    // A test that fits is refused for want of memory alone.
+    let Ok(outcome) = run(alloc, checked, test, steps) else {
+        return Err(AllocError);
     };
-    match outcome {
-        Outcome::Returned(_) | Outcome::Stopped(_) => {
-            let same = unless_memory(mutant.comes_to(test, steps, &outcome))?;
-            Ok(same == Some(false))
-        }
-        _ => Ok(false),
+    if !matches!(outcome, Outcome::Returned(_) | Outcome::Stopped(_)) {
+        return Ok(false);
+    }
+    match mutant.comes_to(test, steps, &outcome) {
+        Ok(same) => Ok(!same),
+        Err(_) => Err(AllocError),
     }
 }
 
 /// The mutant as a program.
-fn program_of(checked: &Checked, mutant: &Mutant) -> Result<Checked, OpsFault>
+fn program_of(checked: &Checked, mutant: &Mutant) -> Result<Checked, AllocError>
     requires { IsMadeMutant checked.now mutant.now }
-    ensures memory { IfErr result (λ fault. fault ≡ Memory) }
 {
-    let stmt = mutant.statement(checked)?;
+    // A mutant is refused for want of memory alone.
+    let Ok(stmt) = mutant.statement(checked) else {
+        return Err(AllocError);
+    };
     match checked.patched(mutant.number(), &stmt) {
         Ok(changed) => Ok(changed),
-        // A mutant is refused for want of memory alone.
-        Err(_) => Err(OpsFault::Memory),
+        Err(_) => Err(AllocError),
     }
 }
 
-/// Adds those of these rows that kill the ticket's mutant, as many as are asked for. `mutant` is its runner.
-fn add_killing(
-    alloc: Global,
-    checked: &Checked,
-    mutant: &mut Runner<'_>,
-    ticket: Ticket,
-    rows: &[Vec<i64>],
-    search: Search,
-    suggestions: &mut Vec<Suggestion>,
-) -> Result<(), OpsFault>
-    ensures memory { IfErr result (λ fault. fault ≡ Memory) }
-{
-    let mut left = search.most;
-    for row in rows {
-        if left == 0 {
-            return Ok(());
-        }
-        let test = arguments(alloc, checked.arguments(), row)?;
-        if is_killed(alloc, checked, mutant, test.as_slice(), search.steps)? {
-            suggestions.push(Suggestion {
-                ticket,
-                arguments: test,
-            })?;
-            left -= 1;
-        }
-    }
-    Ok(())
-}
-
-/// Adds tests that kill a mutant, those of these rows that do, as many as are asked for.
+/// Adds tests that kill the ticket's mutant, those of these rows that do, as many as are asked for.
 pub(crate) fn add_suggestions(
     alloc: Global,
     plan: &Plan,
@@ -179,9 +113,7 @@ pub(crate) fn add_suggestions(
     rows: &[Vec<i64>],
     search: Search,
     suggestions: &mut Vec<Suggestion>,
-) -> Result<(), OpsFault>
-    ensures memory { IfErr result (λ fault. fault ≡ Memory) }
-{
+) -> Result<(), AllocError> {
     if rows.is_empty() {
         return Ok(());
     }
@@ -190,16 +122,22 @@ pub(crate) fn add_suggestions(
     };
     let checked = plan.program();
     let changed = program_of(checked, mutant)?;
-    match Runner::of(alloc, &changed) {
-        Ok(mut runner) => add_killing(
-            alloc,
-            checked,
-            &mut runner,
-            ticket,
-            rows,
-            search,
-            suggestions,
-        ),
-        Err(_) => Err(OpsFault::Memory),
+    let Ok(mut runner) = Runner::of(alloc, &changed) else {
+        return Err(AllocError);
+    };
+    let mut left = search.most;
+    for row in rows {
+        if left == 0 {
+            return Ok(());
+        }
+        let test = arguments(alloc, checked.arguments(), row)?;
+        if is_killed(alloc, checked, &mut runner, test.as_slice(), search.steps)? {
+            suggestions.push(Suggestion {
+                ticket,
+                arguments: test,
+            })?;
+            left -= 1;
+        }
     }
+    Ok(())
 }

@@ -1,5 +1,4 @@
 use Rattle.std.proofs.Common.{◌≡◌, ◌∙◌, ◌+◌, ℕ, subst, sym}
-use Rattle.std.proofs.lemmas.Result.{err_from_is_err_and}
 use Rattle.mothra_codes.specs.Op.{index}
 use Rattle.mothra_codes.specs.code.Op.{op_at}
 use Rattle.mothra_codes.proofs.Operators.{index-op_at}
@@ -18,8 +17,3 @@ loop-op-preserved c =
       are = subst (λ (k : ℕ). AreOf plan (k + 1) c.add_operator.new.list.items) own
           (subst (λ p. AreOf p (index (op_at i) + 1) c.add_operator.new.list.items) c.loop-op.invariant.plan after);
     }
-
-pub returns-in_err-add_operator-clause-memory : goal.returns-in_err-add_operator-clause-memory
-returns-in_err-add_operator-clause-memory c =
-    let p = err_from_is_err_and c.from_residual-in_err-add_operator.result c.from_residual-in_err-add_operator.ensures.1 in
-    rw (p.1, p.2) c.in_err-add_operator.ensures.memory
