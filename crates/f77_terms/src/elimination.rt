@@ -51,7 +51,7 @@ impl Count {
         }
     }
 
-    /// What an elimination costs: it loses no whole numbers where the factors of one side are 1, and goes before others.
+    /// What an elimination costs: it loses no whole numbers where the factors of one side are 1, and goes first then.
     fn cost(&self) -> usize {
         let pairs = self.above.saturating_mul(self.below);
         if self.is_one || self.is_minus_one {

@@ -174,7 +174,8 @@ fn part_product(a: Part, b: Part) -> Option<Part>
 
 /// Adds the product of a part and a term, unless it gets too large.
 fn add_part_times(term: &mut Term, part: Part, other: &Term) -> Result<bool, AllocError>
-    ensures { IfOk result (λ done. AddsIfDone term.old term.new done (λ v. part_value v part *ℤ sum_value v other.now)) }
+    ensures { IfOk result (λ done. AddsIfDone term.old term.new done
+        (λ v. part_value v part *ℤ sum_value v other.now)) }
 {
     let Some(factor) = part.factor.checked_mul(other.constant) else {
         return Ok(false);

@@ -6,7 +6,7 @@ use Rattle.mothra_codes.specs.declared.op.Op.{Op}
 use Rattle.mothra_codes.specs.Ticket.{Before, ticket}
 use Rattle.mothra_codes.specs.declared.ticket.Ticket.{Ticket}
 use Rattle.mothra_ops.specs.Plan.{PlanFields}
-use Rattle.mothra_equivalents.specs.code.Equivalents.{AreOf, IsFront}
+use Rattle.mothra_equivalents.specs.code.Equivalents.{AreOf, IsUpTo}
 use Rattle.mothra_equivalents.specs.Equivalents.{IsNamed}
 use Rattle.mothra_equivalents.specs.declared.equivalents.Equivalent.{Equivalent}
 
@@ -15,8 +15,8 @@ before_next : (op : Op) (number : ℕ) (t : Ticket) → Before t (ticket op numb
 before_next op number t (inl lower) = inl lower
 before_next op number t (inr (same, less)) = inr (same, omega (arith, less))
 
-pub front_stays : (plan : PlanFields) (op : Op) (number : ℕ) (list : List Equivalent) → IsFront plan op number list
-    → IsFront plan op (number + 1) list
+pub front_stays : (plan : PlanFields) (op : Op) (number : ℕ) (list : List Equivalent) → IsUpTo plan op number list
+    → IsUpTo plan op (number + 1) list
 front_stays plan op number list front = record {
   are = front.are;
   before = All-weaker (λ (e : Equivalent). Before e.ticket (ticket op number)) (λ (e : Equivalent). Before e.ticket (ticket op (number + 1)))
@@ -24,7 +24,7 @@ front_stays plan op number list front = record {
 }
 
 pub front_grows : (plan : PlanFields) (op : Op) (number : ℕ) (list : List Equivalent) (new : Equivalent) → new.ticket ≡ ticket op number
-    → IsNamed plan new → IsFront plan op number list → IsFront plan op (number + 1) (list ++ new ∷ [])
+    → IsNamed plan new → IsUpTo plan op number list → IsUpTo plan op (number + 1) (list ++ new ∷ [])
 front_grows plan op number list new is equivalent front = record {
   are = record {
     ordered = all_pairs_push (λ (one other : Equivalent). Before one.ticket other.ticket) list new front.are.ordered

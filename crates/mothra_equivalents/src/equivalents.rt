@@ -3,7 +3,7 @@
 ghost use Rattle.std.specs.Prelude.{◌≡◌, ◌+◌, IfOk, OnOk};
 ghost use Rattle.mothra_codes.specs.Op.{index};
 ghost use Rattle.mothra_equivalents.specs.Equivalents.{AreEquivalents};
-ghost use Rattle.mothra_equivalents.specs.code.Equivalents.{AreOf, IsFront};
+ghost use Rattle.mothra_equivalents.specs.code.Equivalents.{AreOf, IsUpTo};
 
 use crate::prover::Prover;
 use crate::suggestions::{Search, Suggestion, add_suggestions, rows_for};
@@ -46,7 +46,7 @@ fn add(
     number: u32,
 ) -> Result<(), AllocError>
     ensures front { OnOk result
-        (IsFront prover.old op number list.old.items → IsFront prover.old op (number + 1) list.new.items) }
+        (IsUpTo prover.old op number list.old.items → IsUpTo prover.old op (number + 1) list.new.items) }
     ensures plan { prover.new ≡ prover.old }
 {
     let ticket = Ticket { op, number };

@@ -9,7 +9,7 @@ use Rattle.mothra_equivalents.specs.declared.equivalents.Equivalent.{Equivalent}
 use Rattle.mothra_equivalents.specs.Equivalents.{AreEquivalents}
 
 -- the list has equivalent mutants, each before this number of the operator
-pub record IsFront (plan : PlanFields) (op : Op) (number : ℕ) (list : List Equivalent) : Type 0 where
+pub record IsUpTo (plan : PlanFields) (op : Op) (number : ℕ) (list : List Equivalent) : Type 0 where
   pub are : AreEquivalents plan list
   pub before : All (λ equivalent. Before equivalent.ticket (ticket op number)) list
 

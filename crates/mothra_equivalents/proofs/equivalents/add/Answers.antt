@@ -1,7 +1,7 @@
 use Rattle.std.proofs.Common.{◌+◌, refl, subst, sym}
 use Rattle.std.specs.Prelude.{IfSome}
 use Rattle.mothra_codes.specs.Ticket.{ticket}
-use Rattle.mothra_equivalents.specs.code.Equivalents.{IsFront}
+use Rattle.mothra_equivalents.specs.code.Equivalents.{IsUpTo}
 use Rattle.mothra_equivalents.specs.Equivalents.{IsProvedMutant}
 use Rattle.mothra_equivalents.proofs.Adding.{front_grows}
 use Rattle.mothra_equivalents.proofs.equivalents.add.Goals as goal
@@ -11,5 +11,5 @@ returns-in-Some-clause-front c front =
     let plan = c.args.prover.now in
     let own = ticket c.args.op c.args.number in
     let known = subst (λ found. IfSome found (λ spare. IsProvedMutant plan own spare)) c.in-Some.is c.in_ok-spare.ensures.equivalent in
-    subst (IsFront plan c.args.op (c.args.number + 1)) (sym c.in_ok-push.ensures.items)
+    subst (IsUpTo plan c.args.op (c.args.number + 1)) (sym c.in_ok-push.ensures.items)
     (front_grows plan c.args.op c.args.number c.args.list.now.items (record { ticket = own; spare = c.in-Some.spare }) refl known front)
