@@ -13,7 +13,6 @@ use Rattle.mothra_ops.specs.Edits.{IsMember, IsMutant, made}
 use Rattle.mothra_ops.specs.Made.{IsMadeMutant}
 use Rattle.mothra_replacements.specs.Pools.{pools_of}
 use Rattle.mothra_ops.specs.declared.edit.Edit.{Edit}
-use Rattle.mothra_replacements.specs.declared.fault.OpsFault.{OpsFault}
 use Rattle.mothra_ops.specs.declared.mutant.Mutant.{Mutant}
 use Rattle.mothra_ops.proofs.Members.{steps}
 
@@ -57,6 +56,6 @@ module _ (checked : CheckedFields) (edit : Edit) (node : NodeOf)
       let has : HasStatement program edit.statement k.line.stmt = ap (option_map (λ (l : LineFields). l.stmt)) k.of_line in
       none k.line.stmt has (subst (IsMutant program edit.statement) (same_Some _ _ (sym m.makes ∙ makes k.line.stmt has)) m.mutant)
 
-  pub mutant_found : (result : Result (Option Mutant) OpsFault) → IfOk result IsOwn → IfOk result IsNone → IfOk result IsFound
+  pub mutant_found : {E : Type 0} (result : Result (Option Mutant) E) → IfOk result IsOwn → IfOk result IsNone → IfOk result IsFound
   mutant_found (Ok found) own none = found_by found own none
   mutant_found (Err fault) own none = tt
