@@ -5,6 +5,7 @@ ghost use Rattle.std.specs.Bool.{Decides};
 ghost use Rattle.f77_program.specs.Patching.{Fits, patched};
 ghost use Rattle.f77_program.specs.Program.{line_of};
 ghost use Rattle.f77_tree.specs.Statement.{statement_of};
+ghost use Rattle.f77_check.specs.Patching.{IsInPlace};
 ghost use Rattle.f77_legal.specs.Alone.{StandsAlone};
 ghost use Rattle.f77_legal.specs.Legal.{IsLegal};
 ghost use Rattle.f77_code.specs.Replacing.{HaveOneOwn, IsAllOwn, IsChangedCode, own_instructions};
@@ -26,8 +27,8 @@ use crate::workspace::{Workspace, prepared};
 use f77_check::{Checked, Resolved};
 use f77_code::ChangedCode;
 use f77_meaning::{Arg, Outcome, RunFault};
-use f77_tree::Stmt;
-use std::alloc::Global;
+use f77_tree::{Shared, Stmt};
+use std::alloc::{AllocError, Global};
 use std::marker::Model;
 use std::snapshot::Snapshot;
 
@@ -114,6 +115,24 @@ fn put(
     Ok(())
 }
 
+/// The resolved form of a statement that stands in the place of the statement with this number, counted from 1.
+fn resolved(
+    alloc: Global,
+    checked: &Checked,
+    number: usize,
+    stmt: &Stmt,
+) -> Result<Shared<Resolved>, AllocError>
+    requires fits { Fits (map line_of checked.now.program) number (statement_of stmt.now) }
+    requires alone { StandsAlone checked.now.names (map line_of checked.now.program) (number - 1)
+        (statement_of stmt.now) }
+    requires legal { IsLegal (patched (map line_of checked.now.program) number (statement_of stmt.now)) }
+    ensures { IfOk result (IsInPlace checked.now number (statement_of stmt.now)) }
+{
+    let resolved = checked.resolved(number, stmt)?;
+    let shared = Shared::new(alloc, resolved)?;
+    Ok(shared)
+}
+
 impl<'a> ChangedRunner<'a> {
     /// A runner for this program, with no statement changed. It takes all memory that its runs need, apart from that
     /// for registers, which the first run takes, and that for a state that is kept in a long run.
@@ -149,7 +168,9 @@ impl<'a> ChangedRunner<'a> {
         restore(self.checked, &mut self.code, &mut self.space.image);
         self.change = None;
         let place = number - 1;
-        let resolved = self.checked.resolved(number, stmt)?;
+        let Ok(resolved) = resolved(self.alloc, self.checked, number, stmt) else {
+            return Err(RunFault::Memory);
+        };
         let image = &mut self.space.image;
         let code = &mut self.code;
         put(self.alloc, self.checked, code, image, place, &resolved)?;

@@ -38,15 +38,15 @@ put-requires-clause-change c =
     let is = none_changed runner.checked.now runner.change runner.code runner.space.image c.self.invariant in
     let fit = fits_here runner.checked.now runner.change c.args.self.now c.self.view_is c.args.number stmt c.requires.fits in
     let legal = legal_here runner.checked.now runner.change c.args.self.now c.self.view_is c.args.number stmt c.requires.legal in
-    let in_place : IsInPlace runner.checked.now c.args.number stmt c.in_ok-resolved.resolved = search rules in
-    can_replace runner.checked.now is.checked c.args.number stmt fit c.in_ok-resolved.resolved legal in_place
+    let in_place : IsInPlace runner.checked.now c.args.number stmt c.deref.result.now = search rules in
+    can_replace runner.checked.now is.checked c.args.number stmt fit c.deref.result.now legal in_place
 
 pub invariant_of-self-2 : goal.invariant_of-self-2
 invariant_of-self-2 c =
     let runner = c.self.inside in
     let stmt = statement_of c.args.stmt.now in
     let place = c.args.number - 1 in
-    let made = c.in_ok-resolved.resolved in
+    let made = c.deref.result.now in
     let code = c.put.new.code in
     let is = none_changed runner.checked.now runner.change runner.code runner.space.image c.self.invariant in
     let fit = fits_here runner.checked.now runner.change c.args.self.now c.self.view_is c.args.number stmt c.requires.fits in
