@@ -290,10 +290,10 @@ class Crates(unittest.TestCase):
     def test_tells_wide_lines_of_each_folder(self) -> None:
         self.put("sums/src/hidden.rt", f"{HIDDEN}// {'x' * 118}\n#[tactic({'x' * 118})]\nlet x = \"{'x' * 200}\";\n")
         self.put("sums/specs/Hidden.antt", HIDDEN_SPEC.replace("n = ℕ", f"n = {'ℕ' * 108}"))
-        self.put("sums/proofs/Placed.antt", PROOF.replace("= 0", f"= {'0' * 212}"))
+        self.put("sums/proofs/Placed.antt", PROOF.replace("= 0", f"= {'0' * 192}"))
         told = [line.removeprefix("crates/sums/") for line in wide_of(reach(self.root))]
         self.assertEqual(told, [
-            "proofs/Placed.antt:4: 221 columns, and 220 at most are wanted",
+            "proofs/Placed.antt:4: 201 columns, and 200 at most are wanted",
             "specs/Digits.antt:4: 101 columns, and 100 at most are wanted",
             "specs/Hidden.antt:4: 121 columns, and 120 at most are wanted",
             "src/hidden.rt:6: 121 columns, and 120 at most are wanted",

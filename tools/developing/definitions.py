@@ -19,7 +19,7 @@ class, with the comments above definitions, and without imports and empty lines.
 Only texts are read: a word cites what it is the name of, by the imports of its file. With --check there is one line for
 each file in the wrong place, for each name that has definitions in two modules, and for each line that is too wide; the
 exit status is 1 if there are any. A line has at most 100 columns in a definition that public contracts reach, 120
-elsewhere in specs/ and src/, and 220 in proofs/: texts in quotation marks and attributes aside.
+elsewhere in specs/ and src/, and 200 in proofs/: texts in quotation marks and attributes aside.
 """
 
 import argparse

@@ -9,12 +9,11 @@ use Rattle.std.proofs.lemmas.List.{length-map}
 use Rattle.f77_program.specs.Program.{LineFields, line_of}
 use Rattle.f77_program.specs.declared.program.Line.{Line}
 use Rattle.f77_legal.specs.Blocks.{first_numbers, statement_numbers, branch_holds}
-use Rattle.f77_legal.specs.Enclosing.{is_in_do_range}
 use Rattle.f77_legal.specs.Labels.{nth_statement}
 use Rattle.f77_legal.specs.Loops.{terminal, range_holds, is_left, left_by, loops_ending, ends_outside, breaks_range, goes_in, do_variable_of, holds_with}
 use Rattle.f77_legal.specs.LoopTable.{IsRangeTable}
 use Rattle.f77_legal.specs.Names.{Symbol}
-use Rattle.f77_legal.specs.code.LoopTable.{holds_by, is_left_by_table, separates, ends_at_by_table, enters}
+use Rattle.f77_legal.specs.code.LoopTable.{is_in_do_range, holds_by, is_left_by_table, separates, ends_at_by_table, enters}
 use Rattle.f77_legal.specs.declared.enclosing.Ranges.{Ranges}
 use Rattle.f77_legal.proofs.LoopLists.{left_out, all_kept, same_filters}
 use Rattle.f77_legal.proofs.Prefixes.{begins_kept, numbers_are}
@@ -105,7 +104,8 @@ module _ (ranges : Ranges) (program : List LineFields) (is : IsRangeTable ranges
       ∙ ap not (sym (begins_kept (held_by i) (held_by j) (length program)))
 
 pub held_with_is : (ranges : Ranges) (lines : List Line) → IsRangeTable ranges (map line_of lines) → (i : ℕ) (name : Symbol)
-    → list_any (λ d. is_in_do_range ranges.terminals.items d i && option_map_or (bytes_eq name) (option_and_then do_variable_of (nth_statement (map line_of lines) d)) false) (range_with_len 0 (length lines))
+    → list_any (λ d. is_in_do_range ranges.terminals.items d i
+    && option_map_or (bytes_eq name) (option_and_then do_variable_of (nth_statement (map line_of lines) d)) false) (range_with_len 0 (length lines))
     ≡ list_any (holds_with (map line_of lines) i name) (statement_numbers (map line_of lines))
 held_with_is ranges lines is i name = λ j.
     list_any (λ d. range_is ranges (map line_of lines) is d i j && option_map_or (bytes_eq name) (option_and_then do_variable_of (nth_statement (map line_of lines) d)) false)

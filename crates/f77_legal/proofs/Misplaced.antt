@@ -167,7 +167,8 @@ module _ (bounds : Symbol → List ℕ) (kinds : Symbol → Kind) (dummy : Symbo
 
   pub group_unfilled : false ≡ fills bounds kinds (data_group_of g) → true ≡ groups_break bounds kinds dummy before (map data_group_of (drop i groups))
   group_unfilled f =
-      sym (group_step _ false refl f ∙ ap (λ b. b || groups_break bounds kinds dummy (before ++ g.names.items) (map data_group_of (drop (i + 1) groups))) (either_true (misplaces dummy before g.names.items)))
+      sym (group_step _ false refl f
+      ∙ ap (λ b. b || groups_break bounds kinds dummy (before ++ g.names.items) (map data_group_of (drop (i + 1) groups))) (either_true (misplaces dummy before g.names.items)))
     where
       either_true : (b : Bool) → (b || true) ≡ true
       either_true true = refl

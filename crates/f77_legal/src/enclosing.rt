@@ -31,7 +31,7 @@ impl Ranges {
 
     /// Whether the range of the DO `d` holds statement `k`.
     pub(crate) fn in_range(&self, d: usize, k: usize) -> bool
-        ensures { result ≡ enclosing.is_in_do_range self.now.terminals.items d k }
+        ensures { result ≡ table.is_in_do_range self.now.terminals.items d k }
     {
         end_in(&self.terminals, d).is_some_and(|terminal| d < k && k <= terminal)
     }

@@ -8,9 +8,6 @@ from developing.antt.repository import File
 
 # The folder of what private functions cite.
 FOLDER = "code"
-# What stands beside a definition that public contracts cite, since it says the same of something else: the ranges of DOs
-# beside the branches of blocks.
-BESIDE = {"is_in_do_range"}
 
 
 def cited_by_others(reached: Reached) -> set[str]:
@@ -22,8 +19,6 @@ def cited_by_others(reached: Reached) -> set[str]:
 def names_by_class(reached: Reached, file: File) -> dict[str, list[str]]:
     names: dict[str, list[str]] = {}
     for definition in file.definitions:
-        if definition.node.name in BESIDE:
-            continue
         names.setdefault(reached.class_of(definition), []).append(definition.node.name)
     return names
 

@@ -8,7 +8,7 @@ from developing.antt.reaching import OPEN, Reached
 
 # The widest line of a definition that public contracts reach, and that of each folder of a crate.
 OPEN_WIDEST = 100
-WIDEST = {"specs": 120, "src": 120, "proofs": 220}
+WIDEST = {"specs": 120, "src": 120, "proofs": 200}
 # A text in quotation marks, which may have several lines. Marks in comments and in signs begin no text.
 QUOTED = re.compile(r'(//[^\n]*|b?\'(?:[^\'\\]|\\.)\')|r(#+)".*?"\2|b?r?"(?:[^"\\]|\\.)*"', re.S)
 # The formatter puts an attribute on one line.

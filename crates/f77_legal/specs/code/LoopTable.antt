@@ -1,9 +1,15 @@
 -- What the table of DOs and branches has of a program. Statements are numbered from 0 here.
 -- Private functions and proofs alone cite what stands here.
-use Rattle.std.specs.Prelude.{ℕ, ◌&&◌, ◌||◌, ◌==◌, ◌∷◌, Bool, false, not, List, [], slice_index_or, None}
+use Rattle.std.specs.Prelude.{ℕ, ◌&&◌, ◌||◌, ◌==◌, ◌∷◌, Bool, false, not, nat_lt, nat_le}
+use Rattle.std.specs.Prelude.{List, [], Option, slice_index_or, None}
 use Rattle.std.specs.Option.{option_map_or}
-use Rattle.f77_legal.specs.Enclosing.{is_in_do_range, in_branch}
+use Rattle.f77_legal.specs.Enclosing.{in_branch}
 use Rattle.f77_legal.specs.declared.enclosing.Ranges.{Ranges}
+
+-- with these terminal statements, k is in the range of the DO d
+abbrev pub is_in_do_range : List (Option ℕ) → ℕ → ℕ → Bool
+is_in_do_range terminals d k =
+    nat_lt d k && option_map_or (nat_le k) (slice_index_or terminals d None) false
 
 -- d is a DO with k in its range, or begins a branch with k in it
 abbrev pub holds_by : Ranges → ℕ → ℕ → Bool

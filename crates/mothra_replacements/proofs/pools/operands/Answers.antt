@@ -19,7 +19,8 @@ loop-node-preserved c =
           listed_new same_tree tree_equiv h node_of tree_of c.args.nodes.now c.loop-node.node-index c.node-item.result c.loop-node.list.items
           c.node-item.is c.loop-node-test.true c.loop-node.invariant
           w.in-Some.operand (sym c.in_ok-operand.ensures ∙ ap (option_map tree_of) w.in-Some.is)
-          (ap (list_any (λ (known : Expr). same_tree (tree_of known) (tree_of w.in-Some.operand))) (sym w.deref.ensures.value) ∙ (sym w.contains.ensures.value ∙ w.if-not-contains.true)) w.in_ok-push.ensures.items)
+          (ap (list_any (λ (known : Expr). same_tree (tree_of known) (tree_of w.in-Some.operand))) (sym w.deref.ensures.value)
+          ∙ (sym w.contains.ensures.value ∙ w.if-not-contains.true)) w.in_ok-push.ensures.items)
       | in_default w ↦ elim w.in_default.branch [
         | in_default-via-in-None-1 u ↦ let none : c.in_ok-operand.field-0 ≡ None = cc in rw w.list-is (
             passed_over same_tree tree_equiv h node_of tree_of c.args.nodes.now c.loop-node.node-index c.node-item.result

@@ -30,5 +30,6 @@ returns-else-is_terminal c = λ empty.
       frame = c.if-keeps_frame.ensures refl ∙ ap (λ line. framed (statement_of line.stmt)) c.deref.ensures ∙ ap (λ (l : LineFields). framed l.stmt) line;
       ends = may_stand_by c.args.self.now (subst IsChecked c.self.view_is c.self.invariant.0) (c.args.number - 1) _ c.requires.line c.requires.at c.index.result.now
           (c.index.ensures ∙ ap (λ list. get_or list (c.args.number - 1) c.index.result.now) (ap (λ self. self.statements) c.self.view_is))
-          (ap (λ (r : Resolved). length r.ends.items == 0) (sym c.deref-else-is_terminal.ensures) ∙ ap (λ n. n == 0) (sym c.deref-else-is_terminal.result.now.ends.ok.0) ∙ sym c.is_empty.ensures ∙ empty);
+          (ap (λ (r : Resolved). length r.ends.items == 0) (sym c.deref-else-is_terminal.ensures)
+          ∙ ap (λ n. n == 0) (sym c.deref-else-is_terminal.result.now.ends.ok.0) ∙ sym c.is_empty.ensures ∙ empty);
     }

@@ -13,7 +13,8 @@ pub index-requires : goal.index-requires
 index-requires c =
     let names = keys c.args.names.now.facts in
     let first = c.args.self.now.first.items in
-    let below : c.unwrap.result < length first = start_within (array_bounds c.args.names.now) names first (bytes_eq c.args.name.now) c.unwrap.result c.requires.table.first (sym c.place.ensures ∙ c.unwrap.ensures) in
+    let below : c.unwrap.result < length first =
+    start_within (array_bounds c.args.names.now) names first (bytes_eq c.args.name.now) c.unwrap.result c.requires.table.first (sym c.place.ensures ∙ c.unwrap.ensures) in
     search rules
 
 pub returns : goal.returns
