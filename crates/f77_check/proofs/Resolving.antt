@@ -9,11 +9,10 @@ use Rattle.f77_tree.specs.declared.operator.Sign.{Sign}
 use Rattle.f77_tree.specs.declared.operator.Sign.TheVariants.{Minus}
 use Rattle.f77_tree.specs.declared.tree.Expr.{Expr}
 use Rattle.f77_tree.specs.declared.tree.Expr.TheVariants.{rolls-ZeroPush}
-use Rattle.f77_tree.specs.declared.tree.Expr.TheVariants as forms
 use Rattle.f77_tree.specs.declared.tree.Expr.TheViews as views
 use Rattle.f77_tree.specs.declared.tree.Expr.TheOpen.{Expr-F}
 use Rattle.f77_tree.specs.declared.tree.Expr.TheFolds.{fold-roll-Expr}
-use Rattle.f77_tree.proofs.Views.{number_view, signed_view, binary_view}
+use Rattle.f77_tree.proofs.Views.{signed_view, binary_view}
 use Rattle.f77_tree.specs.Tree.{Tree}
 use Rattle.f77_tree.specs.View.{tree_of, trees, expr_step, ref_step}
 use Rattle.f77_check.specs.code.Boxed.{HoldsNumber}
@@ -58,9 +57,6 @@ module _ (bounds : Symbol → List ℕ) (names : List Symbol) where
       → x ≡ get_or xs 0 x → HoldsNumber bounds names (tree_of x) p → IsNumber bounds names (Tree.Call f (trees (map tree_of xs))) (resolved.Absolute p)
   unfolding HoldsNumber
   absolute_number f xs x p is some few at h = rw (is, one_item xs x some few at) h
-
-  pub constant_number : (e : Expr) (n : ℕ) (x : Number) → e ≡ forms.Number n → IsNumber bounds names (Tree.Number n) x → IsNumber bounds names (tree_of e) x
-  constant_number e n x is h = rw (is, number_view n) h
 
   -- an operand behind a minus
   pub minus_number : (t : Tree) (sign : Sign) (p : Box Number Global) → sign ≡ Minus → HoldsNumber bounds names t p
