@@ -3,9 +3,8 @@
 
 use crate::elimination::Level;
 use crate::monomials::Monomial;
-use crate::numbers::ceiling;
 use crate::paths::{Choice, Path};
-use crate::ranges::{Range, monomial_range};
+use crate::ranges::{Range, limited, monomial_range};
 use crate::terms::{Term, factor_of};
 use std::alloc::{AllocError, Global};
 
@@ -21,25 +20,6 @@ struct Assigned {
 pub struct Assignment {
     known: Vec<Option<Range>>,
     list: Vec<Assigned>,
-}
-
-/// What a bound leaves of a range, where the monomial has this factor and the rest this number.
-fn limited(range: Range, factor: i64, rest: i64) -> Option<Range> {
-    if factor > 0 {
-        let high = ceiling(rest, factor).checked_neg()?;
-        return Some(Range {
-            high: high.min(range.high),
-            ..range
-        });
-    }
-    let size = factor.checked_neg()?;
-    if size <= 0 {
-        return None;
-    }
-    Some(Range {
-        low: ceiling(rest, size).max(range.low),
-        ..range
-    })
 }
 
 /// A number of a range, so far from its end, that several seldom are the same.
@@ -64,10 +44,7 @@ impl Assignment {
         if let Some(assigned) = numbers.find(|assigned| assigned.monomial == monomial) {
             return assigned.number;
         }
-        match monomial_range(&self.known, monomial) {
-            Some(range) => range.low.max(0).min(range.high),
-            None => 0,
-        }
+        monomial_range(&self.known, monomial).map_or(0, |range| range.low.max(0).min(range.high))
     }
 
     /// The number of a term, but for the part with this monomial, if there is one.
@@ -98,9 +75,9 @@ impl Assignment {
             high: i64::MAX,
         };
         for bound in &level.bounds {
-            if let Some(less) = self.limited_by(range, bound, level.monomial) {
-                range = less;
-            }
+            range = self
+                .limited_by(range, bound, level.monomial)
+                .unwrap_or(range);
         }
         number_in(range, (self.list.len() as i64).saturating_mul(7))
     }
@@ -116,11 +93,9 @@ impl Assignment {
             list: Vec::with_capacity(alloc, levels.len())?,
         };
         for level in levels.iter().rev() {
+            let monomial = level.monomial;
             let number = made.number_at(level);
-            made.list.push(Assigned {
-                monomial: level.monomial,
-                number,
-            })?;
+            made.list.push(Assigned { monomial, number })?;
         }
         Ok(made)
     }

@@ -2,12 +2,11 @@
 
 ghost use Rattle.std.specs.Prelude.{◌≡◌, ◌<◌, true, length, slice_get, Some, IfOk, IfSome};
 ghost use Rattle.f77_terms.specs.Terms.{Valuation};
-ghost use Rattle.f77_terms.specs.Atoms.{AreOfAtomsBelow, FitsTable, IsOfAtomsBelow, IsOfEarlierAtoms, Numbers};
-ghost use Rattle.f77_terms.specs.Atoms.{key_value};
+ghost use Rattle.f77_terms.specs.Atoms.{FitsTable, IsOfAtomsBelow, IsOfEarlierAtoms, Numbers, key_value};
 ghost use Rattle.f77_terms.specs.Monomials.{HasAtomsBelow};
 
 use crate::monomials::Monomial;
-use crate::terms::{Part, Term, is_same_term, part_at};
+use crate::terms::{Term, is_same_term, part_at};
 use std::alloc::{AllocError, Global};
 
 /// What an atom is.
@@ -35,9 +34,8 @@ pub struct Table {
 pub fn new_table(alloc: Global) -> Table
     ensures { (held : Numbers) (v : Valuation) → FitsTable held v result }
 {
-    Table {
-        keys: Vec::new(alloc),
-    }
+    let keys = Vec::new(alloc);
+    Table { keys }
 }
 
 /// The monomial has atoms below this number alone.
@@ -52,24 +50,16 @@ fn has_atoms_below(monomial: Monomial, n: usize) -> bool
     }
 }
 
-/// The parts have atoms below this number alone.
-fn are_within(parts: &[Part], n: usize) -> bool
-    ensures { result ≡ true → AreOfAtomsBelow n parts.now }
-{
-    for place in 0..parts.len() {
-        let part = part_at(parts, place);
-        if !has_atoms_below(part.monomial, n) {
-            return false;
-        }
-    }
-    true
-}
-
 /// The term has atoms below this number alone.
 fn is_within(term: &Term, n: usize) -> bool
     ensures { result ≡ true → IsOfAtomsBelow n term.now }
 {
-    are_within(&term.parts, n)
+    for place in 0..term.parts.len() {
+        if !has_atoms_below(part_at(&term.parts, place).monomial, n) {
+            return false;
+        }
+    }
+    true
 }
 
 /// The terms of the key have atoms below this number alone.

@@ -26,10 +26,7 @@ fn divided_parts(alloc: Global, parts: &[Part], g: i64) -> Result<Option<Vec<Par
         if whole != part.factor {
             return Ok(None);
         }
-        divided.push(Part {
-            factor,
-            monomial: part.monomial,
-        })?;
+        divided.push(Part { factor, ..part })?;
     }
     Ok(Some(divided))
 }
@@ -42,23 +39,11 @@ fn tightened(alloc: Global, bound: Term) -> Result<Term, AllocError>
     if g == 1 {
         return Ok(bound);
     }
-    match divided_parts(alloc, &bound.parts, g)? {
-        Some(parts) => Ok(Term {
-            constant: ceiling(bound.constant, g),
-            parts,
-        }),
-        None => Ok(bound),
-    }
-}
-
-/// The place of a bound with the same parts, or behind all if there is none.
-fn place_like(bounds: &[Term], bound: &Term) -> usize {
-    for place in 0..bounds.len() {
-        if bounds[place].parts == bound.parts {
-            return place;
-        }
-    }
-    bounds.len()
+    let Some(parts) = divided_parts(alloc, &bound.parts, g)? else {
+        return Ok(bound);
+    };
+    let constant = ceiling(bound.constant, g);
+    Ok(Term { constant, parts })
 }
 
 /// Adds a bound, in place of a weaker one with the same parts.
@@ -67,14 +52,11 @@ pub fn add_tight(alloc: Global, bounds: &mut Vec<Term>, bound: Term) -> Result<(
         → AreBelow v bounds.new.items) }
 {
     let tight = tightened(alloc, bound)?;
-    let place = place_like(bounds, &tight);
-    if place < bounds.len() {
-        if bounds[place].constant < tight.constant {
-            bounds[place] = tight;
-        }
-        return Ok(());
+    match bounds.iter().position(|other| other.parts == tight.parts) {
+        Some(place) if bounds[place].constant >= tight.constant => {}
+        Some(place) => bounds[place] = tight,
+        None => bounds.push(tight)?,
     }
-    bounds.push(tight)?;
     Ok(())
 }
 
@@ -84,8 +66,7 @@ pub fn joint_bounds(alloc: Global, a: &[Term], b: &[Term]) -> Result<Vec<Term>, 
 {
     let mut bounds = copied_terms(alloc, a)?;
     for bound in b {
-        let copied = copy(alloc, bound)?;
-        add_tight(alloc, &mut bounds, copied)?;
+        add_tight(alloc, &mut bounds, copy(alloc, bound)?)?;
     }
     Ok(bounds)
 }
@@ -102,8 +83,7 @@ pub fn add_bound(
         → (constant +ℤ m *ℤ sum_value v term.now) ≤ℤ pos 0 → AreBelow v bounds.new.items) }
 {
     let mut bound = constant_term(alloc, constant);
-    let added = add_multiple(&mut bound, m, term)?;
-    if !added {
+    if !add_multiple(&mut bound, m, term)? {
         return Ok(());
     }
     add_tight(alloc, bounds, bound)

@@ -52,15 +52,11 @@ fn copied_choices(alloc: Global, choices: &[Choice]) -> Result<Vec<Choice>, Allo
 pub fn copied_path(alloc: Global, path: &Path) -> Result<Path, AllocError>
     ensures { IfOk result (λ copied. (v : Valuation) → Holds v path.now → Holds v copied) }
 {
-    let known = Vec::from_slice(alloc, &path.known)?;
-    let below = copied_terms(alloc, &path.below)?;
-    let unequal = copied_terms(alloc, &path.unequal)?;
-    let choices = copied_choices(alloc, &path.choices)?;
     Ok(Path {
-        known,
-        below,
-        unequal,
-        choices,
+        known: Vec::from_slice(alloc, &path.known)?,
+        below: copied_terms(alloc, &path.below)?,
+        unequal: copied_terms(alloc, &path.unequal)?,
+        choices: copied_choices(alloc, &path.choices)?,
     })
 }
 

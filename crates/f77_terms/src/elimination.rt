@@ -115,52 +115,8 @@ fn add_known(
     add_bound(alloc, bounds, 1, &term, -range.high)
 }
 
-/// Adds what follows from a bound and another, if the factor of that is below 0.
-fn add_pair(
-    alloc: Global,
-    left: &mut Vec<Term>,
-    bound: &Term,
-    factor: i64,
-    other: &Term,
-    below: i64,
-) -> Result<(), AllocError>
-    requires { pos 0 ≤ℤ factor }
-    ensures { IfOk result (λ _. (v : Valuation) → AreBelow v left.old.items → IsBelow v bound.now
-        → IsBelow v other.now → AreBelow v left.new.items) }
-{
-    if below >= 0 || below == i64::MIN {
-        return Ok(());
-    }
-    add_combined(alloc, left, -below, bound, factor, other)
-}
-
-/// Adds what follows from a bound and each of those in which the factor of the monomial is below 0.
-fn add_pairs(
-    alloc: Global,
-    left: &mut Vec<Term>,
-    bound: &Term,
-    factor: i64,
-    bounds: &[Term],
-    monomial: Monomial,
-) -> Result<(), AllocError>
-    requires { pos 0 ≤ℤ factor }
-    ensures { IfOk result (λ _. (v : Valuation) → AreBelow v left.old.items → IsBelow v bound.now
-        → AreBelow v bounds.now → AreBelow v left.new.items) }
-{
-    for other in bounds {
-        add_pair(
-            alloc,
-            left,
-            bound,
-            factor,
-            other,
-            factor_of(other, monomial),
-        )?;
-    }
-    Ok(())
-}
-
-/// Adds what follows from a bound without the monomial: itself, or what it leads to with others.
+/// Adds what follows from a bound without the monomial: itself, or, where its factor is above 0, what it leads to with
+/// each of those in which the factor is below 0.
 fn add_without(
     alloc: Global,
     left: &mut Vec<Term>,
@@ -172,14 +128,19 @@ fn add_without(
         → AreBelow v bounds.now → AreBelow v left.new.items) }
 {
     let factor = factor_of(bound, monomial);
-    if factor > 0 {
-        return add_pairs(alloc, left, bound, factor, bounds, monomial);
+    if factor == 0 {
+        return add_tight(alloc, left, copy(alloc, bound)?);
     }
     if factor < 0 {
         return Ok(());
     }
-    let copied = copy(alloc, bound)?;
-    add_tight(alloc, left, copied)
+    for other in bounds {
+        let below = factor_of(other, monomial);
+        if below < 0 && below != i64::MIN {
+            add_combined(alloc, left, -below, bound, factor, other)?;
+        }
+    }
+    Ok(())
 }
 
 /// What follows from the bounds, without the monomial.

@@ -7,11 +7,11 @@ ghost use Rattle.f77_terms.specs.Paths.{HasCase, Holds};
 
 use crate::bounds::add_bound;
 use crate::paths::{Case, Choice, Path, add_case, add_equal};
-use crate::terms::{Term, combined, product};
+use crate::terms::{Term, add_multiple, combined, product};
 use std::alloc::{AllocError, Global};
 
 /// Adds that a term, m times, another, n times, and a constant are at most 0, unless a number gets too large.
-fn add_pair_bound(
+pub fn add_pair_bound(
     alloc: Global,
     bounds: &mut Vec<Term>,
     m: i64,
@@ -101,15 +101,12 @@ pub fn add_whole(
         → sum_value v quotient.now *ℤ sum_value v divisor.now +ℤ sum_value v rest.now ≡ sum_value v dividend.now
         → Holds v path.new) }
 {
-    let Some(multiple) = product(alloc, quotient, divisor)? else {
+    let Some(mut whole) = product(alloc, quotient, divisor)? else {
         return Ok(());
     };
-    let Some(sum) = combined(alloc, 1, &multiple, 1, rest)? else {
+    if !add_multiple(&mut whole, 1, rest)? || !add_multiple(&mut whole, -1, dividend)? {
         return Ok(());
-    };
-    let Some(whole) = combined(alloc, 1, &sum, -1, dividend)? else {
-        return Ok(());
-    };
+    }
     add_equal(alloc, path, &whole)
 }
 
@@ -122,20 +119,4 @@ pub fn order_case(alloc: Global, m: i64, a: &Term, n: i64, b: &Term) -> Result<C
     let mut bounds = Vec::new(alloc);
     add_pair_bound(alloc, &mut bounds, m, a, n, b, 0)?;
     Ok(Case { bounds })
-}
-
-/// Adds that a term, m times, and another, n times, are at most 0.
-pub fn add_order(
-    alloc: Global,
-    path: &mut Path,
-    m: i64,
-    a: &Term,
-    n: i64,
-    b: &Term,
-) -> Result<(), AllocError>
-    ensures { IfOk result (λ _. (v : Valuation) → Holds v path.old
-        → (pos 0 +ℤ pos 1 *ℤ (m *ℤ sum_value v a.now +ℤ n *ℤ sum_value v b.now)) ≤ℤ pos 0
-        → Holds v path.new) }
-{
-    add_pair_bound(alloc, &mut path.below, m, a, n, b, 0)
 }

@@ -6,9 +6,9 @@ ghost use Rattle.f77_terms.specs.Bounds.{IsBelow};
 ghost use Rattle.f77_terms.specs.Paths.{Holds, IsUnequal};
 ghost use Rattle.f77_terms.specs.Terms.{IsWorth, Valuation, sum_value};
 
-use crate::facts::{add_order, add_whole, divisor_cases, order_case, sign_cases, two_cases};
+use crate::facts::{add_pair_bound, add_whole, divisor_cases, order_case, sign_cases, two_cases};
 use crate::monomials::Monomial;
-use crate::paths::{Choice, Path, add_choice, add_unequal, is_below};
+use crate::paths::{Path, add_choice, add_unequal, is_below};
 use crate::ranges::term_range;
 use crate::terms::{Term, atom_term, combined, constant_term, copy, factor_of, is_same_term};
 use std::alloc::{AllocError, Global};
@@ -17,10 +17,7 @@ use std::alloc::{AllocError, Global};
 pub fn constant_of(term: &Term) -> Option<i64>
     ensures { IfSome result (λ z. (v : Valuation) → sum_value v term.now ≡ z) }
 {
-    if term.parts.len() == 0 {
-        return Some(term.constant);
-    }
-    None
+    (term.parts.len() == 0).then_some(term.constant)
 }
 
 /// A term, m times, and a constant, unless a number gets too large.
@@ -39,10 +36,7 @@ pub fn plus_constant(
 fn is_plainly_below(path: &Path, term: &Term) -> bool
     ensures { result ≡ true → (v : Valuation) → Holds v path.now → IsBelow v term.now }
 {
-    match term_range(&path.known, term) {
-        Some(range) => range.high <= 0,
-        None => false,
-    }
+    matches!(term_range(&path.known, term), Some(range) if range.high <= 0)
 }
 
 /// By the ranges of its atoms alone, a term, m times, and a constant are at most 0.
@@ -89,24 +83,17 @@ pub fn know_unequal(alloc: Global, path: &mut Path, term: &Term) -> Result<(), A
     if path.unequal.iter().any(|other| is_same_term(other, term)) {
         return Ok(());
     }
-    let apart = copy(alloc, term)?;
-    add_unequal(path, apart)
-}
-
-/// A case of the choice has the atom as a part of its own.
-fn has_case_with(choice: &Choice, atom: usize) -> bool {
-    choice.cases.iter().any(|case| {
-        case.bounds
-            .iter()
-            .any(|bound| factor_of(bound, Monomial::One(atom)) != 0)
-    })
+    add_unequal(path, copy(alloc, term)?)
 }
 
 /// A choice of the path is of the atom: what is known of a quotient, or of the lesser of two numbers.
 fn has_choice_of(path: &Path, atom: usize) -> bool {
-    path.choices
-        .iter()
-        .any(|choice| has_case_with(choice, atom))
+    path.choices.iter().any(|choice| {
+        choice.cases.iter().any(|case| {
+            let mut bounds = case.bounds.iter();
+            bounds.any(|bound| factor_of(bound, Monomial::One(atom)) != 0)
+        })
+    })
 }
 
 /// Adds what is known of a quotient and a remainder, once, where the divisor is not 0.
@@ -129,10 +116,8 @@ pub fn know_division(
     let whole = atom_term(alloc, quotient)?;
     let rest = atom_term(alloc, remainder)?;
     add_whole(alloc, path, dividend, divisor, &whole, &rest)?;
-    let sizes = divisor_cases(alloc, divisor, &rest)?;
-    add_choice(path, sizes)?;
-    let signs = sign_cases(alloc, dividend, &rest)?;
-    add_choice(path, signs)
+    add_choice(path, divisor_cases(alloc, divisor, &rest)?)?;
+    add_choice(path, sign_cases(alloc, dividend, &rest)?)
 }
 
 /// Adds what is known of the lesser of two terms, once.
@@ -150,12 +135,11 @@ pub fn know_minimum(
         return Ok(());
     }
     let least = atom_term(alloc, minimum)?;
-    add_order(alloc, path, 1, &least, -1, a)?;
-    add_order(alloc, path, 1, &least, -1, b)?;
+    add_pair_bound(alloc, &mut path.below, 1, &least, -1, a, 0)?;
+    add_pair_bound(alloc, &mut path.below, 1, &least, -1, b, 0)?;
     let first = order_case(alloc, 1, a, -1, &least)?;
     let second = order_case(alloc, 1, b, -1, &least)?;
-    let choice = two_cases(alloc, first, second)?;
-    add_choice(path, choice)
+    add_choice(path, two_cases(alloc, first, second)?)
 }
 
 /// Adds what is known of the greater of two terms, once.
@@ -173,10 +157,9 @@ pub fn know_maximum(
         return Ok(());
     }
     let greatest = atom_term(alloc, maximum)?;
-    add_order(alloc, path, 1, a, -1, &greatest)?;
-    add_order(alloc, path, 1, b, -1, &greatest)?;
+    add_pair_bound(alloc, &mut path.below, 1, a, -1, &greatest, 0)?;
+    add_pair_bound(alloc, &mut path.below, 1, b, -1, &greatest, 0)?;
     let first = order_case(alloc, 1, &greatest, -1, a)?;
     let second = order_case(alloc, 1, &greatest, -1, b)?;
-    let choice = two_cases(alloc, first, second)?;
-    add_choice(path, choice)
+    add_choice(path, two_cases(alloc, first, second)?)
 }

@@ -22,12 +22,8 @@ fn common_divisor(a: u64, b: u64) -> u64 {
 pub fn divisor_of(parts: &[Part]) -> i64
     ensures { pos 0 <ℤ result }
 {
-    let mut divisor = 0;
-    for part in parts {
-        divisor = common_divisor(part.factor.unsigned_abs(), divisor);
-    }
-    match i64::try_from(divisor) {
-        Ok(common) if common > 0 => common,
-        _ => 1,
-    }
+    let divisor = parts.iter().fold(0, |divisor, part| {
+        common_divisor(part.factor.unsigned_abs(), divisor)
+    });
+    i64::try_from(divisor).unwrap_or(1).max(1)
 }

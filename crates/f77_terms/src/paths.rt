@@ -170,21 +170,12 @@ pub fn is_zero(alloc: Global, path: &Path, term: &Term) -> Result<bool, AllocErr
     refuted(alloc, path, &below.bounds)
 }
 
-/// The bounds that say that the term is 0.
-fn zero_case(alloc: Global, term: &Term) -> Result<Case, AllocError>
-    ensures { IfOk result (λ case. (v : Valuation) → sum_value v term.now ≡ pos 0
-        → AreBelow v case.bounds.items) }
-{
-    let mut bounds = Vec::new(alloc);
-    add_bound(alloc, &mut bounds, 1, term, 0)?;
-    add_bound(alloc, &mut bounds, -1, term, 0)?;
-    Ok(Case { bounds })
-}
-
 /// Where the path holds, the term is not 0.
 pub fn is_apart(alloc: Global, path: &Path, term: &Term) -> Result<bool, AllocError>
     ensures { IfOk result (λ yes. yes ≡ true → (v : Valuation) → Holds v path.now → IsUnequal v term.now) }
 {
-    let zero = zero_case(alloc, term)?;
-    refuted(alloc, path, &zero.bounds)
+    let mut zero = Vec::new(alloc);
+    add_bound(alloc, &mut zero, 1, term, 0)?;
+    add_bound(alloc, &mut zero, -1, term, 0)?;
+    refuted(alloc, path, &zero)
 }

@@ -18,24 +18,12 @@ pub struct Range {
     pub high: i64,
 }
 
-/// What is known at a place.
-fn known_at(known: &[Option<Range>], atom: usize) -> Option<Range>
-    requires { atom < length known.now }
-    ensures { slice_get known.now atom ≡ Some result }
-{
-    known[atom]
-}
-
 /// The range of an atom.
 pub fn atom_range(known: &[Option<Range>], atom: usize) -> Option<Range>
     ensures within { IfSome result (λ range. (v : Valuation) → AreKnown v known.now → IsIn range (v atom)) }
     ensures told { atom < length known.now → slice_get known.now atom ≡ Some result }
 {
-    if atom < known.len() {
-        known_at(known, atom)
-    } else {
-        None
-    }
+    *known.get(atom)?
 }
 
 /// The range of a number, m times.
@@ -69,9 +57,7 @@ fn hull(a: Range, b: Range) -> Range
 fn product_range(a: Range, b: Range) -> Option<Range>
     ensures { IfSome result (λ r. (x y : ℤ) → IsIn a x → IsIn b y → IsIn r (x *ℤ y)) }
 {
-    let lows = multiple_range(b, a.low)?;
-    let highs = multiple_range(b, a.high)?;
-    Some(hull(lows, highs))
+    Some(hull(multiple_range(b, a.low)?, multiple_range(b, a.high)?))
 }
 
 /// The range of squares.
@@ -102,8 +88,7 @@ fn pair_range(known: &[Option<Range>], a: usize, b: usize) -> Option<Range>
     if a == b {
         return square_range(first);
     }
-    let second = atom_range(known, b)?;
-    product_range(first, second)
+    product_range(first, atom_range(known, b)?)
 }
 
 /// The range of a product of atoms.
@@ -113,25 +98,11 @@ pub fn monomial_range(known: &[Option<Range>], monomial: Monomial) -> Option<Ran
     match monomial {
         Monomial::One(a) => atom_range(known, a),
         Monomial::Two(a, b) => pair_range(known, a, b),
-        Monomial::Three(a, b, c) => {
-            let pair = pair_range(known, a, b)?;
-            let last = atom_range(known, c)?;
-            product_range(pair, last)
-        }
+        Monomial::Three(a, b, c) => product_range(pair_range(known, a, b)?, atom_range(known, c)?),
         Monomial::Four(a, b, c, d) => {
-            let pair = pair_range(known, a, b)?;
-            let other = pair_range(known, c, d)?;
-            product_range(pair, other)
+            product_range(pair_range(known, a, b)?, pair_range(known, c, d)?)
         }
     }
-}
-
-/// The range of a part.
-fn part_range(known: &[Option<Range>], part: Part) -> Option<Range>
-    ensures { IfSome result (λ range. (v : Valuation) → AreKnown v known.now → IsIn range (part_value v part)) }
-{
-    let range = monomial_range(known, part.monomial)?;
-    multiple_range(range, part.factor)
 }
 
 /// The range of the sum of parts.
@@ -140,8 +111,9 @@ fn parts_range(known: &[Option<Range>], parts: &[Part]) -> Option<Range>
 {
     let mut range = Range { low: 0, high: 0 };
     for place in 0..parts.len() {
-        let next = part_range(known, part_at(parts, place))?;
-        range = sum_range(range, next)?;
+        let part = part_at(parts, place);
+        let monomial = monomial_range(known, part.monomial)?;
+        range = sum_range(range, multiple_range(monomial, part.factor)?)?;
     }
     Some(range)
 }
@@ -150,77 +122,38 @@ fn parts_range(known: &[Option<Range>], parts: &[Part]) -> Option<Range>
 pub fn term_range(known: &[Option<Range>], term: &Term) -> Option<Range>
     ensures { IfSome result (λ range. (v : Valuation) → AreKnown v known.now → IsIn range (sum_value v term.now)) }
 {
-    let range = parts_range(known, &term.parts)?;
     let constant = Range {
         low: term.constant,
         high: term.constant,
     };
-    sum_range(constant, range)
+    sum_range(constant, parts_range(known, &term.parts)?)
 }
 
-/// Sets what is known of an atom.
-fn set_range(known: &mut [Option<Range>], atom: usize, range: Range)
-    requires { atom < length known.old }
+/// Sets what is known of an atom. It tells whether that is new.
+fn set_range(known: &mut [Option<Range>], atom: usize, range: Range) -> bool
     ensures { (v : Valuation) → AreKnown v known.old → IsIn range (v atom) → AreKnown v known.new }
 {
-    known[atom] = Some(range);
-}
-
-/// Notes that an atom is at least this. It tells whether that is new.
-fn raise(known: &mut [Option<Range>], atom: usize, low: i64) -> bool
-    ensures { (v : Valuation) → AreKnown v known.old → low ≤ℤ v atom → AreKnown v known.new }
-{
-    if let Some(range) = atom_range(known, atom) {
-        if range.low < low && atom < known.len() {
-            set_range(
-                known,
-                atom,
-                Range {
-                    low,
-                    high: range.high,
-                },
-            );
-            return true;
-        }
-    }
-    false
-}
-
-/// Notes that an atom is at most this. It tells whether that is new.
-fn lower(known: &mut [Option<Range>], atom: usize, high: i64) -> bool
-    ensures { (v : Valuation) → AreKnown v known.old → v atom ≤ℤ high → AreKnown v known.new }
-{
-    if let Some(range) = atom_range(known, atom) {
-        if high < range.high && atom < known.len() {
-            set_range(
-                known,
-                atom,
-                Range {
-                    low: range.low,
-                    high,
-                },
-            );
-            return true;
-        }
-    }
-    false
-}
-
-/// Notes what follows for an atom from what it and the rest at least are together.
-fn narrow_part(known: &mut [Option<Range>], part: Part, rest: i64) -> bool
-    ensures { (v : Valuation) → AreKnown v known.old → (rest +ℤ part_value v part) ≤ℤ pos 0 → AreKnown v known.new }
-{
-    let Monomial::One(atom) = part.monomial else {
+    if atom >= known.len() || known[atom] == Some(range) {
         return false;
-    };
-    if part.factor > 0 {
-        let least = ceiling(rest, part.factor);
-        return least != i64::MIN && lower(known, atom, -least);
     }
-    match part.factor.checked_neg() {
-        Some(size) if size > 0 => raise(known, atom, ceiling(rest, size)),
-        _ => false,
+    known[atom] = Some(range);
+    true
+}
+
+/// What is left of a range where the rest and a number of it, so many times, are at most 0.
+pub(crate) fn limited(range: Range, factor: i64, rest: i64) -> Option<Range>
+    ensures { IfSome result (λ left. (x : ℤ) → IsIn range x → (rest +ℤ factor *ℤ x) ≤ℤ pos 0 → IsIn left x) }
+{
+    if factor > 0 {
+        let high = ceiling(rest, factor).checked_neg()?.min(range.high);
+        return Some(Range { high, ..range });
     }
+    let size = factor.checked_neg()?;
+    if size <= 0 {
+        return None;
+    }
+    let low = ceiling(rest, size).max(range.low);
+    Some(Range { low, ..range })
 }
 
 /// What the parts at least are, but for the one at a place, together with a constant.
@@ -238,15 +171,19 @@ fn rest_low(known: &[Option<Range>], bound: &Term, place: usize) -> Option<i64>
     Some(whole)
 }
 
-/// Notes what follows for the part at a place.
-fn narrow_at(known: &mut [Option<Range>], bound: &Term, place: usize) -> bool
+/// What a bound leaves of the range of the atom that is the part at a place.
+fn narrowed_at(known: &[Option<Range>], bound: &Term, place: usize) -> Option<(usize, Range)>
     requires { place < vec_len bound.now.parts }
-    ensures { (v : Valuation) → AreKnown v known.old → IsBelow v bound.now → AreKnown v known.new }
+    ensures { IfSome result (λ left. (v : Valuation) → AreKnown v known.now → IsBelow v bound.now
+        → IsIn left.1 (v left.0)) }
 {
-    match rest_low(known, bound, place) {
-        Some(rest) => narrow_part(known, part_at(&bound.parts, place), rest),
-        None => false,
-    }
+    let part = part_at(&bound.parts, place);
+    let Monomial::One(atom) = part.monomial else {
+        return None;
+    };
+    let rest = rest_low(known, bound, place)?;
+    let range = limited(atom_range(known, atom)?, part.factor, rest)?;
+    Some((atom, range))
 }
 
 /// Notes what follows for atoms from a bound. It tells whether something is new.
@@ -255,8 +192,8 @@ fn narrow(known: &mut [Option<Range>], bound: &Term) -> bool
 {
     let mut is_new = false;
     for place in 0..bound.parts.len() {
-        if narrow_at(known, bound, place) {
-            is_new = true;
+        if let Some((atom, range)) = narrowed_at(known, bound, place) {
+            is_new |= set_range(known, atom, range);
         }
     }
     is_new
@@ -268,9 +205,7 @@ pub fn narrow_all(known: &mut [Option<Range>], bounds: &[Term]) -> bool
 {
     let mut is_new = false;
     for bound in bounds {
-        if narrow(known, bound) {
-            is_new = true;
-        }
+        is_new |= narrow(known, bound);
     }
     is_new
 }
@@ -294,9 +229,11 @@ fn leave_out(known: &mut [Option<Range>], atom: usize, number: i64)
         return;
     };
     if range.low == number && number < i64::MAX {
-        raise(known, atom, number + 1);
+        let low = number + 1;
+        set_range(known, atom, Range { low, ..range });
     } else if range.high == number && number > i64::MIN {
-        lower(known, atom, number - 1);
+        let high = number - 1;
+        set_range(known, atom, Range { high, ..range });
     }
 }
 
@@ -330,7 +267,7 @@ pub fn is_void(known: &[Option<Range>]) -> bool
     ensures { result ≡ true → (v : Valuation) → ¬ (AreKnown v known.now) }
 {
     for atom in 0..known.len() {
-        if let Some(range) = known_at(known, atom) {
+        if let Some(range) = atom_range(known, atom) {
             if range.high < range.low {
                 return true;
             }
@@ -357,10 +294,8 @@ pub fn is_exceeded(known: &[Option<Range>], bounds: &[Term]) -> bool
 pub fn set_within(known: &mut [Option<Range>], atom: usize, range: Range)
     ensures { (v : Valuation) → AreKnown v known.old → IsIn range (v atom) → AreKnown v known.new }
 {
-    if atom_range(known, atom).is_some() {
-        raise(known, atom, range.low);
-        lower(known, atom, range.high);
-    } else if atom < known.len() {
-        set_range(known, atom, range);
-    }
+    let old = atom_range(known, atom).unwrap_or(range);
+    let low = old.low.max(range.low);
+    let high = old.high.min(range.high);
+    set_range(known, atom, Range { low, high });
 }

@@ -29,10 +29,8 @@ pub struct Term {
 pub fn constant_term(alloc: Global, constant: i64) -> Term
     ensures { (v : Valuation) → sum_value v result ≡ constant }
 {
-    Term {
-        constant,
-        parts: Vec::new(alloc),
-    }
+    let parts = Vec::new(alloc);
+    Term { constant, parts }
 }
 
 /// The term that is a monomial.
@@ -59,11 +57,9 @@ pub fn copy(alloc: Global, term: &Term) -> Result<Term, AllocError>
     ensures value { IfOk result (λ copied. (v : Valuation) → sum_value v copied ≡ sum_value v term.now) }
     ensures parts { IfOk result (λ copied. copied.parts.items ≡ term.now.parts.items) }
 {
+    let constant = term.constant;
     let parts = Vec::from_slice(alloc, &term.parts)?;
-    Ok(Term {
-        constant: term.constant,
-        parts,
-    })
+    Ok(Term { constant, parts })
 }
 
 /// The part at a place.
@@ -78,25 +74,14 @@ pub fn part_at(parts: &[Part], place: usize) -> Part
 fn place_of(parts: &[Part], monomial: Monomial) -> usize
     ensures { result ≤ length parts.now }
 {
-    let count = parts.len();
-    if count > 0 && parts[count - 1].monomial < monomial {
-        return count;
-    }
-    for place in 0..count {
-        if parts[place].monomial >= monomial {
-            return place;
-        }
-    }
-    count
+    parts.partition_point(|part| part.monomial < monomial)
 }
 
 /// How many times the term has a monomial.
 pub fn factor_of(term: &Term, monomial: Monomial) -> i64 {
-    let place = place_of(&term.parts, monomial);
-    if place < term.parts.len() && term.parts[place].monomial == monomial {
-        term.parts[place].factor
-    } else {
-        0
+    match term.parts.get(place_of(&term.parts, monomial)) {
+        Some(part) if part.monomial == monomial => part.factor,
+        _ => 0,
     }
 }
 
@@ -198,11 +183,7 @@ fn add_part_times(term: &mut Term, part: Part, other: &Term) -> Result<bool, All
 fn limited(term: Term) -> Option<Term>
     ensures { IsWorth result (λ v. sum_value v term) }
 {
-    if term.parts.len() > MOST_PARTS {
-        None
-    } else {
-        Some(term)
-    }
+    (term.parts.len() <= MOST_PARTS).then_some(term)
 }
 
 /// The first term, m times, and the second, n times, unless a number gets too large.
@@ -256,28 +237,5 @@ pub fn product(alloc: Global, a: &Term, b: &Term) -> Result<Option<Term>, AllocE
 pub fn is_same_term(a: &Term, b: &Term) -> bool
     ensures { result ≡ true → (v : Valuation) → sum_value v a.now ≡ sum_value v b.now }
 {
-    if a.constant != b.constant || a.parts.len() != b.parts.len() {
-        return false;
-    }
-    are_same_parts(&a.parts, &b.parts)
-}
-
-/// They are the same parts.
-fn are_same_parts(a: &[Part], b: &[Part]) -> bool
-    requires { length a.now ≡ length b.now }
-    ensures { result ≡ true → (v : Valuation) → parts_value v a.now ≡ parts_value v b.now }
-{
-    for place in 0..a.len() {
-        if !is_same_part(part_at(a, place), part_at(b, place)) {
-            return false;
-        }
-    }
-    true
-}
-
-/// They are the same part.
-fn is_same_part(a: Part, b: Part) -> bool
-    ensures { result ≡ true → (v : Valuation) → part_value v a ≡ part_value v b }
-{
-    a.factor == b.factor && a.monomial == b.monomial
+    a == b
 }

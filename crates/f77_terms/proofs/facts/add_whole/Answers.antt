@@ -7,7 +7,7 @@ pub returns : goal.returns
 returns c =
     ok_then c.add_equal.result c.add_equal.ensures
     (λ x claim v holds e.
-    let multiple = (rw c.in-Some.is at c.in_ok-multiple.ensures) v in
-    let sum = (rw c.in-Some-2.is at c.in_ok-sum.ensures) v in
-    let whole = (rw c.in-Some-3.is at c.in_ok-whole.ensures) v in
-    claim v holds (omega (arith, ints, multiple, sum, whole, e)))
+    let whole = (rw c.in-Some.is at c.in_ok-whole.ensures) v in
+    let more = c.in_ok-add_multiple.ensures c.if-not-branch.false v in
+    let less = c.in_ok-add_multiple-2.ensures c.if-not-branch-2.false v in
+    claim v holds (omega (arith, ints, whole, more, less, e)))

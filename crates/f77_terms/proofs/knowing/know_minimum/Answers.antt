@@ -9,5 +9,6 @@ returns c =
     ok_then c.add_choice.result c.add_choice.ensures
     (λ x claim v holds is.
     let known = least_is (sum_value v c.args.a.now) (sum_value v c.args.b.now) (sum_value v c.in_ok-least.least) (c.in_ok-least.ensures v ∙ is) in
-    claim v (c.in_ok-add_order-2.ensures v (c.in_ok-add_order.ensures v holds known.0) known.1)
-    (c.in_ok-choice.ensures v (either_way (c.in_ok-first.ensures v) (c.in_ok-second.ensures v) known.2)))
+    let below = c.in_ok-add_pair_bound-2.ensures v (c.in_ok-add_pair_bound.ensures v holds.below known.0) known.1 in
+    claim v (record { known = holds.known; below = below; unequal = holds.unequal; choices = holds.choices })
+    (c.in_ok-two_cases.ensures v (either_way (c.in_ok-first.ensures v) (c.in_ok-second.ensures v) known.2)))

@@ -4,6 +4,6 @@ use Rattle.f77_terms.proofs.ranges.is_void.Goals as goal
 
 pub returns-then-range : goal.returns-then-range
 returns-then-range c e v known =
-    let between = known c.loop-atom.atom c.in-Some.range (rw c.in-Some.is at c.known_at.ensures) in
+    let between = c.in-Some.ensures.within v known in
     let void = c.if-range.true in
     absurd (omega (arith, ints, between.above, between.below, void))

@@ -6,14 +6,16 @@ pub returns-then-number-lt9223372036854775807 : goal.returns-then-number-lt92233
 returns-then-number-lt9223372036854775807 c v known apart =
     let number : SFits w64 c.args.number = c.ranges.number in
     let low : SFits w64 c.in-Some.range.low = search rules in
+    let high : SFits w64 c.in-Some.range.high = search rules in
     let inside = c.in-Some.ensures.within v known in
     let end = c.if-range-number.true in
-    c.raise.ensures v known (omega (arith, ints, inside.above, end, apart))
+    c.set_range.ensures v known (record { above = omega (arith, ints, inside.above, end, apart); below = omega (arith, ints, inside.below) })
 
 pub returns-then-number-gtminus9223372036854775808 : goal.returns-then-number-gtminus9223372036854775808
 returns-then-number-gtminus9223372036854775808 c v known apart =
     let number : SFits w64 c.args.number = c.ranges.number in
+    let low : SFits w64 c.in-Some.range.low = search rules in
     let high : SFits w64 c.in-Some.range.high = search rules in
     let inside = c.in-Some.ensures.within v known in
     let end = c.if-range-number-2.true in
-    c.lower.ensures v known (omega (arith, ints, inside.below, end, apart))
+    c.set_range-then-number-gtminus9223372036854775808.ensures v known (record { above = omega (arith, ints, inside.above); below = omega (arith, ints, inside.below, end, apart) })

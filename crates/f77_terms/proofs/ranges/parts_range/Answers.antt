@@ -1,11 +1,13 @@
-use Rattle.std.proofs.Common.{sym, subst, take, ℤ}
-use Rattle.f77_terms.specs.Terms.{part_value, parts_value}
+use Rattle.std.proofs.Common.{rules, sym, subst, take, SFits, w64, ℤ}
+use Rattle.std.proofs.lemmas.Int.{to_z-of_z}
+use Rattle.f77_terms.specs.Terms.{monomial_value, part_value, parts_value}
 use Rattle.f77_terms.specs.Ranges.{IsIn}
 use Rattle.f77_terms.proofs.Values.{parts_more}
 use Rattle.f77_terms.proofs.ranges.parts_range.Goals as goal
 
 pub loop-place-preserved : goal.loop-place-preserved
 loop-place-preserved c v inside =
-    subst (λ (z : ℤ). IsIn c.in_ok-range.range z) (sym (parts_more v c.args.parts.now c.loop-place.place c.part_at.result c.part_at.ensures))
-    (c.in_ok-range.ensures (parts_value v (take c.loop-place.place c.args.parts.now)) (part_value v c.part_at.result) (c.loop-place.invariant v inside)
-    (c.in_ok-next.ensures v inside))
+    let factor : SFits w64 c.part_at-part.result.factor = search rules in
+    subst (λ (z : ℤ). IsIn c.in_ok-range.range z) (sym (parts_more v c.args.parts.now c.loop-place.place c.part_at-part.result c.part_at-part.ensures))
+    (c.in_ok-range.ensures (parts_value v (take c.loop-place.place c.args.parts.now)) (part_value v c.part_at-part.result) (c.loop-place.invariant v inside)
+    (simp to_z-of_z at (c.in_ok-multiple_range.ensures (monomial_value v c.part_at-part.result.monomial) (c.in_ok-monomial.ensures v inside))))

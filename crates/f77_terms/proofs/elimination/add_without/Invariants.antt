@@ -1,6 +1,6 @@
 use Rattle.f77_terms.specs.Terms.{Valuation}
 use Rattle.f77_terms.specs.Bounds.{IsBelow, AreBelow}
-use Rattle.f77_terms.proofs.elimination.add_pairs.Given as goal
+use Rattle.f77_terms.proofs.elimination.add_without.Given as goal
 
 abbrev pub invariant-loop-other : goal.invariant-loop-other
 invariant-loop-other l =

@@ -1,0 +1,13 @@
+use Rattle.std.proofs.Common.{arith, rules, SFits, w64, ap}
+use Rattle.std.specs.Prelude.{◌*ℤ◌}
+use Rattle.std.proofs.lemmas.Int.{ints, to_z-of_z}
+use Rattle.f77_terms.specs.Terms.{monomial_value}
+use Rattle.f77_terms.proofs.ranges.narrowed_at.Goals as goal
+
+pub returns : goal.returns
+returns c v known below =
+    let factor : SFits w64 c.part_at-part.result.factor = search rules in
+    let fits : SFits w64 c.in_ok-rest.rest = search rules in
+    let rest = c.in_ok-rest.ensures v c.part_at-part.result known (rw c.deref.ensures.value at c.part_at-part.ensures) in
+    let value = ap (λ m. c.part_at-part.result.factor *ℤ monomial_value v m) c.in-One.is in
+    (simp to_z-of_z at c.in_ok-range.ensures) (v c.in-One.atom) (c.in_ok-atom_range.ensures.within v known) (omega (arith, ints, rest, value, below))
