@@ -31,9 +31,6 @@ module _ (job : JobFields) (i : Inquiry) where
   abbrev MayFail : Fault → Type 0
   MayFail fault = IsFound job i (Err fault) ⊎ Contains of_mutants fault
 
-  pub memory_refused : (fault : OpsFault) → fault ≡ ops.Memory → MayFail (Ops fault)
-  memory_refused fault is = inr (subst (λ f. Contains of_mutants (Ops f)) (sym is) memory_in)
-
   -- the source that was read is that of the job
   module _ (source : List ℕ) (own : source ≡ job.source) where
     pub program_refused : (fault : Fault) → IsLegalProgramOf source (Err fault) ⊎ Contains of_legal_programs fault → MayFail fault

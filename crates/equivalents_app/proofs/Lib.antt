@@ -1,6 +1,5 @@
 mod Flags
 mod Asking
-mod Totals
 mod Entries
 mod Parts
 mod Findings

@@ -1,9 +1,8 @@
 //! Which mutants of the program of a job are named as equivalent.
 
-ghost use Rattle.std.specs.Prelude.{◌≡◌, ◌≤◌, ◌⊎◌, ℕ, List, Ok, Err, Contains, IfErr, IfOk, IfSome, MatchResult};
+ghost use Rattle.std.specs.Prelude.{◌≡◌, ◌≤◌, ◌⊎◌, ℕ, List, Ok, Err, Contains, IfOk, IfSome, MatchResult};
 ghost use Rattle.std.specs.Prelude.{length, string_bytes};
 ghost use Rattle.mothra_app.specs.Fault.{of_mutants};
-ghost use Rattle.mothra_replacements.specs.declared.fault.OpsFault.TheVariants.{Memory};
 ghost use Rattle.equivalents_app.specs.Finding.{IsFound, IsNamedIn};
 ghost use Rattle.f77_meaning.specs.declared.argument.Arg.{Arg as Given};
 ghost use Rattle.mothra_ops.specs.Mutants.{program_of};
@@ -23,7 +22,7 @@ use mothra_codes::Ticket;
 use mothra_equivalents::{Found, Search, equivalents_of};
 use mothra_job::Job;
 use mothra_ops::{OpsFault, Plan};
-use std::alloc::Global;
+use std::alloc::{AllocError, Global};
 
 /// The mutants of the plan that are named: those that are proved equivalent, without those that need more room.
 fn named_of(
@@ -32,11 +31,10 @@ fn named_of(
     killed: &IndexSet<Ticket>,
     room: Option<u32>,
     inquiry: &Inquiry,
-) -> Result<Found, OpsFault>
-    ensures named { IfOk result (λ found. (tests : List (List Given)) (steps : ℕ)
+) -> Result<Found, AllocError>
+    ensures { IfOk result (λ found. (tests : List (List Given)) (steps : ℕ)
         → IfSome room (LeavesRoom (program_of plan.now) tests steps)
         → AreNamedMutants plan.now tests steps found.list.items) }
-    ensures memory { IfErr result (λ fault. fault ≡ Memory) }
 {
     let search = Search {
         most: inquiry.rows.unwrap_or(0),
@@ -54,11 +52,10 @@ fn text_for(
     killed: &IndexSet<Ticket>,
     room: Option<u32>,
     inquiry: &Inquiry,
-) -> Result<String, OpsFault>
-    ensures text { IfOk result (λ text. (tests : List (List Given))
+) -> Result<String, AllocError>
+    ensures { IfOk result (λ text. (tests : List (List Given))
         → IfSome room (LeavesRoom (program_of plan.now) tests inquiry.now.steps)
         → IsNamedIn plan.now tests inquiry.now (string_bytes text)) }
-    ensures memory { IfErr result (λ fault. fault ≡ Memory) }
 {
     let found = named_of(alloc, plan, killed, room, inquiry)?;
     let suggestions = found.suggestions;
@@ -73,6 +70,24 @@ fn text_for(
     )
 }
 
+/// The text that names mutants of the plan that are equivalent, for a program that ends on the tests and leaves this
+/// room.
+fn text_beside(
+    alloc: Global,
+    plan: Plan,
+    tests: Values<Values<Arg>>,
+    room: u32,
+    inquiry: &Inquiry,
+) -> Result<String, AllocError>
+    requires few { length tests ≤ 256 }
+    ensures { LeavesRoom (program_of plan) tests inquiry.now.steps room → IfOk result
+        (λ text. IsNamedIn plan tests inquiry.now (string_bytes text)) }
+{
+    let bench = bench_of(alloc, plan, tests, inquiry.steps)?;
+    let killed = killed_on(alloc, &bench)?;
+    text_for(alloc, bench.plan(), &killed, Some(room), inquiry)
+}
+
 /// The text that names mutants of the plan that are equivalent, as the words ask for it. Where a test does not fit, or
 /// the program does not end on it, all mutants are asked about, and none is named that needs room.
 fn text_in(
@@ -80,18 +95,15 @@ fn text_in(
     plan: Plan,
     tests: Values<Values<Arg>>,
     inquiry: &Inquiry,
-) -> Result<String, OpsFault>
+) -> Result<String, AllocError>
     requires few { length tests ≤ 256 }
-    ensures named { IfOk result
+    ensures { IfOk result
         (λ text. IsNamedIn plan tests inquiry.now (string_bytes text)) }
-    ensures memory { IfErr result (λ fault. fault ≡ Memory) }
 {
-    let Some(room) = room_of(alloc, plan.program(), tests.as_slice(), inquiry.steps)? else {
-        return text_for(alloc, &plan, &IndexSet::new(alloc), None, inquiry);
-    };
-    let bench = bench_of(alloc, plan, tests, inquiry.steps)?;
-    let killed = killed_on(alloc, &bench)?;
-    text_for(alloc, bench.plan(), &killed, Some(room), inquiry)
+    match room_of(alloc, plan.program(), tests.as_slice(), inquiry.steps)? {
+        Some(room) => text_beside(alloc, plan, tests, room, inquiry),
+        None => text_for(alloc, &plan, &IndexSet::new(alloc), None, inquiry),
+    }
 }
 
 /// The text that names equivalent mutants of the program of a job, as the words ask for it.
@@ -105,5 +117,8 @@ pub(crate) fn find(alloc: Global, job: Job, inquiry: &Inquiry) -> Result<String,
     let checked = legal_program_of(alloc, job.source())?;
     let plan = Plan::new(alloc, checked, inquiry.operators.as_slice(), inquiry.every)?;
     let (tests, _declared) = job.into_lists();
-    Ok(text_in(alloc, plan, tests, inquiry)?)
+    match text_in(alloc, plan, tests, inquiry) {
+        Ok(text) => Ok(text),
+        Err(_) => Err(Fault::Ops(OpsFault::Memory)),
+    }
 }

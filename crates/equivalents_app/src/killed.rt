@@ -1,15 +1,14 @@
 //! The mutants that the tests of a job kill: of these nothing is asked, since a run costs less than a proof.
 
-ghost use Rattle.std.specs.Prelude.{◌≡◌, ◌≤◌, IfErr, IfOk, OnOk, length};
-ghost use Rattle.mothra_replacements.specs.declared.fault.OpsFault.TheVariants.{Memory};
+ghost use Rattle.std.specs.Prelude.{◌≡◌, ◌≤◌, IfOk, OnOk, length};
 ghost use Rattle.mothra_verdicts.specs.Bench.{most_tests};
 
 use f77_meaning::{Arg, Values};
 use indexmap::IndexSet;
 use mothra_codes::{Op, Ticket};
-use mothra_ops::{OpsFault, Plan};
+use mothra_ops::Plan;
 use mothra_verdicts::{Bench, Verdicts};
-use std::alloc::Global;
+use std::alloc::{AllocError, Global};
 
 /// The bench of these tests, on each of which the program returns or stops within the steps. Nothing is declared.
 pub(crate) fn bench_of(
@@ -17,15 +16,14 @@ pub(crate) fn bench_of(
     plan: Plan,
     tests: Values<Values<Arg>>,
     steps: u32,
-) -> Result<Bench, OpsFault>
+) -> Result<Bench, AllocError>
     requires { length tests ≤ most_tests }
-    ensures plan { IfOk result (λ bench. bench.plan ≡ plan) }
-    ensures memory { IfErr result (λ fault. fault ≡ Memory) }
+    ensures { IfOk result (λ bench. bench.plan ≡ plan) }
 {
     match Bench::new(alloc, plan, tests, steps, Values::new(Vec::new(alloc))) {
         Ok(bench) => Ok(bench),
         // Tests that fit, on which the program ends, are refused for want of memory alone.
-        Err(_) => Err(OpsFault::Memory),
+        Err(_) => Err(AllocError),
     }
 }
 
@@ -35,12 +33,10 @@ fn add(
     verdicts: &mut Verdicts<'_>,
     killed: &mut IndexSet<Ticket>,
     ticket: Ticket,
-) -> Result<(), OpsFault>
-    ensures memory { IfErr result (λ fault. fault ≡ Memory) }
-{
+) -> Result<(), AllocError> {
     // A mutant of the plan is refused for want of memory alone.
     let Ok(row) = verdicts.row(alloc, ticket) else {
-        return Err(OpsFault::Memory);
+        return Err(AllocError);
     };
     if row.kills.as_slice().iter().any(|kill| *kill) {
         killed.insert(ticket)?;
@@ -55,9 +51,7 @@ fn add_operator(
     killed: &mut IndexSet<Ticket>,
     op: Op,
     count: u32,
-) -> Result<(), OpsFault>
-    ensures memory { IfErr result (λ fault. fault ≡ Memory) }
-{
+) -> Result<(), AllocError> {
     for before in 0..count {
         let number = before + 1;
         add(alloc, verdicts, killed, Ticket { op, number })?;
@@ -66,13 +60,9 @@ fn add_operator(
 }
 
 /// The mutants of the bench that a test kills.
-pub(crate) fn killed_on(alloc: Global, bench: &Bench) -> Result<IndexSet<Ticket>, OpsFault>
-    ensures memory { IfErr result (λ fault. fault ≡ Memory) }
-{
+pub(crate) fn killed_on(alloc: Global, bench: &Bench) -> Result<IndexSet<Ticket>, AllocError> {
     let mut killed = IndexSet::new(alloc);
-    let Ok(mut verdicts) = Verdicts::of(alloc, bench) else {
-        return Err(OpsFault::Memory);
-    };
+    let mut verdicts = Verdicts::of(alloc, bench)?;
     for op in Op::ALL {
         let count = bench.plan().count(op);
         add_operator(alloc, &mut verdicts, &mut killed, op, count)?;

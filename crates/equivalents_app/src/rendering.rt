@@ -1,19 +1,19 @@
 //! The text that names mutants of a plan.
 
-ghost use Rattle.std.specs.Prelude.{◌≡◌, ◌++◌, IfErr, IfOk, OnOk, [], flat_map, string_bytes};
+ghost use Rattle.std.specs.Prelude.{◌≡◌, ◌++◌, IfOk, OnOk, [], flat_map, string_bytes};
 ghost use Rattle.f77_tree.specs.Joined.{separated};
 ghost use Rattle.mothra_app.specs.Listing.{asked_total};
 ghost use Rattle.mothra_ops.specs.Made.{IsMadeMutant};
 ghost use Rattle.mothra_ops.specs.Mutants.{mutant_fields, original_number};
-ghost use Rattle.mothra_replacements.specs.declared.fault.OpsFault.TheVariants.{Memory};
 ghost use Rattle.equivalents_app.specs.Rendering.{declarable, entry_text, equivalent_line};
 ghost use Rattle.equivalents_app.specs.Rendering.{json_line, last_line, lines_text, promise_line};
 ghost use Rattle.equivalents_app.specs.Rendering as definition;
 
 use crate::rows::push_rows;
+use mothra_app::listing::total_of;
 use mothra_codes::Ticket;
 use mothra_equivalents::{Equivalent, Suggestion};
-use mothra_ops::{Mutant, Op, OpsFault, Plan, push_name};
+use mothra_ops::{Mutant, Plan, push_name};
 use std::alloc::{AllocError, Global};
 
 /// The greatest number that the key `equivalent` of a job takes.
@@ -37,22 +37,19 @@ fn push_mutant(
     plan: &Plan,
     equivalent: Equivalent,
     mutant: &Mutant,
-) -> Result<(), OpsFault>
+) -> Result<(), AllocError>
     requires { IsMadeMutant plan.now.checked mutant.now }
-    ensures line { OnOk result
+    ensures { OnOk result
         (string_bytes text.new ≡ string_bytes text.old ++ promise_line plan.now equivalent (mutant_fields mutant.now)) }
-    ensures memory { IfErr result (λ fault. fault ≡ Memory) }
 {
     push_promise(text, plan.every(), equivalent)?;
     plan.push_change(text, mutant)?;
-    text.push_str("\n")?;
-    Ok(())
+    text.push_str("\n")
 }
 
 /// Finds a mutant that is proved equivalent, and adds its line.
-fn push_equivalent(text: &mut String, plan: &Plan, equivalent: Equivalent) -> Result<(), OpsFault>
-    ensures line { OnOk result (string_bytes text.new ≡ string_bytes text.old ++ equivalent_line plan.now equivalent) }
-    ensures memory { IfErr result (λ fault. fault ≡ Memory) }
+fn push_equivalent(text: &mut String, plan: &Plan, equivalent: Equivalent) -> Result<(), AllocError>
+    ensures { OnOk result (string_bytes text.new ≡ string_bytes text.old ++ equivalent_line plan.now equivalent) }
 {
     let ticket = equivalent.ticket;
     match plan.mutant(ticket.op, ticket.number) {
@@ -62,28 +59,14 @@ fn push_equivalent(text: &mut String, plan: &Plan, equivalent: Equivalent) -> Re
 }
 
 /// Adds a line for each mutant that is proved equivalent.
-fn push_equivalents(text: &mut String, plan: &Plan, list: &[Equivalent]) -> Result<(), OpsFault>
-    ensures lines { OnOk result
+fn push_equivalents(text: &mut String, plan: &Plan, list: &[Equivalent]) -> Result<(), AllocError>
+    ensures { OnOk result
         (string_bytes text.new ≡ string_bytes text.old ++ flat_map (equivalent_line plan.now) list.now) }
-    ensures memory { IfErr result (λ fault. fault ≡ Memory) }
 {
     for equivalent in list {
         push_equivalent(text, plan, *equivalent)?;
     }
     Ok(())
-}
-
-/// How many mutants the plan has.
-fn total_of(plan: &Plan) -> u64
-    ensures { result ≡ asked_total plan.now }
-{
-    let mut total = 0;
-    for op in Op::ALL {
-        if plan.asked(op) {
-            total += u64::from(plan.count(op));
-        }
-    }
-    total
 }
 
 /// Adds how many mutants were left at the bound on work, if any.
@@ -119,10 +102,9 @@ fn lines_of(
     list: &[Equivalent],
     rows: &[Suggestion],
     unfinished: u64,
-) -> Result<String, OpsFault>
-    ensures text { IfOk result
+) -> Result<String, AllocError>
+    ensures { IfOk result
         (λ text. string_bytes text ≡ lines_text plan.now list.now rows.now unfinished) }
-    ensures memory { IfErr result (λ fault. fault ≡ Memory) }
 {
     let mut text = String::new(alloc);
     push_equivalents(&mut text, plan, list)?;
@@ -195,13 +177,12 @@ pub fn text_of(
     rows: &[Suggestion],
     unfinished: u64,
     json: bool,
-) -> Result<String, OpsFault>
-    ensures text { IfOk result
+) -> Result<String, AllocError>
+    ensures { IfOk result
         (λ text. string_bytes text ≡ definition.written_text plan.now list.now rows.now unfinished json) }
-    ensures memory { IfErr result (λ fault. fault ≡ Memory) }
 {
     if json {
-        Ok(json_of(alloc, plan.every(), list)?)
+        json_of(alloc, plan.every(), list)
     } else {
         lines_of(alloc, plan, list, rows, unfinished)
     }

@@ -1,9 +1,8 @@
 //! The room that the tests of a job leave: how many steps before the limit the program returns or stops.
 
-ghost use Rattle.std.specs.Prelude.{◌≡◌, ◌≤◌, ◌+◌, IfErr, IfOk, IfSome, filter, map};
+ghost use Rattle.std.specs.Prelude.{◌≡◌, ◌≤◌, ◌+◌, IfOk, IfSome, filter, map};
 ghost use Rattle.f77_equivalence.specs.Equivalent.{IsEnd};
 ghost use Rattle.f77_program.specs.Program.{line_of};
-ghost use Rattle.mothra_replacements.specs.declared.fault.OpsFault.TheVariants.{Memory};
 ghost use Rattle.equivalents_app.specs.Room.{LeavesRoom, LeavesRoomOn};
 ghost use Rattle.equivalents_app.specs.code.Room as definition;
 
@@ -11,8 +10,7 @@ use f77_check::Checked;
 use f77_meaning::{Arg, Outcome, RunFault, Values};
 use f77_run::counted_run;
 use mothra_equivalents::Equivalent;
-use mothra_ops::OpsFault;
-use std::alloc::Global;
+use std::alloc::{AllocError, Global};
 
 /// How many of `steps` steps are left after the `made` ones, where the program returned or stopped; else None.
 fn room_behind(outcome: &Outcome, made: u32, steps: u32) -> Option<u32>
@@ -38,14 +36,13 @@ fn room_on(
     checked: &Checked,
     test: &[Arg],
     steps: u32,
-) -> Result<Option<u32>, OpsFault>
-    ensures room { IfOk result
+) -> Result<Option<u32>, AllocError>
+    ensures { IfOk result
         (λ found. IfSome found (λ room. LeavesRoomOn (map line_of checked.now.program) steps room test.now)) }
-    ensures memory { IfErr result (λ fault. fault ≡ Memory) }
 {
     match counted_run(alloc, checked, test, steps) {
         Ok((outcome, made)) => Ok(room_behind(&outcome, made, steps)),
-        Err(RunFault::Memory) => Err(OpsFault::Memory),
+        Err(RunFault::Memory) => Err(AllocError),
         Err(RunFault::ArgumentCount | RunFault::ArgumentShape(_)) => Ok(None),
     }
 }
@@ -56,10 +53,9 @@ pub(crate) fn room_of(
     checked: &Checked,
     tests: &[Values<Arg>],
     steps: u32,
-) -> Result<Option<u32>, OpsFault>
-    ensures room { IfOk result
+) -> Result<Option<u32>, AllocError>
+    ensures { IfOk result
         (λ found. IfSome found (λ room. LeavesRoom (map line_of checked.now.program) tests.now steps room)) }
-    ensures memory { IfErr result (λ fault. fault ≡ Memory) }
 {
     let mut room = u32::MAX;
     for test in tests {

@@ -6,7 +6,7 @@ mod executing;
 pub mod fault;
 pub mod law;
 mod line;
-mod listing;
+pub mod listing;
 mod outcome_line;
 mod printing;
 pub mod program;

@@ -1,13 +1,12 @@
 //! The command `list`: the mutants of the program of a job.
 
-ghost use Rattle.std.specs.Prelude.{◌≡◌, ◌⊎◌, ◌++◌, ◌≤◌, Ok, Err, Contains, IfErr};
+ghost use Rattle.std.specs.Prelude.{◌≡◌, ◌⊎◌, ◌++◌, ◌≤◌, Ok, Err, Contains};
 ghost use Rattle.std.specs.Prelude.{IfOk, MatchResult, OnOk, codes, string_bytes};
 ghost use Rattle.mothra_app.specs.Fault.{of_mutants};
 ghost use Rattle.mothra_app.specs.Listing as definition;
 ghost use Rattle.mothra_app.specs.Listing.{IsListed, asked_total};
 ghost use Rattle.mothra_app.specs.code.Listing.{asked_lines, plan_lines, plan_text};
 ghost use Rattle.mothra_ops.specs.Mutants.{mutant_text};
-ghost use Rattle.mothra_replacements.specs.declared.fault.OpsFault.TheVariants.{Memory};
 
 use crate::fault::Fault;
 use crate::program::legal_program_of;
@@ -23,20 +22,17 @@ fn push_count(text: &mut String, op: Op, count: u32) -> Result<(), AllocError>
 }
 
 /// Adds the line of the mutant of an operator with this number, from 1.
-fn push_mutant(text: &mut String, plan: &Plan, op: Op, number: u32) -> Result<(), OpsFault>
-    ensures line { OnOk result
+fn push_mutant(text: &mut String, plan: &Plan, op: Op, number: u32) -> Result<(), AllocError>
+    ensures { OnOk result
         (string_bytes text.new ≡ string_bytes text.old ++ (mutant_text plan.now op number ++ codes "\n")) }
-    ensures memory { IfErr result (λ fault. fault ≡ Memory) }
 {
     plan.push_text(text, op, number)?;
-    text.push_str("\n")?;
-    Ok(())
+    text.push_str("\n")
 }
 
 /// Adds the lines of an operator: how many mutants it has, then each mutant.
-fn push_operator(text: &mut String, plan: &Plan, op: Op) -> Result<(), OpsFault>
-    ensures lines { OnOk result (string_bytes text.new ≡ string_bytes text.old ++ plan_lines plan.now op) }
-    ensures memory { IfErr result (λ fault. fault ≡ Memory) }
+fn push_operator(text: &mut String, plan: &Plan, op: Op) -> Result<(), AllocError>
+    ensures { OnOk result (string_bytes text.new ≡ string_bytes text.old ++ plan_lines plan.now op) }
 {
     let count = plan.count(op);
     push_count(text, op, count)?;
@@ -46,30 +42,38 @@ fn push_operator(text: &mut String, plan: &Plan, op: Op) -> Result<(), OpsFault>
     Ok(())
 }
 
-/// Adds the lines of each operator that was asked for, in the order of the operators. The result is the number of
-/// mutants of them all.
-fn push_operators(text: &mut String, plan: &Plan) -> Result<u64, OpsFault>
-    ensures lines { OnOk result (string_bytes text.new ≡ string_bytes text.old ++ asked_lines plan.now) }
-    ensures total { IfOk result (λ total. total ≡ asked_total plan.now) }
-    ensures memory { IfErr result (λ fault. fault ≡ Memory) }
+/// Adds the lines of each operator that was asked for, in the order of the operators.
+fn push_operators(text: &mut String, plan: &Plan) -> Result<(), AllocError>
+    ensures { OnOk result (string_bytes text.new ≡ string_bytes text.old ++ asked_lines plan.now) }
+{
+    for op in Op::ALL {
+        if plan.asked(op) {
+            push_operator(text, plan, op)?;
+        }
+    }
+    Ok(())
+}
+
+/// How many mutants a plan has.
+pub fn total_of(plan: &Plan) -> u64
+    ensures { result ≡ asked_total plan.now }
 {
     let mut total = 0;
     for op in Op::ALL {
         if plan.asked(op) {
-            push_operator(text, plan, op)?;
             total += u64::from(plan.count(op));
         }
     }
-    Ok(total)
+    total
 }
 
 /// The text of the list of a plan's mutants.
-fn text_of(alloc: Global, plan: &Plan) -> Result<String, OpsFault>
-    ensures text { IfOk result (λ text. string_bytes text ≡ plan_text plan.now) }
-    ensures memory { IfErr result (λ fault. fault ≡ Memory) }
+fn text_of(alloc: Global, plan: &Plan) -> Result<String, AllocError>
+    ensures { IfOk result (λ text. string_bytes text ≡ plan_text plan.now) }
 {
     let mut text = String::new(alloc);
-    let total = push_operators(&mut text, plan)?;
+    push_operators(&mut text, plan)?;
+    let total = total_of(plan);
     write!(text, "TOTAL {total}\n")?;
     Ok(text)
 }
@@ -89,5 +93,8 @@ pub(crate) fn list_mutants(
 {
     let checked = legal_program_of(alloc, source)?;
     let plan = Plan::new(alloc, checked, ops, every)?;
-    Ok(text_of(alloc, &plan)?)
+    match text_of(alloc, &plan) {
+        Ok(text) => Ok(text),
+        Err(_) => Err(Fault::Ops(OpsFault::Memory)),
+    }
 }

@@ -86,14 +86,12 @@ fn push_score(text: &mut String, score: Option<u32>) -> Result<(), AllocError>
     Ok(write!(text, "SCORE {percent}.{tenths}{hundredths}\n")?)
 }
 
-fn push_entries(text: &mut String, plan: &Plan, entries: &[Entry]) -> Result<(), BenchFault>
-    ensures text { OnOk result (string_bytes text.new ≡ string_bytes text.old ++ entry_lines plan.now entries.now) }
-    ensures memory { IfErr result (λ fault. fault ≡ Memory) }
+fn push_entries(text: &mut String, plan: &Plan, entries: &[Entry]) -> Result<(), AllocError>
+    ensures { OnOk result (string_bytes text.new ≡ string_bytes text.old ++ entry_lines plan.now entries.now) }
 {
     push_mutants(text, plan, entries)?;
     push_survivors(text, plan, entries)?;
-    push_wrongs(text, plan, entries)?;
-    Ok(())
+    push_wrongs(text, plan, entries)
 }
 
 fn push_mutants(text: &mut String, plan: &Plan, entries: &[Entry]) -> Result<(), AllocError>
@@ -141,14 +139,11 @@ fn push_bits(text: &mut String, kills: &[bool]) -> Result<(), AllocError>
     Ok(())
 }
 
-fn push_survivors(text: &mut String, plan: &Plan, entries: &[Entry]) -> Result<(), BenchFault>
-    ensures text { OnOk result
+fn push_survivors(text: &mut String, plan: &Plan, entries: &[Entry]) -> Result<(), AllocError>
+    ensures { OnOk result
         (string_bytes text.new ≡ string_bytes text.old ++ flat_map (survivor_line plan.now) entries.now) }
-    ensures memory { IfErr result (λ fault. fault ≡ Memory) }
 {
-    let Ok(mut copies) = Copies::of(*text.allocator(), plan.program().program().lines()) else {
-        return Err(BenchFault::Memory);
-    };
+    let mut copies = Copies::of(*text.allocator(), plan.program().program().lines())?;
     for entry in entries {
         push_survivor(text, plan, &mut copies, entry)?;
     }
@@ -160,21 +155,18 @@ fn push_survivor(
     plan: &Plan,
     copies: &mut Copies,
     entry: &Entry,
-) -> Result<(), BenchFault>
+) -> Result<(), AllocError>
     requires { copied copies.old ≡ statements_in (program_of plan.now) }
     ensures text { OnOk result (string_bytes text.new ≡ string_bytes text.old ++ survivor_line plan.now entry.now) }
     ensures copies { copied copies.new ≡ copied copies.old }
-    ensures memory { IfErr result (λ fault. fault ≡ Memory) }
 {
     if entry.declared || entry.is_killed() {
         return Ok(());
     }
     text.push_str("SURVIVOR ")?;
     let ticket = entry.ticket;
-    let Ok(()) = plan.push_text_by(text, copies, ticket.op, ticket.number) else {
-        return Err(BenchFault::Memory);
-    };
-    Ok(text.push('\n')?)
+    plan.push_text_by(text, copies, ticket.op, ticket.number)?;
+    text.push('\n')
 }
 
 fn push_wrongs(text: &mut String, plan: &Plan, entries: &[Entry]) -> Result<(), AllocError>

@@ -1,9 +1,9 @@
-use Rattle.std.proofs.Common.{ap, map, subst, string_bytes}
+use Rattle.std.proofs.Common.{ap, inr, map, subst, string_bytes}
 use Rattle.f77_program.specs.Program.{line_of}
 use Rattle.f77_check.specs.Checked.{CheckedFields}
 use Rattle.mothra_app.specs.declared.fault.Fault.TheVariants.{Ops}
 use Rattle.equivalents_app.specs.Finding.{IsNamedIn}
-use Rattle.equivalents_app.proofs.Findings.{failed_by, found, memory_refused, plan_refused, program_refused}
+use Rattle.equivalents_app.proofs.Findings.{failed_by, found, memory_in, plan_refused, program_refused}
 use Rattle.equivalents_app.proofs.finding.find.Goals as goal
 
 pub returns-in_err-checked : goal.returns-in_err-checked
@@ -19,18 +19,15 @@ returns-in_err-plan c =
     (plan_refused c.args.job c.args.inquiry.now _ c.source.ensures _ c.as_slice.ensures (map line_of c.in_ok-checked.checked.program) fault
     c.in_ok-checked.ensures.program c.in_err-plan.ensures.refused)
 
-pub returns-in_err-text_in : goal.returns-in_err-text_in
-returns-in_err-text_in c =
-    let fault = c.in_err-text_in.field-0.0 in
-    failed_by c.from_residual-in_err-text_in.result _ _ (Ops fault) c.from_residual-in_err-text_in.ensures.1
-    (memory_refused c.args.job c.args.inquiry.now fault c.in_err-text_in.ensures.memory)
+pub returns-in-Err : goal.returns-in-Err
+returns-in-Err c = inr memory_in
 
-pub returns : goal.returns
-returns c =
+pub returns-in-Ok : goal.returns-in-Ok
+returns-in-Ok c =
     let i = c.args.inquiry.now in
     let plan = c.in_ok-plan.plan in
-    let text = string_bytes c.in_ok-text_in.field-0 in
-    let named = subst (λ tests. IsNamedIn plan tests i text) c.into_lists-tests.ensures.suite c.in_ok-text_in.ensures.named in
+    let text = string_bytes c.in-Ok.text in
+    let named = subst (λ tests. IsNamedIn plan tests i text) c.into_lists-tests.ensures.suite c.in-Ok.ensures in
     found c.args.job i _ c.source.ensures _ c.as_slice.ensures text (map line_of c.in_ok-checked.checked.program) plan
     c.in_ok-checked.ensures.program (ap (λ (k : CheckedFields). map line_of k.program) c.in_ok-plan.ensures.program)
     c.in_ok-plan.ensures.every c.in_ok-plan.ensures.asked c.in_ok-plan.ensures.lists named

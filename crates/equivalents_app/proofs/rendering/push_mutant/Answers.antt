@@ -4,8 +4,8 @@ use Rattle.equivalents_app.specs.Rendering.{promise_text}
 use Rattle.equivalents_app.proofs.Parts.{three_parts}
 use Rattle.equivalents_app.proofs.rendering.push_mutant.Goals as goal
 
-pub returns-clause-line : goal.returns-clause-line
-returns-clause-line c =
+pub returns : goal.returns
+returns c =
     let old = string_bytes c.args.text.now in
     let promised = string_bytes c.push_promise.new.text in
     let changed = string_bytes c.push_change.new.text in

@@ -11,8 +11,8 @@ loop-test-preserved c =
     let steps = c.args.steps in
     one_more program c.args.tests.now c.loop-test.test-index steps c.loop-test.room c.in-Some.left c.min-room.result c.as_slice.result.now
     c.loop-test-test.true (search rules) (omega (arith, c.min-room.ensures)) (omega (arith, c.min-room.ensures)) c.loop-test.invariant
-    (subst (λ found. IfSome found (λ room. LeavesRoomOn program steps room c.as_slice.result.now)) c.in-Some.is c.in_ok-left.ensures.room)
+    (subst (λ found. IfSome found (λ room. LeavesRoomOn program steps room c.as_slice.result.now)) c.in-Some.is c.in_ok-left.ensures)
 
-pub returns-clause-room : goal.returns-clause-room
-returns-clause-room c =
+pub returns : goal.returns
+returns c =
     all_left (map line_of c.args.checked.now.program) c.args.tests.now c.loop-test.test-index c.args.steps c.loop-test.room (omega (arith, c.loop-test-test.false)) c.loop-test.invariant

@@ -1,8 +1,6 @@
-use Rattle.std.proofs.Common.{ap, inr, map, subst, sym}
-use Rattle.std.specs.Prelude.{Contains}
+use Rattle.std.proofs.Common.{ap, inr, map}
 use Rattle.f77_program.specs.Program.{line_of}
 use Rattle.f77_check.specs.Checked.{CheckedFields}
-use Rattle.mothra_app.specs.Fault.{of_mutants}
 use Rattle.mothra_app.specs.declared.fault.Fault.TheVariants.{Ops}
 use Rattle.mothra_app.proofs.Listings.{program_refused, plan_refused, plan_listed}
 use Rattle.mothra_app.proofs.Memory.{ops_in}
@@ -21,13 +19,11 @@ returns-in_err-plan c =
     of_fault c.from_residual-in_err-plan.result _ _ (Ops fault) c.from_residual-in_err-plan.ensures.1
     (plan_refused c.args.source.now c.args.ops.now c.args.every (map line_of c.in_ok-checked.checked.program) fault c.in_ok-checked.ensures.program c.in_err-plan.ensures.refused)
 
-pub returns-in_err-text_of : goal.returns-in_err-text_of
-returns-in_err-text_of c =
-    of_fault c.from_residual-in_err-text_of.result _ _ (Ops c.in_err-text_of.field-0.0) c.from_residual-in_err-text_of.ensures.1
-    (inr (subst (λ f. Contains of_mutants (Ops f)) (sym c.in_err-text_of.ensures.memory) ops_in))
+pub returns-in-Err : goal.returns-in-Err
+returns-in-Err c = inr ops_in
 
-pub returns : goal.returns
-returns c =
+pub returns-in-Ok : goal.returns-in-Ok
+returns-in-Ok c =
     plan_listed c.args.source.now _ c.args.ops.now c.args.every (map line_of c.in_ok-checked.checked.program) c.in_ok-plan.plan c.in_ok-checked.ensures.program
     (ap (λ (k : CheckedFields). map line_of k.program) c.in_ok-plan.ensures.program) c.in_ok-plan.ensures.every c.in_ok-plan.ensures.asked c.in_ok-plan.ensures.lists
-    c.in_ok-text_of.ensures.text
+    c.in-Ok.ensures

@@ -16,10 +16,10 @@ loop-index-preserved c =
     let plan = c.args.plan.now in
     let i = c.loop-index.index in
     part_more (string_bytes c.loop-index.text) (string_bytes c.push_mutant.new.text) _ (lines_behind plan c.args.op i) (lines_behind plan c.args.op (i + 1)) _
-    c.in_ok-push_mutant.ensures.line (mutant_more plan c.args.op i (omega (arith, c.count-count.ensures.count, c.loop-index-test.true))) c.loop-index.invariant
+    c.in_ok-push_mutant.ensures (mutant_more plan c.args.op i (omega (arith, c.count-count.ensures.count, c.loop-index-test.true))) c.loop-index.invariant
 
-pub returns-clause-lines : goal.returns-clause-lines
-returns-clause-lines c =
+pub returns : goal.returns
+returns c =
     let plan = c.args.plan.now in
     let i = c.loop-index.index in
     sym (append-nil (string_bytes c.loop-index.text))

@@ -1,7 +1,7 @@
 use Rattle.std.proofs.Common.{◌≡◌, ◌≤◌, ◌+◌, ◌*◌}
 use Rattle.mothra_app.specs.Listing.{asked_total}
-use Rattle.equivalents_app.proofs.Totals.{count_behind}
-use Rattle.equivalents_app.proofs.rendering.total_of.Given as goal
+use Rattle.mothra_app.proofs.ListedLines.{count_behind}
+use Rattle.mothra_app.proofs.listing.total_of.Given as goal
 
 -- what is counted and the mutants of the other operators are all mutants
 abbrev pub invariant-loop-op : goal.invariant-loop-op

@@ -2,9 +2,9 @@ use Rattle.std.proofs.Common.{arith, ◌≡◌, ◌∙◌, ◌+◌, ℕ, true, f
 use Rattle.mothra_codes.specs.code.Op.{op_at}
 use Rattle.mothra_ops.specs.Plan.{asked, edits_of}
 use Rattle.mothra_app.specs.Listing.{asked_total}
-use Rattle.equivalents_app.proofs.Totals.{count_behind, counts_as_before, counts_more}
-use Rattle.equivalents_app.proofs.rendering.total_of.Goals as goal
-use Rattle.equivalents_app.proofs.rendering.total_of.Goals.{then-asked, else-asked}
+use Rattle.mothra_app.proofs.ListedLines.{count_behind, counts_as_before, counts_more}
+use Rattle.mothra_app.proofs.listing.total_of.Goals as goal
+use Rattle.mothra_app.proofs.listing.total_of.Goals.{then-asked, else-asked}
 
 pub loop-op-preserved : goal.loop-op-preserved
 loop-op-preserved c = elim c.if-asked.branch [
