@@ -44,7 +44,8 @@ fn push_mutant(
 {
     push_promise(text, plan.every(), equivalent)?;
     plan.push_change(text, mutant)?;
-    text.push_str("\n")
+    text.push_str("\n")?;
+    Ok(())
 }
 
 /// Finds a mutant that is proved equivalent, and adds its line.

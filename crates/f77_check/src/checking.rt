@@ -56,19 +56,19 @@ fn shapes(alloc: Global, names: &Names, list: &[Name]) -> Result<Vec<Shape>, All
     Ok(shapes)
 }
 
-/// Checks a program, and gives it with the shapes of its dummy arguments. Where the program is not legal, its first
-/// fault is reported, clause by clause in the order of test.
-///
-/// Memory may be reported in place of any answer.
+/// The legal program with these tables, with all that a run looks up.
 #[tactic(auto, using(crate::proofs::SlotTables::slots_few))]
-pub fn check(alloc: Global, program: &Program) -> Result<Checked, CheckFault>
-    ensures legal { IfOk result (λ checked. IsLegal (map line_of program.now)) }
+pub(crate) fn checked_by(
+    alloc: Global,
+    program: &Program,
+    tables: Tables,
+) -> Result<Checked, AllocError>
+    requires legal { IsLegal (map line_of program.now) }
+    requires tables { AreTables tables (map line_of program.now) }
     ensures program { IfOk result (λ checked. map line_of checked.program ≡ map line_of program.now) }
     ensures arguments { IfOk result (λ checked. checked.arguments ≡ shapes (map line_of program.now)) }
-    ensures fault { IfErr result (λ fault. (fault ≡ Memory) ⊎ (first_fault (map line_of program.now) ≡ Some fault)) }
 {
     let lines = program.lines();
-    let tables = judged(alloc, lines)?;
     let arguments = shapes(alloc, &tables.names, arguments(lines))?;
     let slots = Slots::of(alloc, &tables.names)?;
     let resolver = Resolver { tables, slots };
@@ -81,4 +81,18 @@ pub fn check(alloc: Global, program: &Program) -> Result<Checked, CheckFault>
         statements,
         start: Shared::new(alloc, start)?,
     })
+}
+
+/// Checks a program, and gives it with the shapes of its dummy arguments. Where the program is not legal, its first
+/// fault is reported, clause by clause in the order of test.
+///
+/// Memory may be reported in place of any answer.
+pub fn check(alloc: Global, program: &Program) -> Result<Checked, CheckFault>
+    ensures legal { IfOk result (λ checked. IsLegal (map line_of program.now)) }
+    ensures program { IfOk result (λ checked. map line_of checked.program ≡ map line_of program.now) }
+    ensures arguments { IfOk result (λ checked. checked.arguments ≡ shapes (map line_of program.now)) }
+    ensures fault { IfErr result (λ fault. (fault ≡ Memory) ⊎ (first_fault (map line_of program.now) ≡ Some fault)) }
+{
+    let tables = judged(alloc, program.lines())?;
+    Ok(checked_by(alloc, program, tables)?)
 }

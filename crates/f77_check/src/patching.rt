@@ -20,9 +20,9 @@ ghost use Rattle.f77_legal.specs.Alone.{StandsAlone};
 ghost use Rattle.f77_legal.specs.declared.fault.CheckFault.TheVariants.{Memory};
 
 use crate::checked::Checked;
-use crate::checking::{check, judged};
+use crate::checking::{checked_by, judged};
 use f77_actions::Resolved;
-use f77_legal::{Broken, CheckFault, is_terminal, keeps_frame};
+use f77_legal::{Broken, CheckFault, Tables, is_terminal, keeps_frame};
 use f77_tree::{Shared, Stmt};
 use std::alloc::{AllocError, Global};
 
@@ -93,7 +93,7 @@ impl Checked {
 
     /// The resolved form of the statement in its new place, where the changed program is legal by this statement alone.
     /// With it in the place of the old one, the resolved statements are those of the changed program.
-    pub fn resolved(&self, number: usize, stmt: &Stmt) -> Result<Resolved, AllocError>
+    pub fn resolved(&self, number: usize, stmt: &Stmt) -> Result<Shared<Resolved>, AllocError>
         requires fits { Fits (map line_of self.now.program) number (statement_of stmt.now) }
         requires alone { StandsAlone self.now.names (map line_of self.now.program) (number - 1)
             (statement_of stmt.now) }
@@ -102,7 +102,8 @@ impl Checked {
     {
         let alloc = self.program.allocator();
         let resolved = self.resolved_for(alloc, number - 1, stmt)?;
-        Ok(resolved)
+        let shared = Shared::new(alloc, resolved)?;
+        Ok(shared)
     }
 
     /// The resolved form of statement `i` of the changed program.
@@ -123,15 +124,13 @@ impl Checked {
     fn statements_with(
         &self,
         i: usize,
-        resolved: Resolved,
+        resolved: Shared<Resolved>,
     ) -> Result<Vec<Shared<Resolved>>, AllocError>
         requires { i < length self.now.statements }
         ensures { IfOk result (λ list. list.items ≡ slice_set self.now.statements i resolved) }
     {
-        let alloc = self.program.allocator();
-        let shared = Shared::new(alloc, resolved)?;
-        let mut statements = self.statements.to_vec(alloc)?;
-        statements[i] = shared;
+        let mut statements = self.statements.to_vec(self.program.allocator())?;
+        statements[i] = resolved;
         Ok(statements)
     }
 
@@ -157,6 +156,32 @@ impl Checked {
         })
     }
 
+    /// The program with another statement in the place of the one with this number, counted from 1, where it is legal.
+    /// `is_alone` is what `judge` gives. The old program stays as it is.
+    pub fn with_statement(
+        &self,
+        number: usize,
+        stmt: &Stmt,
+        is_alone: bool,
+    ) -> Result<Checked, AllocError>
+        requires fits { Fits (map line_of self.now.program) number (statement_of stmt.now) }
+        requires alone { is_alone ≡ true → StandsAlone self.now.names (map line_of self.now.program) (number - 1)
+            (statement_of stmt.now) }
+        requires legal { IsLegal (patched (map line_of self.now.program) number (statement_of stmt.now)) }
+        ensures program { IfOk result (λ checked. map line_of checked.program
+            ≡ patched (map line_of self.now.program) number (statement_of stmt.now)) }
+        ensures arguments { IfOk result (λ checked. checked.arguments
+            ≡ shapes (patched (map line_of self.now.program) number (statement_of stmt.now))) }
+    {
+        if is_alone {
+            return self.patched_alone(number, stmt);
+        }
+        let program = self.program.with_statement(number, stmt)?;
+        let alloc = program.allocator();
+        let tables = Tables::of(alloc, program.lines())?;
+        checked_by(alloc, &program, tables)
+    }
+
     /// Checks the program with another statement in the place of the one with this number, counted from 1. Where it is
     /// not legal, its first fault is reported, clause by clause in the order of test.
     ///
@@ -172,10 +197,7 @@ impl Checked {
         ensures fault { let program = patched (map line_of self.now.program) number (statement_of stmt.now) in
             IfErr result (λ fault. (fault ≡ Memory) ⊎ (first_fault program ≡ Some fault)) }
     {
-        if self.judged_alone(number, stmt)? {
-            return Ok(self.patched_alone(number, stmt)?);
-        }
-        let program = self.program.with_statement(number, stmt)?;
-        check(program.allocator(), &program)
+        let is_alone = self.judge(number, stmt)?;
+        Ok(self.with_statement(number, stmt, is_alone)?)
     }
 }

@@ -1,11 +1,10 @@
 //! Runs of a program with one statement changed. One change follows another, and all runs use the same memory.
 
-ghost use Rattle.std.specs.Prelude.{◌≡◌, ◌<◌, ◌-◌, length, map, slice_set, None, IfOk, IfErr, OnErr, OnOk};
+ghost use Rattle.std.specs.Prelude.{◌≡◌, ◌<◌, ◌-◌, length, map, slice_set, None, IfOk, OnErr, OnOk};
 ghost use Rattle.std.specs.Bool.{Decides};
 ghost use Rattle.f77_program.specs.Patching.{Fits, patched};
 ghost use Rattle.f77_program.specs.Program.{line_of};
 ghost use Rattle.f77_tree.specs.Statement.{statement_of};
-ghost use Rattle.f77_check.specs.Patching.{IsInPlace};
 ghost use Rattle.f77_legal.specs.Alone.{StandsAlone};
 ghost use Rattle.f77_legal.specs.Legal.{IsLegal};
 ghost use Rattle.f77_code.specs.Replacing.{HaveOneOwn, IsAllOwn, IsChangedCode, own_instructions};
@@ -13,7 +12,6 @@ ghost use Rattle.f77_code.specs.Program.{IsCode};
 ghost use Rattle.f77_code.specs.Together.{AgreeButAt};
 ghost use Rattle.f77_meaning.specs.Interpreter.{IsOutcomeOf};
 ghost use Rattle.f77_meaning.specs.declared.outcome.Outcome.{Outcome};
-ghost use Rattle.f77_meaning.specs.declared.outcome.RunFault.TheVariants as fault;
 ghost use Rattle.f77_run.specs.Changed.{changed_program};
 ghost use Rattle.f77_run.specs.code.Changing.{BeginsImage, CanReplace};
 ghost use Rattle.f77_run.specs.Registers.{IsImage};
@@ -26,8 +24,8 @@ use crate::visits::Visits;
 use crate::workspace::{Workspace, prepared};
 use f77_check::{Checked, Resolved};
 use f77_code::ChangedCode;
-use f77_meaning::{Arg, Outcome, RunFault};
-use f77_tree::{Shared, Stmt};
+use f77_meaning::{Arg, Outcome};
+use f77_tree::Stmt;
 use std::alloc::{AllocError, Global};
 use std::marker::Model;
 use std::snapshot::Snapshot;
@@ -91,7 +89,7 @@ fn put(
     image: &mut Registers,
     place: usize,
     resolved: &Resolved,
-) -> Result<(), RunFault>
+) -> Result<(), AllocError>
     requires code { IsChangedCode checked.now.statements code.old }
     requires own { IsAllOwn code.old }
     requires slots { code.old.code.constants.slots ≡ checked.now.slots }
@@ -103,43 +101,23 @@ fn put(
     ensures image { IsImage checked.now code.new.code.constants.values.items image.new }
     ensures compiled { OnOk result (IsCode (slice_set checked.now.statements place resolved.now) code.new.code) }
     ensures others { OnOk result (AgreeButAt place (own_instructions code.new) code.new.code.instructions.items) }
-    ensures memory { IfErr result (λ e. e ≡ fault.Memory) }
 {
     let own = code.code().constants().values().len();
     code.replace(alloc, checked.statements(), place, resolved)?;
     let constants = &code.code().constants().values()[own..];
     if add_constants(&mut image.items, constants).is_err() {
         restore(checked, code, image);
-        return Err(RunFault::Memory);
+        return Err(AllocError);
     }
     Ok(())
-}
-
-/// The resolved form of a statement that stands in the place of the statement with this number, counted from 1.
-fn resolved(
-    alloc: Global,
-    checked: &Checked,
-    number: usize,
-    stmt: &Stmt,
-) -> Result<Shared<Resolved>, AllocError>
-    requires fits { Fits (map line_of checked.now.program) number (statement_of stmt.now) }
-    requires alone { StandsAlone checked.now.names (map line_of checked.now.program) (number - 1)
-        (statement_of stmt.now) }
-    requires legal { IsLegal (patched (map line_of checked.now.program) number (statement_of stmt.now)) }
-    ensures { IfOk result (IsInPlace checked.now number (statement_of stmt.now)) }
-{
-    let resolved = checked.resolved(number, stmt)?;
-    let shared = Shared::new(alloc, resolved)?;
-    Ok(shared)
 }
 
 impl<'a> ChangedRunner<'a> {
     /// A runner for this program, with no statement changed. It takes all memory that its runs need, apart from that
     /// for registers, which the first run takes, and that for a state that is kept in a long run.
-    pub fn of(alloc: Global, checked: &'a Checked) -> Result<ChangedRunner<'a>, RunFault>
+    pub fn of(alloc: Global, checked: &'a Checked) -> Result<ChangedRunner<'a>, AllocError>
         ensures program { IfOk result (λ runner. runner.checked ≡ checked.now) }
         ensures unchanged { IfOk result (λ runner. runner.stmt ≡ None) }
-        ensures memory { IfErr result (λ e. e ≡ fault.Memory) }
     {
         let (code, space) = prepared(alloc, checked)?;
         Ok(ChangedRunner {
@@ -153,8 +131,8 @@ impl<'a> ChangedRunner<'a> {
 
     /// Puts a statement in the place of the statement with this number, counted from 1. All others are the program's
     /// own, and the changed program has to be legal by that statement alone. From now on runs are those of the changed
-    /// program. If memory runs out (N1), they are those of the program itself.
-    pub fn change(&mut self, number: usize, stmt: &Stmt) -> Result<(), RunFault>
+    /// program. If memory runs out, they are those of the program itself.
+    pub fn change(&mut self, number: usize, stmt: &Stmt) -> Result<(), AllocError>
         requires fits { Fits (map line_of self.old.checked.program) number (statement_of stmt.now) }
         requires alone { StandsAlone self.old.checked.names (map line_of self.old.checked.program) (number - 1)
             (statement_of stmt.now) }
@@ -163,14 +141,11 @@ impl<'a> ChangedRunner<'a> {
         ensures changed { OnOk result (changed_program self.new
             ≡ patched (map line_of self.old.checked.program) number (statement_of stmt.now)) }
         ensures unchanged { OnErr result (self.new.stmt ≡ None) }
-        ensures memory { IfErr result (λ e. e ≡ fault.Memory) }
     {
         restore(self.checked, &mut self.code, &mut self.space.image);
         self.change = None;
         let place = number - 1;
-        let Ok(resolved) = resolved(self.alloc, self.checked, number, stmt) else {
-            return Err(RunFault::Memory);
-        };
+        let resolved = self.checked.resolved(number, stmt)?;
         let image = &mut self.space.image;
         let code = &mut self.code;
         put(self.alloc, self.checked, code, image, place, &resolved)?;
@@ -183,20 +158,19 @@ impl<'a> ChangedRunner<'a> {
     /// steps, has the outcome `outcome`, which is that of the program itself. The run begins where it may diverge from
     /// the run of the program, at the first visit of the changed statement; it is not made if the two do not diverge.
     ///
-    /// Memory (N1) may be reported in place of any answer.
+    /// Memory may be reported in place of any answer.
     pub fn comes_to(
         &mut self,
         visits: &Visits,
         arguments: &[Arg],
         steps: u32,
         outcome: &Outcome,
-    ) -> Result<bool, RunFault>
+    ) -> Result<bool, AllocError>
         requires visits { IsFollowed self.old.checked arguments.now steps visits.now }
         requires outcome { IsOutcomeOf (map line_of self.old.checked.program) arguments.now steps outcome.now }
         ensures program { self.new ≡ self.old }
         ensures outcome { IfOk result (λ same. (other : Outcome)
             × IsOutcomeOf (changed_program self.old) arguments.now steps other × Decides same (outcome.now ≡ other)) }
-        ensures memory { IfErr result (λ e. e ≡ fault.Memory) }
     {
         let Some(change) = &self.change else {
             return Ok(true);

@@ -16,7 +16,7 @@ use crate::workspace::{Workspace, prepared};
 use f77_check::Checked;
 use f77_code::{Code, finish_at, follow};
 use f77_meaning::{Arg, Outcome, RunFault};
-use std::alloc::Global;
+use std::alloc::{AllocError, Global};
 use std::marker::Model;
 
 /// What is kept of the trace of a run: its outcome, and the first visit of each statement.
@@ -58,9 +58,8 @@ impl<'a> Model for Runner<'a> {
 impl<'a> Runner<'a> {
     /// A runner for this program, which is compiled here. It takes all memory that its runs need, apart from that for a
     /// trace, that for registers, which the first run takes, and that for a state that is kept in a long run.
-    pub fn of(alloc: Global, checked: &'a Checked) -> Result<Runner<'a>, RunFault>
+    pub fn of(alloc: Global, checked: &'a Checked) -> Result<Runner<'a>, AllocError>
         ensures program { IfOk result (λ runner. runner ≡ checked.now) }
-        ensures memory { IfErr result (λ e. e ≡ fault.Memory) }
     {
         let (code, space) = prepared(alloc, checked)?;
         Ok(Runner {

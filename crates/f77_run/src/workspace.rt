@@ -1,13 +1,12 @@
 //! What runs need, in memory that is taken once. The registers at the start (the values of DATA, and the constants
 //! behind the slots) are filled once. A run begins as a copy of them, into which its arguments are put.
 
-ghost use Rattle.std.specs.Prelude.{◌≡◌, List, length, true, ℤ, IfErr, IfOk, OnOk};
+ghost use Rattle.std.specs.Prelude.{◌≡◌, List, length, true, ℤ, IfOk, OnOk};
 ghost use Rattle.f77_check.specs.Checked.{IsChecked};
 ghost use Rattle.f77_actions.specs.declared.resolved.Resolved.{Resolved};
 ghost use Rattle.f77_code.specs.Program.{IsCode};
 ghost use Rattle.f77_code.specs.Registers.{are_held};
 ghost use Rattle.f77_meaning.specs.Interpreter.{AreFitting};
-ghost use Rattle.f77_meaning.specs.declared.outcome.RunFault.TheVariants as fault;
 ghost use Rattle.f77_run.specs.Registers.{IsImage};
 ghost use Rattle.f77_run.specs.Visits.{AreAtStart};
 ghost use Rattle.f77_run.specs.code.Ends.{HasEnded, RunOf};
@@ -19,7 +18,7 @@ use crate::running::advance;
 use f77_actions::Finish;
 use f77_check::Checked;
 use f77_code::{Code, compiled, finish_at};
-use f77_meaning::{Arg, RunFault};
+use f77_meaning::Arg;
 use std::alloc::{AllocError, Global};
 
 /// How a run ends, and the number of steps after which that was known.
@@ -39,12 +38,11 @@ pub(crate) struct Workspace {
 }
 
 /// The code of a program, and the workspace of its runs. The registers of a run take memory when the first run begins.
-pub(crate) fn prepared(alloc: Global, checked: &Checked) -> Result<(Code, Workspace), RunFault>
+pub(crate) fn prepared(alloc: Global, checked: &Checked) -> Result<(Code, Workspace), AllocError>
     ensures checked { IsChecked checked.now }
     ensures code { IfOk result (λ made. IsCode checked.now.statements made.0) }
     ensures slots { IfOk result (λ made. made.0.constants.slots ≡ checked.now.slots) }
     ensures image { IfOk result (λ made. IsImage checked.now made.0.constants.values.items made.1.image) }
-    ensures memory { IfErr result (λ e. e ≡ fault.Memory) }
 {
     let code = compiled(alloc, checked.slots() as u32, checked.statements())?;
     let space = Workspace {

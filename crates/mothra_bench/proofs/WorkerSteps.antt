@@ -303,7 +303,7 @@ first_fault None X P e x = x
 first_fault (Some d) X P e x = cc
 
 -- the verdicts that a worker asks are of its bench
-pub own_verdicts : {X : Type 0} (made : Result X BenchFault) (kept : Option X) (x : X) → IfOk made (λ v. v ≡ x) → kept ≡ result_ok made → IfSome kept (λ v. v ≡ x)
+pub own_verdicts : {X E : Type 0} (made : Result X E) (kept : Option X) (x : X) → IfOk made (λ v. v ≡ x) → kept ≡ result_ok made → IfSome kept (λ v. v ≡ x)
 own_verdicts made None x is own = tt
 own_verdicts (Ok v) (Some w) x is own = same_Some w v own ∙ is
 own_verdicts (Err e) (Some w) x is own = absurd (none-some w (sym own))

@@ -1,6 +1,6 @@
 //! The mutants of a plan, proved equivalent one at a time.
 
-ghost use Rattle.std.specs.Prelude.{◌≡◌, true, IfOk, IfSome, Some};
+ghost use Rattle.std.specs.Prelude.{◌≡◌, IfOk, IfSome, Some};
 ghost use Rattle.f77_program.specs.Patching.{patched};
 ghost use Rattle.f77_tree.specs.Statement.{statement_of};
 ghost use Rattle.f77_check.specs.Patching.{IsInPlace};
@@ -9,7 +9,7 @@ ghost use Rattle.mothra_ops.specs.Made.{IsMadeMutant};
 ghost use Rattle.mothra_ops.specs.Mutants.{program_of};
 ghost use Rattle.mothra_equivalents.specs.Equivalents.{IsProved, IsProvedMutant};
 
-use f77_check::{Checked, Resolved};
+use f77_check::Resolved;
 use f77_finder::finding::entries_of;
 use f77_symbolic::equivalent::Tours;
 use f77_symbolic::rows::Rows;
@@ -90,23 +90,6 @@ fn in_32_bits(spare: Option<u64>) -> Option<u32>
     ensures { IfSome result (λ steps. spare ≡ Some steps) }
 {
     u32::try_from(spare?).ok()
-}
-
-/// The resolved form of the mutant's statement, which alone shows that the mutant is legal.
-fn resolved_of(
-    alloc: Global,
-    checked: &Checked,
-    mutant: &Mutant,
-    stmt: &Stmt,
-) -> Result<Shared<Resolved>, AllocError>
-    requires made { IsMadeMutant checked.now mutant.now }
-    requires alone { mutant.now.is_alone ≡ true }
-    requires statement { statement_of stmt.now ≡ statement_of mutant.now.stmt.value }
-    ensures { IfOk result (IsInPlace checked.now mutant.now.edit.statement (statement_of stmt.now)) }
-{
-    let resolved = checked.resolved(mutant.number(), stmt)?;
-    let shared = Shared::new(alloc, resolved)?;
-    Ok(shared)
 }
 
 impl<'a> Prover<'a> {
@@ -194,7 +177,7 @@ impl<'a> Prover<'a> {
         let number = mutant.number();
         let checked = self.plan.program();
         let stmt = mutant.statement(checked)?;
-        let resolved = resolved_of(alloc, checked, mutant, &stmt)?;
+        let resolved = checked.resolved(number, &stmt)?;
         Ok(self.judge_in_place(alloc, number, &stmt, &resolved)?)
     }
 

@@ -95,14 +95,8 @@ fn is_killed(
 fn program_of(checked: &Checked, mutant: &Mutant) -> Result<Checked, AllocError>
     requires { IsMadeMutant checked.now mutant.now }
 {
-    // A mutant is refused for want of memory alone.
-    let Ok(stmt) = mutant.statement(checked) else {
-        return Err(AllocError);
-    };
-    match checked.patched(mutant.number(), &stmt) {
-        Ok(changed) => Ok(changed),
-        Err(_) => Err(AllocError),
-    }
+    let stmt = mutant.statement(checked)?;
+    checked.with_statement(mutant.number(), &stmt, mutant.is_alone)
 }
 
 /// Adds tests that kill the ticket's mutant, those of these rows that do, as many as are asked for.
@@ -122,9 +116,7 @@ pub(crate) fn add_suggestions(
     };
     let checked = plan.program();
     let changed = program_of(checked, mutant)?;
-    let Ok(mut runner) = Runner::of(alloc, &changed) else {
-        return Err(AllocError);
-    };
+    let mut runner = Runner::of(alloc, &changed)?;
     let mut left = search.most;
     for row in rows {
         if left == 0 {

@@ -7,8 +7,7 @@ use Rattle.f77_program.specs.Patching.{Fits, patched}
 use Rattle.f77_tree.specs.Statement.{statement_of, Statement}
 use Rattle.f77_program.specs.declared.program.Line.{Line}
 use Rattle.f77_legal.specs.Labels.{nth_statement}
-use Rattle.f77_legal.specs.Legal.{IsLegal, first_fault}
-use Rattle.f77_legal.specs.declared.fault.CheckFault.{CheckFault}
+use Rattle.f77_legal.specs.Legal.{IsLegal}
 use Rattle.mothra_ops.specs.Edits.{IsMutant, numbered}
 use Rattle.mothra_ops.specs.code.Original.{HasStatement}
 
@@ -35,9 +34,6 @@ nth_there p number s has some = ap (option_map (λ (l : LineFields). l.stmt)) (c
 
 pub the_same : (p : List LineFields) (number : ℕ) (old s : Statement) → HasStatement p number old → s ≡ old → ¬ (IsMutant p number s)
 the_same p number old s has same m = m.differs (nth_there p number old has m.fits.counted ∙ ap Some (sym same))
-
-pub illegal : (p : List LineFields) (number : ℕ) (s : Statement) (fault : CheckFault) → first_fault (patched p number s) ≡ Some fault → ¬ (IsMutant p number s)
-illegal p number s fault first m = none-some fault (ap (λ fs. slice_get fs 0) (sym m.legal) ∙ first)
 
 pub is_mutant : (p : List LineFields) (number : ℕ) (old s : Statement) → HasStatement p number old → s ≢ old
     → Fits p number s → IsLegal (patched p number s) → IsMutant p number s

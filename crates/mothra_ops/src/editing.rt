@@ -4,7 +4,6 @@
 //! are what was found so far (`HasCome`).
 
 ghost use Rattle.std.specs.Prelude.{◌≡◌, ◌<◌, ◌≤◌, ◌+◌, ◌^◌, ◌⊎◌, map, All, OnOk, IfOk, IfErr};
-ghost use Rattle.f77_legal.specs.declared.fault.CheckFault.TheVariants as check;
 ghost use Rattle.f77_program.specs.Program.{line_of};
 ghost use Rattle.f77_program.specs.Patching.{patched};
 ghost use Rattle.f77_tree.specs.Statement.{statement_of};
@@ -22,7 +21,7 @@ use crate::edit::Edit;
 use crate::listing::{Limits, Listing};
 use crate::original::Original;
 use crate::site::Site;
-use f77_check::{CheckFault, Checked};
+use f77_check::Checked;
 use f77_tree::Stmt;
 use mothra_codes::Op;
 use mothra_replacements::{OpsFault, gives};
@@ -152,18 +151,6 @@ pub fn edits(alloc: Global, checked: &Checked, op: Op, every: u32) -> Result<Vec
     Ok(edits)
 }
 
-/// Out of memory in a check. The caller shows that no other fault of the check can come, so that none is reported as
-/// another.
-fn memory_fault(found: CheckFault) -> OpsFault
-    requires { found ≡ check.Memory }
-    ensures { result ≡ Memory }
-{
-    match found {
-        CheckFault::Memory => OpsFault::Memory,
-        _ => unreachable!(),
-    }
-}
-
 /// The program that an edit of the whole list makes, checked. Every other edit is refused.
 pub fn apply(alloc: Global, checked: &Checked, edit: &Edit) -> Result<Checked, OpsFault>
     ensures program { let program = map line_of checked.now.program in IfOk result
@@ -179,9 +166,5 @@ pub fn apply(alloc: Global, checked: &Checked, edit: &Edit) -> Result<Checked, O
         return Err(OpsFault::NotASite);
     };
     let stmt = mutant.statement(checked)?;
-    match checked.patched(edit.statement, &stmt) {
-        Ok(changed) => Ok(changed),
-        // The changed program is legal.
-        Err(fault) => Err(memory_fault(fault)),
-    }
+    Ok(checked.with_statement(edit.statement, &stmt, mutant.is_alone)?)
 }

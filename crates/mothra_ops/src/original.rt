@@ -159,7 +159,8 @@ impl<'a> Original<'a> {
         requires copies { copied copies.old ≡ statements_in (lines_of self.now) }
         ensures made { IfOk result (λ found. IsMadeBy (lines_of self.now) edit.now
             (option_map (λ mutant. statement_of mutant.stmt.value) found)) }
-        ensures own { IfOk result (λ found. IfSome found (IsMadeMutant self.now.checked.now)) }
+        ensures own { IfOk result (λ found. IfSome found
+            (λ mutant. (mutant.edit ≡ edit.now) × IsMadeMutant self.now.checked.now mutant)) }
     {
         let mut candidates = self.candidates(alloc, edit)?;
         if edit.rank == 0 || edit.rank > candidates.len() {

@@ -4,14 +4,13 @@ ghost use Rattle.std.specs.Prelude.{◌≡◌, ◌↔◌, ◌≤◌, ◌<◌, �
 ghost use Rattle.mothra_verdicts.specs.Bench.{AreFine};
 ghost use Rattle.mothra_verdicts.specs.Equivalents.{AreNamed};
 ghost use Rattle.mothra_verdicts.specs.code.Equivalents.{AddsTicket, IsNoted, IsNoEntry};
-ghost use Rattle.mothra_verdicts.specs.declared.fault.BenchFault.TheVariants.{Memory};
 ghost use Rattle.mothra_ops.specs.Plan.{whole_of};
 
 use crate::fault::BenchFault;
 use indexmap::IndexSet;
 use mothra_codes::Ticket;
 use mothra_ops::Plan;
-use std::alloc::Global;
+use std::alloc::{AllocError, Global};
 
 /// What holds of a declared entry, given those before it.
 #[derive(Clone, Copy, Drop)]
@@ -32,21 +31,19 @@ fn is_there(plan: &Plan, entry: Ticket) -> bool
 }
 
 /// Adds an entry to the set. The result says whether the set had it before.
-fn name(named: &mut IndexSet<Ticket>, entry: Ticket) -> Result<bool, BenchFault>
+fn name(named: &mut IndexSet<Ticket>, entry: Ticket) -> Result<bool, AllocError>
     ensures before { IfOk result (λ before. IsTrue before ↔ Contains named.old.keys entry) }
     ensures named { OnOk result (AddsTicket named.old.keys entry named.new.keys) }
-    ensures memory { IfErr result (λ fault. fault ≡ Memory) }
 {
     let is_new = named.insert(entry)?;
     Ok(!is_new)
 }
 
 /// Adds a declared entry to the set. The result says what holds of it, given those before it.
-fn note(plan: &Plan, named: &mut IndexSet<Ticket>, entry: Ticket) -> Result<Noted, BenchFault>
+fn note(plan: &Plan, named: &mut IndexSet<Ticket>, entry: Ticket) -> Result<Noted, AllocError>
     ensures noted { IfOk result (λ noted. IsNoted plan.now named.old.keys entry noted) }
     ensures named { OnOk result (AddsTicket named.old.keys entry named.new.keys) }
     ensures fits { entry.number < 2 ^ 32 }
-    ensures memory { IfErr result (λ fault. fault ≡ Memory) }
 {
     let is_named = name(named, entry)?;
     if !plan.asked(entry.op) {

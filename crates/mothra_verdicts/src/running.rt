@@ -7,7 +7,6 @@ ghost use Rattle.f77_meaning.specs.Interpreter.{IsOutcomeOf, refusal};
 ghost use Rattle.f77_run.specs.Visits.{IsFollowed};
 ghost use Rattle.mothra_verdicts.specs.Bench.{FitsProgram, IsProgramEnd, EndsOn, IsFirstNot};
 ghost use Rattle.mothra_verdicts.specs.code.Running.{AreTraces, IsNoRun};
-ghost use Rattle.mothra_verdicts.specs.declared.fault.BenchFault.TheVariants.{Memory};
 ghost use Rattle.mothra_ops.specs.Mutants.{program_of};
 
 use crate::fault::BenchFault;
@@ -16,7 +15,7 @@ use f77_check::Shape;
 use f77_meaning::{Arg, Outcome, RunFault, Values};
 use f77_run::{Runner, Trace, Visits, fit};
 use mothra_ops::Plan;
-use std::alloc::Global;
+use std::alloc::{AllocError, Global};
 
 /// How many numbers may be kept of the runs in all. Each takes 16 bytes at most, so all take 32 MiB at most.
 const ROOM: usize = 2_097_152;
@@ -79,7 +78,7 @@ fn trace_on(
     test: &Values<Arg>,
     steps: u32,
     room: &mut usize,
-) -> Result<Option<Trace>, BenchFault>
+) -> Result<Option<Trace>, AllocError>
     requires { refusal original.old.arguments test.now ≡ None }
     ensures program { original.new ≡ original.old }
     ensures outcome { IfOk result (λ trace. IfSome trace
@@ -89,7 +88,6 @@ fn trace_on(
         (λ trace. IfSome trace (λ trace. IsFollowed original.old test.now steps trace.visits)) }
     ensures fails { IfOk result
         (λ trace. IfNone trace (¬ (EndsOn (map line_of original.old.program) steps test.now))) }
-    ensures memory { IfErr result (λ fault. fault ≡ Memory) }
 {
     match original.trace(alloc, test.as_slice(), steps, room) {
         Ok(trace) => {
@@ -153,8 +151,6 @@ pub(crate) fn traces_on(
     let checked = plan.program();
     // This call is for the proof: its contract says that the shapes are those of the program.
     let _ = checked.program();
-    match Runner::of(alloc, checked) {
-        Ok(mut original) => traces_in_turn(alloc, &mut original, tests, steps),
-        Err(fault) => Err(out_of_memory::of_run(fault)),
-    }
+    let mut original = Runner::of(alloc, checked)?;
+    traces_in_turn(alloc, &mut original, tests, steps)
 }

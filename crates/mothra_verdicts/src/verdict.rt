@@ -13,18 +13,16 @@ ghost use Rattle.mothra_ops.specs.Made.{IsMadeMutant};
 ghost use Rattle.mothra_ops.specs.Mutants.{mutant_fields, program_of};
 ghost use Rattle.mothra_verdicts.specs.Bench.{BenchFields, IsBench};
 ghost use Rattle.mothra_verdicts.specs.Verdict.{IsAlone, IsVerdict, IsNoVerdict, mutated};
-ghost use Rattle.mothra_verdicts.specs.declared.fault.BenchFault.TheVariants.{Memory};
 
 use crate::bench::Bench;
 use crate::fault::BenchFault;
 use crate::killing::{kills_from_start, kills_of};
-use crate::out_of_memory;
 use f77_meaning::Values;
 use f77_run::ChangedRunner;
 use f77_tree::Replacement;
 use mothra_codes::Ticket;
 use mothra_ops::{Copies, Mutant};
-use std::alloc::Global;
+use std::alloc::{AllocError, Global};
 use std::marker::Model;
 
 /// What the tests say of one mutant.
@@ -81,22 +79,17 @@ fn kills_of_whole_runs(
     alloc: Global,
     bench: &Bench,
     mutant: &Mutant,
-) -> Result<Values<bool>, BenchFault>
+) -> Result<Values<bool>, AllocError>
     requires made { IsMadeMutant bench.now.plan.checked mutant.now }
     requires shapes { shapes (mutated (program_of bench.now.plan) (mutant_fields mutant.now))
         ≡ shapes (program_of bench.now.plan) }
     ensures kills { IfOk result (λ kills. IsAlone (program_of bench.now.plan)
         (mutated (program_of bench.now.plan) (mutant_fields mutant.now)) bench.now.steps bench.now.tests kills) }
-    ensures memory { IfErr result (λ fault. fault ≡ Memory) }
 {
     let checked = bench.plan().program();
-    let Ok(stmt) = mutant.statement(checked) else {
-        return Err(BenchFault::Memory);
-    };
-    match checked.patched(mutant.number(), &stmt) {
-        Ok(changed) => kills_from_start(alloc, bench, &changed),
-        Err(fault) => Err(out_of_memory::of_check(&fault)),
-    }
+    let stmt = mutant.statement(checked)?;
+    let changed = checked.with_statement(mutant.number(), &stmt, mutant.is_alone)?;
+    kills_from_start(alloc, bench, &changed)
 }
 
 /// Makes the runs from now on those of the mutant. `node`, a copy of its own, stands in the copy of its statement while
@@ -106,7 +99,7 @@ fn change_by(
     copies: &mut Copies,
     mutant: &Mutant,
     node: &mut Replacement,
-) -> Result<(), BenchFault>
+) -> Result<(), AllocError>
     requires made { IsMadeMutant runner.old.checked mutant.now }
     requires alone { mutant.now.is_alone ≡ true }
     requires copies { copied copies.old ≡ statements_in (map line_of runner.old.checked.program) }
@@ -115,7 +108,6 @@ fn change_by(
     ensures program { runner.new.checked ≡ runner.old.checked }
     ensures changed { OnOk result (changed_program runner.new
         ≡ mutated (map line_of runner.old.checked.program) (mutant_fields mutant.now)) }
-    ensures memory { IfErr result (λ fault. fault ≡ Memory) }
 {
     let number = mutant.number();
     copies.swap(number, mutant.edit.position, node);
@@ -124,10 +116,7 @@ fn change_by(
     };
     let changed = runner.change(number, stmt);
     copies.swap(number, mutant.edit.position, node);
-    match changed {
-        Ok(()) => Ok(()),
-        Err(fault) => Err(out_of_memory::of_run(fault)),
-    }
+    changed
 }
 
 /// Makes the runs from now on those of the mutant.
@@ -135,7 +124,7 @@ fn change(
     runner: &mut ChangedRunner<'_>,
     copies: &mut Copies,
     mutant: &Mutant,
-) -> Result<(), BenchFault>
+) -> Result<(), AllocError>
     requires made { IsMadeMutant runner.old.checked mutant.now }
     requires alone { mutant.now.is_alone ≡ true }
     requires copies { copied copies.old ≡ statements_in (map line_of runner.old.checked.program) }
@@ -143,7 +132,6 @@ fn change(
     ensures program { runner.new.checked ≡ runner.old.checked }
     ensures changed { OnOk result (changed_program runner.new
         ≡ mutated (map line_of runner.old.checked.program) (mutant_fields mutant.now)) }
-    ensures memory { IfErr result (λ fault. fault ≡ Memory) }
 {
     let mut node = mutant.node()?;
     change_by(runner, copies, mutant, &mut node)
@@ -157,7 +145,7 @@ fn kills(
     runner: &mut ChangedRunner<'_>,
     copies: &mut Copies,
     mutant: &Mutant,
-) -> Result<Values<bool>, BenchFault>
+) -> Result<Values<bool>, AllocError>
     requires copies { copied copies.old ≡ statements_in (program_of bench.now.plan) }
     requires program { runner.old.checked ≡ bench.now.plan.checked }
     requires made { IsMadeMutant bench.now.plan.checked mutant.now }
@@ -167,7 +155,6 @@ fn kills(
     ensures program { runner.new.checked ≡ runner.old.checked }
     ensures kills { IfOk result (λ kills. IsAlone (program_of bench.now.plan)
         (mutated (program_of bench.now.plan) (mutant_fields mutant.now)) bench.now.steps bench.now.tests kills) }
-    ensures memory { IfErr result (λ fault. fault ≡ Memory) }
 {
     if !mutant.is_alone {
         return kills_of_whole_runs(alloc, bench, mutant);
@@ -178,22 +165,15 @@ fn kills(
 
 impl<'a> Verdicts<'a> {
     /// The verdicts of this bench.
-    pub fn of(alloc: Global, bench: &'a Bench) -> Result<Verdicts<'a>, BenchFault>
-        ensures verdicts { IfOk result (λ verdicts. verdicts ≡ bench.now) }
-        ensures memory { IfErr result (λ fault. fault ≡ Memory) }
+    pub fn of(alloc: Global, bench: &'a Bench) -> Result<Verdicts<'a>, AllocError>
+        ensures { IfOk result (λ verdicts. verdicts ≡ bench.now) }
     {
         let checked = bench.plan().program();
-        let Ok(copies) = Copies::of(alloc, checked.program().lines()) else {
-            return Err(BenchFault::Memory);
-        };
-        match ChangedRunner::of(alloc, checked) {
-            Ok(runner) => Ok(Verdicts {
-                bench,
-                runner,
-                copies,
-            }),
-            Err(fault) => Err(out_of_memory::of_run(fault)),
-        }
+        Ok(Verdicts {
+            bench,
+            runner: ChangedRunner::of(alloc, checked)?,
+            copies: Copies::of(alloc, checked.program().lines())?,
+        })
     }
 
     /// Runs a mutant on every test.

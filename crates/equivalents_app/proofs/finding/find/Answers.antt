@@ -19,8 +19,8 @@ returns-in_err-plan c =
     (plan_refused c.args.job c.args.inquiry.now _ c.source.ensures _ c.as_slice.ensures (map line_of c.in_ok-checked.checked.program) fault
     c.in_ok-checked.ensures.program c.in_err-plan.ensures.refused)
 
-pub returns-in-Err : goal.returns-in-Err
-returns-in-Err c = inr memory_in
+pub returns : goal.returns
+returns c = inr memory_in
 
 pub returns-in-Ok : goal.returns-in-Ok
 returns-in-Ok c =

@@ -1,5 +1,6 @@
 use Rattle.std.proofs.Common.{map, subst}
 use Rattle.std.specs.Prelude.{IfSome}
+use Rattle.std.proofs.lemmas.Result.{IfOk-weaker}
 use Rattle.f77_check.specs.Checked.{CheckedFields}
 use Rattle.f77_program.specs.Program.{line_of}
 use Rattle.mothra_ops.specs.Mutants.{program_of}
@@ -11,7 +12,10 @@ returns-in-Some c =
     let steps = c.args.inquiry.now.steps in
     let room = c.in-Some.room in
     let found =
-    subst (λ o. IfSome o (LeavesRoom (map line_of c.program.result.now.program) c.as_slice.result.now steps)) c.in-Some.is c.in_ok-room_of.ensures in
+    subst (λ o. IfSome o (LeavesRoom (map line_of c.program.result.now.program) c.as_slice.result.now steps)) c.in-Some.is c.in_ok-room.ensures in
     let of_plan =
     subst (λ (checked : CheckedFields). LeavesRoom (map line_of checked.program) c.as_slice.result.now steps room) c.program.ensures.program found in
     c.text_beside.ensures (subst (λ tests. LeavesRoom (program_of c.args.plan) tests steps room) c.as_slice.ensures of_plan)
+
+pub returns-in-None : goal.returns-in-None
+returns-in-None c = IfOk-weaker c.text_for-in-None.result _ _ (λ text is. is c.args.tests tt) c.text_for-in-None.ensures

@@ -19,8 +19,8 @@ returns-in_err-plan c =
     of_fault c.from_residual-in_err-plan.result _ _ (Ops fault) c.from_residual-in_err-plan.ensures.1
     (plan_refused c.args.source.now c.args.ops.now c.args.every (map line_of c.in_ok-checked.checked.program) fault c.in_ok-checked.ensures.program c.in_err-plan.ensures.refused)
 
-pub returns-in-Err : goal.returns-in-Err
-returns-in-Err c = inr ops_in
+pub returns : goal.returns
+returns c = inr ops_in
 
 pub returns-in-Ok : goal.returns-in-Ok
 returns-in-Ok c =

@@ -10,7 +10,7 @@ loop-init g c = (
   tt,
   c.requires,
   λ parts. refl,
-  own_verdicts c.of.result c.ok-verdicts.result c.args.bench.now c.of.ensures.verdicts c.ok-verdicts.ensures.value,
+  own_verdicts c.of.result c.ok-verdicts.result c.args.bench.now c.of.ensures c.ok-verdicts.ensures.value,
   went_still c.args.bench.now g.G.Gate.may_give_up g.G.Gate.keeps_records (g.G.Gate.view c.args.pass) c.new-results.result,
 )
 

@@ -1,17 +1,17 @@
-use Rattle.std.proofs.Common.{◌≡◌, Option, Some, None, map, ap, sym, ◌∙◌, refl, inl, inr, subst}
+use Rattle.std.proofs.Common.{◌≡◌, ◌-◌, ℕ, Option, Some, None, map, ap, sym, ◌∙◌, refl, inr, subst}
 use Rattle.std.specs.Prelude.{IfSome, option_map}
 use Rattle.f77_check.specs.Checked.{CheckedFields}
 use Rattle.f77_program.specs.Program.{line_of}
 use Rattle.f77_program.specs.Patching.{Fits, patched}
-use Rattle.f77_tree.specs.Statement.{statement_of}
+use Rattle.f77_legal.specs.Alone.{StandsAlone}
+use Rattle.f77_legal.specs.Legal.{IsLegal}
+use Rattle.f77_tree.specs.Statement.{Statement, statement_of}
 use Rattle.mothra_ops.specs.code.Drawn.{lines_of}
 use Rattle.mothra_ops.specs.code.Edits.{IsMadeBy}
-use Rattle.mothra_ops.specs.Edits.{IsMutant}
 use Rattle.mothra_ops.specs.Made.{IsMadeMutant}
 use Rattle.mothra_ops.specs.declared.edit.Edit.{Edit}
 use Rattle.mothra_ops.specs.declared.mutant.Mutant.{Mutant}
 use Rattle.mothra_ops.specs.declared.original.Original.{Original}
-use Rattle.mothra_ops.proofs.MakesMutant.{illegal}
 use Rattle.mothra_ops.proofs.editing.apply.Goals as goal
 
 -- what the edit makes of the checked program, by what it makes of the original
@@ -22,36 +22,45 @@ made_of original checked edit found other same is made =
     subst (λ (x : CheckedFields). IsMadeBy (map line_of x.program) edit (option_map (λ (mutant : Mutant). statement_of mutant.stmt.value) other)) same
     (subst (λ (o : Option Mutant). IsMadeBy (lines_of original) edit (option_map (λ (mutant : Mutant). statement_of mutant.stmt.value) o)) is made)
 
+-- the mutant that was found is made by the edit
+own_of : (original : Original) (checked : CheckedFields) (edit : Edit) (found : Option Mutant) (mutant : Mutant) → original.checked.now ≡ checked → found ≡ Some mutant
+    → IfSome found (λ own. (own.edit ≡ edit) × IsMadeMutant original.checked.now own) → (mutant.edit ≡ edit) × IsMadeMutant checked mutant
+own_of original checked edit found mutant same is own =
+    subst (λ (x : CheckedFields). (mutant.edit ≡ edit) × IsMadeMutant x mutant) same
+    (subst (λ (o : Option Mutant). IfSome o (λ own. (own.edit ≡ edit) × IsMadeMutant original.checked.now own)) is own)
+
+-- what holds of the mutant's number and statement holds of the edit's number and of a copy of the statement
+in_edit : (P : ℕ → Statement → Type 0) (mutant : Mutant) (edit : Edit) (s : Statement) → mutant.edit ≡ edit → s ≡ statement_of mutant.stmt.value
+    → P mutant.edit.statement (statement_of mutant.stmt.value) → P edit.statement s
+in_edit P mutant edit s same is known = subst (λ (e : Edit). P e.statement s) same (subst (P mutant.edit.statement) (sym is) known)
+
 pub statement-requires : goal.statement-requires
 statement-requires c =
-    subst (λ (x : CheckedFields). IsMadeMutant x c.in-Some.mutant) c.in_ok-original.ensures.program
-    (subst (λ (o : Option Mutant). IfSome o (IsMadeMutant c.in_ok-original.original.checked.now)) c.in-Some.is c.in_ok-mutant.ensures.own)
+    (own_of c.in_ok-original.original c.args.checked.now c.args.edit.now _ c.in-Some.mutant c.in_ok-original.ensures.program c.in-Some.is c.in_ok-mutant.ensures.own).1
 
-pub patched-requires : goal.patched-requires
-patched-requires c =
-    let edit = c.args.edit.now in
-    let made = made_of c.in_ok-original.original c.args.checked.now edit _ (Some c.in-Some.mutant) c.in_ok-original.ensures.program c.in-Some.is c.in_ok-mutant.ensures.made in
-    subst (Fits (map line_of c.args.checked.now.program) edit.statement) (made.1 ∙ sym c.in_ok-stmt.ensures.statement) made.0.mutant.fits
+pub with_statement-requires-clause-fits : goal.with_statement-requires-clause-fits
+with_statement-requires-clause-fits c =
+    let own = own_of c.in_ok-original.original c.args.checked.now c.args.edit.now _ c.in-Some.mutant c.in_ok-original.ensures.program c.in-Some.is c.in_ok-mutant.ensures.own in
+    in_edit (Fits (map line_of c.args.checked.now.program)) c.in-Some.mutant c.args.edit.now _ own.0 c.in_ok-stmt.ensures.statement own.1.mutant.fits
 
--- the changed program has no fault, so the fault reported is that memory ran out
-pub memory_fault-requires : goal.memory_fault-requires
-memory_fault-requires c =
-    let program = map line_of c.args.checked.now.program in
-    let edit = c.args.edit.now in
-    let made = made_of c.in_ok-original.original c.args.checked.now edit _ (Some c.in-Some.mutant) c.in_ok-original.ensures.program c.in-Some.is c.in_ok-mutant.ensures.made in
-    let mutant = subst (IsMutant program edit.statement) (made.1 ∙ sym c.in_ok-stmt.ensures.statement) made.0.mutant in
-    elim c.in-Err.ensures.fault [
-      | inl memory ↦ memory
-      | inr first ↦ absurd (illegal program edit.statement (statement_of c.in_ok-stmt.stmt) c.in-Err.fault first mutant)
-    ]
+pub with_statement-requires-clause-alone : goal.with_statement-requires-clause-alone
+with_statement-requires-clause-alone c alone =
+    let own = own_of c.in_ok-original.original c.args.checked.now c.args.edit.now _ c.in-Some.mutant c.in_ok-original.ensures.program c.in-Some.is c.in_ok-mutant.ensures.own in
+    in_edit (λ k. StandsAlone c.args.checked.now.names (map line_of c.args.checked.now.program) (k - 1)) c.in-Some.mutant c.args.edit.now _ own.0 c.in_ok-stmt.ensures.statement
+    (own.1.alone alone)
+
+pub with_statement-requires-clause-legal : goal.with_statement-requires-clause-legal
+with_statement-requires-clause-legal c =
+    let own = own_of c.in_ok-original.original c.args.checked.now c.args.edit.now _ c.in-Some.mutant c.in_ok-original.ensures.program c.in-Some.is c.in_ok-mutant.ensures.own in
+    in_edit (λ k s. IsLegal (patched (map line_of c.args.checked.now.program) k s)) c.in-Some.mutant c.args.edit.now _ own.0 c.in_ok-stmt.ensures.statement own.1.mutant.legal
 
 pub returns-in_default-clause-refused : goal.returns-in_default-clause-refused
 returns-in_default-clause-refused c =
     inr (refl, made_of c.in_ok-original.original c.args.checked.now c.args.edit.now _ None c.in_ok-original.ensures.program c.in_default.is c.in_ok-mutant.ensures.made)
 
-pub returns-in-Ok-clause-program : goal.returns-in-Ok-clause-program
-returns-in-Ok-clause-program c =
+pub returns-clause-program : goal.returns-clause-program
+returns-clause-program c =
     let program = map line_of c.args.checked.now.program in
     let edit = c.args.edit.now in
     let made = made_of c.in_ok-original.original c.args.checked.now edit _ (Some c.in-Some.mutant) c.in_ok-original.ensures.program c.in-Some.is c.in_ok-mutant.ensures.made in
-    (made.0, c.in-Ok.ensures.program ∙ ap (patched program edit.statement) (c.in_ok-stmt.ensures.statement ∙ sym made.1))
+    (made.0, c.in_ok-with_statement.ensures.program ∙ ap (patched program edit.statement) (c.in_ok-stmt.ensures.statement ∙ sym made.1))

@@ -71,8 +71,8 @@ comes_to-requires-clause-outcome c =
     (subst (λ arguments. IsOutcomeOf program arguments bench.steps c.index-outcomes-test.result) (sym c.as_slice-arguments.ensures)
     (subst (IsOutcomeOf program c.index-tests-test.result bench.steps) here own.2)))
 
-pub returns-in-Ok-clause-kill : goal.returns-in-Ok-clause-kill
-returns-in-Ok-clause-kill c = λ arguments at.
+pub returns-clause-kill : goal.returns-clause-kill
+returns-clause-kill c = λ arguments at.
     let bench = c.args.bench.now in
     let program = program_of bench.plan in
     let mutant = changed_program c.args.mutant.now in
@@ -88,8 +88,8 @@ returns-in-Ok-clause-kill c = λ arguments at.
     = c.as_slice-arguments.ensures ∙ same_Some _ _ (sym read ∙ ap (λ tests. slice_get tests c.args.test) c.tests.ensures.tests ∙ at) in
     let here : own.0 ≡ c.index-outcomes-test.result
     = same_Some _ _ (sym own.1 ∙ ap (λ outcomes. slice_get outcomes c.args.test) (sym c.outcomes.ensures.outcomes) ∙ found) in
-    let computed = c.in-Ok.ensures.outcome in
-    is_kill program mutant arguments bench.steps c.index-outcomes-test.result computed.0 c.in-Ok.same computed.2
+    let computed = c.in_ok-same.ensures.outcome in
+    is_kill program mutant arguments bench.steps c.index-outcomes-test.result computed.0 c.in_ok-same.same computed.2
     (subst (IsOutcomeOf program arguments bench.steps) here own.2)
     (subst (λ arguments. IsOutcomeOf mutant arguments bench.steps computed.0) given
     (subst (λ steps. IsOutcomeOf mutant c.as_slice-arguments.result.now steps computed.0) c.steps.ensures computed.1))

@@ -32,8 +32,8 @@ loop-test-preserved c =
           → IsKill (program_of bench.plan) (map line_of checked.program) arguments bench.steps c.in_ok-kill_from_start.field-0) c.loop-test.invariant.0 c.in_ok-kill_from_start.ensures.kill)),
     )
 
-pub returns-clause-kills : goal.returns-clause-kills
-returns-clause-kills c =
+pub returns : goal.returns
+returns c =
     let bench = c.args.bench.now in
     let program = program_of bench.plan in
     let mutant = map line_of c.args.mutant.now.program in

@@ -1,4 +1,5 @@
 use Rattle.std.proofs.Common.{◌≡◌, ◌∙◌, ◌-◌, ℕ, List, map, ap, subst, sym}
+use Rattle.std.specs.Prelude.{OnOk}
 use Rattle.std.proofs.lemmas.Option.{same_Some}
 use Rattle.f77_legal.specs.Alone.{StandsAlone}
 use Rattle.f77_legal.specs.Legal.{IsLegal}
@@ -7,6 +8,7 @@ use Rattle.f77_program.specs.Program.{line_of}
 use Rattle.f77_tree.specs.Node.{NodeOf}
 use Rattle.f77_tree.specs.Replacement.{replacement_of}
 use Rattle.f77_tree.specs.Statement.{Statement, statement_of}
+use Rattle.f77_run.specs.Changed.{changed_program}
 use Rattle.mothra_ops.specs.Copies.{changed_at, statements_in}
 use Rattle.mothra_ops.specs.Edits.{numbered}
 use Rattle.mothra_ops.proofs.Copied.{mutant_in_copy}
@@ -46,10 +48,11 @@ change-changed-requires-clause-legal c =
     in_copy (λ k statement. IsLegal (patched (map line_of c.args.runner.now.checked.program) k statement))
     (goal.at.change-changed-requires-clause-legal c).In-Some c.requires.made.mutant.legal
 
-pub returns-in-Ok-clause-changed : goal.returns-in-Ok-clause-changed
-returns-in-Ok-clause-changed c =
+pub returns-clause-changed : goal.returns-clause-changed
+returns-clause-changed c =
     let program = map line_of c.args.runner.now.checked.program in
     let own = c.args.mutant.now in
-    c.in-Ok.ensures.changed
-    ∙ ap (λ (k : ℕ). patched program k (statement_of c.in-Some.stmt.now)) c.number-number.ensures
-    ∙ ap (patched program own.edit.statement) (is_mutants (goal.at.returns-in-Ok-clause-changed c).In-Some)
+    subst (λ other. OnOk c.change-changed.result (changed_program c.change-changed.new.self ≡ other))
+    (ap (λ (k : ℕ). patched program k (statement_of c.in-Some.stmt.now)) c.number-number.ensures
+    ∙ ap (patched program own.edit.statement) (is_mutants (goal.at.returns-clause-changed c).In-Some))
+    c.change-changed.ensures.changed

@@ -11,4 +11,4 @@ index_mut-requires c =
 pub returns : goal.returns
 returns c =
     let items = same_items _ _ c.in_ok-statements.ensures.ok ∙ c.deref.ensures.value ∙ ap (λ (self : CheckedFields). self.statements) c.self.view_is in
-    λ k. set (items k) c.args.i (c.in_ok-shared.ensures k)
+    λ k. set (items k) c.args.i c.args.resolved
