@@ -1,13 +1,11 @@
 -- From the visits of a tour to the states in which a run comes to the changed statement.
-use Rattle.std.proofs.Common.{arith, ◌≡◌, ◌≤◌, ◌<◌, ◌+◌, ◌-◌, ◌∙◌, ◌++◌, ◌∷◌, [], get_or, take}
-use Rattle.std.proofs.Common.{ℕ, true, List, Some, length, refl, sym, ap, subst, ℤ, pos}
-use Rattle.std.specs.Prelude.{All, Any, Vec, map, slice_get, slice_set, ◌≤ℤ◌, ◌+ℤ◌}
+use Rattle.std.proofs.Common.{arith, ◌≡◌, ◌≢◌, ◌⊎◌, inl, inr, ◌<◌, ◌+◌, ◌-◌, ◌∙◌, ◌++◌, ◌∷◌, [], get_or, take}
+use Rattle.std.proofs.Common.{ℕ, true, List, length, refl, sym, ap, subst, ℤ, pos}
+use Rattle.std.specs.Prelude.{All, Any, map, slice_set, ◌≤ℤ◌, ◌+ℤ◌}
 use Rattle.std.specs.List.{slice_index_or}
-use Rattle.std.specs.declared.alloc.Global.{Global}
 use Rattle.std.proofs.lemmas.Int.{ints}
 use Rattle.std.proofs.lemmas.List.Elements.{All-more, All-weaker}
 use Rattle.std.proofs.lemmas.List.Quantifiers.{Any-push}
-use Rattle.std.proofs.lemmas.Option.{same_Some, slice_get_within}
 use Rattle.f77_actions.specs.declared.resolved.Resolved.{Resolved}
 use Rattle.f77_check.specs.Checked.{CheckedFields}
 use Rattle.f77_check.specs.Patching.{IsInPlace}
@@ -30,7 +28,7 @@ use Rattle.f77_terms.proofs.There.{any_before}
 use Rattle.f77_terms.specs.Terms.{Valuation}
 use Rattle.f77_symbolic.specs.declared.change.Change.{Change}
 use Rattle.f77_symbolic.specs.declared.evaluator.Atoms.{Atoms}
-use Rattle.f77_symbolic.specs.declared.pairs.Pair.{Pair}
+use Rattle.f77_symbolic.specs.declared.walking.Pair.{Pair}
 use Rattle.f77_symbolic.specs.declared.visiting.Tour.{Tour}
 use Rattle.f77_symbolic.specs.declared.visiting.Visit.{Visit}
 use Rattle.f77_symbolic.specs.declared.visiting.Visits.{Visits}
@@ -41,7 +39,7 @@ use Rattle.f77_symbolic.specs.Memory.{Start}
 use Rattle.f77_symbolic.specs.code.Pairs.{AreSettled, IsReady, IsSettled}
 use Rattle.f77_symbolic.specs.Sides.{state_of}
 use Rattle.f77_symbolic.specs.Visits.{AreTurnNumbers, AreVisits, IsVisitNoted, IsOfEntry, IsTourOf, IsVisit, LeadsTo}
-use Rattle.f77_symbolic.specs.code.Visits.{FollowsFrom, FollowsThere, IsPairOf}
+use Rattle.f77_symbolic.specs.code.Visits.{FollowsFrom, FollowsThere, HavePairs, IsPairOf}
 use Rattle.f77_symbolic.proofs.Following.{equivalent_where_followed}
 use Rattle.f77_symbolic.proofs.Starting.{start_of, turn_numbers}
 use Rattle.f77_symbolic.proofs.Tours.{IsOnTour, along, at_cut}
@@ -49,37 +47,44 @@ use Rattle.f77_symbolic.proofs.Tours.{IsOnTour, along, at_cut}
 -- what the program comes to from a state of the entry is noted
 pub noted_from : (statements : List Resolved) (places : List Place) (entry : Entry) (visits : Visits) (first s : State) (n : ℕ) (facts : List Fact) (v : Valuation)
     → AreVisits statements places entry visits → IsOfEntry entry first → LeadsTo statements places n first s
-    → Interprets visits.atoms (start_of first (length statements) facts) v → IsVisitNoted visits.at.items (start_of first (length statements) facts) v s
+    → Interprets visits.atoms (start_of first (length statements) facts) v → IsVisitNoted visits.list.items (start_of first (length statements) facts) v s
 noted_from statements places entry visits first s n facts v are of leads interprets =
     let start = start_of first (length statements) facts in
     are.noted first s n start v refl interprets
     (subst (λ k. AreTurnNumbers k (length statements) first.turns start) of.inside.count (turn_numbers first (length statements) facts)) of leads
 
--- nothing is noted of a statement behind all
-pub none_past : (at : List (Vec Visit Global)) (place : ℕ) (start : Start) (v : Valuation) (s : State) → IsVisitNoted at start v s → site s.place ≡ place → length at ≤ place → ⊥
-none_past at place start v s noted here past =
-    let within = slice_get_within at (site s.place) noted.list noted.there in
-    absurd (omega (arith, within, here, past))
+-- of a visit to the statement there is a pair
+pub pair_there : (visits : List Visit) (pairs : List Pair) (place : ℕ) (start : Start) (v : Valuation) (s : State) → HavePairs place pairs visits
+    → IsVisitNoted visits start v s → site s.place ≡ place → (visit : Visit) × IsVisit start v s visit × Any (IsPairOf visit) pairs
+pair_there visits pairs place start v s have noted here =
+    let at : site noted.1.side.place ≡ place = ap (λ (t : State). site t.place) noted.4.is ∙ here in (
+      noted.1,
+      noted.4,
+      subst (λ (visit : Visit). site visit.side.place ≡ place → Any (IsPairOf visit) pairs) noted.3 (have noted.0 noted.1 noted.2) at,
+    )
 
--- nor of one without visits
-pub none_empty : (at : List (Vec Visit Global)) (place : ℕ) (list : Vec Visit Global) (start : Start) (v : Valuation) (s : State) → IsVisitNoted at start v s
-    → site s.place ≡ place → slice_get at place ≡ Some list → length list.items ≡ 0 → ⊥
-none_empty at place list start v s noted here there none =
-    let same : noted.list ≡ list = same_Some _ _ (sym noted.there ∙ ap (slice_get at) here ∙ there) in
-    let count = ap (λ (l : Vec Visit Global). length l.items) same in
-    let below = noted.visits.2 in
-    absurd (omega (arith, below, count, none))
+-- without pairs there is no such visit
+pub none_there : (visits : List Visit) (pairs : List Pair) (place : ℕ) (start : Start) (v : Valuation) (s : State) → HavePairs place pairs visits
+    → IsVisitNoted visits start v s → site s.place ≡ place → length pairs ≡ 0 → ⊥
+none_there visits pairs place start v s have noted here none =
+    let it = pair_there visits pairs place start v s have noted here in
+    let below = it.2.2 in
+    absurd (omega (arith, below, none))
 
--- a pair of one visit more
-pub pairs_more : (visits : List Visit) (old new : List Pair) (i : ℕ) (visit : Visit) (pair : Pair) → i < length visits → visit ≡ get_or visits i visit
-    → IsPairOf visit pair → new ≡ old ++ pair ∷ [] → All (λ visit. Any (IsPairOf visit) old) (take i visits)
-    → All (λ visit. Any (IsPairOf visit) new) (take (i + 1) visits)
-pairs_more visits old new i visit pair within is of pushed before =
+-- a visit more: there is a pair of it, or it is to another statement
+pub pairs_more : (place : ℕ) (visits : List Visit) (old new : List Pair) (i : ℕ) (visit : Visit) → i < length visits → visit ≡ get_or visits i visit
+    → ((pair : Pair) × IsPairOf visit pair × (new ≡ old ++ pair ∷ [])) ⊎ ((site visit.side.place ≢ place) × (new ≡ old))
+    → HavePairs place old (take i visits) → HavePairs place new (take (i + 1) visits)
+pairs_more place visits old new i visit within is (inl (pair, of, pushed)) before =
     let there : Any (IsPairOf visit) new = subst (Any (IsPairOf visit)) (sym pushed) (Any-push (IsPairOf visit) old pair of) in
-    All-more (λ visit. Any (IsPairOf visit) new) visits i visit within
-    (All-weaker (λ visit. Any (IsPairOf visit) old) (λ visit. Any (IsPairOf visit) new)
-    (λ one found. subst (Any (IsPairOf one)) (sym pushed) (any_before (IsPairOf one) old (pair ∷ []) found)) (take i visits) before)
-    (subst (λ one. Any (IsPairOf one) new) is there)
+    All-more (λ visit. site visit.side.place ≡ place → Any (IsPairOf visit) new) visits i visit within
+    (All-weaker (λ visit. site visit.side.place ≡ place → Any (IsPairOf visit) old) (λ visit. site visit.side.place ≡ place → Any (IsPairOf visit) new)
+    (λ one found here. subst (Any (IsPairOf one)) (sym pushed) (any_before (IsPairOf one) old (pair ∷ []) (found here))) (take i visits) before)
+    (subst (λ (one : Visit). site one.side.place ≡ place → Any (IsPairOf one) new) is (λ here. there))
+pairs_more place visits old new i visit within is (inr (apart, same)) before =
+    All-more (λ visit. site visit.side.place ≡ place → Any (IsPairOf visit) new) visits i visit within
+    (subst (λ list. HavePairs place list (take i visits)) (sym same) before)
+    (subst (λ (one : Visit). site one.side.place ≡ place → Any (IsPairOf one) new) is (λ here. absurd (apart here)))
 
 -- what a run comes to is on the tour
 reached_on_tour : (checked : CheckedFields) (tour : Tour) (of : IsTourOf checked tour) (s : State) → IsReachable (machine checked.statements) (IsFirst checked) s
@@ -105,17 +110,15 @@ module _ (checked : CheckedFields) (change : Change) (spare : ℕ) (places : Lis
       (subst (λ t. FollowsByKeys (together checked change.statements.items spare) pair.fresh spare s t) right
       (subst (λ t. FollowsByKeys (together checked change.statements.items spare) pair.fresh spare t (state_of start.cells v pair.right)) left comes))
 
-  pub follows_noted : (atoms : Atoms) (behind : ℤ) (visits : Vec Visit Global) (list : List Pair) (at : List (Vec Visit Global)) (start : Start) (v : Valuation)
-      (s : State) → IsReady checked change → behind ≤ℤ pos spare → Interprets atoms start v → AreSettled atoms change behind list
-      → All (λ visit. Any (IsPairOf visit) list) visits.items → slice_get at change.place ≡ Some visits → site s.place ≡ change.place
-      → IsVisitNoted at start v s → FollowsByKeys (together checked change.statements.items spare) true spare s s
-  follows_noted atoms behind visits list at start v s ready within interprets settled pairs there here noted =
-      let same : noted.list ≡ visits = same_Some _ _ (sym noted.there ∙ ap (slice_get at) here ∙ there) in
-      let it : Any (IsVisit start v s) visits.items = subst (λ (l : Vec Visit Global). Any (IsVisit start v s) l.items) same noted.visits in
-      let pair : Any (IsPairOf it.1) list = subst (λ visit. Any (IsPairOf visit) list) it.3 (pairs it.0 it.1 it.2) in
+  pub follows_noted : (atoms : Atoms) (behind : ℤ) (visits : List Visit) (list : List Pair) (start : Start) (v : Valuation) (s : State)
+      → IsReady checked change → behind ≤ℤ pos spare → Interprets atoms start v → AreSettled atoms change behind list → HavePairs change.place list visits
+      → IsVisitNoted visits start v s → site s.place ≡ change.place → FollowsByKeys (together checked change.statements.items spare) true spare s s
+  follows_noted atoms behind visits list start v s ready within interprets settled pairs noted here =
+      let it = pair_there visits list change.place start v s pairs noted here in
+      let pair = it.2 in
       let all = settled spare checked start v ready interprets within in
-      follows_by_pair atoms behind list start v s it.1 pair.1 ready interprets
-      (subst (IsSettled spare checked change start v) pair.3 (all pair.0 pair.1 pair.2)) it.4 pair.4
+      follows_by_pair atoms behind list start v s it.0 pair.1 ready interprets
+      (subst (IsSettled spare checked change start v) pair.3 (all pair.0 pair.1 pair.2)) it.1 pair.4
 
 -- it follows from all states in which a run comes there, if it does from those of each entry
 pub follows_there : (checked : CheckedFields) (change : Change) (spare : ℕ) (tour : Tour) (of : IsTourOf checked tour)

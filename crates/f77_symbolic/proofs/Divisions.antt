@@ -3,7 +3,7 @@ use Rattle.std.proofs.Common.{arith, ◌≡◌, ◌⊎◌, inl, inr, ◌<◌, sy
 use Rattle.std.specs.Prelude.{◌+ℤ◌, ◌*ℤ◌, int_div, int_rem, unsigned_abs}
 use Rattle.std.proofs.lemmas.Int.{ints, quot-rem, rem_below}
 use Rattle.f77_terms.specs.Terms.{Valuation, sum_value}
-use Rattle.f77_symbolic.specs.declared.division.Division.{Division}
+use Rattle.f77_symbolic.specs.declared.arithmetic.Division.{Division}
 use Rattle.f77_symbolic.specs.code.Evaluation.{IsDivision}
 
 nothing_left : (r : ℤ) → unsigned_abs r < 1 → r ≡ pos 0

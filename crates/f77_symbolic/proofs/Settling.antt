@@ -15,7 +15,7 @@ use Rattle.f77_symbolic.specs.declared.change.Change.{Change}
 use Rattle.f77_symbolic.specs.declared.evaluator.Atoms.{Atoms}
 use Rattle.f77_symbolic.specs.declared.halt.Split.{Split}
 use Rattle.f77_symbolic.specs.declared.halt.Split.TheVariants as split
-use Rattle.f77_symbolic.specs.declared.pairs.Pair.{Pair}
+use Rattle.f77_symbolic.specs.declared.walking.Pair.{Pair}
 use Rattle.f77_symbolic.specs.declared.sides.Side.{Side}
 use Rattle.f77_symbolic.specs.declared.sides.Step.{Step}
 use Rattle.f77_symbolic.specs.declared.sides.Step.TheVariants as step

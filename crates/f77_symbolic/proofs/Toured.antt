@@ -1,17 +1,14 @@
 -- What the walk of the program alone comes to.
-use Rattle.std.proofs.Common.{◌≡◌, ◌≢◌, ◌⊎◌, inl, inr, ◌+◌, ◌++◌, ◌∷◌, [], ◌∙◌, ℕ, zero, suc, Bool, true, false, List, length, Some, refl, sym, ap, subst, arith}
-use Rattle.std.specs.Prelude.{Any, Vec, slice_get, slice_set}
+use Rattle.std.proofs.Common.{◌≡◌, ◌⊎◌, inl, inr, ◌+◌, ◌++◌, ◌∷◌, [], ◌∙◌, ℕ, zero, suc, Bool, true, false, List, length, Some, refl, sym, ap, subst, arith}
+use Rattle.std.specs.Prelude.{Any, slice_get}
 use Rattle.std.specs.List.{list_any}
-use Rattle.std.specs.declared.alloc.Global.{Global}
 use Rattle.std.proofs.lemmas.List.Quantifiers.{Any-push}
 use Rattle.std.proofs.lemmas.Option.{slice_get_within}
 use Rattle.f77_actions.specs.declared.resolved.Resolved.{Resolved}
 use Rattle.f77_code.proofs.Listed.{get_behind, get_left}
 use Rattle.f77_code.specs.declared.control.Place.{Place}
 use Rattle.f77_code.specs.Moves.{State, state, Goes, moved}
-use Rattle.f77_equivalence.specs.Alike.{site}
 use Rattle.f77_facts.specs.declared.entries.Entry.{Entry}
-use Rattle.f77_facts.proofs.Slots.{got_other, got_same, same_or_not}
 use Rattle.f77_terms.proofs.There.{any_before, any_of_none}
 use Rattle.f77_terms.specs.Paths.{Holds}
 use Rattle.f77_terms.specs.Terms.{Valuation}
@@ -30,7 +27,7 @@ use Rattle.f77_symbolic.specs.Memory.{AreInside, Start}
 use Rattle.f77_symbolic.specs.Sides.{state_of}
 use Rattle.f77_symbolic.specs.code.Sides.{IsSameSide, Stepped, StepsFrom}
 use Rattle.f77_symbolic.specs.Visits.{IsOfEntry, IsVisitNoted, IsVisit, LeadsTo, is_cut_in, is_same_place}
-use Rattle.f77_symbolic.specs.code.Visits.{Arrives, GivesWayAlone, IsAdded, IsAhead, IsBehind, IsFoundOrAhead, IsMet, IsNotedAs, StaysFound, WalksOn, Whichever}
+use Rattle.f77_symbolic.specs.code.Visits.{Arrives, GivesWayAlone, IsAdded, IsAhead, IsBehind, IsFoundOrAhead, IsMet, StaysFound, WalksOn, Whichever}
 use Rattle.f77_symbolic.proofs.Settling.{one_way}
 
 any_last : (P : Visit → Type 0) (list : List Visit) (last : Visit) → Any P (list ++ last ∷ []) → Any P list ⊎ P last
@@ -182,9 +179,9 @@ IsPushed places mid after made old new arrivals later =
 
 -- a step that was made gives way
 module _ (statements : List Resolved) (places : List Place) (atoms : Atoms) (visit : Visit) (mid : Evaluator) (after : Side) (made : Step)
-    (old new : List Visit) (at noted : List (Vec Visit Global)) (arrivals later : List Entry)
+    (old new : List Visit) (at noted : List Visit) (arrivals later : List Entry)
     (steps : StepsFrom visit.path true mid visit.side after made (λ v cells turns. moved statements (state visit.side.place cells turns)))
-    (extends : Extends mid.atoms atoms) (notes : IsNotedAs visit at noted) (pushed : IsPushed places mid after made old new arrivals later) where
+    (extends : Extends mid.atoms atoms) (notes : noted ≡ at ++ (visit ∷ [])) (pushed : IsPushed places mid after made old new arrivals later) where
   -- what was to come is so still
   still_to_come : (Leads : Visit → Type 0) → Any Leads old → Any Leads new
   still_to_come Leads there = by pushed
@@ -236,7 +233,7 @@ module _ (statements : List Resolved) (places : List Place) (atoms : Atoms) (vis
     noted_on s behind = by (on_from statements places start v visit mid.path after made stepped s behind)
       where
         by : IsOnFrom statements places start v visit mid.path after made stepped s → IsFoundOrAhead (IsVisitNoted noted start v s) (IsBehind statements places start v s) new
-        by (inl here) = inl ((notes start v s).0 here)
+        by (inl here) = inl (last_pushed (IsVisit start v s) at noted visit notes here)
         by (inr (moves, apart, next)) = inr (next_to_come (IsBehind statements places start v s) moves apart next)
 
     met_on : (t : State) → IsAhead statements places start v t visit → IsFoundOrAhead (IsMet later t) (IsAhead statements places start v t) new
@@ -253,7 +250,7 @@ module _ (statements : List Resolved) (places : List Place) (atoms : Atoms) (vis
   gives_on start v is s = (
     (
       noted_on start v is s,
-      still_found (IsBehind statements places start v s) (IsVisitNoted at start v s) (IsVisitNoted noted start v s) old new (notes start v s).1
+      still_found (IsBehind statements places start v s) (IsVisitNoted at start v s) (IsVisitNoted noted start v s) old new (any_pushed (IsVisit start v s) at noted visit notes)
           (still_to_come (IsBehind statements places start v s)),
     ),
     (
@@ -265,7 +262,7 @@ module _ (statements : List Resolved) (places : List Place) (atoms : Atoms) (vis
 
 module _ (statements : List Resolved) (places : List Place) where
   -- a split gives way on both ways
-  pub gives_both : (atoms : Atoms) (visit : Visit) (ways : Split) (old mid later : List Visit) (at : List (Vec Visit Global)) (arrivals : List Entry)
+  pub gives_both : (atoms : Atoms) (visit : Visit) (ways : Split) (old mid later : List Visit) (at : List Visit) (arrivals : List Entry)
       → IsAdded visit ways true old mid → IsAdded visit ways false mid later → GivesWayAlone atoms statements places visit old later at at arrivals arrivals
   gives_both atoms visit ways old mid later at arrivals first second start v is s = (
     stays_split (IsBehind statements places start v s) v (behind_carries statements places start v s) (IsVisitNoted at start v s) visit ways old mid later first second,
@@ -273,7 +270,7 @@ module _ (statements : List Resolved) (places : List Place) where
   )
 
   -- so does a visit whose path does not hold
-  pub gives_none : (atoms : Atoms) (visit : Visit) (old later : List Visit) (at : List (Vec Visit Global)) (arrivals : List Entry)
+  pub gives_none : (atoms : Atoms) (visit : Visit) (old later : List Visit) (at : List Visit) (arrivals : List Entry)
       → ((v : Valuation) → ¬ (Holds v visit.path)) → later ≡ old → GivesWayAlone atoms statements places visit old later at at arrivals arrivals
   gives_none atoms visit old later at arrivals never same start v is s = (
     stays_none (IsBehind statements places start v s) (IsVisitNoted at start v s) visit old later (λ behind. never v behind.visits.holds) same,
@@ -281,13 +278,13 @@ module _ (statements : List Resolved) (places : List Place) where
   )
 
   -- all to which the first visit leads is found, or a visit that is to come leads there
-  abbrev pub FindsAll : Atoms → Visit → List Visit → List (Vec Visit Global) → List Entry → Type 0
+  abbrev pub FindsAll : Atoms → Visit → List Visit → List Visit → List Entry → Type 0
   FindsAll atoms first todo at arrivals = Whichever atoms (λ start v. (s : State)
       → (IsBehind statements places start v s first → IsFoundOrAhead (IsVisitNoted at start v s) (IsBehind statements places start v s) todo)
       × (IsAhead statements places start v s first → IsFoundOrAhead (IsMet arrivals s) (IsAhead statements places start v s) todo))
 
   -- so it is when the last visit has given way
-  pub found_on : (old new : Atoms) (visit first : Visit) (list todo later : List Visit) (at noted : List (Vec Visit Global)) (arrivals met : List Entry)
+  pub found_on : (old new : Atoms) (visit first : Visit) (list todo later : List Visit) (at noted : List Visit) (arrivals met : List Entry)
       → list ≡ todo ++ (visit ∷ []) → Extends old new → GivesWayAlone new statements places visit todo later at noted arrivals met
       → FindsAll old first list at arrivals → FindsAll new first later noted met
   found_on old new visit first list todo later at noted arrivals met popped extends gives before start v is s =
@@ -299,7 +296,7 @@ module _ (statements : List Resolved) (places : List Place) where
       )
 
   -- where nothing is to come, all is found
-  pub all_found : (atoms : Atoms) (first : Visit) (list : List Visit) (at : List (Vec Visit Global)) (arrivals : List Entry) → list ≡ []
+  pub all_found : (atoms : Atoms) (first : Visit) (list : List Visit) (at : List Visit) (arrivals : List Entry) → list ≡ []
       → FindsAll atoms first list at arrivals → WalksOn atoms statements places first at arrivals
   all_found atoms first list at arrivals none found start v is s =
       let it = found start v is s in (
@@ -308,7 +305,7 @@ module _ (statements : List Resolved) (places : List Place) where
       )
 
   -- the first visit alone is to come
-  pub one_found : (atoms : Atoms) (first : Visit) (list : List Visit) (at : List (Vec Visit Global)) (arrivals : List Entry) → list ≡ first ∷ []
+  pub one_found : (atoms : Atoms) (first : Visit) (list : List Visit) (at : List Visit) (arrivals : List Entry) → list ≡ first ∷ []
       → FindsAll atoms first list at arrivals
   one_found atoms first list at arrivals one start v is s = (
     (λ behind. inr (last_pushed (IsBehind statements places start v s) [] list first one behind)),
@@ -318,38 +315,3 @@ module _ (statements : List Resolved) (places : List Place) where
 pub none_left : (list : List Visit) → length list ≡ 0 → list ≡ []
 none_left [] e = refl
 none_left (visit ∷ list) e = absurd (omega (arith, e))
-
--- a visit is noted with its statement
-module _ (at : List (Vec Visit Global)) (i : ℕ) (old new : Vec Visit Global) (visit : Visit) (got : slice_get at i ≡ Some old)
-    (more : new.items ≡ old.items ++ visit ∷ []) (here : i ≡ site visit.side.place) where
-  noted_new : (start : Start) (v : Valuation) (s : State) → IsVisit start v s visit → IsVisitNoted (slice_set at i new) start v s
-  noted_new start v s is =
-      let there : i ≡ site s.place = here ∙ ap (λ (t : State). site t.place) is.is in
-      record {
-        list = new;
-        there = subst (λ k. slice_get (slice_set at i new) k ≡ Some new) there (got_same at i new (slice_get_within at i old got));
-        visits = subst (Any (IsVisit start v s)) (sym more) (Any-push (IsVisit start v s) old.items visit is);
-      }
-
-  noted_old : (start : Start) (v : Valuation) (s : State) → IsVisitNoted at start v s → IsVisitNoted (slice_set at i new) start v s
-  noted_old start v s noted = by (same_or_not (site s.place) i)
-    where
-      by : (site s.place ≡ i) ⊎ (site s.place ≢ i) → IsVisitNoted (slice_set at i new) start v s
-      by (inl same) =
-          let there : slice_get at i ≡ Some noted.list = ap (slice_get at) (sym same) ∙ noted.there in
-          let list : noted.list ≡ old = cc in
-          record {
-            list = new;
-            there = subst (λ k. slice_get (slice_set at i new) k ≡ Some new) (sym same) (got_same at i new (slice_get_within at i old got));
-            visits =
-                subst (Any (IsVisit start v s)) (sym more)
-                (any_before (IsVisit start v s) old.items (visit ∷ []) (subst (λ (l : Vec Visit Global). Any (IsVisit start v s) l.items) list noted.visits));
-          }
-      by (inr differ) = record {
-        list = noted.list;
-        there = got_other at i (site s.place) new differ ∙ noted.there;
-        visits = noted.visits;
-      }
-
-  pub noted_more : IsNotedAs visit at (slice_set at i new)
-  noted_more start v s = (noted_new start v s, noted_old start v s)

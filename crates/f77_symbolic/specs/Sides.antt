@@ -5,7 +5,6 @@ use Rattle.f77_code.specs.Moves.{Cells, TurnList, State, state}
 use Rattle.f77_terms.specs.Terms.{Valuation, sum_value}
 use Rattle.f77_symbolic.specs.declared.sides.Side.{Side}
 use Rattle.f77_symbolic.specs.declared.sides.SymbolicTurn.{SymbolicTurn}
-use Rattle.f77_symbolic.specs.declared.sides.Step.TheVariants as step
 use Rattle.f77_symbolic.specs.Memory.{cells_of}
 
 -- the number, or none where it is below 0

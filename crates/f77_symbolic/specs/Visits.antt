@@ -1,16 +1,14 @@
 -- What a walk of the program alone visits.
 use Rattle.std.specs.Prelude.{◌≡◌, ◌+◌, ◌*◌, ◌==◌, ◌<◌}
 use Rattle.std.specs.Prelude.{ℕ, pos, Bool, true, false, Any, List, Some}
-use Rattle.std.specs.Prelude.{length, slice_get, Vec}
+use Rattle.std.specs.Prelude.{length, slice_get}
 use Rattle.std.specs.List.{list_any}
-use Rattle.std.specs.declared.alloc.Global.{Global}
 use Rattle.f77_actions.specs.declared.resolved.Resolved.{Resolved}
 use Rattle.f77_code.specs.declared.control.Place.{Place}
 use Rattle.f77_code.specs.declared.control.Place.TheVariants as place
 use Rattle.f77_code.specs.declared.control.Turn.{Turn}
 use Rattle.f77_code.specs.Moves.{State, TurnList, Goes, moved, turn_at}
 use Rattle.f77_check.specs.Checked.{CheckedFields}
-use Rattle.f77_equivalence.specs.Alike.{site}
 use Rattle.f77_equivalence.specs.Start.{HoldsStart}
 use Rattle.f77_facts.specs.declared.entries.Entry.{Entry}
 use Rattle.f77_facts.specs.Entries.{GrowsEntries, IsAmong}
@@ -46,12 +44,9 @@ pub record IsVisit (start : Start) (v : Valuation) (s : State) (visit : Visit) :
   pub inside : AreInside v visit.side.writes.items
   pub is : state_of start.cells v visit.side ≡ s
 
--- the state is noted with its statement
-pub record IsVisitNoted (at : List (Vec Visit Global)) (start : Start) (v : Valuation) (s : State)
-    : Type 0 where
-  pub list : Vec Visit Global
-  pub there : slice_get at (site s.place) ≡ Some list
-  pub visits : Any (IsVisit start v s) list.items
+-- a visit is one of this state
+abbrev pub IsVisitNoted : List Visit → Start → Valuation → State → Type 0
+IsVisitNoted visits start v s = Any (IsVisit start v s) visits
 
 -- the numbers behind those of the slots are what the DOs have left, and then by how much they go on
 pub record AreTurnNumbers (slots count : ℕ) (turns : TurnList) (start : Start) : Type 0 where
@@ -75,7 +70,7 @@ pub record AreVisits (statements : List Resolved) (places : List Place) (entry :
       → Interprets visits.atoms start v
       → AreTurnNumbers (length entry.facts.items) (length statements) first.turns start
       → IsOfEntry entry first → LeadsTo statements places n first s
-      → IsVisitNoted visits.at.items start v s
+      → IsVisitNoted visits.list.items start v s
   pub lands : (first s t : State) (n : ℕ)
       → IsOfEntry entry first → LeadsTo statements places n first s
       → moved statements s ≡ Some (Goes t) → is_cut_in places t ≡ true

@@ -1,29 +1,55 @@
 //! Operations on numbers.
 
-ghost use Rattle.std.specs.Prelude.{◌≡◌, unsigned_abs, IfOk, IfSome};
+ghost use Rattle.std.specs.Prelude.{◌≡◌, ◌≢◌, ◌≤ℤ◌, ℕ, pos, unsigned_abs, IfOk, IfSome};
 ghost use Rattle.f77_actions.specs.Number as exact;
 ghost use Rattle.f77_actions.specs.Value as meaning;
 ghost use Rattle.f77_code.specs.Evaluation.{calculated};
 ghost use Rattle.f77_terms.specs.Terms.{Valuation, monomial_value, sum_value};
 ghost use Rattle.f77_symbolic.specs.Atoms.{Interprets};
 ghost use Rattle.f77_symbolic.specs.code.Atoms.{Extends};
-ghost use Rattle.f77_symbolic.specs.code.Evaluation.{Calculates};
+ghost use Rattle.f77_symbolic.specs.code.Evaluation.{Always, Calculates, IsDivision, StaysOn};
 ghost use Rattle.f77_symbolic.specs.Memory.{Start};
 
 use crate::evaluator::Evaluator;
 use crate::halt::Halt;
 use crate::spans::is_constant_zero;
 use f77_actions::Arithmetic;
+use f77_actions::number::power;
 use f77_terms::atoms::{Key, is_in_order, key_at};
-use f77_terms::knowing::{know_maximum, know_minimum};
+use f77_terms::knowing::{constant_of, know_division, know_maximum, know_minimum};
 use f77_terms::monomials::Monomial;
-use f77_terms::terms::{Part, Term, atom_term, copy, difference, part_at, product, sum};
+use f77_terms::terms::{
+    Part, Term, atom_term, constant_term, copy, difference, part_at, product, sum,
+};
+use std::alloc::Global;
 
 /// The least number that INTEGER holds.
 const LEAST: i64 = -2147483648;
 
 /// The greatest.
 const GREATEST: i64 = 2147483647;
+
+/// A product of more factors is given up.
+const MOST_FACTORS: i64 = 4;
+
+/// What a division gives, and what it leaves.
+#[derive(Drop)]
+pub struct Division {
+    pub quotient: Term,
+    pub remainder: Term,
+}
+
+/// The division of a constant by another.
+fn constant_division(alloc: Global, a: i64, b: i64) -> Option<Division>
+    ensures { IfSome result (λ division. (v : Valuation) → IsDivision v division a b) }
+{
+    let quotient = a.checked_div(b)?;
+    let remainder = a.checked_rem(b)?;
+    Some(Division {
+        quotient: constant_term(alloc, quotient),
+        remainder: constant_term(alloc, remainder),
+    })
+}
 
 /// The part that the term is, but for its sign.
 fn alone_in(term: &Term) -> Option<Part>
@@ -130,6 +156,47 @@ impl Evaluator {
         self.ranged(size)
     }
 
+    /// The division of a number by another, if it needs no atom.
+    fn plain_division(&self, a: &Term, b: &Term) -> Result<Option<Division>, Halt>
+        ensures { IfOk result (λ made. IfSome made (λ division. (v : Valuation)
+            → IsDivision v division (sum_value v a.now) (sum_value v b.now))) }
+    {
+        let Some(divisor) = constant_of(b) else {
+            return Ok(None);
+        };
+        if let Some(dividend) = constant_of(a) {
+            return Ok(constant_division(self.alloc, dividend, divisor));
+        }
+        if divisor != 1 && divisor != -1 {
+            return Ok(None);
+        }
+        Ok(Some(Division {
+            quotient: self.plus(divisor, a, 0)?,
+            remainder: constant_term(self.alloc, 0),
+        }))
+    }
+
+    /// The division of a number by another. Where it is by atoms, the path comes to know what follows of division.
+    pub(crate) fn divided(&mut self, a: &Term, b: &Term) -> Result<Division, Halt>
+        ensures divides { IfOk result (λ division. Always self.old self.new (λ start v. sum_value v b.now ≢ pos 0
+            → StaysOn v self.old self.new × IsDivision v division (sum_value v a.now) (sum_value v b.now))) }
+        ensures extends { Extends self.old.atoms self.new.atoms }
+    {
+        if let Some(plain) = self.plain_division(a, b)? {
+            return Ok(plain);
+        }
+        let first = Key::Quotient(copy(self.alloc, a)?, copy(self.alloc, b)?);
+        let quotient = self.atom_of(first)?;
+        let second = Key::Remainder(copy(self.alloc, a)?, copy(self.alloc, b)?);
+        let remainder = self.atom_of(second)?;
+        know_division(self.alloc, &mut self.path, a, b, quotient, remainder)?;
+        self.span_division(a, b, quotient, remainder)?;
+        Ok(Division {
+            quotient: atom_term(self.alloc, quotient)?,
+            remainder: atom_term(self.alloc, remainder)?,
+        })
+    }
+
     /// The quotient, truncated toward zero.
     fn quotient(&mut self, a: &Term, b: &Term) -> Result<Term, Halt>
         ensures calculates { IfOk result (λ value. Calculates self.old self.new value
@@ -202,6 +269,51 @@ impl Evaluator {
             return self.plus(-1, &divisor, 0);
         }
         Ok(divisor)
+    }
+
+    /// The power of two numbers that are known.
+    fn known_power(&self, base: i64, exponent: i64) -> Result<Term, Halt>
+        ensures { IfOk result (λ term. Calculates self.now self.now term (λ v. exact.power base exponent)) }
+    {
+        let Ok(a) = i32::try_from(base) else {
+            return Err(Halt::Unknown);
+        };
+        let Ok(b) = i32::try_from(exponent) else {
+            return Err(Halt::Unknown);
+        };
+        match power(a, b) {
+            Ok(result) => Ok(constant_term(self.alloc, i64::from(result))),
+            Err(_) => Err(Halt::Unknown),
+        }
+    }
+
+    /// The product of so many factors, each of them this one.
+    fn repeated(&self, a: &Term, factors: i64) -> Result<Term, Halt>
+        ensures { IfOk result (λ term. pos 1 ≤ℤ factors → (v : Valuation) (n : ℕ) → factors ≡ pos n
+            → sum_value v term ≡ exact.exact_power (sum_value v a.now) n) }
+    {
+        let mut term = copy(self.alloc, a)?;
+        for _ in 1..factors {
+            term = product(self.alloc, a, &term)?.ok_or(Halt::Unknown)?;
+        }
+        Ok(term)
+    }
+
+    /// The power of two numbers.
+    pub(crate) fn power_of(&mut self, a: &Term, b: &Term) -> Result<Term, Halt>
+        ensures calculates { IfOk result (λ term. Calculates self.old self.new term
+            (λ v. exact.power (sum_value v a.now) (sum_value v b.now))) }
+        ensures extends { Extends self.old.atoms self.new.atoms }
+    {
+        let exponent = constant_of(b).ok_or(Halt::Unknown)?;
+        if let Some(base) = constant_of(a) {
+            return self.known_power(base, exponent);
+        }
+        if exponent < 1 || exponent > MOST_FACTORS {
+            return Err(Halt::Unknown);
+        }
+        let term = self.repeated(a, exponent)?;
+        self.ranged(term)
     }
 
     /// What an operation makes of two numbers.

@@ -19,7 +19,7 @@ ghost use Rattle.f77_symbolic.specs.Sides.{passes_left, state_of, turn_of, turns
 ghost use Rattle.f77_symbolic.specs.Visits.{IsOfEntry};
 ghost use Rattle.f77_symbolic.specs.code.Atoms.{Extends};
 
-use crate::bounding::{has_others, has_zero, narrow_slot, number_at, passes_from, reach_within};
+use crate::bounding::{has_others, has_zero, narrow_slot, passes_from, reach_within};
 use crate::evaluator::Evaluator;
 use crate::halt::{Halt, unless_unknown};
 use crate::memory::{Location, Symbolic, Write};
@@ -30,6 +30,7 @@ use f77_facts::facts::Fact;
 use f77_facts::known::Known;
 use f77_facts::loops::LoopFact;
 use f77_facts::truths::Truths;
+use f77_terms::atoms::{Key, key_at};
 use f77_terms::knowing::is_bounded;
 use f77_terms::paths::settle;
 use f77_terms::ranges::{Range, atom_range, term_range};
@@ -149,10 +150,10 @@ impl Evaluator {
         let Some(range) = atom_range(&self.path.known, atom) else {
             return;
         };
-        let Some(number) = number_at(&self.atoms.table.keys, atom) else {
+        let Key::Slot(number) = key_at(&self.atoms.table.keys, atom) else {
             return;
         };
-        narrow_slot(facts, number, range);
+        narrow_slot(facts, *number, range);
     }
 
     /// What is known of what slots held where the walk starts.

@@ -1,7 +1,6 @@
 //! What ranges say of what slots hold, and of which slots a location is.
 
-ghost use Rattle.std.specs.Prelude.{◌≡◌, ◌≢◌, ◌+◌, ◌<◌, ◌≤ℤ◌, ◌<ℤ◌, ℤ, pos, true, length};
-ghost use Rattle.std.specs.Prelude.{Option, Some, slice_get, IfSome};
+ghost use Rattle.std.specs.Prelude.{◌≡◌, ◌≢◌, ◌≤ℤ◌, ◌<ℤ◌, ℤ, pos, true, Option, Some};
 ghost use Rattle.f77_actions.specs.declared.value.Value.{Value};
 ghost use Rattle.f77_facts.specs.Assigning.{IsSlotReached};
 ghost use Rattle.f77_facts.specs.Facts.{AreIn, SuitsFact};
@@ -16,7 +15,6 @@ use f77_facts::assigning::Reach;
 use f77_facts::facts::{Fact, fact_at, set};
 use f77_facts::known::Known;
 use f77_facts::truths::Truths;
-use f77_terms::atoms::{Key, key_at};
 use f77_terms::ranges::Range;
 
 /// The greater of two lower bounds, if INTEGER holds it.
@@ -95,27 +93,6 @@ fn present_fact(fact: Fact) -> Fact
     }
 }
 
-/// Takes into account that the number of a slot is in a range.
-fn narrow_value(facts: &mut [Fact], slot: usize, range: Range)
-    requires { slot < length facts.old }
-    ensures { (start : Start) → AreIn facts.old start.cells → AreNumbers facts.old start
-        → IsIn range (start.numbers slot) → AreIn facts.new start.cells × AreNumbers facts.new start }
-{
-    let fact = narrowed_fact(fact_at(facts, slot), range);
-    set(facts, slot, fact);
-}
-
-/// Takes into account that a slot holds a value.
-fn note_present(facts: &mut [Fact], slot: usize)
-    requires { slot < length facts.old }
-    ensures { (start : Start) → AreIn facts.old start.cells → AreNumbers facts.old start
-        → pos 1 ≤ℤ start.numbers (length facts.old + slot)
-        → AreIn facts.new start.cells × AreNumbers facts.new start }
-{
-    let fact = present_fact(fact_at(facts, slot));
-    set(facts, slot, fact);
-}
-
 /// Takes into account that a number is in a range: that of a slot, or, behind these, whether it holds a value.
 pub(crate) fn narrow_slot(facts: &mut [Fact], number: usize, range: Range)
     ensures { (start : Start) → AreIn facts.old start.cells → AreNumbers facts.old start
@@ -123,24 +100,15 @@ pub(crate) fn narrow_slot(facts: &mut [Fact], number: usize, range: Range)
 {
     let slots = facts.len();
     if number < slots {
-        narrow_value(facts, number, range);
+        let fact = narrowed_fact(fact_at(facts, number), range);
+        set(facts, number, fact);
         return;
     }
     if number - slots >= slots || range.low < 1 {
         return;
     }
-    note_present(facts, number - slots);
-}
-
-/// The number for which an atom stands, if it stands for one of those where the walk starts.
-pub(crate) fn number_at(keys: &[Key], atom: usize) -> Option<usize>
-    requires { atom < length keys.now }
-    ensures { IfSome result (λ number. slice_get keys.now atom ≡ Some (Key.Slot number)) }
-{
-    match key_at(keys, atom) {
-        Key::Slot(number) => Some(*number),
-        _ => None,
-    }
+    let fact = present_fact(fact_at(facts, number - slots));
+    set(facts, number - slots, fact);
 }
 
 /// A number other than 0 is in the range.

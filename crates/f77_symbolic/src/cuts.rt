@@ -121,11 +121,6 @@ fn comings_of(
     Ok(comings)
 }
 
-/// Control comes to the statement of this number on more than one way.
-fn is_join(comings: &[u32], i: usize) -> bool {
-    i < comings.len() && comings[i] > 1
-}
-
 /// The place where runs start, and behind it, where they are asked for, each to which control comes on more ways.
 pub fn cuts_of(
     alloc: Global,
@@ -139,8 +134,8 @@ pub fn cuts_of(
     let comings = comings_of(alloc, statements, entry)?;
     let mut places = Vec::new(alloc);
     places.push(Place::Execute(entry))?;
-    for i in 0..statements.len() {
-        if joins && i != entry && is_join(&comings, i) {
+    for (i, ways) in comings.iter().enumerate() {
+        if joins && i != entry && *ways > 1 {
             places.push(Place::Execute(i))?;
         }
     }

@@ -1,8 +1,9 @@
 //! Whether a program with one statement changed is equivalent, and how many steps are to be spared.
 
-ghost use Rattle.std.specs.Prelude.{◌≡◌, ◌≤ℤ◌, ◌⊎◌, ℕ, pos, All, Any, List, map, Some, IfOk, IfSome};
+ghost use Rattle.std.specs.Prelude.{◌≡◌, ◌≤ℤ◌, ◌⊎◌, ℕ, pos, All, List, map, Some, IfOk, IfSome};
 ghost use Rattle.f77_check.specs.Checked.{CheckedFields};
 ghost use Rattle.f77_check.specs.Patching.{IsInPlace};
+ghost use Rattle.f77_equivalence.specs.Alike.{site};
 ghost use Rattle.f77_equivalence.specs.Equivalent.{IsEquivalentWithin};
 ghost use Rattle.f77_equivalence.specs.Equivalent.{IsEquivalent};
 ghost use Rattle.f77_equivalence.specs.Start.{HoldsStart};
@@ -14,19 +15,20 @@ ghost use Rattle.f77_program.specs.Program.{line_of};
 ghost use Rattle.f77_tree.specs.Statement.{statement_of};
 ghost use Rattle.f77_symbolic.specs.code.Atoms.{Extends};
 ghost use Rattle.f77_symbolic.specs.Visits.{AreVisits, IsTourOf};
-ghost use Rattle.f77_symbolic.specs.code.Visits.{FollowsFrom, FollowsThere, IsPairOf};
+ghost use Rattle.f77_symbolic.specs.code.Visits.{FollowsFrom, FollowsThere, HavePairs, IsPairOf};
 
 use crate::change::{Change, change_of};
 use crate::cuts::cuts_of;
 use crate::evaluator::{Atoms, Evaluator};
 use crate::halt::{Halt, unless_unknown};
-use crate::pairs::Pair;
 use crate::rows::Rows;
 use crate::samples::copied_samples;
 use crate::sides::copied_side;
 use crate::visiting::{Tour, Visit, Visits, tour_of};
+use crate::walking::Pair;
 use f77_actions::Resolved;
 use f77_check::Checked;
+use f77_code::Place;
 use f77_equivalence::start::holds_start;
 use f77_facts::entries::Entry;
 use f77_facts::facts::is_inside;
@@ -53,13 +55,24 @@ fn pair_of(alloc: Global, visit: &Visit) -> Result<Pair, AllocError>
     })
 }
 
-/// A pair for each visit.
-fn pairs_of(alloc: Global, visits: &[Visit]) -> Result<Vec<Pair>, AllocError>
-    ensures { IfOk result (λ pairs. All (λ visit. Any (IsPairOf visit) pairs.items) visits.now) }
+/// The number of the statement of a place.
+fn statement_of(place: Place) -> usize
+    ensures { result ≡ site place }
 {
-    let mut pairs = Vec::with_capacity(alloc, visits.len())?;
+    match place {
+        Place::Execute(i) | Place::Increment(i) => i,
+    }
+}
+
+/// A pair for each visit to the statement of this number.
+fn pairs_at(alloc: Global, visits: &[Visit], place: usize) -> Result<Vec<Pair>, AllocError>
+    ensures { IfOk result (λ pairs. HavePairs place pairs.items visits.now) }
+{
+    let mut pairs = Vec::new(alloc);
     for visit in visits {
-        pairs.push(pair_of(alloc, visit)?)?;
+        if statement_of(visit.side.place) == place {
+            pairs.push(pair_of(alloc, visit)?)?;
+        }
     }
     Ok(pairs)
 }
@@ -96,15 +109,11 @@ impl Visits {
         ensures above { IfOk result (λ behind. pos 0 ≤ℤ behind) }
     {
         law_of_atoms(&self.atoms.table);
-        if change.place >= self.at.len() {
-            return Ok(0);
-        }
-        let visits = &self.at[change.place];
-        if visits.len() == 0 {
+        let todo = pairs_at(alloc, &self.list, change.place)?;
+        if todo.len() == 0 {
             return Ok(0);
         }
         *work = work.saturating_sub(self.atoms.facts.len() as u64 / FACTS);
-        let todo = pairs_of(alloc, visits)?;
         let mut evaluator = self.evaluator(alloc)?;
         let followed = evaluator.follow(change, todo, work);
         if followed.is_err() {

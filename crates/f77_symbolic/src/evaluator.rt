@@ -8,7 +8,7 @@ ghost use Rattle.f77_symbolic.specs.code.Atoms.{Extends};
 ghost use Rattle.f77_symbolic.specs.code.Evaluation.{AlwaysTells, Expects};
 
 use crate::halt::{Halt, unless_unknown};
-use crate::samples::{Samples, Sign};
+use crate::samples::{Samples, Sign, Wanted};
 use f77_facts::facts::Fact;
 use f77_terms::atoms::{Key, Table, interned};
 use f77_terms::copying::copied_path;
@@ -50,7 +50,7 @@ impl Evaluator {
         ensures extends { Extends self.old.atoms self.new.atoms }
     {
         self.path = copied_path(self.alloc, path)?;
-        self.samples.choose(&self.path)?;
+        self.samples.choose(&self.path);
         Ok(())
     }
 
@@ -82,30 +82,38 @@ impl Evaluator {
         plus_constant(self.alloc, m, term, constant)?.ok_or(Halt::Unknown)
     }
 
-    /// A sample is looked for on which a term has this sign, if rows are asked for and there is none.
-    pub(crate) fn seek(&mut self, term: &Term, sign: Sign) -> Result<(), Halt>
+    /// A sample is looked for on which a term has this sign, if there is none.
+    pub(crate) fn look_for(&mut self, term: &Term, sign: Sign) -> Result<(), Halt>
         ensures atoms { self.new.atoms ≡ self.old.atoms }
         ensures path { self.new.path ≡ self.old.path }
         ensures own { self.new.own ≡ self.old.own }
     {
-        if self.samples.seeks && !self.samples.show(1, term, 0, sign) {
-            self.samples
-                .mend(self.alloc, &self.path, &self.atoms.table, term, sign)?;
-        }
-        Ok(())
+        let wanted = Wanted {
+            table: &self.atoms.table,
+            path: &self.path,
+            term,
+            sign,
+        };
+        Ok(self.samples.mend(self.alloc, wanted)?)
     }
 
-    /// The same for a term, m times, and a constant that are above 0.
-    fn seek_above(&mut self, m: i64, term: &Term, constant: i64) -> Result<(), Halt>
+    /// The same, if rows are asked for, of a term, m times, and a constant.
+    pub(crate) fn seek(
+        &mut self,
+        m: i64,
+        term: &Term,
+        constant: i64,
+        sign: Sign,
+    ) -> Result<(), Halt>
         ensures atoms { self.new.atoms ≡ self.old.atoms }
         ensures path { self.new.path ≡ self.old.path }
         ensures own { self.new.own ≡ self.old.own }
     {
-        if !self.samples.seeks {
-            return Ok(());
+        if self.samples.seeks {
+            let sum = self.plus(m, term, constant)?;
+            self.look_for(&sum, sign)?;
         }
-        let sum = self.plus(m, term, constant)?;
-        self.seek(&sum, Sign::Positive)
+        Ok(())
     }
 
     /// There is a fault unless a term, m times, and a constant are at most 0.
@@ -115,7 +123,7 @@ impl Evaluator {
         ensures extends { Extends self.old.atoms self.new.atoms }
     {
         if !self.own {
-            self.seek_above(m, term, constant)?;
+            self.seek(m, term, constant, Sign::Positive)?;
             unless_unknown(!self.samples.show(m, term, constant, Sign::Positive))?;
             return unless_unknown(is_bounded(self.alloc, &self.path, m, term, constant)?);
         }
@@ -138,7 +146,7 @@ impl Evaluator {
             }
         }
         if !self.own {
-            self.seek(term, Sign::Zero)?;
+            self.seek(1, term, 0, Sign::Zero)?;
             unless_unknown(!self.samples.show(1, term, 0, Sign::Zero))?;
             return unless_unknown(is_apart(self.alloc, &self.path, term)?);
         }

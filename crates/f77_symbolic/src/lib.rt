@@ -8,14 +8,12 @@
 //! Read `equivalent::Tours::steps_to_spare` first, then `specs/Walk.antt`, which says why the walk suffices.
 #![tactic(auto)]
 
-mod acting;
 mod arithmetic;
 mod arriving;
 mod bounding;
 mod change;
 mod comparing;
 pub mod cuts;
-mod division;
 pub mod equivalent;
 mod evaluate;
 mod evaluator;
@@ -25,8 +23,6 @@ mod looping;
 mod meeting;
 mod memory;
 mod mending;
-mod pairs;
-mod powers;
 mod reading;
 pub mod rows;
 mod samples;

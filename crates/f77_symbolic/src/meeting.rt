@@ -70,7 +70,7 @@ impl Evaluator {
             (Symbolic::Number(x), Symbolic::Number(y)) | (Symbolic::Truth(x), Symbolic::Truth(y)) =>
                 {
                     let between = self.combination(1, x, -1, y)?;
-                    self.seek(&between, Sign::NotZero)
+                    self.look_for(&between, Sign::NotZero)
                 }
             _ => Ok(()),
         }

@@ -1,11 +1,8 @@
 //! Samples are mended: the number of one slot is changed, so that a sample is on a path and a term has a sign there.
 
-use crate::samples::{
-    Sample, Samples, Sign, extend, has_sign, is_on, number_in, term_value, unsigned,
-};
+use crate::samples::{Sample, Samples, Sign, Wanted};
 use f77_terms::atoms::{Key, Table};
 use f77_terms::monomials::Monomial;
-use f77_terms::paths::Path;
 use f77_terms::terms::{Part, Term};
 use std::alloc::{AllocError, Global};
 
@@ -24,20 +21,6 @@ const TRIED: [i64; 6] = [-1, 0, 1, 2, 2147483647, -2147483648];
 /// Larger common multiples of divisors are left.
 const MOST_MULTIPLE: i64 = 1_000_000;
 
-/// The slot that an atom is of, in a sample.
-fn slot_of(sample: &Sample, table: &Table, atom: usize) -> Option<usize> {
-    if atom >= table.keys.len() {
-        return None;
-    }
-    match &table.keys[atom] {
-        Key::Slot(slot) => Some(*slot),
-        Key::Element(first, index) => {
-            first.checked_add(unsigned(term_value(&sample.values, index)?)?)
-        }
-        _ => None,
-    }
-}
-
 /// The number divided, and rounded away from 0.
 fn rounded(distance: i64, by: i64) -> Option<i64> {
     let quotient = distance.checked_div(by)?;
@@ -51,35 +34,6 @@ fn rounded(distance: i64, by: i64) -> Option<i64> {
     }
 }
 
-/// The slot of which the number is to be changed, and by how much, so that a term changes by so much.
-fn change_in(sample: &Sample, table: &Table, term: &Term, by: i64) -> Option<(usize, i64)> {
-    for part in &term.parts {
-        if let Monomial::One(atom) = part.monomial {
-            if let Some(slot) = slot_of(sample, table, atom) {
-                return Some((slot, rounded(by, part.factor)?));
-            }
-        }
-    }
-    None
-}
-
-/// The same for an atom that is a function of terms.
-fn change_inside(sample: &Sample, table: &Table, atom: usize, by: i64) -> Option<(usize, i64)> {
-    if atom >= table.keys.len() {
-        return None;
-    }
-    match &table.keys[atom] {
-        Key::Slot(_) | Key::Element(..) => None,
-        Key::Quotient(a, b) => {
-            let by = by.checked_mul(term_value(&sample.values, b)?)?;
-            change_in(sample, table, a, by)
-        }
-        Key::Remainder(a, _) | Key::Minimum(a, _) | Key::Maximum(a, _) => {
-            change_in(sample, table, a, by)
-        }
-    }
-}
-
 /// By how much the term is to be changed, so that it gets this sign.
 fn distance_to(now: i64, factor: i64, sign: Sign) -> Option<i64> {
     let target = match sign {
@@ -89,37 +43,6 @@ fn distance_to(now: i64, factor: i64, sign: Sign) -> Option<i64> {
         Sign::Positive => 1,
     };
     target.checked_sub(now)
-}
-
-/// Which slot is to be changed, and by how much, so that the term gets this sign. The arguments of functions are looked
-/// into only where rows are asked for.
-fn wanted(
-    sample: &Sample,
-    table: &Table,
-    term: &Term,
-    part: Part,
-    sign: Sign,
-    seeks: bool,
-) -> Option<(usize, i64)> {
-    let Monomial::One(atom) = part.monomial else {
-        return None;
-    };
-    let now = term_value(&sample.values, term)?;
-    let by = rounded(distance_to(now, part.factor, sign)?, part.factor)?;
-    match slot_of(sample, table, atom) {
-        Some(slot) => Some((slot, by)),
-        None if seeks => change_inside(sample, table, atom, by),
-        None => None,
-    }
-}
-
-/// What a slot holds in the sample of this number.
-fn held_in(list: &[Sample], number: usize, slot: usize) -> i64 {
-    if number < list.len() && slot < list[number].held.len() {
-        list[number].held[slot]
-    } else {
-        0
-    }
 }
 
 /// The greatest common divisor.
@@ -161,140 +84,132 @@ fn common_multiple(table: &Table) -> i64 {
     multiple
 }
 
-/// The change, rounded to a multiple away from 0.
-fn rounded_to(by: i64, multiple: i64) -> Option<i64> {
-    rounded(by, multiple)?.checked_mul(multiple)
+impl Sample {
+    /// The slot that an atom is of.
+    fn slot_of(&self, table: &Table, atom: usize) -> Option<usize> {
+        match table.keys.get(atom)? {
+            Key::Slot(slot) => Some(*slot),
+            Key::Element(first, index) => self.slot_behind(*first, index),
+            _ => None,
+        }
+    }
+
+    /// The slot of which the number is to be changed, and by how much, so that a term changes by so much.
+    fn change_in(&self, table: &Table, term: &Term, by: i64) -> Option<(usize, i64)> {
+        for part in &term.parts {
+            if let Monomial::One(atom) = part.monomial {
+                if let Some(slot) = self.slot_of(table, atom) {
+                    return Some((slot, rounded(by, part.factor)?));
+                }
+            }
+        }
+        None
+    }
+
+    /// The same for an atom that is a function of terms.
+    fn change_inside(&self, table: &Table, atom: usize, by: i64) -> Option<(usize, i64)> {
+        match table.keys.get(atom)? {
+            Key::Slot(_) | Key::Element(..) => None,
+            Key::Quotient(a, b) => self.change_in(table, a, by.checked_mul(self.value(b)?)?),
+            Key::Remainder(a, _) | Key::Minimum(a, _) | Key::Maximum(a, _) => {
+                self.change_in(table, a, by)
+            }
+        }
+    }
+
+    /// Which slot is to be changed, and by how much, so that the sample is as wanted. The arguments of functions are
+    /// looked into only where rows are asked for.
+    fn change(&self, wanted: Wanted, part: Part, seeks: bool) -> Option<(usize, i64)> {
+        let Monomial::One(atom) = part.monomial else {
+            return None;
+        };
+        let distance = distance_to(self.value(wanted.term)?, part.factor, wanted.sign)?;
+        let by = rounded(distance, part.factor)?;
+        match self.slot_of(wanted.table, atom) {
+            Some(slot) => Some((slot, by)),
+            None if seeks => self.change_inside(wanted.table, atom, by),
+            None => None,
+        }
+    }
+
+    /// A sample like this one, but for the number of one slot, if it is as wanted.
+    fn with(
+        &self,
+        alloc: Global,
+        slot: usize,
+        number: i64,
+        wanted: Wanted,
+    ) -> Result<Option<Sample>, AllocError> {
+        if number < -2147483648 || number > 2147483647 {
+            return Ok(None);
+        }
+        let mut held = self.held.to_vec(alloc)?;
+        if slot >= held.len() {
+            return Ok(None);
+        }
+        held[slot] = number;
+        Sample::wanted(alloc, held, wanted)
+    }
+
+    /// A sample like this one, but for the slot of one part, if it is as wanted. More numbers are tried where rows are
+    /// asked for.
+    fn mended(
+        &self,
+        alloc: Global,
+        part: Part,
+        wanted: Wanted,
+        seeks: bool,
+    ) -> Result<Option<Sample>, AllocError> {
+        let Some((slot, by)) = self.change(wanted, part, seeks) else {
+            return Ok(None);
+        };
+        let now = self.held.get(slot).copied().unwrap_or(0);
+        let mut made = self.with(alloc, slot, now.saturating_add(by), wanted)?;
+        if made.is_some() || !seeks {
+            return Ok(made);
+        }
+        let multiple = common_multiple(wanted.table);
+        if let Some(times) = rounded(by, multiple) {
+            let more = times.saturating_mul(multiple);
+            made = self.with(alloc, slot, now.saturating_add(more), wanted)?;
+        }
+        for number in TRIED {
+            if made.is_none() {
+                made = self.with(alloc, slot, number, wanted)?;
+            }
+        }
+        Ok(made)
+    }
 }
 
 impl Samples {
-    /// Which slot of the sample of this number is to be changed, and by how much.
-    fn wanted_in(
-        &self,
-        number: usize,
-        table: &Table,
-        term: &Term,
-        part: Part,
-        sign: Sign,
-    ) -> Option<(usize, i64)> {
-        if number >= self.list.len() {
-            return None;
-        }
-        wanted(&self.list[number], table, term, part, sign, self.seeks)
-    }
-
-    /// A sample like this one, but for the number of one slot, is added if it is on the path and has the sign.
-    fn try_with(
-        &mut self,
-        alloc: Global,
-        number: usize,
-        slot: usize,
-        by: i64,
-        path: &Path,
-        table: &Table,
-        term: &Term,
-        sign: Sign,
-    ) -> Result<bool, AllocError> {
-        if number >= self.list.len() {
-            return Ok(false);
-        }
-        let mut sample = Sample {
-            held: self.list[number].held.to_vec(alloc)?,
-            values: Vec::with_capacity(alloc, table.keys.len())?,
-        };
-        if slot >= sample.held.len() {
-            return Ok(false);
-        }
-        match sample.held[slot].checked_add(by) {
-            Some(z) if -2147483648 <= z && z <= 2147483647 => sample.held[slot] = z,
-            _ => return Ok(false),
-        }
-        extend(&mut sample, table)?;
-        let fits = match term_value(&sample.values, term) {
-            Some(value) => has_sign(value, sign) && is_on(&sample, path),
-            None => false,
-        };
-        if fits {
-            self.on.push(self.list.len())?;
-            self.list.push(sample)?;
-        }
-        Ok(fits)
-    }
-
-    /// A sample is made from the one of this number by a change of the slot of one part.
-    fn mend_by(
-        &mut self,
-        alloc: Global,
-        number: usize,
-        part: Part,
-        path: &Path,
-        table: &Table,
-        term: &Term,
-        sign: Sign,
-    ) -> Result<bool, AllocError> {
-        let Some((slot, by)) = self.wanted_in(number, table, term, part, sign) else {
-            return Ok(false);
-        };
-        if self.try_with(alloc, number, slot, by, path, table, term, sign)? {
-            return Ok(true);
-        }
-        if !self.seeks {
-            return Ok(false);
-        }
-        if let Some(more) = rounded_to(by, common_multiple(table)) {
-            if self.try_with(alloc, number, slot, more, path, table, term, sign)? {
-                return Ok(true);
+    /// A sample that is on the path is made from another one by a change of one slot, so that it is as wanted.
+    fn made(&self, alloc: Global, wanted: Wanted) -> Result<Option<Sample>, AllocError> {
+        let on_path = self.list.iter().filter(|sample| sample.is_on_path);
+        for sample in on_path.take(MOST_TRIES) {
+            for part in &wanted.term.parts {
+                let made = sample.mended(alloc, *part, wanted, self.seeks)?;
+                if made.is_some() {
+                    return Ok(made);
+                }
             }
         }
-        self.mend_to(alloc, number, slot, path, table, term, sign)
+        Ok(None)
     }
 
-    /// A sample is made from the one of this number by one of a few numbers in this slot.
-    fn mend_to(
-        &mut self,
-        alloc: Global,
-        number: usize,
-        slot: usize,
-        path: &Path,
-        table: &Table,
-        term: &Term,
-        sign: Sign,
-    ) -> Result<bool, AllocError> {
-        for z in TRIED {
-            let by = z.saturating_sub(held_in(&self.list, number, slot));
-            if self.try_with(alloc, number, slot, by, path, table, term, sign)? {
-                return Ok(true);
-            }
-        }
-        Ok(false)
-    }
-
-    /// A sample is made from another on the path by a change of one slot, so that the term has this sign.
-    pub fn mend(
-        &mut self,
-        alloc: Global,
-        path: &Path,
-        table: &Table,
-        term: &Term,
-        sign: Sign,
-    ) -> Result<bool, AllocError> {
+    /// A sample as wanted is made, if there is none and not too many were made.
+    pub fn mend(&mut self, alloc: Global, wanted: Wanted) -> Result<(), AllocError> {
         let most = if self.seeks {
             MOST_SOUGHT
         } else {
             MOST_SAMPLES
         };
-        if self.list.len() >= most {
-            return Ok(false);
+        if self.list.len() >= most || self.show(1, wanted.term, 0, wanted.sign) {
+            return Ok(());
         }
-        for place in 0..self.on.len().min(MOST_TRIES) {
-            let Some(number) = number_in(&self.on, place) else {
-                continue;
-            };
-            for part in &term.parts {
-                if self.mend_by(alloc, number, *part, path, table, term, sign)? {
-                    return Ok(true);
-                }
-            }
+        if let Some(sample) = self.made(alloc, wanted)? {
+            self.list.push(sample)?;
         }
-        Ok(false)
+        Ok(())
     }
 }

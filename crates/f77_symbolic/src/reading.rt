@@ -101,7 +101,7 @@ impl Evaluator {
             high: values.high,
         };
         add_range(&mut self.path, atom, range)?;
-        self.samples.stay(atom, values.low, values.high);
+        self.samples.stay(atom, range);
         Ok(value_of(values.kind, atom_term(self.alloc, atom)?))
     }
 

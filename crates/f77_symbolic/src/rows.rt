@@ -1,7 +1,7 @@
 //! Rows: what samples have of the dummy arguments where a walk is given up. Each may be a test that kills the changed
 //! program. Nothing is claimed of rows.
 
-use crate::samples::{Sample, Samples, number_in};
+use crate::samples::{Sample, Samples};
 use crate::values::Slots;
 use std::alloc::{AllocError, Global};
 
@@ -19,8 +19,8 @@ fn row_of(alloc: Global, sample: &Sample, dummies: &[Slots]) -> Result<Vec<i64>,
     let mut row = Vec::new(alloc);
     for slots in dummies {
         for slot in slots.first..slots.first.saturating_add(slots.count) {
-            if slot < sample.held.len() {
-                row.push(sample.held[slot])?;
+            if let Some(number) = sample.held.get(slot) {
+                row.push(*number)?;
             }
         }
     }
@@ -36,30 +36,13 @@ impl Rows {
         }
     }
 
-    /// There is such a row.
-    fn have(&self, row: &[i64]) -> bool {
-        for other in &self.list {
-            if other.as_slice() == row {
-                return true;
+    /// Adds the row of a sample, if it is another one.
+    fn add(&mut self, alloc: Global, sample: &Sample, dummies: &[Slots]) -> Result<(), AllocError> {
+        if self.list.len() < self.most {
+            let row = row_of(alloc, sample, dummies)?;
+            if !self.list.contains(&row) {
+                self.list.push(row)?;
             }
-        }
-        false
-    }
-
-    /// Adds the row of the sample of this number, if it is another one.
-    fn add(
-        &mut self,
-        alloc: Global,
-        samples: &Samples,
-        number: usize,
-        dummies: &[Slots],
-    ) -> Result<(), AllocError> {
-        if self.list.len() >= self.most || number >= samples.list.len() {
-            return Ok(());
-        }
-        let row = row_of(alloc, &samples.list[number], dummies)?;
-        if !self.have(&row) {
-            self.list.push(row)?;
         }
         Ok(())
     }
@@ -71,13 +54,13 @@ impl Rows {
         samples: &Samples,
         dummies: &[Slots],
     ) -> Result<(), AllocError> {
-        for behind in 0..samples.on.len() {
-            if let Some(number) = number_in(&samples.on, samples.on.len() - 1 - behind) {
-                self.add(alloc, samples, number, dummies)?;
+        for sample in samples.list.iter().rev() {
+            if sample.is_on_path {
+                self.add(alloc, sample, dummies)?;
             }
         }
-        for behind in 0..samples.list.len() {
-            self.add(alloc, samples, samples.list.len() - 1 - behind, dummies)?;
+        for sample in samples.list.iter().rev() {
+            self.add(alloc, sample, dummies)?;
         }
         Ok(())
     }

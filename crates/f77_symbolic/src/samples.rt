@@ -9,8 +9,8 @@ use f77_facts::facts::Fact;
 use f77_terms::atoms::{Key, Table};
 use f77_terms::monomials::Monomial;
 use f77_terms::paths::Path;
-use f77_terms::ranges::{Range, atom_range};
-use f77_terms::terms::{Part, Term};
+use f77_terms::ranges::Range;
+use f77_terms::terms::Term;
 use std::alloc::{AllocError, Global};
 
 /// So many samples are made at first.
@@ -30,18 +30,18 @@ const NO_SAMPLE: u64 = 8;
 pub struct Sample {
     pub held: Vec<i64>,
     pub values: Vec<Option<i64>>,
+    pub is_on_path: bool,
 }
 
-/// The samples, and the numbers of those that are on the path.
+/// The samples.
 #[derive(Drop)]
 pub struct Samples {
     pub list: Vec<Sample>,
-    pub on: Vec<usize>,
     /// Rows are asked for: where two programs may differ a sample is looked for that shows it.
     pub seeks: bool,
 }
 
-/// What a sample is to have of a term.
+/// A sign of a number.
 #[derive(Clone, Copy, PartialEq, Eq)]
 pub enum Sign {
     Negative,
@@ -52,8 +52,20 @@ pub enum Sign {
     NotPositive,
 }
 
-/// The number has this sign.
-pub(crate) fn has_sign(z: i64, sign: Sign) -> bool {
+/// What a sample is to have: it is on a path, and a term has this sign there.
+#[derive(Clone, Copy)]
+pub struct Wanted<'a> {
+    pub table: &'a Table,
+    pub path: &'a Path,
+    pub term: &'a Term,
+    pub sign: Sign,
+}
+
+/// The number, if there is one, has this sign.
+fn has_sign(number: Option<i64>, sign: Sign) -> bool {
+    let Some(z) = number else {
+        return false;
+    };
     match sign {
         Sign::Negative => z < 0,
         Sign::Zero => z == 0,
@@ -66,11 +78,7 @@ pub(crate) fn has_sign(z: i64, sign: Sign) -> bool {
 
 /// The value of an atom.
 fn atom_value(values: &[Option<i64>], atom: usize) -> Option<i64> {
-    if atom < values.len() {
-        values[atom]
-    } else {
-        None
-    }
+    values.get(atom).copied().flatten()
 }
 
 /// The product of the values of two atoms.
@@ -90,106 +98,102 @@ fn monomial_value(values: &[Option<i64>], monomial: Monomial) -> Option<i64> {
     }
 }
 
-/// The value of a part.
-fn part_value(values: &[Option<i64>], part: Part) -> Option<i64> {
-    part.factor
-        .checked_mul(monomial_value(values, part.monomial)?)
-}
-
-/// The value of a term.
-pub(crate) fn term_value(values: &[Option<i64>], term: &Term) -> Option<i64> {
-    let mut sum = term.constant;
-    for part in &term.parts {
-        sum = sum.checked_add(part_value(values, *part)?)?;
-    }
-    Some(sum)
-}
-
-/// The value of a term, m times, and a constant.
-fn scaled_value(values: &[Option<i64>], m: i64, term: &Term, constant: i64) -> Option<i64> {
-    m.checked_mul(term_value(values, term)?)?
-        .checked_add(constant)
-}
-
-/// The number without a sign.
-pub(crate) fn unsigned(z: i64) -> Option<usize> {
-    usize::try_from(z).ok()
-}
-
-/// The number of the slot that lies so far behind this one.
-fn held_at(held: &[i64], first: usize, behind: i64) -> Option<i64> {
-    let slot = first.checked_add(unsigned(behind)?)?;
-    if slot < held.len() {
-        Some(held[slot])
-    } else {
-        None
+/// The number, if there is one, is in the range.
+fn is_in(number: Option<i64>, range: Range) -> bool {
+    match number {
+        Some(z) => range.low <= z && z <= range.high,
+        None => false,
     }
 }
 
-/// The value of the atom with a key.
-fn key_value(sample: &Sample, key: &Key) -> Option<i64> {
-    let values = &sample.values;
-    match key {
-        Key::Slot(slot) => held_at(&sample.held, *slot, 0),
-        Key::Element(first, index) => held_at(&sample.held, *first, term_value(values, index)?),
-        Key::Quotient(a, b) => term_value(values, a)?.checked_div(term_value(values, b)?),
-        Key::Remainder(a, b) => term_value(values, a)?.checked_rem(term_value(values, b)?),
-        Key::Minimum(a, b) => Some(term_value(values, a)?.min(term_value(values, b)?)),
-        Key::Maximum(a, b) => Some(term_value(values, a)?.max(term_value(values, b)?)),
+impl Sample {
+    /// The value of a term.
+    pub(crate) fn value(&self, term: &Term) -> Option<i64> {
+        let mut sum = term.constant;
+        for part in &term.parts {
+            let product = monomial_value(&self.values, part.monomial)?;
+            sum = sum.checked_add(part.factor.checked_mul(product)?)?;
+        }
+        Some(sum)
     }
-}
 
-/// Adds the values of new atoms.
-pub(crate) fn extend(sample: &mut Sample, table: &Table) -> Result<(), AllocError> {
-    for place in sample.values.len()..table.keys.len() {
-        let value = key_value(sample, &table.keys[place]);
-        sample.values.push(value)?;
+    /// The value of a term, m times, and a constant.
+    fn scaled_value(&self, m: i64, term: &Term, constant: i64) -> Option<i64> {
+        m.checked_mul(self.value(term)?)?.checked_add(constant)
     }
-    Ok(())
-}
 
-/// The values are in their ranges, as far as there are both.
-fn are_in(values: &[Option<i64>], known: &[Option<Range>]) -> bool {
-    for atom in 0..values.len().min(known.len()) {
-        if let Some(range) = atom_range(known, atom) {
-            match values[atom] {
-                Some(z) if range.low <= z && z <= range.high => {}
-                _ => return false,
+    /// The slot that lies so far behind this one as the index says.
+    pub(crate) fn slot_behind(&self, first: usize, index: &Term) -> Option<usize> {
+        first.checked_add(usize::try_from(self.value(index)?).ok()?)
+    }
+
+    /// The value of the atom with a key.
+    fn key_value(&self, key: &Key) -> Option<i64> {
+        match key {
+            Key::Slot(slot) => self.held.get(*slot).copied(),
+            Key::Element(first, index) => self.held.get(self.slot_behind(*first, index)?).copied(),
+            Key::Quotient(a, b) => self.value(a)?.checked_div(self.value(b)?),
+            Key::Remainder(a, b) => self.value(a)?.checked_rem(self.value(b)?),
+            Key::Minimum(a, b) => Some(self.value(a)?.min(self.value(b)?)),
+            Key::Maximum(a, b) => Some(self.value(a)?.max(self.value(b)?)),
+        }
+    }
+
+    /// Adds the values of new atoms.
+    fn extend(&mut self, table: &Table) -> Result<(), AllocError> {
+        for place in self.values.len()..table.keys.len() {
+            let value = self.key_value(&table.keys[place]);
+            self.values.push(value)?;
+        }
+        Ok(())
+    }
+
+    /// The values are in their ranges, as far as there are both.
+    fn is_within(&self, known: &[Option<Range>]) -> bool {
+        for atom in 0..self.values.len().min(known.len()) {
+            if let Some(range) = known[atom] {
+                if !is_in(self.values[atom], range) {
+                    return false;
+                }
             }
         }
+        true
     }
-    true
-}
 
-/// The term has this sign, in each of the list.
-fn have_sign(values: &[Option<i64>], terms: &[Term], sign: Sign) -> bool {
-    for term in terms {
-        match term_value(values, term) {
-            Some(z) if has_sign(z, sign) => {}
-            _ => return false,
+    /// Each of the terms has this sign.
+    fn have_sign(&self, terms: &[Term], sign: Sign) -> bool {
+        for term in terms {
+            if !has_sign(self.value(term), sign) {
+                return false;
+            }
         }
+        true
     }
-    true
-}
 
-/// The sample is on the path.
-pub(crate) fn is_on(sample: &Sample, path: &Path) -> bool {
-    let values = &sample.values;
-    if !are_in(values, &path.known) || !have_sign(values, &path.unequal, Sign::NotZero) {
-        return false;
+    /// The sample is on the path.
+    fn is_on(&self, path: &Path) -> bool {
+        self.is_within(&path.known)
+            && self.have_sign(&path.unequal, Sign::NotZero)
+            && self.have_sign(&path.below, Sign::NotPositive)
     }
-    for bound in &path.below {
-        match term_value(values, bound) {
-            Some(z) if z <= 0 => {}
-            _ => return false,
+
+    /// A sample with these numbers in slots, if it is as wanted.
+    pub(crate) fn wanted(
+        alloc: Global,
+        held: Vec<i64>,
+        wanted: Wanted,
+    ) -> Result<Option<Sample>, AllocError> {
+        let mut sample = Sample {
+            held,
+            values: Vec::with_capacity(alloc, wanted.table.keys.len())?,
+            is_on_path: true,
+        };
+        sample.extend(wanted.table)?;
+        if has_sign(sample.value(wanted.term), wanted.sign) && sample.is_on(wanted.path) {
+            return Ok(Some(sample));
         }
+        Ok(None)
     }
-    true
-}
-
-/// The next number of chance.
-fn next_chance(chance: u64) -> u64 {
-    chance.wrapping_mul(1103515245).wrapping_add(12345) % 2147483648
 }
 
 /// A number by chance: mostly a small one.
@@ -204,28 +208,24 @@ fn any_number(chance: u64) -> i64 {
     }
 }
 
-/// The number that is as far behind the low one as this one is behind a multiple of how many there are.
-fn turned(z: i64, low: i64, high: i64) -> Option<i64> {
+/// The number, or the one between these that is as far behind the low one as this is behind a multiple of how many
+/// there are.
+fn between(z: i64, low: i64, high: i64) -> Option<i64> {
+    if low <= z && z <= high || low > high {
+        return Some(z);
+    }
     let size = high.checked_sub(low)?.checked_add(1)?;
     let behind = z.checked_rem(size)?.checked_add(size)?.checked_rem(size)?;
     low.checked_add(behind)
-}
-
-/// The number, or one that is near it in another way, between these.
-fn between(z: i64, low: i64, high: i64) -> i64 {
-    if low <= z && z <= high || low > high {
-        return z;
-    }
-    turned(z, low, high).unwrap_or(low)
 }
 
 /// A number that a slot may hold; one that says that it holds a value; and behind these passes of a DO, or by how much
 /// it goes on.
 fn number_at(facts: &[Fact], slot: usize, any: i64) -> i64 {
     match values_at(facts, slot) {
-        Some(values) => between(any, values.low, values.high),
+        Some(values) => between(any, values.low, values.high).unwrap_or(values.low),
         None if slot < facts.len().saturating_mul(2) => 1,
-        None => between(any, 1, 6),
+        None => between(any, 1, 6).unwrap_or(1),
     }
 }
 
@@ -242,106 +242,55 @@ pub fn first_samples(
     for _ in 0..FIRST_SAMPLES {
         let mut held = Vec::with_capacity(alloc, slots)?;
         for slot in 0..slots {
-            chance = next_chance(chance);
+            chance = chance.wrapping_mul(1103515245).wrapping_add(12345) % 2147483648;
             held.push(number_at(facts, slot, any_number(chance)))?;
         }
         list.push(Sample {
             held,
             values: Vec::new(alloc),
+            is_on_path: false,
         })?;
     }
-    Ok(Samples {
-        list,
-        on: Vec::new(alloc),
-        seeks,
-    })
+    Ok(Samples { list, seeks })
 }
 
-/// The samples in memory of their own.
+/// The samples in memory of their own, none of them on a path.
 pub(crate) fn copied_samples(alloc: Global, samples: &Samples) -> Result<Samples, AllocError> {
     let mut list = Vec::with_capacity(alloc, samples.list.len())?;
     for sample in &samples.list {
         list.push(Sample {
             held: sample.held.to_vec(alloc)?,
             values: sample.values.to_vec(alloc)?,
+            is_on_path: false,
         })?;
     }
     Ok(Samples {
         list,
-        on: Vec::new(alloc),
         seeks: samples.seeks,
     })
 }
 
-/// The value of an atom in the sample of this number.
-fn value_in(list: &[Sample], number: usize, atom: usize) -> Option<i64> {
-    if number >= list.len() {
-        return None;
-    }
-    atom_value(&list[number].values, atom)
-}
-
-/// The value of a term, m times, and a constant in the sample of this number.
-fn scaled_in(list: &[Sample], number: usize, m: i64, term: &Term, constant: i64) -> Option<i64> {
-    if number >= list.len() {
-        return None;
-    }
-    scaled_value(&list[number].values, m, term, constant)
-}
-
-/// The number in this place, if there is one.
-pub(crate) fn number_in(on: &[usize], place: usize) -> Option<usize> {
-    if place < on.len() {
-        Some(on[place])
-    } else {
-        None
-    }
-}
-
-/// Puts a number into this place, if there is one.
-fn put_number(on: &mut [usize], place: usize, number: usize) {
-    if place < on.len() {
-        on[place] = number;
-    }
-}
-
 impl Samples {
-    /// Those stay in which an atom is between these numbers.
-    pub fn stay(&mut self, atom: usize, low: i64, high: i64) {
-        let mut kept = 0;
-        for place in 0..self.on.len() {
-            let Some(number) = number_in(&self.on, place) else {
-                continue;
-            };
-            let stays = match value_in(&self.list, number, atom) {
-                Some(z) => low <= z && z <= high,
-                None => false,
-            };
-            if stays {
-                put_number(&mut self.on, kept, number);
-                kept = kept.saturating_add(1);
-            }
+    /// Those stay in which an atom is in a range.
+    pub fn stay(&mut self, atom: usize, range: Range) {
+        for sample in &mut self.list {
+            sample.is_on_path = sample.is_on_path && is_in(atom_value(&sample.values, atom), range);
         }
-        self.on.truncate(kept);
     }
 
     /// The values of new atoms are added.
     pub fn learn(&mut self, table: &Table) -> Result<(), AllocError> {
-        for number in 0..self.list.len() {
-            extend(&mut self.list[number], table)?;
+        for sample in &mut self.list {
+            sample.extend(table)?;
         }
         Ok(())
     }
 
     /// Those that are on this path are chosen.
-    pub fn choose(&mut self, path: &Path) -> Result<(), AllocError> {
-        self.on.clear();
-        for number in 0..self.list.len() {
-            if is_on(&self.list[number], path) {
-                self.on.push(number)?;
-            }
+    pub fn choose(&mut self, path: &Path) {
+        for sample in &mut self.list {
+            sample.is_on_path = sample.is_on(path);
         }
-        Ok(())
     }
 
     /// What a turn on this path costs, where a program has so many statements: more where more is known, and much more
@@ -352,7 +301,7 @@ impl Samples {
         let parts = path.unequal.len().saturating_add(path.choices.len());
         let known = path.below.len().saturating_add(parts.saturating_mul(2));
         let turn = (known as u64).saturating_add(LEAST_COST);
-        let turn = if self.on.len() > 0 {
+        let turn = if self.are_any() {
             turn
         } else {
             turn.saturating_mul(NO_SAMPLE)
@@ -362,16 +311,19 @@ impl Samples {
 
     /// Some are on the path.
     pub fn are_any(&self) -> bool {
-        self.on.len() > 0
+        for sample in &self.list {
+            if sample.is_on_path {
+                return true;
+            }
+        }
+        false
     }
 
     /// One that is on the path has this sign of a term, m times, and a constant.
     pub fn show(&self, m: i64, term: &Term, constant: i64, sign: Sign) -> bool {
-        for number in &self.on {
-            if let Some(z) = scaled_in(&self.list, *number, m, term, constant) {
-                if has_sign(z, sign) {
-                    return true;
-                }
+        for sample in &self.list {
+            if sample.is_on_path && has_sign(sample.scaled_value(m, term, constant), sign) {
+                return true;
             }
         }
         false
@@ -379,20 +331,9 @@ impl Samples {
 
     /// Those stay that have this sign of a term, m times, and a constant.
     pub fn keep(&mut self, m: i64, term: &Term, constant: i64, sign: Sign) {
-        let mut kept = 0;
-        for place in 0..self.on.len() {
-            let Some(number) = number_in(&self.on, place) else {
-                continue;
-            };
-            let stays = match scaled_in(&self.list, number, m, term, constant) {
-                Some(z) => has_sign(z, sign),
-                None => false,
-            };
-            if stays {
-                put_number(&mut self.on, kept, number);
-                kept = kept.saturating_add(1);
-            }
+        for sample in &mut self.list {
+            sample.is_on_path = sample.is_on_path
+                && has_sign(sample.scaled_value(m, term, constant), sign);
         }
-        self.on.truncate(kept);
     }
 }

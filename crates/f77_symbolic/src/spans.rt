@@ -36,28 +36,6 @@ fn least_size_of(range: Range) -> i64
     range.low.max(-range.high).max(0)
 }
 
-/// What a division leaves is no more than the dividend in size, and less than the divisor.
-fn remainder_size(dividend: Range, divisor: Range) -> i64
-    requires dividend { IsSmall dividend }
-    requires divisor { IsSmall divisor }
-    ensures sizes { (x y : ℤ) → IsIn dividend x → IsIn divisor y → y ≢ pos 0
-        → pos (unsigned_abs (int_rem x y)) ≤ℤ result }
-    ensures above { pos 0 ≤ℤ result }
-{
-    size_of(dividend).min((size_of(divisor) - 1).max(0))
-}
-
-/// A quotient is at most the dividend in size, and the least divisor's part of it.
-fn quotient_size(dividend: Range, divisor: Range) -> i64
-    requires dividend { IsSmall dividend }
-    requires divisor { IsSmall divisor }
-    ensures sizes { (x y : ℤ) → IsIn dividend x → IsIn divisor y → y ≢ pos 0
-        → pos (unsigned_abs (int_div x y)) ≤ℤ result }
-    ensures above { pos 0 ≤ℤ result }
-{
-    size_of(dividend) / least_size_of(divisor).max(1)
-}
-
 /// Neither has numbers below 0, or neither has numbers above it.
 fn are_alike(a: Range, b: Range) -> bool
     ensures { result ≡ true → (x y : ℤ) → IsIn a x → IsIn b y
@@ -86,23 +64,24 @@ fn sized_range(size: i64, is_above: bool, is_below: bool) -> Range
     }
 }
 
-/// The range of what a division leaves, which has the sign of the dividend.
+/// The range of what a division leaves, which has the sign of the dividend: it is no more than that in size, and less
+/// than the divisor.
 fn remainder_range(dividend: Range, divisor: Range) -> Range
     requires dividend { IsSmall dividend }
     requires divisor { IsSmall divisor }
     ensures { (x y : ℤ) → IsIn dividend x → IsIn divisor y → y ≢ pos 0 → IsIn result (int_rem x y) }
 {
-    let size = remainder_size(dividend, divisor);
+    let size = size_of(dividend).min((size_of(divisor) - 1).max(0));
     sized_range(size, dividend.low >= 0, dividend.high <= 0)
 }
 
-/// The range of a quotient.
+/// The range of a quotient, which is at most the dividend in size, and the least divisor's part of it.
 fn quotient_range(dividend: Range, divisor: Range) -> Range
     requires dividend { IsSmall dividend }
     requires divisor { IsSmall divisor }
     ensures { (x y : ℤ) → IsIn dividend x → IsIn divisor y → y ≢ pos 0 → IsIn result (int_div x y) }
 {
-    let size = quotient_size(dividend, divisor);
+    let size = size_of(dividend) / least_size_of(divisor).max(1);
     let is_above = are_alike(dividend, divisor);
     let is_below = are_opposite(dividend, divisor);
     sized_range(size, is_above, is_below)
@@ -152,10 +131,7 @@ fn is_small(range: Range) -> bool
 pub(crate) fn is_constant_zero(term: &Term) -> bool
     ensures { result ≡ true → (v : Valuation) → sum_value v term.now ≡ pos 0 }
 {
-    match constant_of(term) {
-        Some(z) => z == 0,
-        None => false,
-    }
+    constant_of(term) == Some(0)
 }
 
 impl Evaluator {

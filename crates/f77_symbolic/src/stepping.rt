@@ -1,21 +1,25 @@
-//! One step of a program from a side.
+//! One step of a program from a side, and what a statement does to it.
 
-ghost use Rattle.std.specs.Prelude.{◌≡◌, true, IfOk};
-ghost use Rattle.f77_code.specs.Moves.{moved, state};
+ghost use Rattle.std.specs.Prelude.{◌≡◌, true, Some, IfOk};
+ghost use Rattle.f77_actions.specs.declared.resolved.Resolved.{Resolved};
+ghost use Rattle.f77_code.specs.Moves.{acted, moved, state};
 ghost use Rattle.f77_terms.specs.Paths.{Holds};
 ghost use Rattle.f77_terms.specs.Terms.{Valuation};
 ghost use Rattle.f77_symbolic.specs.code.Atoms.{Extends};
-ghost use Rattle.f77_symbolic.specs.code.Sides.{StepsFrom, AlwaysSteps};
+ghost use Rattle.f77_symbolic.specs.code.Sides.{Acts, AlwaysSteps, StepsFrom};
 
 use crate::evaluator::Evaluator;
-use crate::halt::Halt;
-use crate::sides::{Side, Step, copied_side, turn_at};
-use f77_actions::Resolved;
+use crate::halt::{Halt, unless_unknown};
+use crate::memory::{Symbolic, put};
+use crate::sides::{Side, Step, come_to, copied_side, go_on, jump, turn_at};
+use f77_actions::{Action, Condition, Element, Number, Resolved};
 use f77_code::Place;
-use f77_equivalence::ways::{is_executed, statement_at};
+use f77_equivalence::ways::{is_executed, jump_at, statement_at};
 use f77_terms::knowing::constant_of;
 use f77_terms::paths::Path;
+use f77_terms::terms::constant_term;
 use f77_tree::Shared;
+use std::cmp::Ordering;
 
 /// The path expects of 0 that it is not 0: it holds nowhere, since the program itself faults.
 fn is_ruled_out(path: &Path) -> bool
@@ -30,6 +34,126 @@ fn is_ruled_out(path: &Path) -> bool
 }
 
 impl Evaluator {
+    /// A number is assigned. The slot is found before the value.
+    fn assign_number(
+        &mut self,
+        side: &mut Side,
+        resolved: &Resolved,
+        e: &Element,
+        x: &Number,
+    ) -> Result<Step, Halt>
+        ensures acts { IfOk result (λ step. Acts self.old self.new side.old side.new step resolved.now
+            (Action.AssignNumber e.now x.now)) }
+        ensures extends { Extends self.old.atoms self.new.atoms }
+    {
+        let location = self.location_of(&side.writes, e)?;
+        let term = self.number_of(&side.writes, x)?;
+        put(&mut side.writes, location, Symbolic::Number(term))?;
+        Ok(go_on(side, resolved))
+    }
+
+    /// A truth value is assigned: a constant, since the path is split before.
+    fn assign_truth(
+        &mut self,
+        side: &mut Side,
+        resolved: &Resolved,
+        e: &Element,
+        c: &Condition,
+    ) -> Result<Step, Halt>
+        ensures acts { IfOk result (λ step. Acts self.old self.new side.old side.new step resolved.now
+            (Action.AssignTruth e.now c.now)) }
+        ensures extends { Extends self.old.atoms self.new.atoms }
+    {
+        let location = self.location_of(&side.writes, e)?;
+        let b = self.truth_of(&side.writes, c)?;
+        let term = constant_term(self.alloc, i64::from(b));
+        put(&mut side.writes, location, Symbolic::Truth(term))?;
+        Ok(go_on(side, resolved))
+    }
+
+    /// A GO TO, a computed one, or an arithmetic IF.
+    fn jump_on(
+        &mut self,
+        side: &mut Side,
+        resolved: &Resolved,
+        action: &Action,
+    ) -> Result<Step, Halt>
+        ensures acts { IfOk result (λ step. Acts self.old self.new side.old side.new step resolved.now action.now) }
+        ensures extends { Extends self.old.atoms self.new.atoms }
+    {
+        match action {
+            Action::Goto(to) => Ok(jump(side, to)),
+            Action::ComputedGoto { value, jumps } => {
+                let number = self.number_of(&side.writes, value)?;
+                match self.item_of(&number, jumps.len())? {
+                    Some(place) if place < jumps.len() => Ok(jump(side, jump_at(jumps, place))),
+                    Some(_) => Err(Halt::Unknown),
+                    None => Ok(go_on(side, resolved)),
+                }
+            }
+            Action::ArithmeticIf {
+                value,
+                negative,
+                zero,
+                positive,
+            } => {
+                let number = self.number_of(&side.writes, value)?;
+                match self.sign_of(number)? {
+                    Ordering::Less => Ok(jump(side, negative)),
+                    Ordering::Equal => Ok(jump(side, zero)),
+                    Ordering::Greater => Ok(jump(side, positive)),
+                }
+            }
+            _ => Err(Halt::Unknown),
+        }
+    }
+
+    /// What the statement i does.
+    pub(crate) fn act(
+        &mut self,
+        side: &mut Side,
+        statements: &[Shared<Resolved>],
+        i: usize,
+        resolved: &Resolved,
+        action: &Action,
+    ) -> Result<Step, Halt>
+        ensures steps { IfOk result (λ step. AlwaysSteps self.old self.new side.old side.new step
+            (λ v cells turns. Some (acted statements.now i resolved.now action.now cells turns))) }
+        ensures extends { Extends self.old.atoms self.new.atoms }
+    {
+        match action {
+            Action::AssignNumber(e, x) => self.assign_number(side, resolved, e, x),
+            Action::AssignTruth(e, c) => self.assign_truth(side, resolved, e, c),
+            Action::LogicalIf { condition, action } => {
+                if self.truth_of(&side.writes, condition)? {
+                    return self.act(side, statements, i, resolved, action);
+                }
+                Ok(go_on(side, resolved))
+            }
+            Action::Branch {
+                condition,
+                otherwise,
+            } => {
+                if self.truth_of(&side.writes, condition)? {
+                    return Ok(go_on(side, resolved));
+                }
+                Ok(come_to(side, *otherwise))
+            }
+            Action::Goto(_) | Action::ComputedGoto { .. } | Action::ArithmeticIf { .. } => {
+                self.jump_on(side, resolved, action)
+            }
+            Action::Continue => Ok(go_on(side, resolved)),
+            Action::Loop { .. } => self.begin(side, statements, i, action),
+            Action::Return => Ok(Step::Returns),
+            Action::Stop => Ok(Step::Stops),
+            Action::Trap => {
+                unless_unknown(self.own)?;
+                Ok(Step::Faults)
+            }
+            Action::Declaration => Err(Halt::Unknown),
+        }
+    }
+
     /// The statement i is executed.
     fn execute(
         &mut self,

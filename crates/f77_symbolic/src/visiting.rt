@@ -1,17 +1,16 @@
 //! Where the program comes by itself: it is walked alone once, for all its mutants.
 
-ghost use Rattle.std.specs.Prelude.{◌≡◌, length, IfOk};
-ghost use Rattle.f77_equivalence.specs.Alike.{site};
+ghost use Rattle.std.specs.Prelude.{IfOk};
 ghost use Rattle.f77_symbolic.specs.code.Atoms.{Extends};
 ghost use Rattle.f77_symbolic.specs.Visits.{AreVisits, IsTour};
-ghost use Rattle.f77_symbolic.specs.code.Visits.{Arrives, GivesWayAlone, IsAdded, IsNotedAs, WalksOn};
+ghost use Rattle.f77_symbolic.specs.code.Visits.{Arrives, GivesWayAlone, IsAdded, WalksOn};
 
 use crate::cuts::is_cut;
 use crate::evaluator::{Atoms, Evaluator};
 use crate::halt::{Halt, Split, unless_unknown};
-use crate::pairs::path_on;
 use crate::samples::{Samples, first_samples};
 use crate::sides::{Side, Step, copied_side};
+use crate::walking::path_on;
 use f77_actions::Resolved;
 use f77_code::Place;
 use f77_facts::entries::{Entry, are_covered, entry_at};
@@ -28,13 +27,12 @@ pub struct Visit {
     pub side: Side,
 }
 
-/// What a walk of the program from one cut comes to before the next: by statement, the visits there; and what is known
-/// where it comes to a cut.
+/// What a walk of the program from one cut comes to before the next, and what is known where it comes to a cut.
 #[derive(Drop)]
 pub struct Visits {
     pub atoms: Atoms,
     pub samples: Samples,
-    pub at: Vec<Vec<Visit>>,
+    pub list: Vec<Visit>,
     pub arrivals: Vec<Entry>,
 }
 
@@ -42,25 +40,6 @@ pub struct Visits {
 #[derive(Drop)]
 pub struct Tour {
     pub each: Vec<Visits>,
-}
-
-/// The number of the statement of a place.
-fn statement_of(place: Place) -> usize
-    ensures { result ≡ site place }
-{
-    match place {
-        Place::Execute(i) | Place::Increment(i) => i,
-    }
-}
-
-/// Notes a visit.
-fn note(at: &mut Vec<Vec<Visit>>, visit: Visit) -> Result<(), Halt>
-    ensures { IfOk result (λ _. IsNotedAs visit at.old.items at.new.items) }
-{
-    let i = statement_of(visit.side.place);
-    unless_unknown(i < at.len())?;
-    at[i].push(visit)?;
-    Ok(())
 }
 
 /// Adds the visit on one of the two ways.
@@ -108,19 +87,20 @@ impl Evaluator {
         cuts: &[Place],
         visit: Visit,
         todo: &mut Vec<Visit>,
-        at: &mut Vec<Vec<Visit>>,
+        list: &mut Vec<Visit>,
         arrivals: &mut Vec<Entry>,
     ) -> Result<(), Halt>
         ensures gives { IfOk result (λ _. GivesWayAlone self.new.atoms statements.now cuts.now visit
-            todo.old.items todo.new.items at.old.items at.new.items arrivals.old.items arrivals.new.items) }
+            todo.old.items todo.new.items list.old.items list.new.items arrivals.old.items arrivals.new.items) }
         ensures extends { Extends self.old.atoms self.new.atoms }
     {
         match self.step_from(&visit.path, true, &visit.side, statements) {
             Ok((step, side)) => {
+                list.push(visit)?;
                 if step == Step::Moves {
                     self.arrive(cuts, side, todo, arrivals)?;
                 }
-                note(at, visit)
+                Ok(())
             }
             Err(halt) => {
                 if let Some(split) = self.split_of(halt, &visit.path)? {
@@ -139,11 +119,11 @@ impl Evaluator {
         cuts: &[Place],
         first: Visit,
         work: &mut u64,
-        at: &mut Vec<Vec<Visit>>,
+        list: &mut Vec<Visit>,
         arrivals: &mut Vec<Entry>,
     ) -> Result<(), Halt>
         ensures walks { IfOk result (λ _.
-            WalksOn self.new.atoms statements.now cuts.now first at.new.items arrivals.new.items) }
+            WalksOn self.new.atoms statements.now cuts.now first list.new.items arrivals.new.items) }
         ensures extends { Extends self.old.atoms self.new.atoms }
     {
         let mut todo = Vec::new(self.alloc);
@@ -153,7 +133,7 @@ impl Evaluator {
                 return Ok(());
             };
             *work = work.saturating_sub(self.samples.cost(&visit.path, statements.len()));
-            self.step_alone(statements, cuts, visit, &mut todo, at, arrivals)?;
+            self.step_alone(statements, cuts, visit, &mut todo, list, arrivals)?;
         }
         Err(Halt::Unknown)
     }
@@ -161,17 +141,6 @@ impl Evaluator {
 
 /// To begin a walk with so many statements costs one unit.
 const STATEMENTS: u64 = 8;
-
-/// A list without visits for each statement.
-fn no_visits(alloc: Global, count: usize) -> Result<Vec<Vec<Visit>>, AllocError>
-    ensures { IfOk result (λ at. length at.items ≡ count) }
-{
-    let mut at = Vec::with_capacity(alloc, count)?;
-    for _ in 0..count {
-        at.push(Vec::new(alloc))?;
-    }
-    Ok(at)
-}
 
 /// What a walk of the program from an entry comes to.
 fn visits_from(
@@ -187,7 +156,7 @@ fn visits_from(
     unless_unknown(entry.loops.len() == statements.len())?;
     *work = work.saturating_sub(statements.len() as u64 / STATEMENTS);
     let samples = first_samples(alloc, &entry.facts, statements.len(), seeks)?;
-    let mut at = no_visits(alloc, statements.len())?;
+    let mut list = Vec::new(alloc);
     let facts = entry.facts.to_vec(alloc)?;
     let table = new_table(alloc);
     let mut evaluator = Evaluator {
@@ -199,13 +168,13 @@ fn visits_from(
     };
     let first = evaluator.first_visit(statements.len(), entry.place, &entry.loops)?;
     let mut arrivals = Vec::new(alloc);
-    evaluator.walk_alone(statements, cuts, first, work, &mut at, &mut arrivals)?;
+    evaluator.walk_alone(statements, cuts, first, work, &mut list, &mut arrivals)?;
     unless_unknown(is_inside(&entry.facts, &evaluator.atoms.facts))?;
     law_of_atoms(&evaluator.atoms.table);
     Ok(Visits {
         atoms: evaluator.atoms,
         samples: evaluator.samples,
-        at,
+        list,
         arrivals,
     })
 }

@@ -1,33 +1,105 @@
 //! The walk of a program and a changed one: pair by pair, each of which gives way to those that its step leads to.
 
-ghost use Rattle.std.specs.Prelude.{◌≡◌, ◌≤ℤ◌, ◌+ℤ◌, negsuc, pos, false, true, IfNone, IfOk, IfSome};
+ghost use Rattle.std.specs.Prelude.{◌≡◌, ◌≤ℤ◌, pos, false, true, IfNone, IfOk};
 ghost use Rattle.f77_actions.specs.declared.finish.Finish.{Finish};
 ghost use Rattle.f77_check.specs.Checked.{CheckedFields};
 ghost use Rattle.f77_terms.specs.Paths.{Holds};
 ghost use Rattle.f77_terms.specs.Terms.{Valuation};
 ghost use Rattle.f77_symbolic.specs.Atoms.{Interprets};
+ghost use Rattle.f77_symbolic.specs.declared.change.Change.{Change};
+ghost use Rattle.f77_symbolic.specs.declared.evaluator.Atoms.{Atoms};
 ghost use Rattle.f77_symbolic.specs.code.Atoms.{Extends};
-ghost use Rattle.f77_symbolic.specs.code.Evaluation.{Always};
+ghost use Rattle.f77_symbolic.specs.code.Evaluation.{Always, IsOnWay};
 ghost use Rattle.f77_symbolic.specs.Memory.{AreInside, Start};
-ghost use Rattle.f77_symbolic.specs.code.Pairs.{AreSettled, EndsSo, GivesWay, IsReady, IsThere, RestsOn};
+ghost use Rattle.f77_symbolic.specs.code.Pairs.{AreSettled, EndsSo, GivesWay, IsPairOn, IsReady, IsThere, RestsOn};
 ghost use Rattle.f77_symbolic.specs.Sides.{state_of};
 ghost use Rattle.f77_symbolic.specs.code.Sides.{IsEndOf};
 
 use crate::change::Change;
 use crate::evaluator::Evaluator;
 use crate::halt::{Halt, Split, is_shown, unless_unknown};
-use crate::pairs::{Pair, split_pair};
 use crate::samples::Sign;
 use crate::sides::{Side, Step, copied_side};
 use f77_actions::{Action, Resolved};
 use f77_code::Place;
-use f77_terms::paths::{Path, new_path, refuted};
+use f77_terms::copying::copied_path;
+use f77_terms::knowing::know_unequal;
+use f77_terms::paths::{Path, add_below, add_equal, new_path, refuted, settle};
 use f77_terms::terms::Term;
 use f77_tree::Shared;
+use std::alloc::{AllocError, Global};
 use std::mem;
 
 /// The changed program may be so many steps behind at most.
 const MOST_SPARE: i64 = 100;
+
+/// A state of the program, and one of the changed program, which is to follow it.
+#[derive(Drop)]
+pub struct Pair {
+    pub path: Path,
+    pub left: Side,
+    pub right: Side,
+    /// The steps that the program made, less those of the changed program.
+    pub credit: i64,
+    /// The program made no step yet.
+    pub fresh: bool,
+}
+
+/// Adds to the path that it is on one of the two ways.
+fn add_way(alloc: Global, path: &mut Path, split: &Split, first: bool) -> Result<(), AllocError>
+    ensures { IfOk result (λ _. (v : Valuation) → Holds v path.old → IsOnWay v split.now first → Holds v path.new) }
+{
+    match split {
+        Split::Sign(term) if first => add_below(alloc, path, 1, term, 1),
+        Split::Sign(term) => add_below(alloc, path, -1, term, 0),
+        Split::Zero(term) if first => add_equal(alloc, path, term),
+        Split::Zero(term) => know_unequal(alloc, path, term),
+    }
+}
+
+/// The path on one of the two ways.
+pub(crate) fn path_on(
+    alloc: Global,
+    path: &Path,
+    split: &Split,
+    first: bool,
+) -> Result<Path, AllocError>
+    ensures { IfOk result (λ on. (v : Valuation) → Holds v path.now → IsOnWay v split.now first → Holds v on) }
+{
+    let mut on = copied_path(alloc, path)?;
+    add_way(alloc, &mut on, split, first)?;
+    settle(&mut on);
+    Ok(on)
+}
+
+/// The pair on one of the two ways.
+fn pair_on(alloc: Global, pair: &Pair, split: &Split, first: bool) -> Result<Pair, AllocError>
+    ensures { IfOk result (λ on. IsPairOn split.now first pair.now on) }
+{
+    Ok(Pair {
+        path: path_on(alloc, &pair.path, split, first)?,
+        left: copied_side(alloc, &pair.left)?,
+        right: copied_side(alloc, &pair.right)?,
+        credit: pair.credit,
+        fresh: pair.fresh,
+    })
+}
+
+/// The pair gives way to the same on each of the two ways.
+pub(crate) fn split_pair(
+    alloc: Global,
+    pair: &Pair,
+    split: &Split,
+    todo: &mut Vec<Pair>,
+) -> Result<(), AllocError>
+    ensures { IfOk result (λ _. (atoms : Atoms) (change : Change)
+        → GivesWay atoms change todo.old.items todo.new.items pair.now) }
+{
+    let one = pair_on(alloc, pair, split, true)?;
+    todo.push(one)?;
+    let other = pair_on(alloc, pair, split, false)?;
+    Ok(todo.push(other)?)
+}
 
 /// Where a place stands in the text: that of a DO that is incremented behind its last statement, and RETURN and STOP
 /// behind all.
@@ -212,17 +284,6 @@ impl Evaluator {
         };
         self.look_for(term, one)?;
         self.look_for(term, other)
-    }
-
-    /// A sample with this sign of a term is looked for, if there is none.
-    fn look_for(&mut self, term: &Term, sign: Sign) -> Result<(), Halt>
-        ensures atoms { self.new.atoms ≡ self.old.atoms }
-    {
-        if !self.samples.show(1, term, 0, sign) {
-            self.samples
-                .mend(self.alloc, &self.path, &self.atoms.table, term, sign)?;
-        }
-        Ok(())
     }
 
     /// A pair gives way to those that its next step leads to, or to the two into which it is split. Where nothing is

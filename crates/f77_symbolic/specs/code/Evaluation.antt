@@ -10,7 +10,7 @@ use Rattle.f77_code.specs.Moves.{Cells}
 use Rattle.f77_terms.specs.Paths.{Holds}
 use Rattle.f77_terms.specs.Terms.{Valuation, sum_value}
 use Rattle.f77_terms.specs.declared.terms.Term.{Term}
-use Rattle.f77_symbolic.specs.declared.division.Division.{Division}
+use Rattle.f77_symbolic.specs.declared.arithmetic.Division.{Division}
 use Rattle.f77_symbolic.specs.declared.evaluator.Evaluator.{Evaluator}
 use Rattle.f77_symbolic.specs.declared.halt.Split.{Split}
 use Rattle.f77_symbolic.specs.declared.halt.Split.TheVariants as split

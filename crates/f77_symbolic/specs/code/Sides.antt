@@ -5,7 +5,7 @@ use Rattle.f77_actions.specs.declared.action.Action.{Action}
 use Rattle.f77_actions.specs.declared.finish.Finish.{Finish}
 use Rattle.f77_actions.specs.declared.finish.Finish.TheVariants.{Returned, Stopped, Failed}
 use Rattle.f77_actions.specs.declared.resolved.Resolved.{Resolved}
-use Rattle.f77_code.specs.Moves.{Cells, TurnList, state, Move, Goes, Ends, acted}
+use Rattle.f77_code.specs.Moves.{Cells, TurnList, Move, Goes, Ends, acted}
 use Rattle.f77_terms.specs.Paths.{Holds}
 use Rattle.f77_terms.specs.Terms.{Valuation}
 use Rattle.f77_terms.specs.declared.paths.Path.{Path}

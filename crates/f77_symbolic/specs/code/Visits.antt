@@ -1,10 +1,9 @@
 -- What the walk of the program alone comes to.
 -- Private functions and proofs alone cite what stands here.
 use Rattle.std.specs.Prelude.{◌≡◌, ◌⊎◌, ◌<◌, ◌++◌, ◌∷◌, []}
-use Rattle.std.specs.Prelude.{ℕ, pos, Bool, true, false, Any, List, Option, Some}
-use Rattle.std.specs.Prelude.{length, option_map, Vec}
+use Rattle.std.specs.Prelude.{ℕ, pos, Bool, true, false, All, Any, List, Option, Some}
+use Rattle.std.specs.Prelude.{length, option_map}
 use Rattle.std.specs.List.{list_any}
-use Rattle.std.specs.declared.alloc.Global.{Global}
 use Rattle.f77_actions.specs.declared.resolved.Resolved.{Resolved}
 use Rattle.f77_code.specs.declared.control.Place.{Place}
 use Rattle.f77_code.specs.Moves.{State, TurnList, Goes, moved, turn_at}
@@ -21,7 +20,7 @@ use Rattle.f77_symbolic.specs.declared.evaluator.Evaluator.{Evaluator}
 use Rattle.f77_symbolic.specs.declared.sides.Side.{Side}
 use Rattle.f77_symbolic.specs.declared.sides.SymbolicTurn.{SymbolicTurn}
 use Rattle.f77_symbolic.specs.declared.halt.Split.{Split}
-use Rattle.f77_symbolic.specs.declared.pairs.Pair.{Pair}
+use Rattle.f77_symbolic.specs.declared.walking.Pair.{Pair}
 use Rattle.f77_symbolic.specs.declared.visiting.Visit.{Visit}
 use Rattle.f77_symbolic.specs.declared.change.Change.{Change}
 use Rattle.f77_symbolic.specs.Machines.{IsAtSite, IsFirst, machine, together}
@@ -87,11 +86,6 @@ abbrev pub IsAdded : Visit → Split → Bool → List Visit → List Visit → 
 IsAdded visit split way old new = (on : Visit) × (new ≡ old ++ (on ∷ [])) × ((v : Valuation) → Holds v visit.path
     → IsOnWay v split way → Holds v on.path) × IsSameSide visit.side on.side
 
--- the visit is noted, and all that was stays so
-abbrev pub IsNotedAs : Visit → List (Vec Visit Global) → List (Vec Visit Global) → Type 0
-IsNotedAs visit old new = (start : Start) (v : Valuation) (s : State)
-    → (IsVisit start v s visit → IsVisitNoted new start v s) × (IsVisitNoted old start v s → IsVisitNoted new start v s)
-
 -- the entry says what is known of the states of the side, where the path of the evaluator holds
 abbrev pub IsKnownAs : Evaluator → Side → Entry → Type 0
 IsKnownAs evaluator side entry = (start : Start) (v : Valuation) → Interprets evaluator.atoms start v
@@ -107,16 +101,16 @@ Arrives places evaluator side old new arrivals later =
 
 -- when the visit has given way to others, what was to be noted and what was to be met stays found
 abbrev pub GivesWayAlone : Atoms → List Resolved → List Place → Visit → List Visit → List Visit
-    → List (Vec Visit Global) → List (Vec Visit Global) → List Entry → List Entry → Type 0
-GivesWayAlone atoms statements places visit old new at after arrivals later = Whichever atoms (λ start v. (s : State)
+    → List Visit → List Visit → List Entry → List Entry → Type 0
+GivesWayAlone atoms statements places visit old new noted after arrivals later = Whichever atoms (λ start v. (s : State)
     → StaysFound (IsBehind statements places start v s) visit old new
-    (IsVisitNoted at start v s) (IsVisitNoted after start v s)
+    (IsVisitNoted noted start v s) (IsVisitNoted after start v s)
     × StaysFound (IsAhead statements places start v s) visit old new (IsMet arrivals s) (IsMet later s))
 
 -- all to which steps lead from the visit is noted, and what is known at cuts then is among the arrivals
-abbrev pub WalksOn : Atoms → List Resolved → List Place → Visit → List (Vec Visit Global) → List Entry → Type 0
-WalksOn atoms statements places first at arrivals = Whichever atoms (λ start v. (s : State)
-    → (IsBehind statements places start v s first → IsVisitNoted at start v s)
+abbrev pub WalksOn : Atoms → List Resolved → List Place → Visit → List Visit → List Entry → Type 0
+WalksOn atoms statements places first noted arrivals = Whichever atoms (λ start v. (s : State)
+    → (IsBehind statements places start v s first → IsVisitNoted noted start v s)
     × (IsAhead statements places start v s first → IsMet arrivals s))
 
 -- the pair in which both programs are where the visit is
@@ -126,6 +120,10 @@ pub record IsPairOf (visit : Visit) (pair : Pair) : Type 0 where
   pub right : IsSameSide visit.side pair.right
   pub credit : pair.credit ≡ pos 0
   pub fresh : pair.fresh ≡ true
+
+-- there is a pair of each visit to the statement
+abbrev pub HavePairs : ℕ → List Pair → List Visit → Type 0
+HavePairs place pairs visits = All (λ visit. site visit.side.place ≡ place → Any (IsPairOf visit) pairs) visits
 
 -- the changed program follows the program from each state of the entry's walk that is at the changed statement
 abbrev pub FollowsFrom : CheckedFields → List Place → Entry → Change → ℕ → Type 0

@@ -2,7 +2,7 @@ use Rattle.std.proofs.Common.{arith, subst}
 use Rattle.std.proofs.lemmas.Int.{ints}
 use Rattle.std.specs.Prelude.{Option}
 use Rattle.f77_terms.proofs.Values.{ok_then}
-use Rattle.f77_symbolic.specs.declared.pairs.Pair.{Pair}
+use Rattle.f77_symbolic.specs.declared.walking.Pair.{Pair}
 use Rattle.f77_symbolic.specs.code.Pairs.{IsWithin, RestsOn}
 use Rattle.f77_symbolic.proofs.evaluator.Evaluator.both_turn.Goals as goal
 

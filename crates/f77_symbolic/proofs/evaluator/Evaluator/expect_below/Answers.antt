@@ -1,8 +1,7 @@
-use Rattle.std.proofs.Common.{inl, inr, refl, subst, sym, ◌+ℤ◌, ◌*ℤ◌, ◌≤ℤ◌, pos, w64}
+use Rattle.std.proofs.Common.{inl, inr, refl, subst, sym, w64}
 use Rattle.std.proofs.lemmas.Int.{to_z-of_z}
 use Rattle.f77_terms.proofs.Values.{ok_then}
 use Rattle.f77_terms.specs.Paths.{Holds}
-use Rattle.f77_terms.specs.Terms.{sum_value}
 use Rattle.f77_symbolic.proofs.evaluator.Evaluator.expect_below.Goals as goal
 use mir.Val.{SFits}
 
@@ -13,8 +12,8 @@ returns-then-not-self-clause-expects c =
     let bounded = simp to_z-of_z at c.in_ok-is_bounded.ensures in
     ok_then c.unless_unknown-then-not-self.result c.unless_unknown-then-not-self.ensures
     (λ x shown v holds.
-    let there = subst (λ path. Holds v path) (sym c.seek_above.ensures.path) holds in
-    ((λ below. record { holds = there; own = c.seek_above.ensures.own }), inr (bounded shown v there)))
+    let there = subst (λ path. Holds v path) (sym c.seek.ensures.path) holds in
+    ((λ below. record { holds = there; own = c.seek.ensures.own }), inr (bounded shown v there)))
 
 pub returns-clause-expects : goal.returns-clause-expects
 returns-clause-expects c v holds =

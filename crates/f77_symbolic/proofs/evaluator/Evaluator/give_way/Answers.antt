@@ -4,7 +4,7 @@ use Rattle.std.proofs.lemmas.List.Elements.{All-pop}
 use Rattle.f77_terms.specs.Paths.{Holds}
 use Rattle.f77_terms.specs.Terms.{Valuation}
 use Rattle.f77_symbolic.specs.declared.halt.Split.{Split}
-use Rattle.f77_symbolic.specs.declared.pairs.Pair.{Pair}
+use Rattle.f77_symbolic.specs.declared.walking.Pair.{Pair}
 use Rattle.f77_symbolic.specs.code.Pairs.{IsSettled, RestsOn}
 use Rattle.f77_symbolic.proofs.evaluator.Evaluator.give_way.Goals as goal
 

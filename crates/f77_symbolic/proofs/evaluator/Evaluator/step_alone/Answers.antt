@@ -3,7 +3,6 @@ use Rattle.std.specs.Prelude.{IfNone, Vec}
 use Rattle.std.specs.declared.alloc.Global.{Global}
 use denote.Enum.Bare.{sameb}
 use Rattle.f77_facts.specs.declared.entries.Entry.{Entry}
-use Rattle.f77_terms.proofs.Values.{ok_then}
 use Rattle.f77_terms.specs.Paths.{Holds}
 use Rattle.f77_terms.specs.Terms.{Valuation}
 use Rattle.f77_symbolic.specs.contracts.sides.Step.{the_type}
@@ -32,15 +31,13 @@ returns-in_err-add_on-in-Err-2-clause-extends c start v is = c.in-Err.ensures.ex
 
 pub returns-after-eq-clause-gives : goal.returns-after-eq-clause-gives
 returns-after-eq-clause-gives c =
-    ok_then c.note.result c.note.ensures
-    (λ done noted.
     gives_on c.args.statements.now c.args.cuts.now c.if-eq.self.atoms c.args.visit c.step_from.new.self c.in-Ok.side c.in-Ok.step
-    c.args.todo.now.items c.if-eq.todo.items c.args.at.now.items c.note.new.at.items c.args.arrivals.now.items c.if-eq.arrivals.items c.in-Ok.ensures.steps
+    c.args.todo.now.items c.if-eq.todo.items c.args.list.now.items c.push.new.self.items c.args.arrivals.now.items c.if-eq.arrivals.items c.in-Ok.ensures.steps
     (elim c.if-eq.branch [
       | then-eq+in_ok-arrive-in-Ok w ↦ subst (λ (e : Evaluator). Extends c.step_from.new.self.atoms e.atoms) (sym w.self-is) w.arrive.ensures.extends
       | else-eq w ↦ subst (λ (e : Evaluator). Extends c.step_from.new.self.atoms e.atoms) (sym w.self-is) (λ start v is. is)
     ])
-    noted
+    c.in_ok-push-in-Ok.ensures.items
     (elim c.if-eq.branch [
       | then-eq+in_ok-arrive-in-Ok w ↦
           inl (subst (λ (list : Vec Visit Global). Arrives c.args.cuts.now c.step_from.new.self c.in-Ok.side c.args.todo.now.items list.items
@@ -53,7 +50,7 @@ returns-after-eq-clause-gives c =
             ap (λ (list : Vec Visit Global). list.items) w.todo-is,
             ap (λ (list : Vec Entry Global). list.items) w.arrivals-is,
           )
-    ]))
+    ])
 
 pub returns-after-eq-clause-extends : goal.returns-after-eq-clause-extends
 returns-after-eq-clause-extends c =
@@ -64,24 +61,24 @@ returns-after-eq-clause-extends c =
       | else-eq w ↦ subst (λ (e : Evaluator). Extends c.args.self.now.atoms e.atoms) (sym w.self-is) c.in-Ok.ensures.extends
     ]
 
-pub returns-after-branch-3-clause-gives : goal.returns-after-branch-3-clause-gives
-returns-after-branch-3-clause-gives c =
-    elim c.match-branch-3.branch [
+pub returns-after-branch-4-clause-gives : goal.returns-after-branch-4-clause-gives
+returns-after-branch-4-clause-gives c =
+    elim c.match-branch-4.branch [
       | in-Some+in_ok-add_on-in-Err+in_ok-add_on-in-Err-2+in-Sign-1 w ↦
           gives_both c.args.statements.now c.args.cuts.now c.split_of.new.self.atoms c.args.visit w.in-Some.split c.args.todo.now.items w.add_on.new.todo.items
-          c.match-branch-3.todo.items c.args.at.now.items c.args.arrivals.now.items w.in_ok-add_on-in-Err.ensures
+          c.match-branch-4.todo.items c.args.list.now.items c.args.arrivals.now.items w.in_ok-add_on-in-Err.ensures
           (subst (λ (list : Vec Visit Global). IsAdded c.args.visit w.in-Some.split false w.add_on.new.todo.items list.items) (sym w.todo-is)
           w.in_ok-add_on-in-Err-2.ensures)
       | in-Some+in_ok-add_on-in-Err+in_ok-add_on-in-Err-2+in-Zero-1 w ↦
           gives_both c.args.statements.now c.args.cuts.now c.split_of.new.self.atoms c.args.visit w.in-Some.split c.args.todo.now.items w.add_on.new.todo.items
-          c.match-branch-3.todo.items c.args.at.now.items c.args.arrivals.now.items w.in_ok-add_on-in-Err.ensures
+          c.match-branch-4.todo.items c.args.list.now.items c.args.arrivals.now.items w.in_ok-add_on-in-Err.ensures
           (subst (λ (list : Vec Visit Global). IsAdded c.args.visit w.in-Some.split false w.add_on.new.todo.items list.items) (sym w.todo-is)
           w.in_ok-add_on-in-Err-2.ensures)
       | in_default w ↦
-          gives_none c.args.statements.now c.args.cuts.now c.split_of.new.self.atoms c.args.visit c.args.todo.now.items c.match-branch-3.todo.items c.args.at.now.items c.args.arrivals.now.items
+          gives_none c.args.statements.now c.args.cuts.now c.split_of.new.self.atoms c.args.visit c.args.todo.now.items c.match-branch-4.todo.items c.args.list.now.items c.args.arrivals.now.items
           (subst (λ o. IfNone o ((v : Valuation) → ¬ (Holds v c.args.visit.path))) w.in_default.is c.in_ok-split-in-Err.ensures.refuted)
           (ap (λ (list : Vec Visit Global). list.items) w.todo-is)
     ]
 
-pub returns-after-branch-3-clause-extends : goal.returns-after-branch-3-clause-extends
-returns-after-branch-3-clause-extends c start v is = c.in-Err.ensures.extends start v (c.split_of.ensures.extends start v is)
+pub returns-after-branch-4-clause-extends : goal.returns-after-branch-4-clause-extends
+returns-after-branch-4-clause-extends c start v is = c.in-Err.ensures.extends start v (c.split_of.ensures.extends start v is)

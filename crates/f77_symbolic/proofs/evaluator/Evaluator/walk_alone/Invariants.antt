@@ -4,7 +4,7 @@ use Rattle.f77_symbolic.proofs.evaluator.Evaluator.walk_alone.Given as goal
 
 abbrev pub invariant-loop-work : goal.invariant-loop-work
 invariant-loop-work l = record {
-  found : FindsAll l.statements l.cuts l.self.atoms l.fn.first l.todo.items l.at.items l.arrivals.items;
+  found : FindsAll l.statements l.cuts l.self.atoms l.fn.first l.todo.items l.list.items l.arrivals.items;
   extends : Extends l.fn.self.atoms l.self.atoms;
 }
 

@@ -1,22 +1,12 @@
-use Rattle.std.proofs.Common.{length, refl, arith, subst, pos}
-use Rattle.std.specs.Prelude.{All, Any, ◌≤ℤ◌}
+use Rattle.std.proofs.Common.{length, arith, subst, pos}
+use Rattle.std.specs.Prelude.{◌≤ℤ◌}
 use Rattle.std.proofs.lemmas.Int.{ints}
-use Rattle.std.proofs.lemmas.Option.{slice_get_read}
 use Rattle.std.proofs.lemmas.Result.{IfOk-at_ok}
 use Rattle.f77_facts.specs.Facts.{Lies}
-use Rattle.f77_symbolic.specs.code.Visits.{IsPairOf}
-use Rattle.f77_symbolic.proofs.Chained.{follows_noted, none_empty, none_past, noted_from}
+use Rattle.f77_symbolic.specs.code.Visits.{HavePairs}
+use Rattle.f77_symbolic.proofs.Chained.{follows_noted, none_there, noted_from}
 use Rattle.f77_symbolic.proofs.Starting.{interprets_there, numbers_of, start_of}
 use Rattle.f77_symbolic.proofs.visiting.Visits.steps_behind.Goals as goal
-
-pub returns-then-change-len-clause-follows : goal.returns-then-change-len-clause-follows
-returns-then-change-len-clause-follows c spare checked places entry within are first s n ready of leads here =
-    let count = length checked.statements in
-    let facts = c.args.self.now.atoms.facts.items in
-    let law = c.law_of_atoms.ensures (numbers_of first count facts) in
-    let interprets = interprets_there first count c.args.self.now.atoms law.0 (are.facts first.cells of.inside) law.1 in
-    let noted = noted_from checked.statements places entry c.args.self.now first s n facts law.0 are of leads interprets in
-    absurd (none_past c.args.self.now.at.items c.args.change.now.place (start_of first count facts) law.0 s noted here (omega arith))
 
 pub returns-then-len-eq0-clause-follows : goal.returns-then-len-eq0-clause-follows
 returns-then-len-eq0-clause-follows c spare checked places entry within are first s n ready of leads here =
@@ -25,10 +15,10 @@ returns-then-len-eq0-clause-follows c spare checked places entry within are firs
     let law = c.law_of_atoms.ensures (numbers_of first count facts) in
     let interprets = interprets_there first count c.args.self.now.atoms law.0 (are.facts first.cells of.inside) law.1 in
     let noted = noted_from checked.statements places entry c.args.self.now first s n facts law.0 are of leads interprets in
-    let there = slice_get_read c.args.self.now.at.items (length c.args.self.now.at.items) c.args.change.now.place c.index-visits.result.now refl
-    (omega arith) c.index-visits.ensures in
+    let pairs = subst (HavePairs c.args.change.now.place c.in_ok-todo.todo.items) c.deref.ensures.value c.in_ok-todo.ensures in
     absurd
-    (none_empty c.args.self.now.at.items c.args.change.now.place c.index-visits.result.now (start_of first count facts) law.0 s noted here there (omega arith))
+    (none_there c.args.self.now.list.items c.in_ok-todo.todo.items c.args.change.now.place (start_of first count facts) law.0 s pairs noted here
+    (omega arith))
 
 pub returns-clause-follows : goal.returns-clause-follows
 returns-clause-follows c spare checked places entry within are first s n ready of leads here =
@@ -41,9 +31,8 @@ returns-clause-follows c spare checked places entry within are first s n ready o
     let interprets = interprets_there first count c.follow-followed.new.self.atoms law.0 (lies first.cells (are.facts first.cells of.inside)) law.1 in
     let old = c.in_ok-evaluator.ensures (start_of first count facts) law.0 (c.follow-followed.ensures.extends (start_of first count facts) law.0 interprets) in
     let noted = noted_from checked.statements places entry c.args.self.now first s n facts law.0 are of leads old in
-    let there = slice_get_read c.args.self.now.at.items (length c.args.self.now.at.items) c.args.change.now.place c.index-visits.result.now refl
-    (omega arith) c.index-visits.ensures in
+    let pairs = subst (HavePairs c.args.change.now.place c.in_ok-todo.todo.items) c.deref.ensures.value c.in_ok-todo.ensures in
     let most : c.in_ok-behind.behind ≤ℤ pos spare = omega (arith, ints, within) in
-    follows_noted checked c.args.change.now spare places c.follow-followed.new.self.atoms c.in_ok-behind.behind c.index-visits.result.now c.in_ok-todo.todo.items
-    c.args.self.now.at.items (start_of first count facts) law.0 s ready most interprets (IfOk-at_ok _ c.in_ok-behind.was c.follow-followed.ensures.settled)
-    (subst (All (λ visit. Any (IsPairOf visit) c.in_ok-todo.todo.items)) c.deref.ensures.value c.in_ok-todo.ensures) there here noted
+    follows_noted checked c.args.change.now spare places c.follow-followed.new.self.atoms c.in_ok-behind.behind c.args.self.now.list.items
+    c.in_ok-todo.todo.items (start_of first count facts) law.0 s ready most interprets
+    (IfOk-at_ok _ c.in_ok-behind.was c.follow-followed.ensures.settled) pairs noted here

@@ -1,5 +1,5 @@
 use Rattle.f77_symbolic.proofs.Settling.{split_gives}
-use Rattle.f77_symbolic.proofs.pairs.split_pair.Goals as goal
+use Rattle.f77_symbolic.proofs.walking.split_pair.Goals as goal
 
 pub returns : goal.returns
 returns c atoms change =

@@ -1,0 +1,6 @@
+use Rattle.std.proofs.Common.{take}
+use Rattle.f77_symbolic.specs.code.Visits.{HavePairs}
+use Rattle.f77_symbolic.proofs.equivalent.pairs_at.Given as goal
+
+abbrev pub invariant-loop-visit : goal.invariant-loop-visit
+invariant-loop-visit l = HavePairs l.place l.pairs.items (take l.visit-index l.visits)
