@@ -14,6 +14,7 @@ pub mod LabelTables
 pub mod Jumps
 pub mod BlockScan
 pub mod BlockTables
+pub mod Heads
 pub mod LoopLists
 pub mod Prefixes
 pub mod LoopTables

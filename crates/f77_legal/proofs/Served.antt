@@ -59,6 +59,7 @@ module _ (p q : List LineFields) (same : HaveOneFrame p q) where
     entries = is.entries ∙ length_same p q same;
     terminals = λ d. is.terminals d ∙ terminal_same p q same d;
     branch_ends = λ i k. is.branch_ends i k ∙ branch_holds_same p q same i k;
+    heads = is.heads;
   }
 
   pub tables_serve : (tables : Tables) → Serve tables p → Serve tables q

@@ -7,7 +7,7 @@
 ghost use Rattle.std.specs.Prelude.{◌≡◌, ◌&&◌, ◌||◌, not, List, IfOk};
 ghost use Rattle.f77_program.specs.Program.{LineFields};
 ghost use Rattle.f77_legal.specs.Enclosing as enclosing;
-ghost use Rattle.f77_legal.specs.LoopTable.{IsRangeTable};
+ghost use Rattle.f77_legal.specs.LoopTable.{IsRangeTable, is_head, heads_of};
 ghost use Rattle.f77_legal.specs.Loops as loops;
 ghost use Rattle.f77_legal.specs.code.LoopTable as table;
 
@@ -19,9 +19,38 @@ use std::alloc::{AllocError, Global};
 pub struct Ranges {
     pub(crate) terminals: Vec<Option<usize>>,
     pub(crate) branch_ends: Vec<Option<usize>>,
+    /// Where DOs and branches begin, in order.
+    pub(crate) heads: Vec<usize>,
+}
+
+/// Whether a DO or a branch begins at `d`.
+fn is_head(terminals: &[Option<usize>], branch_ends: &[Option<usize>], d: usize) -> bool
+    ensures { result ≡ is_head terminals.now branch_ends.now d }
+{
+    end_in(terminals, d).is_some() || end_in(branch_ends, d).is_some()
 }
 
 impl Ranges {
+    /// The table of these ends.
+    pub(crate) fn of(
+        alloc: Global,
+        terminals: Vec<Option<usize>>,
+        branch_ends: Vec<Option<usize>>,
+    ) -> Result<Ranges, AllocError>
+        ensures terminals { IfOk result (λ ranges. ranges.terminals ≡ terminals) }
+        ensures branch_ends { IfOk result (λ ranges. ranges.branch_ends ≡ branch_ends) }
+        ensures heads { IfOk result (λ ranges. ranges.heads.items ≡ heads_of ranges) }
+    {
+        let heads: Vec<usize> = (0..terminals.len())
+            .filter(|d| is_head(&terminals, &branch_ends, *d))
+            .collect(alloc)?;
+        Ok(Ranges {
+            terminals,
+            branch_ends,
+            heads,
+        })
+    }
+
     /// The terminal statement of the DO with this number (11.10). None if it is no DO.
     pub fn terminal(&self, d: usize) -> Option<usize>
         ensures { (program : List LineFields) → IsRangeTable self.now program → result ≡ loops.terminal program d }
@@ -73,7 +102,7 @@ impl Ranges {
         ensures { (program : List LineFields)
             → IsRangeTable self.now program → result ≡ loops.ends_outside program d terminal }
     {
-        terminal <= d || (0..self.terminals.len()).any(|e| self.separates(d, terminal, e))
+        terminal <= d || self.heads.iter().any(|e| self.separates(d, terminal, *e))
     }
 
     /// Whether the DO `d` ends before it begins, in another branch, or outside of a range that holds it (11.10).
@@ -91,9 +120,8 @@ impl Ranges {
         ensures left { IfOk result (λ left. (program : List LineFields)
             → IsRangeTable self.now program → left.items ≡ loops.left_by program i j) }
     {
-        let left: Vec<usize> = (0..self.terminals.len())
-            .filter(|d| self.is_left(i, j, *d))
-            .collect(alloc)?;
+        let heads = self.heads.iter().copied();
+        let left: Vec<usize> = heads.filter(|d| self.is_left(i, j, *d)).collect(alloc)?;
         Ok(left)
     }
 
@@ -103,9 +131,8 @@ impl Ranges {
             (λ ends. (program : List LineFields) → IsRangeTable self.now program → loops.AreNested program
             → ends.items ≡ loops.loops_ending program t) }
     {
-        let mut ends: Vec<usize> = (0..self.terminals.len())
-            .filter(|d| self.ends_at(t, *d))
-            .collect(alloc)?;
+        let heads = self.heads.iter().copied();
+        let mut ends: Vec<usize> = heads.filter(|d| self.ends_at(t, *d)).collect(alloc)?;
         ends.reverse();
         Ok(ends)
     }
@@ -136,11 +163,11 @@ impl Ranges {
         ensures { (program : List LineFields) → IsRangeTable self.now program → result ≡ loops.goes_in program i j }
     {
         let mut left = false;
-        for d in 0..self.terminals.len() {
-            if self.enters(left, i, j, d) {
+        for d in &self.heads {
+            if self.enters(left, i, j, *d) {
                 return true;
             }
-            left |= self.leaves(i, j, d);
+            left |= self.leaves(i, j, *d);
         }
         false
     }

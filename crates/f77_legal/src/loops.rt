@@ -53,7 +53,8 @@ fn is_held_with(ranges: &Ranges, lines: &[Shared<Line>], i: usize, name: &Name) 
         → result ≡ list_any (loops.holds_with (map line_of lines.now) i name.now)
         (statement_numbers (map line_of lines.now)) }
 {
-    (0..lines.len()).any(|d| ranges.in_range(d, i) && is_variable_at(lines, name, d))
+    let mut heads = ranges.heads.iter();
+    heads.any(|d| ranges.in_range(*d, i) && is_variable_at(lines, name, *d))
 }
 
 /// Whether `stmt`, as statement `i`, sets the variable of a DO whose range holds it (11.10.5).

@@ -59,10 +59,9 @@ impl Tables {
         let names = Names::of(alloc, lines)?;
         let labels = Labels::of(alloc, lines)?;
         let blocks = Blocks::of(alloc, lines)?;
-        let ranges = Ranges {
-            terminals: terminals(alloc, &labels, lines)?,
-            branch_ends: Vec::from_slice(alloc, &blocks.branch_ends)?,
-        };
+        let terminals = terminals(alloc, &labels, lines)?;
+        let branch_ends = Vec::from_slice(alloc, &blocks.branch_ends)?;
+        let ranges = Ranges::of(alloc, terminals, branch_ends)?;
         Ok(Tables {
             names,
             labels,

@@ -1,9 +1,8 @@
-use Rattle.std.proofs.Common.{◌≡◌, rules, tests, arith, ap, length, reverse, ◌∙◌}
+use Rattle.std.proofs.Common.{◌≡◌, rules, tests, ap, reverse, ◌∙◌}
 use Rattle.std.specs.Prelude.{filter}
-use Rattle.std.specs.List.{range_with_len}
 use Rattle.std.proofs.lemmas.Result.{IfOk-at_ok}
-use Rattle.std.proofs.lemmas.Iterator.{items_from_collect, YieldsList-from_range}
-use Rattle.std.proofs.lemmas.Iterator.Consumers.{YieldsList-from_filter}
+use Rattle.std.proofs.lemmas.Iterator.{items_from_collect, YieldsList-from_slice}
+use Rattle.std.proofs.lemmas.Iterator.Consumers.{YieldsList-from_copied, YieldsList-from_filter}
 use Rattle.f77_legal.specs.code.LoopTable.{ends_at_by_table}
 use Rattle.f77_legal.proofs.LoopTables.{ending_are}
 use Rattle.f77_legal.proofs.enclosing.Ranges.ending.Goals as goal
@@ -13,9 +12,9 @@ returns c = record {
   ends = λ program is nested.
       let ranges = c.args.self.now in
       let test = ends_at_by_table ranges c.args.t in
-      let kept : c.in_ok-ends.ends.items ≡ filter test (range_with_len 0 (length ranges.terminals.items)) =
+      let kept : c.in_ok-ends.ends.items ≡ filter test ranges.heads.items =
       IfOk-at_ok _ c.in_ok-ends.was (items_from_collect c.collect.result c.collect.ensures.ran
-      (YieldsList-from_filter _ test (YieldsList-from_range 0 _ (length ranges.terminals.items) c.filter.ensures.source (omega (arith, c.len.ensures, ranges.terminals.ok.0)))
+      (YieldsList-from_filter _ test (YieldsList-from_copied (YieldsList-from_slice ranges.heads.items cc))
       c.filter.ensures.closure (λ x b q k. search (rules, tests)))) in
       c.reverse.ensures.items ∙ ap reverse kept ∙ ending_are ranges program is c.args.t;
 }

@@ -1,5 +1,5 @@
-use Rattle.std.proofs.Common.{rules, tests, arith, refl, length}
-use Rattle.std.proofs.lemmas.Iterator.{YieldsList-from_range}
+use Rattle.std.proofs.Common.{rules, tests, arith}
+use Rattle.std.proofs.lemmas.Iterator.{YieldsList-from_slice}
 use Rattle.std.proofs.lemmas.Iterator.Search.{any_from_yields_List}
 use Rattle.f77_legal.specs.code.LoopTable.{separates}
 use Rattle.f77_legal.proofs.LoopTables.{outside_behind}
@@ -10,4 +10,4 @@ returns-else-terminal-d c program is =
     let ranges = c.args.self.now in
     outside_behind ranges program is c.args.d c.args.terminal c.any.result (omega (arith, c.if-terminal-d.false))
     (any_from_yields_List (separates ranges c.args.d c.args.terminal) _ _ _ c.any.ensures.ran
-    (YieldsList-from_range 0 _ (length ranges.terminals.items) refl (omega (arith, c.len.ensures, ranges.terminals.ok.0))) (λ x b q k. search (rules, tests)))
+    (YieldsList-from_slice ranges.heads.items cc) (λ x b q k. search (rules, tests)))
