@@ -11,18 +11,20 @@ use Rattle.std.proofs.lemmas.List.Elements.{All-append, All-nil, All-cons}
 use Rattle.mothra_codes.specs.declared.op.Op.{Op}
 use Rattle.mothra_codes.specs.Op.{index}
 use Rattle.mothra_codes.specs.code.Op.{op_at}
+use Rattle.mothra_exchange.specs.Calls.{TakeDid}
 use Rattle.mothra_exchange.specs.Gate.{TakeKept}
 use Rattle.mothra_exchange.specs.Sharing.{IsOver}
 use Rattle.mothra_exchange.specs.View.{look_at}
 use Rattle.mothra_exchange.specs.declared.view.Look.{Look}
 use Rattle.mothra_codes.specs.Ticket.{one_if, ticket, ticket_times}
+use Rattle.mothra_exchange.specs.declared.answer.Take.{Take}
 use Rattle.mothra_exchange.specs.declared.answer.Take.TheVariants.{Finished, Empty, Taken}
 use Rattle.mothra_codes.specs.declared.ticket.Ticket.{Ticket}
 use Rattle.mothra_exchange.specs.declared.view.View.{View}
 use Rattle.mothra_codes.proofs.Operators.{op_at-index, same_op}
 use Rattle.mothra_exchange.proofs.Counting.{times-append}
 use Rattle.mothra_exchange.proofs.Others.{take_only as take_changes}
-use Rattle.mothra_exchange.proofs.Overs.{finished_over}
+use Rattle.mothra_exchange.proofs.Overs.{finished_over, over_takes}
 use Rattle.mothra_ops.specs.Plan.{PlanFields}
 use Rattle.mothra_verdicts.specs.Bench.{BenchFields}
 use Rattle.mothra_bench.specs.Feeding.{AreCounts}
@@ -324,15 +326,30 @@ any_rows X (Err e) x = tt
 same_over : (old new : View) (op : Op) → look_at new (index op) ≡ look_at old (index op) → IsOver old op → IsOver new op
 same_over old new op e over = subst (λ (l : Look). (l.seen.closed ≡ true) × (l.seen.handed ≡ l.seen.offered)) (sym e) over
 
+-- a take of one operator leaves each other one over
+other_over : (C : ℕ) (old new : View) (op : Op) (a : Take) → TakeDid C old op a new → (other : Op) → eqb (index other) (index op) ≡ false → IsOver old other → IsOver new other
+other_over C old new op a did other e over =
+    let ne : other ≢ op = (λ i. true≢false (sym (eq-eqb (index other) (index op) (ap index i)) ∙ e)) in
+    same_over old new other ((take_changes C old op a new did).others other ne).look over
+
 -- after a take that answers Finished the operator is over, and so is each that was over before
 pub still_over : (C : ℕ) (old new : View) (op : Op) → TakeKept C old op Finished new → IsOver new op × ((other : Op) → IsOver old other → IsOver new other)
 still_over C old new op kept = (finished_over C old op new kept, λ other over. by_case (eqb (index other) (index op)) other over refl)
   where
     by_case : (b : Bool) (other : Op) → IsOver old other → eqb (index other) (index op) ≡ b → IsOver new other
     by_case true other over e = subst (IsOver new) (sym (same_op other op (eqb-true (index other) (index op) e))) (finished_over C old op new kept)
-    by_case false other over e =
-        let ne : other ≢ op = (λ i. true≢false (sym (eq-eqb (index other) (index op) (ap index i)) ∙ e)) in
-        same_over old new other ((take_changes C old op Finished new kept).others other ne).look over
+    by_case false other over e = other_over C old new op Finished kept other e over
+
+-- a ticket is taken of no operator that is over
+pub taken_over : (C : ℕ) (old new : View) (op : Op) (t : Ticket) → TakeKept C old op (Taken t) new → (other : Op) → IsOver old other → IsOver new other
+taken_over C old new op t kept other over = by_case (eqb (index other) (index op)) refl
+  where
+    by_case : (b : Bool) → eqb (index other) (index op) ≡ b → IsOver new other
+    by_case true e =
+        let own = subst (IsOver old) (same_op other op (eqb-true (index other) (index op) e)) over in
+        let never : Taken t ≡ Finished = over_takes C old op (Taken t) new kept own in
+        absurd (cc)
+    by_case false e = other_over C old new op (Taken t) kept other e over
 
 -- after one more turn of a round in which each operator was Finished, one more operator is over
 pub all_over : (old new : View) (i : ℕ) → i < 22 → ((op : Op) → index op < i → IsOver old op) → IsOver new (op_at i)

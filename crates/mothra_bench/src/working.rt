@@ -41,7 +41,7 @@ impl Turn {
     }
 }
 
-/// Tries to take a ticket of an operator, and runs its mutant if it got one.
+/// Takes the tickets of an operator that wait, one after another, and runs their mutants.
 fn take_turn<G: Gate, R: Wait>(
     rt: &R,
     alloc: Global,
@@ -63,21 +63,25 @@ fn take_turn<G: Gate, R: Wait>(
     ensures gave_up { result ≡ Turn.GaveUp → (G.may_give_up ≡ true) × IsSome results.new.fault }
     ensures verdicts { verdicts.new ≡ verdicts.old }
 {
-    match gate.take(rt, pass, op) {
-        Take::Finished => Turn::Finished,
-        Take::Empty | Take::Busy => Turn::Idle,
-        Take::Taken(ticket) => {
-            results.run(alloc, verdicts, ticket);
-            Turn::Ran
-        }
-        Take::GaveUp => {
-            results.fail(BenchFault::Stalled);
-            Turn::GaveUp
+    let mut turn = Turn::Idle;
+    for _ in rt.forever() {
+        match gate.take(rt, pass, op) {
+            Take::Finished => return Turn::Finished,
+            Take::Empty | Take::Busy => return turn,
+            Take::Taken(ticket) => {
+                results.run(alloc, verdicts, ticket);
+                turn = Turn::Ran;
+            }
+            Take::GaveUp => {
+                results.fail(BenchFault::Stalled);
+                return Turn::GaveUp;
+            }
         }
     }
+    unreachable!()
 }
 
-/// Tries to take a ticket of each operator once.
+/// Takes the tickets that wait, operator by operator.
 fn take_round<G: Gate, R: Wait>(
     rt: &R,
     alloc: Global,
