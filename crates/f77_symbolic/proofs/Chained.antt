@@ -41,6 +41,7 @@ use Rattle.f77_symbolic.specs.Sides.{state_of}
 use Rattle.f77_symbolic.specs.Visits.{AreTurnNumbers, AreVisits, IsVisitNoted, IsOfEntry, IsTourOf, IsVisit, LeadsTo}
 use Rattle.f77_symbolic.specs.code.Visits.{FollowsFrom, FollowsThere, HavePairs, IsPairOf}
 use Rattle.f77_symbolic.proofs.Following.{equivalent_where_followed}
+use Rattle.f77_symbolic.proofs.Settling.{inside_too}
 use Rattle.f77_symbolic.proofs.Starting.{start_of, turn_numbers}
 use Rattle.f77_symbolic.proofs.Tours.{IsOnTour, along, at_cut}
 
@@ -103,9 +104,9 @@ module _ (checked : CheckedFields) (change : Change) (spare : ℕ) (places : Lis
       let room : pos spare ≡ (pos spare +ℤ pair.credit) = let none = of.credit in omega (arith, ints, none) in
       let comes =
       settled.follows spare room
-      (record { holds = of.path v is.holds; left = of.left.inside v is.inside; right = of.right.inside v is.inside }) in
-      let left : state_of start.cells v pair.left ≡ s = of.left.state start.cells v ∙ is.is in
-      let right : state_of start.cells v pair.right ≡ s = of.right.state start.cells v ∙ is.is in
+      (record { holds = of.path v is.holds; left = inside_too v of.left is.inside; right = inside_too v of.right is.inside }) in
+      let left : state_of start.cells v pair.left ≡ s = ap (state_of start.cells v) of.left ∙ is.is in
+      let right : state_of start.cells v pair.right ≡ s = ap (state_of start.cells v) of.right ∙ is.is in
       subst (λ fresh. FollowsByKeys (together checked change.statements.items spare) fresh spare s s) of.fresh
       (subst (λ t. FollowsByKeys (together checked change.statements.items spare) pair.fresh spare s t) right
       (subst (λ t. FollowsByKeys (together checked change.statements.items spare) pair.fresh spare t (state_of start.cells v pair.right)) left comes))

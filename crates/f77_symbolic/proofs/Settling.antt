@@ -25,7 +25,7 @@ use Rattle.f77_symbolic.specs.code.Evaluation.{IsOnWay}
 use Rattle.f77_symbolic.specs.Memory.{AreInside, Start, cells_of}
 use Rattle.f77_symbolic.specs.code.Pairs.{EndsSo, Follows, GivesWay, IsRoomLeft, IsPairOn, IsReady, IsSettled, IsThere}
 use Rattle.f77_symbolic.specs.Sides.{state_of}
-use Rattle.f77_symbolic.specs.code.Sides.{IsEndOf, IsSameSide, Stepped}
+use Rattle.f77_symbolic.specs.code.Sides.{IsEndOf, Stepped}
 use Rattle.f77_symbolic.proofs.Walk.{at_key, both_end, other_step, own_step, reached_on}
 
 -- one of both ways is there
@@ -133,11 +133,14 @@ ended start v path before after made finish (Some (Ends other cells)) is it =
     let at = this_end start v false path before after made finish other cells is it (λ e. absurd (cc (e))) in
     (at.0, ap (λ f. Some (Ends f cells)) at.2 ∙ ap (λ c. Some (Ends finish c)) at.1)
 
+pub inside_too : (v : Valuation) {side other : Side} → other ≡ side → AreInside v side.writes.items → AreInside v other.writes.items
+inside_too v same = subst (λ (side : Side). AreInside v side.writes.items) (sym same)
+
 module _ (spare : ℕ) (checked : CheckedFields) (change : Change) (start : Start) (v : Valuation) where
   -- the program makes a step
   pub own_moves : (pair next : Pair) → IsReady checked change
       → (IsThere v pair → Stepped start.cells v true next.path pair.left next.left step.Moves (moved change.own.items (state_of start.cells v pair.left)))
-      → IsSameSide pair.right next.right → next.credit ≡ (pair.credit +ℤ pos 1) → next.fresh ≡ false
+      → next.right ≡ pair.right → next.credit ≡ (pair.credit +ℤ pos 1) → next.fresh ≡ false
       → IsSettled spare checked change start v next → Follows spare checked change start v pair
   unfolding together
   own_moves pair next ready steps same credit fresh settled room has there =
@@ -152,8 +155,8 @@ module _ (spare : ℕ) (checked : CheckedFields) (change : Change) (start : Star
       let to = moved_on start.cells v true next.path pair.left next.left (moved checked.statements s) it b goes in
       let more : IsRoomLeft spare next.credit (suc room) = omega (arith, ints, has, credit) in
       let now : FollowsByKeys (together checked change.statements.items spare) next.fresh (suc room) (state_of start.cells v next.left) (state_of start.cells v next.right) =
-      settled.follows (suc room) more (record { holds = to.0; left = to.1; right = same.inside v there.right }) in
-      subst (λ t. FollowsByKeys (together checked change.statements.items spare) false (suc room) b t) (same.state start.cells v)
+      settled.follows (suc room) more (record { holds = to.0; left = to.1; right = inside_too v same there.right }) in
+      subst (λ t. FollowsByKeys (together checked change.statements.items spare) false (suc room) b t) (ap (state_of start.cells v) same)
       (subst (λ u. FollowsByKeys (together checked change.statements.items spare) false (suc room) u (state_of start.cells v next.right)) (sym to.2)
       (subst (λ f. FollowsByKeys (together checked change.statements.items spare) f (suc room) (state_of start.cells v next.left) (state_of start.cells v next.right)) fresh now)))
 
@@ -199,7 +202,7 @@ module _ (spare : ℕ) (checked : CheckedFields) (change : Change) (start : Star
   -- the changed program makes a step
   pub other_moves : (pair next : Pair)
       → (IsThere v pair → Stepped start.cells v false next.path pair.right next.right step.Moves (moved change.statements.items (state_of start.cells v pair.right)))
-      → IsSameSide pair.left next.left → next.credit ≡ (pair.credit +ℤ negsuc 0) → next.fresh ≡ pair.fresh
+      → next.left ≡ pair.left → next.credit ≡ (pair.credit +ℤ negsuc 0) → next.fresh ≡ pair.fresh
       → IsSettled spare checked change start v next → Follows spare checked change start v pair
   unfolding together
   other_moves pair next steps same credit fresh settled zero has there =
@@ -215,11 +218,11 @@ module _ (spare : ℕ) (checked : CheckedFields) (change : Change) (start : Star
       by (Some (Goes b)) e it =
           let less : IsRoomLeft spare next.credit room = omega (arith, ints, has, credit) in
           let now : FollowsByKeys (together checked change.statements.items spare) next.fresh room (state_of start.cells v next.left) (state_of start.cells v next.right) =
-          settled.follows room less (record { holds = it.0; left = same.inside v there.left; right = it.1 }) in
+          settled.follows room less (record { holds = it.0; left = inside_too v same there.left; right = it.1 }) in
           other_step State End (together checked change.statements.items spare) (reached_on (machine checked.statements) (IsFirst checked)) pair.fresh room
           (state_of start.cells v pair.left) (state_of start.cells v pair.right) b e
           (subst (λ f. FollowsByKeys (together checked change.statements.items spare) f room (state_of start.cells v pair.left) b) fresh
-          (subst (λ u. FollowsByKeys (together checked change.statements.items spare) next.fresh room u b) (same.state start.cells v)
+          (subst (λ u. FollowsByKeys (together checked change.statements.items spare) next.fresh room u b) (ap (state_of start.cells v) same)
           (subst (λ u. FollowsByKeys (together checked change.statements.items spare) next.fresh room (state_of start.cells v next.left) u) (sym it.2) now)))
       by (Some (Ends Returned cells)) e it = absurd it
       by (Some (Ends Stopped cells)) e it = absurd it
@@ -243,10 +246,10 @@ module _ (spare : ℕ) (checked : CheckedFields) (change : Change) (start : Star
       let same : IsRoomLeft spare on.credit room = omega (arith, ints, has, is.credit) in
       let now : FollowsByKeys (together checked change.statements.items spare) on.fresh room (state_of start.cells v on.left) (state_of start.cells v on.right) =
       settled.follows room same
-      (record { holds = is.path v there.holds here; left = is.left.inside v there.left; right = is.right.inside v there.right }) in
+      (record { holds = is.path v there.holds here; left = inside_too v is.left there.left; right = inside_too v is.right there.right }) in
       subst (λ f. FollowsByKeys (together checked change.statements.items spare) f room (state_of start.cells v pair.left) (state_of start.cells v pair.right)) is.fresh
-      (subst (λ t. FollowsByKeys (together checked change.statements.items spare) on.fresh room (state_of start.cells v pair.left) t) (is.right.state start.cells v)
-      (subst (λ t. FollowsByKeys (together checked change.statements.items spare) on.fresh room t (state_of start.cells v on.right)) (is.left.state start.cells v) now))
+      (subst (λ t. FollowsByKeys (together checked change.statements.items spare) on.fresh room (state_of start.cells v pair.left) t) (ap (state_of start.cells v) is.right)
+      (subst (λ t. FollowsByKeys (together checked change.statements.items spare) on.fresh room t (state_of start.cells v on.right)) (ap (state_of start.cells v) is.left) now))
 
   -- one of the two is on its way
   pub split_follows : (s : Split) (pair one other : Pair) → IsPairOn s true pair one → IsPairOn s false pair other

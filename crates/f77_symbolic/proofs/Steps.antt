@@ -1,12 +1,11 @@
 -- Steps, by what statements mean and where control goes.
 use Rattle.std.proofs.Common.{arith, ◌≡◌, ◌≢◌, ◌⊎◌, inl, inr, ◌+◌, ℕ, zero, suc, Bool, true, false, not, List, length, refl, sym, ap, ◌∙◌, subst}
-use Rattle.std.proofs.Common.{Option, Some, None, ℤ, pos, negsuc, int_div, ◌++◌, take, drop, of_z, to_z, w64}
+use Rattle.std.proofs.Common.{Option, Some, None, ℤ, pos, negsuc, int_div, of_z, to_z, w64}
 use Rattle.std.specs.Prelude.{◌+ℤ◌, ◌-ℤ◌, ◌*ℤ◌, if◌then◌else◌, Result, Ok, Err, IfOk, is_some, option_map, slice_get, slice_set}
 use Rattle.std.specs.Option.{SomeIff, option_and_then, option_map_or}
 use Rattle.std.specs.declared.cmp.Ordering.TheVariants.{Less, Equal, Greater}
 use Rattle.std.proofs.Math.Numerals.{add-one}
 use Rattle.std.proofs.lemmas.Int.{ints}
-use Rattle.std.proofs.lemmas.List.{append-nil, drop_all, take_all}
 use Rattle.std.proofs.lemmas.Option.{slice_get_past}
 use Rattle.f77_actions.specs.Number.{is_same, trip_count}
 use Rattle.f77_actions.specs.Value.{whole}
@@ -57,37 +56,6 @@ module _ (start : Cells) (v : Valuation) (own : Bool) (path : Path) (before afte
       → m ≡ move (cells_of start v side.writes.items) (turns_of v side.turns.items) → Stepped start v own path before after made (Some m)
   goes_stepped side move m goes holds inside is = moved_to m goes.moves holds (rw goes.writes inside) (is ∙ goes.goes start)
 
-module _ (start : Cells) (v : Valuation) (own : Bool) (path : Path) (other side after : Side) (same : state_of start v other ≡ state_of start v side) where
-  before_cells : cells_of start v other.writes.items ≡ cells_of start v side.writes.items
-  before_cells = ap (λ s. s.cells) same
-
-  -- a step from a side is one from another that stands for the same state
-  pub stepped_before : (made : Step) (m : Option Move) → Stepped start v own path other after made m → Stepped start v own path side after made m
-  stepped_before step.Moves None stepped = stepped
-  stepped_before step.Moves (Some (Goes s)) stepped = stepped
-  stepped_before step.Moves (Some (Ends Returned cells)) stepped = stepped
-  stepped_before step.Moves (Some (Ends Stopped cells)) stepped = stepped
-  stepped_before step.Moves (Some (Ends (Failed fault) cells)) stepped = stepped
-  stepped_before step.Moves (Some (Ends StepLimit cells)) stepped = stepped
-  stepped_before step.Returns None stepped = stepped
-  stepped_before step.Returns (Some (Goes s)) stepped = stepped
-  stepped_before step.Returns (Some (Ends Returned cells)) stepped = (stepped.0, stepped.1 ∙ before_cells)
-  stepped_before step.Returns (Some (Ends Stopped cells)) stepped = stepped
-  stepped_before step.Returns (Some (Ends (Failed fault) cells)) stepped = stepped
-  stepped_before step.Returns (Some (Ends StepLimit cells)) stepped = stepped
-  stepped_before step.Stops None stepped = stepped
-  stepped_before step.Stops (Some (Goes s)) stepped = stepped
-  stepped_before step.Stops (Some (Ends Returned cells)) stepped = stepped
-  stepped_before step.Stops (Some (Ends Stopped cells)) stepped = (stepped.0, stepped.1 ∙ before_cells)
-  stepped_before step.Stops (Some (Ends (Failed fault) cells)) stepped = stepped
-  stepped_before step.Stops (Some (Ends StepLimit cells)) stepped = stepped
-  stepped_before step.Faults None stepped = stepped
-  stepped_before step.Faults (Some (Goes s)) stepped = stepped
-  stepped_before step.Faults (Some (Ends Returned cells)) stepped = stepped
-  stepped_before step.Faults (Some (Ends Stopped cells)) stepped = stepped
-  stepped_before step.Faults (Some (Ends (Failed fault) cells)) stepped = stepped
-  stepped_before step.Faults (Some (Ends StepLimit cells)) stepped = stepped
-
 -- where the path holds nowhere, the program itself faults
 pub stepped_void : (start : Cells) (v : Valuation) (own : Bool) (path : Path) (before after : Side) (made : Step) (m : Option Move) → (Holds v path → ⊥)
     → Stepped start v own path before after made m → Stepped start v own path before after step.Faults m
@@ -132,17 +100,19 @@ pub assigned : {A : Type 0} (start : Cells) (v : Valuation) (old mid new : Evalu
     (cells : Cells) (places : Result ℕ Fault) (r : Result A Fault) (a : A) (value : A → Value)
     → Answers v old mid places (λ k. IsInside v location × (slot_of v location ≡ k)) → (Holds v mid.path → Answers v mid new r (λ x. a ≡ x))
     → (IsInside v location → cells_of start v side.writes.items ≡ slice_set cells (slot_of v location) (Some (value a)))
-    → (IsInside v location → AreInside v side.writes.items) → GoesTo v side after made (λ cells turns. go_on resolved cells turns)
+    → (IsInside v location → AreInside v side.writes.items) → side.turns ≡ before.turns → GoesTo v side after made (λ cells turns. go_on resolved cells turns)
     → Stepped start v old.own new.path before after made
-    (Some (used places cells (λ k. used r cells (λ x. go_on resolved (slice_set cells k (Some (value x))) (turns_of v side.turns.items)))))
-assigned start v old mid new before side after made resolved location cells places r a value first second put inside goes =
-    used_steps start v old mid new before after made places cells
+    (Some (used places cells (λ k. used r cells (λ x. go_on resolved (slice_set cells k (Some (value x))) (turns_of v before.turns.items)))))
+assigned start v old mid new before side after made resolved location cells places r a value first second put inside same goes =
+    subst (λ turns. Stepped start v old.own new.path before after made
+    (Some (used places cells (λ k. used r cells (λ x. go_on resolved (slice_set cells k (Some (value x))) turns))))) (ap (λ turns. turns_of v turns.items) same)
+    (used_steps start v old mid new before after made places cells
     (λ k. used r cells (λ x. go_on resolved (slice_set cells k (Some (value x))) (turns_of v side.turns.items)))
     (λ k. IsInside v location × (slot_of v location ≡ k)) first
     (λ holds k at. known_steps start v mid new new before after made r cells
     (λ x. go_on resolved (slice_set cells k (Some (value x))) (turns_of v side.turns.items)) a (second holds)
     (λ holds. goes_stepped start v new.own new.path before after made side (λ cells turns. go_on resolved cells turns) _ goes holds (inside at.0)
-    (ap (λ cells. go_on resolved cells (turns_of v side.turns.items)) (ap (λ k. slice_set cells k (Some (value a))) (sym at.1) ∙ sym (put at.0)))))
+    (ap (λ cells. go_on resolved cells (turns_of v side.turns.items)) (ap (λ k. slice_set cells k (Some (value a))) (sym at.1) ∙ sym (put at.0))))))
 
 -- two claims of one result
 pub both_told : {A E : Type 0} (P Q : A → Type 0) (r : Result A E) → IfOk r P → IfOk r Q → IfOk r (λ x. P x × Q x)
@@ -216,11 +186,6 @@ pub whole_read : (v : Valuation) (old mid : Evaluator) (cell : Option Value) (va
     → (Holds v mid.path → Answers v mid mid (whole (content_of v value)) C) → Answers v old mid (whole cell) C
 whole_read v old mid cell value C (inl read) next = answers_at v old mid mid whole (content_of v value) cell C read.0 (sym read.1) next
 whole_read v old mid cell value C (inr read) next = lacks_whole C v old mid value cell read.0 read.1
-
--- what is written back to a list of the same length
-pub written_back : {A : Type 0} (xs new : List A) (n : ℕ) → n ≡ length xs → length new ≡ length xs → take n (new ++ drop (length new) xs) ≡ new
-written_back xs new n is same =
-    ap (λ ys. take n (new ++ ys)) (drop_all (length new) xs (omega (arith, same))) ∙ ap (take n) (append-nil new) ∙ take_all n new (omega (arith, is, same))
 
 -- what a DO has left
 module _ (v : Valuation) (before side after : Side) (made : Step) (end : Resolved) (d passes : ℕ) (step : ℤ) where

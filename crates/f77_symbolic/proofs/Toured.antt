@@ -25,7 +25,7 @@ use Rattle.f77_symbolic.specs.code.Evaluation.{IsOnWay}
 use Rattle.f77_symbolic.specs.Atoms.{Interprets}
 use Rattle.f77_symbolic.specs.Memory.{AreInside, Start}
 use Rattle.f77_symbolic.specs.Sides.{state_of}
-use Rattle.f77_symbolic.specs.code.Sides.{IsSameSide, Stepped, StepsFrom}
+use Rattle.f77_symbolic.specs.code.Sides.{Stepped, StepsFrom}
 use Rattle.f77_symbolic.specs.Visits.{IsOfEntry, IsVisitNoted, IsVisit, LeadsTo, is_cut_in, is_same_place}
 use Rattle.f77_symbolic.specs.code.Visits.{Arrives, GivesWayAlone, IsAdded, IsAhead, IsBehind, IsFoundOrAhead, IsMet, StaysFound, WalksOn, Whichever}
 use Rattle.f77_symbolic.proofs.Settling.{one_way}
@@ -52,7 +52,7 @@ module _ (Leads : Visit → Type 0) where
   last_pushed old new visit pushed leads = subst (Any Leads) (sym pushed) (Any-push Leads old visit leads)
 
   -- a split visit takes its place on both ways, where another visit of the same states leads there too
-  module _ (v : Valuation) (carries : (visit on : Visit) → (Holds v visit.path → Holds v on.path) → IsSameSide visit.side on.side → Leads visit → Leads on) where
+  module _ (v : Valuation) (carries : (visit on : Visit) → (Holds v visit.path → Holds v on.path) → on.side ≡ visit.side → Leads visit → Leads on) where
     on_way : (visit : Visit) (ways : Split) (way : Bool) (old new : List Visit) → IsAdded visit ways way old new → IsOnWay v ways way → Leads visit → Any Leads new
     on_way visit ways way old new added there leads =
         last_pushed old new added.0 added.1 (carries visit added.0 (λ holds. added.2 v holds there) added.3 leads)
@@ -115,20 +115,20 @@ module _ (arrivals later : List Entry) (entry : Entry) (pushed : later ≡ arriv
 
 module _ (statements : List Resolved) (places : List Place) (start : Start) (v : Valuation) where
   -- another visit is of the same state, and leads where the visit does
-  behind_carries : (s : State) (visit on : Visit) → (Holds v visit.path → Holds v on.path) → IsSameSide visit.side on.side
+  behind_carries : (s : State) (visit on : Visit) → (Holds v visit.path → Holds v on.path) → on.side ≡ visit.side
       → IsBehind statements places start v s visit → IsBehind statements places start v s on
   behind_carries s visit on path same behind = record {
     from = behind.from;
     visits = record {
       holds = path behind.visits.holds;
-      inside = same.inside v behind.visits.inside;
-      is = same.state start.cells v ∙ behind.visits.is;
+      inside = subst (λ (side : Side). AreInside v side.writes.items) (sym same) behind.visits.inside;
+      is = ap (state_of start.cells v) same ∙ behind.visits.is;
     };
     steps = behind.steps;
     leads = behind.leads;
   }
 
-  ahead_carries : (t : State) (visit on : Visit) → (Holds v visit.path → Holds v on.path) → IsSameSide visit.side on.side
+  ahead_carries : (t : State) (visit on : Visit) → (Holds v visit.path → Holds v on.path) → on.side ≡ visit.side
       → IsAhead statements places start v t visit → IsAhead statements places start v t on
   ahead_carries t visit on path same ahead =
       record { last = ahead.last; behind = behind_carries ahead.last visit on path same ahead.behind; goes = ahead.goes; cut = ahead.cut }

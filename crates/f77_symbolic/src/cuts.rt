@@ -15,7 +15,7 @@ ghost use Rattle.f77_symbolic.specs.code.Visits.{IsFirstVisit, StandsForTurn};
 
 use crate::evaluator::Evaluator;
 use crate::halt::Halt;
-use crate::sides::{Side, SymbolicTurn};
+use crate::sides::{SymbolicTurn, first_side};
 use crate::visiting::Visit;
 use f77_actions::{Action, Resolved};
 use f77_code::Place;
@@ -205,13 +205,8 @@ impl Evaluator {
             let turn = self.turn_known(d, count, loop_at(loops, d))?;
             turns.push(turn)?;
         }
-        Ok(Visit {
-            path: self.taken_path(),
-            side: Side {
-                place,
-                writes: Vec::new(self.alloc),
-                turns,
-            },
-        })
+        let side = first_side(self.alloc, place, turns)?;
+        let path = self.taken_path();
+        Ok(Visit { path, side })
     }
 }

@@ -23,7 +23,6 @@ use crate::evaluator::{Atoms, Evaluator};
 use crate::halt::{Halt, unless_unknown};
 use crate::rows::Rows;
 use crate::samples::copied_samples;
-use crate::sides::copied_side;
 use crate::visiting::{Tour, Visit, Visits, tour_of};
 use crate::walking::Pair;
 use f77_actions::Resolved;
@@ -48,8 +47,8 @@ fn pair_of(alloc: Global, visit: &Visit) -> Result<Pair, AllocError>
 {
     Ok(Pair {
         path: copied_path(alloc, &visit.path)?,
-        left: copied_side(alloc, &visit.side)?,
-        right: copied_side(alloc, &visit.side)?,
+        left: visit.side.clone()?,
+        right: visit.side.clone()?,
         credit: 0,
         fresh: true,
     })

@@ -14,8 +14,8 @@ ghost use Rattle.f77_symbolic.specs.code.Sides.{GoesTo, HasLeft, AlwaysSteps};
 
 use crate::evaluator::Evaluator;
 use crate::halt::{Halt, unless_unknown};
-use crate::memory::{Symbolic, fixed, put};
-use crate::sides::{Side, Step, SymbolicTurn, come_to, go_on, set_turn};
+use crate::memory::{Symbolic, fixed};
+use crate::sides::{Side, Step, SymbolicTurn, come_to, go_on};
 use f77_actions::{Action, Resolved};
 use f77_equivalence::ways::statement_at;
 use f77_terms::terms::{Term, copy, sum};
@@ -23,12 +23,18 @@ use f77_tree::Shared;
 use std::alloc::Global;
 
 /// The DO d, which ends at this statement, has this left.
-fn pass(side: &mut Side, end: &Resolved, d: usize, turn: Option<SymbolicTurn>) -> Result<Step, Halt>
+fn pass(
+    alloc: Global,
+    side: &mut Side,
+    end: &Resolved,
+    d: usize,
+    turn: Option<SymbolicTurn>,
+) -> Result<Step, Halt>
     ensures { IfOk result (λ found. (v : Valuation) (passes : ℕ) (step : ℤ) → HasLeft v turn passes step
         → GoesTo v side.old side.new found (λ cells turns. moves.passing end.now d passes step cells turns)) }
 {
     let is_done = turn.is_none();
-    set_turn(&mut side.turns, d, turn);
+    side.set_turn(alloc, d, turn)?;
     if is_done {
         return Ok(go_on(side, end));
     }
@@ -51,12 +57,8 @@ fn advance(
         (slice_set (cells_of start v side.old.writes.items) variable (Some (held.Number (sum_value v number))))
         (turns_of v side.old.turns.items) ≡ moves.Goes (state_of start v side.new))) }
 {
-    put(
-        &mut side.writes,
-        fixed(alloc, variable),
-        Symbolic::Number(number),
-    )?;
-    pass(side, end, d, turn)
+    side.write(alloc, fixed(alloc, variable), Symbolic::Number(number))?;
+    pass(alloc, side, end, d, turn)
 }
 
 impl Evaluator {

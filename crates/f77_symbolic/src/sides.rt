@@ -1,16 +1,19 @@
 //! Sides: states by terms, and where control goes from them.
 
-ghost use Rattle.std.specs.Prelude.{◌≡◌, is_some, option_map, slice_set, IfOk};
+ghost use Rattle.std.specs.Prelude.{◌≡◌, is_some, option_map, slice_set, [], Option, IfOk};
+ghost use Rattle.f77_actions.specs.declared.value.Value.{Value};
 ghost use Rattle.f77_code.specs.Moves as moves;
-ghost use Rattle.f77_code.specs.Moves.{state};
+ghost use Rattle.f77_code.specs.Moves.{Cells, state};
 ghost use Rattle.f77_terms.specs.Terms.{Valuation};
+ghost use Rattle.f77_symbolic.specs.Memory.{AreInside, IsInside, cells_of, slot_of, content_of};
 ghost use Rattle.f77_symbolic.specs.Sides.{turn_of, turns_of};
-ghost use Rattle.f77_symbolic.specs.code.Sides.{GoesTo, IsSameSide};
+ghost use Rattle.f77_symbolic.specs.code.Sides.{GoesTo};
 
-use crate::memory::{Write, copied_writes};
+use crate::memory::{Location, Symbolic, Write, copied_writes, put};
 use f77_actions::{Jump, Resolved};
 use f77_code::Place;
 use f77_terms::terms::{Term, copy};
+use f77_tree::Shared;
 use std::alloc::{AllocError, Global};
 
 /// What an active DO has left.
@@ -20,13 +23,42 @@ pub struct SymbolicTurn {
     pub step: Term,
 }
 
-/// A state: where control is, what was written to slots, and the active DOs.
+/// A state: where control is, what was written to slots, and the active DOs. Sides share what no step has changed.
 #[derive(Drop)]
 pub struct Side {
     pub place: Place,
-    pub writes: Vec<Write>,
+    pub writes: Shared<Vec<Write>>,
     /// For each statement, what it has left if it is an active DO.
-    pub turns: Vec<Option<SymbolicTurn>>,
+    pub turns: Shared<Vec<Option<SymbolicTurn>>>,
+}
+
+impl Clone for Side {
+    ghost is_clone = { λ source copy. copy ≡ source };
+
+    fn clone(&self) -> Result<Side, AllocError> {
+        Ok(Side {
+            place: self.place,
+            writes: self.writes.clone()?,
+            turns: self.turns.clone()?,
+        })
+    }
+}
+
+/// The state at a place, where nothing was written and DOs have this left.
+pub(crate) fn first_side(
+    alloc: Global,
+    place: Place,
+    turns: Vec<Option<SymbolicTurn>>,
+) -> Result<Side, AllocError>
+    ensures place { IfOk result (λ side. side.place ≡ place) }
+    ensures writes { IfOk result (λ side. side.writes.items ≡ []) }
+    ensures turns { IfOk result (λ side. side.turns ≡ turns) }
+{
+    Ok(Side {
+        place,
+        writes: Shared::new(alloc, Vec::new(alloc))?,
+        turns: Shared::new(alloc, turns)?,
+    })
 }
 
 /// What a step does.
@@ -70,17 +102,6 @@ fn copied_turns(
     Ok(copied)
 }
 
-/// The side in memory of its own.
-pub(crate) fn copied_side(alloc: Global, side: &Side) -> Result<Side, AllocError>
-    ensures { IfOk result (λ copied. IsSameSide side.now copied) }
-{
-    Ok(Side {
-        place: side.place,
-        writes: copied_writes(alloc, &side.writes)?,
-        turns: copied_turns(alloc, &side.turns)?,
-    })
-}
-
 /// What the DO of this number has left, if it is active.
 pub(crate) fn turn_at(
     alloc: Global,
@@ -105,7 +126,7 @@ fn is_active(turns: &[Option<SymbolicTurn>], d: usize) -> bool
 }
 
 /// Sets what the DO of this number has left.
-pub(crate) fn set_turn(turns: &mut [Option<SymbolicTurn>], d: usize, turn: Option<SymbolicTurn>)
+fn set(turns: &mut [Option<SymbolicTurn>], d: usize, turn: Option<SymbolicTurn>)
     ensures { (v : Valuation) → turns_of v turns.new
         ≡ slice_set (turns_of v turns.old) d (option_map (turn_of v) turn) }
 {
@@ -143,17 +164,34 @@ fn leave(turns: &mut [Option<SymbolicTurn>], leaves: &[usize])
     ensures { (v : Valuation) → turns_of v turns.new ≡ moves.without (turns_of v turns.old) leaves.now }
 {
     for d in leaves {
-        set_turn(turns, *d, None);
+        set(turns, *d, None);
     }
 }
 
-/// Control jumps.
-pub(crate) fn jump(side: &mut Side, to: &Jump) -> Step
-    ensures { (v : Valuation) → GoesTo v side.old side.new result (λ cells turns. moves.jump_to to.now cells turns) }
+/// The turns without those of these DOs.
+fn without(
+    alloc: Global,
+    turns: &[Option<SymbolicTurn>],
+    leaves: &[usize],
+) -> Result<Shared<Vec<Option<SymbolicTurn>>>, AllocError>
+    ensures { IfOk result (λ left. (v : Valuation)
+        → turns_of v left.items ≡ moves.without (turns_of v turns.now) leaves.now) }
 {
-    leave(&mut side.turns, &to.leaves);
+    let mut left = copied_turns(alloc, turns)?;
+    leave(&mut left, leaves);
+    Shared::new(alloc, left)
+}
+
+/// Control jumps.
+pub(crate) fn jump(alloc: Global, side: &mut Side, to: &Jump) -> Result<Step, AllocError>
+    ensures { IfOk result (λ step. (v : Valuation)
+        → GoesTo v side.old side.new step (λ cells turns. moves.jump_to to.now cells turns)) }
+{
+    if to.leaves.len() > 0 {
+        side.turns = without(alloc, &side.turns, &to.leaves)?;
+    }
     side.place = Place::Execute(to.target);
-    Step::Moves
+    Ok(Step::Moves)
 }
 
 /// Control comes to a statement.
@@ -163,4 +201,43 @@ pub(crate) fn come_to(side: &mut Side, i: usize) -> Step
 {
     side.place = Place::Execute(i);
     Step::Moves
+}
+
+impl Side {
+    /// Puts a value into the slot of a location.
+    pub(crate) fn write(
+        &mut self,
+        alloc: Global,
+        location: Location,
+        value: Symbolic,
+    ) -> Result<(), AllocError>
+        ensures cells { IfOk result (λ _. (start : Cells) (v : Valuation) → AreInside v self.old.writes.items
+            → IsInside v location → cells_of start v self.new.writes.items
+            ≡ slice_set (cells_of start v self.old.writes.items) (slot_of v location) (content_of v value)) }
+        ensures inside { IfOk result (λ _. (v : Valuation) → AreInside v self.old.writes.items → IsInside v location
+            → AreInside v self.new.writes.items) }
+        ensures turns { self.new.turns ≡ self.old.turns }
+    {
+        let mut writes = copied_writes(alloc, &self.writes)?;
+        put(&mut writes, location, value)?;
+        self.writes = Shared::new(alloc, writes)?;
+        Ok(())
+    }
+
+    /// Sets what the DO of this number has left.
+    pub(crate) fn set_turn(
+        &mut self,
+        alloc: Global,
+        d: usize,
+        turn: Option<SymbolicTurn>,
+    ) -> Result<(), AllocError>
+        ensures turns { IfOk result (λ _. (v : Valuation) → turns_of v self.new.turns.items
+            ≡ slice_set (turns_of v self.old.turns.items) d (option_map (turn_of v) turn)) }
+        ensures writes { self.new.writes ≡ self.old.writes }
+    {
+        let mut turns = copied_turns(alloc, &self.turns)?;
+        set(&mut turns, d, turn);
+        self.turns = Shared::new(alloc, turns)?;
+        Ok(())
+    }
 }

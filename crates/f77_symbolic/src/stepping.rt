@@ -1,18 +1,20 @@
 //! One step of a program from a side, and what a statement does to it.
 
-ghost use Rattle.std.specs.Prelude.{◌≡◌, true, Some, IfOk};
+ghost use Rattle.std.specs.Prelude.{◌≡◌, ℤ, true, Some, IfOk};
 ghost use Rattle.f77_actions.specs.declared.resolved.Resolved.{Resolved};
+ghost use Rattle.f77_code.specs.Choice as choice;
 ghost use Rattle.f77_code.specs.Moves.{acted, moved, state};
 ghost use Rattle.f77_terms.specs.Paths.{Holds};
 ghost use Rattle.f77_terms.specs.Terms.{Valuation};
 ghost use Rattle.f77_symbolic.specs.code.Atoms.{Extends};
+ghost use Rattle.f77_symbolic.specs.code.Evaluation.{HasSign};
 ghost use Rattle.f77_symbolic.specs.code.Sides.{Acts, AlwaysSteps, StepsFrom};
 
 use crate::evaluator::Evaluator;
 use crate::halt::{Halt, unless_unknown};
-use crate::memory::{Symbolic, put};
-use crate::sides::{Side, Step, come_to, copied_side, go_on, jump, turn_at};
-use f77_actions::{Action, Condition, Element, Number, Resolved};
+use crate::memory::Symbolic;
+use crate::sides::{Side, Step, come_to, go_on, jump, turn_at};
+use f77_actions::{Action, Condition, Element, Jump, Number, Resolved};
 use f77_code::Place;
 use f77_equivalence::ways::{is_executed, jump_at, statement_at};
 use f77_terms::knowing::constant_of;
@@ -33,6 +35,17 @@ fn is_ruled_out(path: &Path) -> bool
     false
 }
 
+/// The jump of an arithmetic IF for a number of this sign.
+fn by_sign<'a>(sign: Ordering, negative: &'a Jump, zero: &'a Jump, positive: &'a Jump) -> &'a Jump
+    ensures { (z : ℤ) → HasSign sign z → choice.by_sign z negative.now zero.now positive.now ≡ result.now }
+{
+    match sign {
+        Ordering::Less => negative,
+        Ordering::Equal => zero,
+        Ordering::Greater => positive,
+    }
+}
+
 impl Evaluator {
     /// A number is assigned. The slot is found before the value.
     fn assign_number(
@@ -48,7 +61,7 @@ impl Evaluator {
     {
         let location = self.location_of(&side.writes, e)?;
         let term = self.number_of(&side.writes, x)?;
-        put(&mut side.writes, location, Symbolic::Number(term))?;
+        side.write(self.alloc, location, Symbolic::Number(term))?;
         Ok(go_on(side, resolved))
     }
 
@@ -67,7 +80,7 @@ impl Evaluator {
         let location = self.location_of(&side.writes, e)?;
         let b = self.truth_of(&side.writes, c)?;
         let term = constant_term(self.alloc, i64::from(b));
-        put(&mut side.writes, location, Symbolic::Truth(term))?;
+        side.write(self.alloc, location, Symbolic::Truth(term))?;
         Ok(go_on(side, resolved))
     }
 
@@ -82,11 +95,13 @@ impl Evaluator {
         ensures extends { Extends self.old.atoms self.new.atoms }
     {
         match action {
-            Action::Goto(to) => Ok(jump(side, to)),
+            Action::Goto(to) => Ok(jump(self.alloc, side, to)?),
             Action::ComputedGoto { value, jumps } => {
                 let number = self.number_of(&side.writes, value)?;
                 match self.item_of(&number, jumps.len())? {
-                    Some(place) if place < jumps.len() => Ok(jump(side, jump_at(jumps, place))),
+                    Some(place) if place < jumps.len() => {
+                        Ok(jump(self.alloc, side, jump_at(jumps, place))?)
+                    }
                     Some(_) => Err(Halt::Unknown),
                     None => Ok(go_on(side, resolved)),
                 }
@@ -98,11 +113,8 @@ impl Evaluator {
                 positive,
             } => {
                 let number = self.number_of(&side.writes, value)?;
-                match self.sign_of(number)? {
-                    Ordering::Less => Ok(jump(side, negative)),
-                    Ordering::Equal => Ok(jump(side, zero)),
-                    Ordering::Greater => Ok(jump(side, positive)),
-                }
+                let to = by_sign(self.sign_of(number)?, negative, zero, positive);
+                Ok(jump(self.alloc, side, to)?)
             }
             _ => Err(Halt::Unknown),
         }
@@ -226,7 +238,7 @@ impl Evaluator {
     {
         self.come_on(path)?;
         self.own = own;
-        let mut after = copied_side(self.alloc, side)?;
+        let mut after = side.clone()?;
         let step = self.step(&mut after, statements)?;
         if own && is_ruled_out(&self.path) {
             return Ok((Step::Faults, after));

@@ -9,7 +9,7 @@ use crate::cuts::is_cut;
 use crate::evaluator::{Atoms, Evaluator};
 use crate::halt::{Halt, Split, unless_unknown};
 use crate::samples::{Samples, first_samples};
-use crate::sides::{Side, Step, copied_side};
+use crate::sides::{Side, Step};
 use crate::walking::path_on;
 use f77_actions::Resolved;
 use f77_code::Place;
@@ -53,7 +53,7 @@ fn add_on(
     ensures { IfOk result (λ _. IsAdded visit.now split.now first todo.old.items todo.new.items) }
 {
     let path = path_on(alloc, &visit.path, split, first)?;
-    let side = copied_side(alloc, &visit.side)?;
+    let side = visit.side.clone()?;
     Ok(todo.push(Visit { path, side })?)
 }
 

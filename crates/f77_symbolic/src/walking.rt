@@ -19,7 +19,7 @@ use crate::change::Change;
 use crate::evaluator::Evaluator;
 use crate::halt::{Halt, Split, is_shown, unless_unknown};
 use crate::samples::Sign;
-use crate::sides::{Side, Step, copied_side};
+use crate::sides::{Side, Step};
 use f77_actions::{Action, Resolved};
 use f77_code::Place;
 use f77_terms::copying::copied_path;
@@ -78,8 +78,8 @@ fn pair_on(alloc: Global, pair: &Pair, split: &Split, first: bool) -> Result<Pai
 {
     Ok(Pair {
         path: path_on(alloc, &pair.path, split, first)?,
-        left: copied_side(alloc, &pair.left)?,
-        right: copied_side(alloc, &pair.right)?,
+        left: pair.left.clone()?,
+        right: pair.right.clone()?,
         credit: pair.credit,
         fresh: pair.fresh,
     })
@@ -175,7 +175,7 @@ impl Evaluator {
         match step {
             Step::Moves => Ok(Some(Pair {
                 path: self.taken_path(),
-                left: copied_side(self.alloc, &pair.left)?,
+                left: pair.left.clone()?,
                 right,
                 credit: pair.credit - 1,
                 fresh: pair.fresh,
@@ -195,7 +195,7 @@ impl Evaluator {
             Step::Moves => Ok(Some(Pair {
                 path: self.taken_path(),
                 left,
-                right: copied_side(self.alloc, &pair.right)?,
+                right: pair.right.clone()?,
                 credit: pair.credit.checked_add(1).ok_or(Halt::Unknown)?,
                 fresh: false,
             })),

@@ -20,7 +20,6 @@ use Rattle.f77_symbolic.specs.Memory.{AreInside, Start, cells_of}
 use Rattle.f77_symbolic.specs.code.Memory.{HaveDummies}
 use Rattle.f77_symbolic.specs.code.Evaluation.{IsOnWay}
 use Rattle.f77_symbolic.specs.Sides.{state_of}
-use Rattle.f77_symbolic.specs.code.Sides.{IsSameSide}
 
 -- the changed statement alone is another one, DOs pass it alike, and these are the dummy arguments
 pub record IsReady (checked : CheckedFields) (change : Change) : Type 0 where
@@ -86,7 +85,7 @@ EndsSo checked change finish start v left right = (others : Cells)
 -- the second pair is the first one on one of two ways
 pub record IsPairOn (split : Split) (way : Bool) (pair on : Pair) : Type 0 where
   pub path : (v : Valuation) → Holds v pair.path → IsOnWay v split way → Holds v on.path
-  pub left : IsSameSide pair.left on.left
-  pub right : IsSameSide pair.right on.right
+  pub left : on.left ≡ pair.left
+  pub right : on.right ≡ pair.right
   pub credit : on.credit ≡ pair.credit
   pub fresh : on.fresh ≡ pair.fresh

@@ -18,11 +18,6 @@ use Rattle.f77_symbolic.specs.Atoms.{Interprets}
 use Rattle.f77_symbolic.specs.Memory.{AreInside, Start, cells_of}
 use Rattle.f77_symbolic.specs.Sides.{turn_of, turns_of, state_of}
 
--- the second side stands for the states of the first, and what was written to is inside if it was there
-pub record IsSameSide (side other : Side) : Type 0 where
-  pub state : (start : Cells) (v : Valuation) → state_of start v other ≡ state_of start v side
-  pub inside : (v : Valuation) → AreInside v side.writes.items → AreInside v other.writes.items
-
 -- The move leads to the state of the side behind it, or it is the end that is said.
 -- Only the program's own faults are left out.
 abbrev pub Stepped : Cells → Valuation → Bool → Path → Side → Side → Step → Option Move → Type 0

@@ -30,7 +30,6 @@ use Rattle.f77_symbolic.specs.Memory.{AreInside, Start}
 use Rattle.f77_symbolic.specs.code.Evaluation.{Always, IsOnWay, StaysOn}
 use Rattle.f77_symbolic.specs.code.Pairs.{IsReady}
 use Rattle.f77_symbolic.specs.Sides.{state_of, turn_of}
-use Rattle.f77_symbolic.specs.code.Sides.{IsSameSide}
 use Rattle.f77_symbolic.specs.Visits.{LeadsTo, IsVisit, IsVisitNoted, AreTurnNumbers, IsOfEntry}
 use Rattle.f77_symbolic.specs.Visits.{is_cut_in, is_same_place}
 
@@ -84,7 +83,7 @@ Whichever atoms Claim = (start : Start) (v : Valuation) → Interprets atoms sta
 -- the visit is added on one of two ways
 abbrev pub IsAdded : Visit → Split → Bool → List Visit → List Visit → Type 0
 IsAdded visit split way old new = (on : Visit) × (new ≡ old ++ (on ∷ [])) × ((v : Valuation) → Holds v visit.path
-    → IsOnWay v split way → Holds v on.path) × IsSameSide visit.side on.side
+    → IsOnWay v split way → Holds v on.path) × (on.side ≡ visit.side)
 
 -- the entry says what is known of the states of the side, where the path of the evaluator holds
 abbrev pub IsKnownAs : Evaluator → Side → Entry → Type 0
@@ -116,8 +115,8 @@ WalksOn atoms statements places first noted arrivals = Whichever atoms (λ start
 -- the pair in which both programs are where the visit is
 pub record IsPairOf (visit : Visit) (pair : Pair) : Type 0 where
   pub path : (v : Valuation) → Holds v visit.path → Holds v pair.path
-  pub left : IsSameSide visit.side pair.left
-  pub right : IsSameSide visit.side pair.right
+  pub left : pair.left ≡ visit.side
+  pub right : pair.right ≡ visit.side
   pub credit : pair.credit ≡ pos 0
   pub fresh : pair.fresh ≡ true
 

@@ -16,9 +16,10 @@ returns c =
     let here = c.fixed.ensures.inside v in
     let cells = cells_of start v c.args.side.now.writes.items in (
       goes.moves,
-      rw goes.writes (c.in_ok-put.ensures.inside v inside here),
+      rw goes.writes (c.in_ok-write.ensures.inside v inside here),
       ap (λ cells. passing c.args.end.now c.args.d passes step cells (turns_of v c.args.side.now.turns.items))
           (ap (λ k. slice_set cells k (Some (held.Number (sum_value v c.args.number)))) (sym (c.fixed.ensures.slot v))
-          ∙ sym (c.in_ok-put.ensures.cells start v inside here))
+          ∙ sym (c.in_ok-write.ensures.cells start v inside here))
+          ∙ ap (λ turns. passing c.args.end.now c.args.d passes step (cells_of start v c.write.new.self.writes.items) (turns_of v turns.items)) (sym c.in_ok-write.ensures.turns)
           ∙ goes.goes start,
     ))

@@ -10,7 +10,7 @@ use Rattle.f77_symbolic.proofs.sides.go_on.Goals.{in-Some, in-None}
 pub returns : goal.returns
 returns c v =
     let next = Execute c.args.resolved.now.next in
-    let found = rw (c.deref.ensures.value, c.deref-2.ensures.value) at (c.innermost.ensures v) in
+    let found = rw (c.deref-2.ensures.value, c.deref.ensures, c.deref-3.ensures.value) at (c.innermost.ensures v) in
     let there : place_behind c.args.resolved.now (turns_of v c.args.side.now.turns.items) ≡ c.match-innermost.side =
     elim c.match-innermost.branch [
       | in-Some w ↦ rw w.side-is (ap (λ o. option_map_or Increment o next) (found ∙ w.in-Some.is))

@@ -22,7 +22,7 @@ returns-then-branch-clause-steps t c =
     stepped_as start.cells v c.args.self.now.own new.path c.args.side.now c.act.new.side step _ _
     (ap (λ action. acted c.args.statements.now c.args.i r action cells turns) c.in-LogicalIf.is)
     (known_steps start.cells v c.args.self.now mid new c.args.side.now c.act.new.side step (truth_in cells c.in-LogicalIf.condition) cells then
-    c.in_ok-truth_of-in-LogicalIf.field-0 ((rw c.deref.ensures.value at c.in_ok-truth_of-in-LogicalIf.ensures.yields) start v (c.act.ensures.extends start v there) holds inside)
+    c.in_ok-truth_of-in-LogicalIf.field-0 ((rw (c.deref-in-LogicalIf.ensures.value, c.deref.ensures) at c.in_ok-truth_of-in-LogicalIf.ensures.yields) start v (c.act.ensures.extends start v there) holds inside)
     (λ holds. stepped_as start.cells v mid.own new.path c.args.side.now c.act.new.side step _ _ (ap then c.if-branch.true)
     (claim start v there holds inside))))
 
@@ -40,7 +40,7 @@ returns-then-branch-2-clause-steps t c start v there holds inside =
     stepped_as start.cells v c.args.self.now.own new.path c.args.side.now c.go_on-then-branch-2.new.side c.go_on-then-branch-2.result _ _
     (ap (λ action. acted c.args.statements.now c.args.i r action cells turns) c.in-Branch.is)
     (known_steps start.cells v c.args.self.now new new c.args.side.now c.go_on-then-branch-2.new.side c.go_on-then-branch-2.result (truth_in cells c.in-Branch.condition) cells then
-    c.in_ok-truth_of-in-Branch.field-0 ((rw c.deref-in-Branch.ensures.value at c.in_ok-truth_of-in-Branch.ensures.yields) start v there holds inside)
+    c.in_ok-truth_of-in-Branch.field-0 ((rw (c.deref-in-Branch-2.ensures.value, c.deref-in-Branch.ensures) at c.in_ok-truth_of-in-Branch.ensures.yields) start v there holds inside)
     (λ holds. goes_stepped start.cells v new.own new.path c.args.side.now c.go_on-then-branch-2.new.side c.go_on-then-branch-2.result c.args.side.now
     (λ cells turns. go_on r cells turns) _ (c.go_on-then-branch-2.ensures v) holds inside (ap then c.if-branch-2.true)))
 
@@ -54,7 +54,7 @@ returns-else-branch-clause-steps t c start v there holds inside =
     stepped_as start.cells v c.args.self.now.own new.path c.args.side.now c.go_on.new.side c.go_on.result _ _
     (ap (λ action. acted c.args.statements.now c.args.i r action cells turns) c.in-LogicalIf.is)
     (known_steps start.cells v c.args.self.now new new c.args.side.now c.go_on.new.side c.go_on.result (truth_in cells c.in-LogicalIf.condition) cells then
-    c.in_ok-truth_of-in-LogicalIf.field-0 ((rw c.deref.ensures.value at c.in_ok-truth_of-in-LogicalIf.ensures.yields) start v there holds inside)
+    c.in_ok-truth_of-in-LogicalIf.field-0 ((rw (c.deref-in-LogicalIf.ensures.value, c.deref.ensures) at c.in_ok-truth_of-in-LogicalIf.ensures.yields) start v there holds inside)
     (λ holds. goes_stepped start.cells v new.own new.path c.args.side.now c.go_on.new.side c.go_on.result c.args.side.now
     (λ cells turns. go_on r cells turns) _ (c.go_on.ensures v) holds inside (ap then c.if-branch.false)))
 
@@ -68,7 +68,7 @@ returns-else-branch-2-clause-steps t c start v there holds inside =
     stepped_as start.cells v c.args.self.now.own new.path c.args.side.now c.come_to.new.side c.come_to.result _ _
     (ap (λ action. acted c.args.statements.now c.args.i r action cells turns) c.in-Branch.is)
     (known_steps start.cells v c.args.self.now new new c.args.side.now c.come_to.new.side c.come_to.result (truth_in cells c.in-Branch.condition) cells then
-    c.in_ok-truth_of-in-Branch.field-0 ((rw c.deref-in-Branch.ensures.value at c.in_ok-truth_of-in-Branch.ensures.yields) start v there holds inside)
+    c.in_ok-truth_of-in-Branch.field-0 ((rw (c.deref-in-Branch-2.ensures.value, c.deref-in-Branch.ensures) at c.in_ok-truth_of-in-Branch.ensures.yields) start v there holds inside)
     (λ holds. goes_stepped start.cells v new.own new.path c.args.side.now c.come_to.new.side c.come_to.result c.args.side.now
     (λ cells turns. Goes (state (Execute c.in-Branch.otherwise) cells turns)) _ (c.come_to.ensures v) holds inside (ap then c.if-branch-2.false)))
 

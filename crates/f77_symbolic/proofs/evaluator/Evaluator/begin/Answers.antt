@@ -39,13 +39,13 @@ returns-clause-steps c =
     (ap (λ action. acted c.args.statements.now c.args.d r action cells turns) c.in-Loop.is)
     (known_steps start.cells v c.args.self.now one new before after found (number_in cells c.in-Loop.first) cells
     (λ a. used (number_in cells c.in-Loop.last) cells (λ b. used (number_in cells c.in-Loop.step) cells (λ z. from a b z))) a
-    ((rw c.deref.ensures.value at c.in_ok-first.ensures.yields) start v there-1 holds inside)
+    ((rw (c.deref-2.ensures.value, c.deref.ensures) at c.in_ok-first.ensures.yields) start v there-1 holds inside)
     (λ holds. known_steps start.cells v one two new before after found (number_in cells c.in-Loop.last) cells
     (λ b. used (number_in cells c.in-Loop.step) cells (λ z. from a b z)) b
-    ((rw c.deref-2.ensures.value at c.in_ok-last.ensures.yields) start v there-2 holds inside)
+    ((rw (c.deref-4.ensures.value, c.deref-3.ensures) at c.in_ok-last.ensures.yields) start v there-2 holds inside)
     (λ holds. known_steps start.cells v two three new before after found (number_in cells c.in-Loop.step) cells
     (λ z. from a b z) (sum_value v c.in_ok-step.step)
-    ((rw c.deref-3.ensures.value at c.in_ok-step.ensures.yields) start v there-3 holds inside)
+    ((rw (c.deref-6.ensures.value, c.deref-5.ensures) at c.in_ok-step.ensures.yields) start v there-3 holds inside)
     (λ holds. claim start v there holds inside)))))
 
 pub returns-clause-extends : goal.returns-clause-extends

@@ -1,6 +1,7 @@
-use Rattle.std.proofs.Common.{◌≤◌, ◌<◌, ◌∙◌, length, arith, sym, subst}
+use Rattle.std.proofs.Common.{◌≤◌, ◌<◌, ◌∙◌, ap, length, arith, sym, subst}
 use Rattle.std.proofs.lemmas.List.{take_all}
 use Rattle.f77_terms.specs.Paths.{Holds}
+use Rattle.f77_symbolic.specs.Sides.{turns_of}
 use Rattle.f77_symbolic.specs.Visits.{AreTurnNumbers}
 use Rattle.f77_symbolic.proofs.Entered.{turns_next, visit_first}
 use Rattle.f77_symbolic.proofs.evaluator.Evaluator.first_visit.Goals as goal
@@ -12,7 +13,7 @@ pub returns-in_err-push-clause-extends : goal.returns-in_err-push-clause-extends
 returns-in_err-push-clause-extends c start v is = c.loop-d.invariant.extends start v (c.in_ok-turn.ensures.extends start v is)
 
 pub returns-clause-extends : goal.returns-clause-extends
-returns-clause-extends c start v is = c.loop-d.invariant.extends start v (c.taken_path.ensures.extends start v is)
+returns-clause-extends c start v is = c.loop-d.invariant.extends start v (c.taken_path-path.ensures.extends start v is)
 
 pub loop-d-preserved : goal.loop-d-preserved
 loop-d-preserved c = record {
@@ -34,8 +35,9 @@ loop-d-preserved c = record {
 
 pub returns-clause-first : goal.returns-clause-first
 returns-clause-first c start v is holds s cells numbers place left =
-    let at = c.loop-d.invariant.stands start v (c.taken_path.ensures.extends start v is) holds s.turns numbers left in
+    let at = c.loop-d.invariant.stands start v (c.taken_path-path.ensures.extends start v is) holds s.turns numbers left in
     let long = left.count in
     let all : length s.turns ≤ c.loop-d.d = omega arith in
-    visit_first start v s (record { path = c.taken_path.result; side = record { place = c.args.place; writes = c.new.result; turns = c.loop-d.turns } })
-    (subst (Holds v) (sym c.taken_path.ensures.path) at.0) c.new.ensures.items cells place (at.1 ∙ take_all c.loop-d.d s.turns all)
+    visit_first start v s (record { path = c.taken_path-path.result; side = c.in_ok-side.side })
+    (subst (Holds v) (sym c.taken_path-path.ensures.path) at.0) c.in_ok-side.ensures.writes cells (c.in_ok-side.ensures.place ∙ place)
+    (ap (λ turns. turns_of v turns.items) c.in_ok-side.ensures.turns ∙ (at.1 ∙ take_all c.loop-d.d s.turns all))

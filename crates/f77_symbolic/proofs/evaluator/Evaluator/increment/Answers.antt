@@ -31,7 +31,7 @@ returns-clause-steps c =
     let value = sum_value v c.in_ok-before.before in
     let number = sum_value v c.in_ok-number.number in
     let here = c.ranged.ensures.extends start v there in
-    let reads = rw c.deref.ensures.value at c.in_ok-value.ensures.reads in
+    let reads = rw (c.deref-2.ensures.value, c.deref.ensures) at c.in_ok-value.ensures.reads in
     let it = rw (c.fixed.ensures.slot v) at (reads start v here holds inside (c.fixed.ensures.inside v)) in
     let read = whole_read v old mid (held_in cells slot) c.in_ok-value.value (λ z. value ≡ z) it
     (λ holds. c.in_ok-before.ensures start v here holds) in

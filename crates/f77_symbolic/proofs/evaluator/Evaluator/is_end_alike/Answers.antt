@@ -31,7 +31,7 @@ returns-clause-ends c told checked finish ready end start v there holds left rig
     (c.in_ok-other.ensures.steps start v (c.show_same.ensures.extends start v there) (subst (λ p. Holds v p) (sym c.taken_path-path.ensures.path) holds) right) in
     let at = ended start.cells v c.step_from.new.self.path c.args.right.now c.in_ok-other._after c.args.step finish
     (moved c.args.change.now.statements.items (state_of start.cells v c.args.right.now)) end it in
-    let same = rw (c.deref-2.ensures.value, c.deref-3.ensures.value, c.deref-4.ensures.value) at c.in_ok-show_same.ensures.same start v there at.0 in (
+    let same = rw (c.deref-3.ensures.value, c.deref-2.ensures, c.deref-5.ensures.value, c.deref-4.ensures, c.deref-6.ensures.value) at c.in_ok-show_same.ensures.same start v there at.0 in (
       cells_of start.cells v c.args.right.now.writes.items,
       at.1,
       hold_alike checked c.args.change.now.dummies.items (cells_of start.cells v c.args.left.now.writes.items)

@@ -5,13 +5,13 @@ use Rattle.f77_symbolic.specs.Sides.{state_of}
 use Rattle.f77_symbolic.proofs.Settling.{other_moves, stepped_so}
 use Rattle.f77_symbolic.proofs.evaluator.Evaluator.other_step.Goals as goal
 
-pub returns-in_err-copied_side-in-Moves-clause-extends :
-    goal.returns-in_err-copied_side-in-Moves-clause-extends
-returns-in_err-copied_side-in-Moves-clause-extends c start v is = c.in_ok-step.ensures.extends start v (c.taken_path.ensures.extends start v is)
+pub returns-in_err-clone-in-Moves-clause-extends :
+    goal.returns-in_err-clone-in-Moves-clause-extends
+returns-in_err-clone-in-Moves-clause-extends c start v is = c.in_ok-step.ensures.extends start v (c.taken_path.ensures.extends start v is)
 
-pub returns-in_ok-copied_side-in-Moves-clause-rests :
-    goal.returns-in_ok-copied_side-in-Moves-clause-rests
-returns-in_ok-copied_side-in-Moves-clause-rests c spare checked start v ready is within settled =
+pub returns-in_ok-clone-in-Moves-clause-rests :
+    goal.returns-in_ok-clone-in-Moves-clause-rests
+returns-in_ok-clone-in-Moves-clause-rests c spare checked start v ready is within settled =
     let less : to_z w64 (of_z w64 (to_z w64 (of_z w64 c.args.pair.now.credit) -ℤ pos 1)) ≡ (c.args.pair.now.credit +ℤ negsuc 0) =
     let own : SFits w64 c.args.pair.now.credit = search rules in
     let fits : SFits w64 (to_z w64 (of_z w64 c.args.pair.now.credit) -ℤ pos 1) = search rules in
@@ -20,8 +20,8 @@ returns-in_ok-copied_side-in-Moves-clause-rests c spare checked start v ready is
     (λ there. stepped_so start.cells v false c.step_from.new.self.path c.taken_path.result c.args.pair.now.right c.in_ok-step.right c.in_ok-step.step step.Moves
     c.deref.result.now c.args.change.now.statements.items (state_of start.cells v c.args.pair.now.right) c.taken_path.ensures.path c.in-Moves.is
     c.deref.ensures.value (c.in_ok-step.ensures.steps start v (c.taken_path.ensures.extends start v is) there.holds there.right))
-    c.in_ok-copied_side-in-Moves.ensures less refl settled
+    c.in_ok-clone-in-Moves.ensures.cases less refl settled
 
-pub returns-in_ok-copied_side-in-Moves-clause-extends :
-    goal.returns-in_ok-copied_side-in-Moves-clause-extends
-returns-in_ok-copied_side-in-Moves-clause-extends c start v is = c.in_ok-step.ensures.extends start v (c.taken_path.ensures.extends start v is)
+pub returns-in_ok-clone-in-Moves-clause-extends :
+    goal.returns-in_ok-clone-in-Moves-clause-extends
+returns-in_ok-clone-in-Moves-clause-extends c start v is = c.in_ok-step.ensures.extends start v (c.taken_path.ensures.extends start v is)

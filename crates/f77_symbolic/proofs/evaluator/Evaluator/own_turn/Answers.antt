@@ -10,9 +10,9 @@ use Rattle.f77_symbolic.proofs.Settling.{both_ended, own_faults, own_moves, step
 use Rattle.f77_symbolic.proofs.Comparisons.{some_so}
 use Rattle.f77_symbolic.proofs.evaluator.Evaluator.own_turn.Goals as goal
 
-pub returns-in_err-copied_side-in-Moves-clause-extends :
-    goal.returns-in_err-copied_side-in-Moves-clause-extends
-returns-in_err-copied_side-in-Moves-clause-extends c start v is = c.in_ok-step.ensures.extends start v (c.taken_path.ensures.extends start v is)
+pub returns-in_err-clone-in-Moves-clause-extends :
+    goal.returns-in_err-clone-in-Moves-clause-extends
+returns-in_err-clone-in-Moves-clause-extends c start v is = c.in_ok-step.ensures.extends start v (c.taken_path.ensures.extends start v is)
 
 pub returns-in_err-ok_or-in-Moves-clause-extends :
     goal.returns-in_err-ok_or-in-Moves-clause-extends
@@ -47,7 +47,7 @@ returns-in_ok-ok_or-in-Moves-clause-rests c spare checked start v ready is withi
     (λ here. stepped_so start.cells v true c.step_from.new.self.path c.taken_path.result c.args.pair.now.left c.in_ok-step.left c.in_ok-step.step step.Moves
     c.deref.result.now c.args.change.now.own.items (state_of start.cells v c.args.pair.now.left) c.taken_path.ensures.path c.in-Moves.is c.deref.ensures.value
     (c.in_ok-step.ensures.steps start v (c.taken_path.ensures.extends start v is) here.holds here.left))
-    c.in_ok-copied_side-in-Moves.ensures more refl settled
+    c.in_ok-clone-in-Moves.ensures.cases more refl settled
 
 pub returns-in_ok-ok_or-in-Moves-clause-extends : goal.returns-in_ok-ok_or-in-Moves-clause-extends
 returns-in_ok-ok_or-in-Moves-clause-extends c start v is = c.in_ok-step.ensures.extends start v (c.taken_path.ensures.extends start v is)

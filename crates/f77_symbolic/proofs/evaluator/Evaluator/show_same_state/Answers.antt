@@ -12,8 +12,8 @@ returns-clause-same c =
     (λ x same start v there holds left right.
     let on = c.in_ok-come_on.ensures.path v holds in
     let turns : turns_of v c.args.right.now.turns.items ≡ turns_of v c.args.left.now.turns.items =
-    rw (c.deref.ensures.value, c.deref-2.ensures.value) at c.in_ok-show_same_turns.ensures v on in
-    let all = rw (c.deref-3.ensures.value, c.deref-4.ensures.value) at same start v there on in
+    rw (c.deref-2.ensures.value, c.deref.ensures, c.deref-4.ensures.value, c.deref-3.ensures) at c.in_ok-show_same_turns.ensures v on in
+    let all = rw (c.deref-6.ensures.value, c.deref-5.ensures, c.deref-8.ensures.value, c.deref-7.ensures) at same start v there on in
     let cells = same_cells_of start.cells v c.args.left.now.writes.items c.args.right.now.writes.items (all left right) in
     let place : c.args.right.now.place ≡ c.args.left.now.place =
     same_place c.args.left.now.place c.args.right.now.place (sym c.eq.ensures ∙ c.in_ok-unless_unknown.ensures) in
