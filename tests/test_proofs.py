@@ -19,7 +19,7 @@ from mutants.program.calling import Fault
 from mutants.statuses import FAULT, WORDS
 from mutants.texts.jobs import Job, declared_text
 from mutants.texts.lines import Mutant
-from mutants.texts.proofs import Answer, Candidate, Proof, meaning_of, read_proofs
+from mutants.texts.proofs import Answer, Candidate, Left, Proof, meaning_of, read_proofs
 from mutants.texts.reports import Count, Row
 
 LINES = """\
@@ -29,6 +29,7 @@ PROVED 2 OF 9
 """
 UNFINISHED = LINES.replace("OF 9", "OF 9, 7 NOT FINISHED")
 ROWS = LINES.replace("PROVED", "ROW ABS 3 5 [1,-2,false,[3,4]]\nROW ABS 3 5 []\nPROVED")
+ENDS = ROWS.replace("PROVED", "LEFT ABS 3 5 AT 7 7 VALUES\nLEFT ABS 4 7 AT 8 12\nPROVED")
 
 
 class Reading(unittest.TestCase):
@@ -43,6 +44,20 @@ class Reading(unittest.TestCase):
         candidates = [Candidate("ABS", 3, 5, [1, -2, False, [3, 4]]), Candidate("ABS", 3, 5, [])]
         self.assertEqual(read_proofs(ROWS), Answer(read_proofs(LINES).proofs, 0, candidates))
         self.assertEqual(proofs_of(read_proofs(ROWS)).candidates, candidates)
+
+    def test_where_a_proof_was_given_up(self) -> None:
+        ends = [Left("ABS", 3, 5, 7, 7, True), Left("ABS", 4, 7, 8, 12)]
+        self.assertEqual(read_proofs(ENDS), read_proofs(ROWS)._replace(left=ends))
+        self.assertEqual(read_proofs("LEFT SDL 1 1 AT 3 3\nPROVED 0 OF 1\n").left, [Left("SDL", 1, 1, 3, 3)])
+        # A job names a mutant by its number in the whole list.
+        self.assertEqual(proofs_of(read_proofs(ENDS)).left, {"ABS 5": ends[0], "ABS 7": ends[1]})
+
+    def test_where_a_proof_was_given_up_in_words(self) -> None:
+        apart = "the proof ends where the program is at line 12 and the mutant at line 14"
+        for own, other, told in ((12, 12, "the proof ends at line 12"), (12, 14, apart)):
+            self.assertEqual(Left("ABS", 3, 5, own, other).text(), told)
+            values = f"{told}, and values may differ there"
+            self.assertEqual(Left("ABS", 3, 5, own, other, True).text(), values)
 
     def test_a_mutant_with_steps_to_spare_is_told_apart(self) -> None:
         found = proofs_of(read_proofs(LINES))
@@ -82,6 +97,11 @@ class Reading(unittest.TestCase):
             (ROWS.replace("[]", "7"), "row that is none"), (ROWS.replace("ABS 3 5", "ABS 3"), "row that is none"),
             (ROWS.replace("ROW ABS 3 5 []", "SPARE 1 SDL 2 2 LINE 9 CONTINUE"), "row that is none"),
             (ROWS.replace("ABS 3 5", "SDL 1 1"), "a row of a mutant that they name"),
+            (ENDS.replace("7 7 V", "7 V"), "LEFT that is none"), (ENDS.replace("VALUES", "VALUE"), "LEFT that is none"),
+            (ENDS.replace("8 12", "8 012"), "LEFT that is none"), (ENDS.replace("8 12", "8 12 "), "LEFT that is none"),
+            (ENDS.replace("ABS 4 7", "ABS 4"), "LEFT that is none"), (ENDS.replace("ABS 4 7", "ABS 3 5"), "twice"),
+            (ENDS.replace("LEFT ABS 4 7 AT 8 12", "ROW ABS 3 5 []"), "LEFT that is none"),
+            (ENDS.replace("ABS 4 7", "SDL 1 1"), "twice"), (ENDS.replace("LEFT ABS 3", "ABS 3"), "row that is none"),
         ):  # fmt: skip
             with self.subTest(text[:40]), self.assertRaisesRegex(ValueError, told):
                 read_proofs(text)

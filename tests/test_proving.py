@@ -18,7 +18,7 @@ from mutants.suggestions.rounds import Search
 from mutants.suggestions.shapes import Kept, Row, Shape, items_of
 from mutants.texts.jobs import Job
 from mutants.texts.lines import Mutant
-from mutants.texts.proofs import Answer, Candidate, Proof
+from mutants.texts.proofs import Answer, Candidate, Left, Proof
 from mutants.texts.reports import Count, Report
 
 SUITE: list[Row] = [(0, (1, 2))]
@@ -54,12 +54,17 @@ class Loop(unittest.TestCase):
         return self.answers[min(len(self.jobs), len(self.answers)) - 1]
 
     def went(
-        self, *candidates: Candidate, kept: Kept = Kept({}, {}), seconds: float | None = None, passed: float = 0
+        self,
+        *candidates: Candidate,
+        left: Sequence[Left] = (),
+        kept: Kept = Kept({}, {}),
+        seconds: float | None = None,
+        passed: float = 0,
     ) -> Proving:
         """What comes of these rows, and of what is answered then."""
         report = Report("S", 1, 10000, 1, {"SDL": Count(4, 0, 0)}, [], [])
         parts: Any = dict.fromkeys(Checked._fields)
-        said = Said(proofs=proofs_of(Answer([], 0, list(candidates))))
+        said = Said(proofs=proofs_of(Answer([], 0, list(candidates), list(left))))
         checked = Checked(**{**parts, "job": Job("S", [[0, [1, 2]]]), "whole": report, "said": said})
         asker = Asked(checked, MUTANTS, Means("none"), Clock(seconds))
         asker.clock.begun -= passed
@@ -99,6 +104,13 @@ class Loop(unittest.TestCase):
         self.assertEqual((len(self.jobs), proving.killed, proving.tried), (3, 2, 3))
         self.assertEqual((proving.search.alive, proving.search.proved, proving.search.killed), (0b1000, 0b10, 0b101))
         self.assertEqual(proving.proofs.spares, {"SDL 2": 5})
+
+    def test_where_a_proof_was_given_up_is_told_by_the_last_answer_that_says_it(self) -> None:
+        old, new = (Left("SDL", 3, 3, line, line) for line in (3, 4))
+        other = Left("SDL", 4, 4, 3, 3)
+        self.answers = [Answer([], left=[new])]
+        self.assertEqual(self.went(candidate(1, 1), left=[old, other]).proofs.left, {"SDL 3": new, "SDL 4": other})
+        self.assertEqual(self.went(left=[old]).proofs.left, {"SDL 3": old})
 
     def test_it_ends_where_nothing_is_left(self) -> None:
         self.answers = [Answer([Proof(each) for each in MUTANTS])]

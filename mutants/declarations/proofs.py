@@ -7,7 +7,7 @@ from typing import NamedTuple
 
 from mutants.english import plural
 from mutants.texts.lines import Mutant
-from mutants.texts.proofs import Answer, Candidate, Proof, meaning_of
+from mutants.texts.proofs import Answer, Candidate, Left, Proof, meaning_of
 from mutants.texts.reports import Count, Row, score_of
 from mutants.texts.twins import name_of
 
@@ -21,7 +21,8 @@ class Proofs(NamedTuple):
     """What is proved of the mutants of a program: how many steps each has to spare, by its name; or why nothing was
     asked. `declared` are the names that a person declares, whether they are proved or not. Proofs with steps to spare
     are of the first `tests` tests of a suite. `unfinished` mutants were left at the bound on work. `candidates` are
-    tests that may kill others, and `is_asked` says that the program equivalents has answered."""
+    tests that may kill others, `left` has where proofs of others were given up, by name, and `is_asked` says that the
+    program equivalents has answered."""
 
     spares: Mapping[str, int] = MappingProxyType({})
     declared: Collection[str] = NO_NAMES
@@ -30,6 +31,7 @@ class Proofs(NamedTuple):
     tests: int = 0
     unfinished: int = 0
     candidates: Sequence[Candidate] = ()
+    left: Mapping[str, Left] = MappingProxyType({})
     is_asked: bool = False
 
     @property
@@ -67,8 +69,9 @@ NO_PROOFS = Proofs()
 def proofs_of(answer: Answer, declared: Collection[str] = NO_NAMES, remark: str = "", tests: int = 0) -> Proofs:
     """The proofs of mutants that a job may declare."""
     spares = {name_of(proof.mutant): proof.spare for proof in answer.proofs if proof.mutant.place <= MOST}
-    left = answer.unfinished, answer.candidates
-    return Proofs(spares, frozenset(declared), "", remark, tests, *left, is_asked=True)
+    left = {name_of(each): each for each in answer.left}
+    more = answer.unfinished, answer.candidates, left
+    return Proofs(spares, frozenset(declared), "", remark, tests, *more, is_asked=True)
 
 
 def assert_listed(proved: Iterable[Proof], listed: Iterable[Mutant]) -> None:

@@ -13,7 +13,8 @@ killed by a row, proved equivalent, and undecided.
 
 Shown are: the rows, as the table has them, those with far values apart; for each row what the program does on it, to be
 looked at before the row is taken, and the survivors that it kills, by line; and the survivors that no row killed, with
-how many of the rows that were tried came to their lines. A column `expect` of the table stays empty in new rows.
+how many of the rows that were tried came to their lines, and at which line each proof was given up. A column `expect`
+of the table stays empty in new rows.
 
 An array of numbers that is in order in all tests stays so in all rows, and this is said; --free lifts it. Nothing else
 is known of what the arguments have to be: --ranges says it. --within I=-8:8,J=0:9 tries all rows of a box, in order, a

@@ -93,11 +93,13 @@ class Proving:
         return self.run(answer.candidates) or is_proved
 
     def learn(self, answer: Answer) -> bool:
-        """Takes proofs of mutants that are left. Where they have steps to spare, that is so of the tests alone too."""
+        """Takes proofs of mutants that are left, and where others were given up. Where proofs have steps to spare, that
+        is so of the tests alone too."""
         search, found = self.search, proofs_of(answer)
         left = {name_of(each): search.asker.numbers[each.op, each.place] for each in search.asker.of_mask(search.alive)}
         new = {name: spare for name, spare in found.spares.items() if name in left}
         bits = sum(1 << left[name] for name in new)
         search.alive, search.proved = search.alive & ~bits, search.proved | bits
-        self.proofs = self.proofs._replace(spares={**self.proofs.spares, **new}, unfinished=found.unfinished)
+        spares, given_up = {**self.proofs.spares, **new}, {**self.proofs.left, **found.left}
+        self.proofs = self.proofs._replace(spares=spares, unfinished=found.unfinished, left=given_up)
         return bool(new)

@@ -1,7 +1,7 @@
 """What is said of suggestions: the rows, what each of them does and kills, and the survivors that none killed."""
 
 from collections import defaultdict
-from collections.abc import Iterable, Iterator, Sequence
+from collections.abc import Iterable, Iterator, Mapping, Sequence
 from pathlib import Path
 from textwrap import wrap
 
@@ -17,7 +17,8 @@ from mutants.suggestions.shapes import Row
 from mutants.suggestions.suggesting import Suggested
 from mutants.suggestions.tables import Layout
 from mutants.texts.lines import Mutant
-from mutants.texts.twins import names_text, twins_in
+from mutants.texts.proofs import Left
+from mutants.texts.twins import name_of, names_text, twins_in
 
 LOOK = "What the program does on a row is its own outcome, right or wrong: look at it before you take the row."
 HINT = "That is a hint at equivalence, and no more than that."
@@ -120,8 +121,18 @@ def reached_text(result: Suggested, line: int) -> str:
     return f"; {count} of the{of_first} {asked} rows came here"
 
 
+def ends_lines(survivors: Iterable[Mutant], left: Mapping[str, Left]) -> Iterator[str]:
+    """Where the proofs of survivors were given up, if that is known, and of which survivors each is so."""
+    ends: dict[str, list[Mutant]] = defaultdict(list)
+    for mutant in survivors:
+        if name_of(mutant) in left:
+            ends[left[name_of(mutant)].text()].append(mutant)
+    for told, mutants in ends.items():
+        yield from wrap(f"  {told}: {mutants_text(mutants)}", WIDTH, subsequent_indent="    ")
+
+
 def left_lines(result: Suggested) -> Iterator[str]:
-    """The survivors that no row killed, by line."""
+    """The survivors that no row killed, by line, and what is missing to their proofs."""
     survivors = result.final.report.survivors
     lines = by_line(survivors)
     if not survivors:
@@ -136,6 +147,7 @@ def left_lines(result: Suggested) -> Iterator[str]:
         statement = result.final.statements[line]
         yield f"line {line}: {statement} ({len(lines[line])} left{reached_text(result, line)})"
         yield from line_lines(lines[line], statement)
+        yield from ends_lines(lines[line], result.proving.proofs.left)
 
 
 def needless_lines(result: Suggested) -> Iterator[str]:

@@ -1,5 +1,6 @@
 pub mod Words
 pub mod Rows
+pub mod Left
 pub mod Rendering
 pub mod Room
 pub mod Finding

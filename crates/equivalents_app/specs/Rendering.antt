@@ -7,8 +7,10 @@ use Rattle.f77_tree.specs.Joined.{separated}
 use Rattle.mothra_app.specs.Listing.{asked_total}
 use Rattle.mothra_codes.specs.Ticket.{ticket}
 use Rattle.mothra_codes.specs.declared.ticket.Ticket.{Ticket}
+use Rattle.equivalents_app.specs.Left.{left_line}
 use Rattle.equivalents_app.specs.Rows.{row_line}
 use Rattle.mothra_equivalents.specs.declared.equivalents.Equivalent.{Equivalent}
+use Rattle.mothra_equivalents.specs.declared.left.Left.{Left}
 use Rattle.mothra_equivalents.specs.declared.suggestions.Suggestion.{Suggestion}
 use Rattle.mothra_job.specs.Equivalent.{ticket_text}
 use Rattle.mothra_ops.specs.Mutants.{MutantFields, change_text, mutant_name, mutant_of, original_number, program_of}
@@ -36,20 +38,22 @@ equivalent_line plan e =
     option_map_or (promise_line plan e) (mutant_of plan e.ticket.op e.ticket.number) []
 
 -- how many mutants were left at the bound on work, if any
-abbrev pub left_text : ℕ → List ℕ
-left_text zero = []
-left_text (suc n) = codes ", " ++ (decimal (suc n) ++ codes " NOT FINISHED")
+abbrev pub unfinished_text : ℕ → List ℕ
+unfinished_text zero = []
+unfinished_text (suc n) = codes ", " ++ (decimal (suc n) ++ codes " NOT FINISHED")
 
 -- how many of the plan's mutants are proved equivalent, how many it has, and how many were left
 abbrev pub last_line : ℕ → ℕ → ℕ → List ℕ
-last_line count total left =
-    codes "PROVED " ++ (decimal count ++ (codes " OF " ++ (decimal total ++ (left_text left ++ codes "\n"))))
+last_line count total unfinished =
+    codes "PROVED " ++ (decimal count ++ (codes " OF " ++ (decimal total
+    ++ (unfinished_text unfinished ++ codes "\n"))))
 
--- the lines of the named mutants, then those of rows, then the last one
-abbrev pub lines_text : PlanFields → List Equivalent → List Suggestion → ℕ → List ℕ
-lines_text plan list rows left =
-    flat_map (equivalent_line plan) list
-    ++ (flat_map (row_line plan.every) rows ++ last_line (length list) (asked_total plan) left)
+-- the lines of the named mutants, of rows, and of mutants whose proofs were given up; the last one
+abbrev pub lines_text : PlanFields → List Equivalent → List Suggestion → List Left → ℕ → List ℕ
+lines_text plan list rows left unfinished =
+    flat_map (equivalent_line plan) list ++ (flat_map (row_line plan.every) rows
+    ++ (flat_map (left_line plan.every) left
+    ++ last_line (length list) (asked_total plan) unfinished))
 
 -- ---- as the list that the key `equivalent` of a job takes
 
@@ -73,6 +77,7 @@ json_line every list = codes "[" ++ (separated entry_text [] (declarable every l
 -- ---- lines or JSON, as asked for
 
 -- Rule: what `equivalents` writes
-abbrev pub written_text : PlanFields → List Equivalent → List Suggestion → ℕ → Bool → List ℕ
-written_text plan list rows left json =
-    if json then json_line plan.every list else lines_text plan list rows left
+abbrev pub written_text : PlanFields → List Equivalent → List Suggestion → List Left → ℕ → Bool
+    → List ℕ
+written_text plan list rows left unfinished json =
+    if json then json_line plan.every list else lines_text plan list rows left unfinished

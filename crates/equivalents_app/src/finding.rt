@@ -10,6 +10,7 @@ ghost use Rattle.equivalents_app.specs.Room.{AreNamedMutants, LeavesRoom};
 ghost use Rattle.equivalents_app.specs.Words.{IsInquiryBounded};
 
 use crate::killed::{bench_of, killed_on};
+use crate::left::left_of;
 use crate::rendering::text_of;
 use crate::room::{keep_within, room_of};
 use crate::rows::rows_of;
@@ -58,13 +59,15 @@ fn text_for(
         → IsNamedIn plan.now tests inquiry.now (string_bytes text)) }
 {
     let found = named_of(alloc, plan, killed, room, inquiry)?;
-    let suggestions = found.suggestions;
-    let rows = rows_of(alloc, plan, &found.list, suggestions, inquiry.rows)?;
+    let others = found.others;
+    let rows = rows_of(alloc, plan, &found.list, others.suggestions, inquiry.rows)?;
+    let left = left_of(alloc, &found.list, others.left)?;
     text_of(
         alloc,
         plan,
         &found.list,
         &rows,
+        &left,
         found.unfinished,
         inquiry.json,
     )

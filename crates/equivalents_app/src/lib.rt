@@ -5,6 +5,7 @@
 mod finding;
 mod killed;
 pub mod law;
+mod left;
 mod rendering;
 mod room;
 mod rows;

@@ -9,10 +9,11 @@ ghost use Rattle.equivalents_app.specs.Rendering.{declarable, entry_text, equiva
 ghost use Rattle.equivalents_app.specs.Rendering.{json_line, last_line, lines_text, promise_line};
 ghost use Rattle.equivalents_app.specs.Rendering as definition;
 
+use crate::left::push_left;
 use crate::rows::push_rows;
 use mothra_app::listing::total_of;
 use mothra_codes::Ticket;
-use mothra_equivalents::{Equivalent, Suggestion};
+use mothra_equivalents::{Equivalent, Left, Suggestion};
 use mothra_ops::{Mutant, Plan, push_name};
 use std::alloc::{AllocError, Global};
 
@@ -71,8 +72,8 @@ fn push_equivalents(text: &mut String, plan: &Plan, list: &[Equivalent]) -> Resu
 }
 
 /// Adds how many mutants were left at the bound on work, if any.
-fn push_left(text: &mut String, unfinished: u64) -> Result<(), AllocError>
-    ensures { OnOk result (string_bytes text.new ≡ string_bytes text.old ++ definition.left_text unfinished) }
+fn push_unfinished(text: &mut String, unfinished: u64) -> Result<(), AllocError>
+    ensures { OnOk result (string_bytes text.new ≡ string_bytes text.old ++ definition.unfinished_text unfinished) }
 {
     match unfinished {
         0 => Ok(()),
@@ -92,7 +93,7 @@ fn push_last(
 {
     let total = total_of(plan);
     write!(text, "PROVED {count} OF {total}")?;
-    push_left(text, unfinished)?;
+    push_unfinished(text, unfinished)?;
     text.push_str("\n")
 }
 
@@ -102,14 +103,16 @@ fn lines_of(
     plan: &Plan,
     list: &[Equivalent],
     rows: &[Suggestion],
+    left: &[Left],
     unfinished: u64,
 ) -> Result<String, AllocError>
     ensures { IfOk result
-        (λ text. string_bytes text ≡ lines_text plan.now list.now rows.now unfinished) }
+        (λ text. string_bytes text ≡ lines_text plan.now list.now rows.now left.now unfinished) }
 {
     let mut text = String::new(alloc);
     push_equivalents(&mut text, plan, list)?;
     push_rows(&mut text, plan.every(), rows)?;
+    push_left(&mut text, plan.every(), left)?;
     push_last(&mut text, plan, list.len(), unfinished)?;
     Ok(text)
 }
@@ -170,21 +173,22 @@ fn json_of(alloc: Global, every: u32, list: &[Equivalent]) -> Result<String, All
     Ok(text)
 }
 
-/// The text that names mutants of the plan: lines, with the rows behind them, or a JSON list.
+/// The text that names mutants of the plan: lines, with rows and what is left behind them, or a JSON list.
 pub fn text_of(
     alloc: Global,
     plan: &Plan,
     list: &[Equivalent],
     rows: &[Suggestion],
+    left: &[Left],
     unfinished: u64,
     json: bool,
 ) -> Result<String, AllocError>
     ensures { IfOk result
-        (λ text. string_bytes text ≡ definition.written_text plan.now list.now rows.now unfinished json) }
+        (λ text. string_bytes text ≡ definition.written_text plan.now list.now rows.now left.now unfinished json) }
 {
     if json {
         json_of(alloc, plan.every(), list)
     } else {
-        lines_of(alloc, plan, list, rows, unfinished)
+        lines_of(alloc, plan, list, rows, left, unfinished)
     }
 }

@@ -15,12 +15,12 @@ use mothra_equivalents::{Equivalent, Suggestion};
 use mothra_ops::{Plan, push_name};
 use std::alloc::{AllocError, Global};
 
-/// The mutant of a suggestion is named.
-fn is_named(list: &[Equivalent], row: &Suggestion) -> bool
-    ensures { result ≡ false → All (λ equivalent. equivalent.ticket ≢ row.now.ticket) list.now }
+/// The ticket's mutant is named.
+pub(crate) fn is_named(list: &[Equivalent], ticket: Ticket) -> bool
+    ensures { result ≡ false → All (λ equivalent. equivalent.ticket ≢ ticket) list.now }
 {
     for equivalent in list {
-        if equivalent.ticket == row.ticket {
+        if equivalent.ticket == ticket {
             return true;
         }
     }
@@ -34,7 +34,7 @@ fn may_be_row(plan: &Plan, list: &[Equivalent], row: &Suggestion) -> bool
     let Some(_mutant) = plan.mutant(row.ticket.op, row.ticket.number) else {
         return false;
     };
-    if is_named(list, row) {
+    if is_named(list, row.ticket) {
         return false;
     }
     fit(plan.program().arguments(), row.arguments.as_slice()).is_ok()

@@ -3,7 +3,6 @@
 ghost use Rattle.std.specs.Prelude.{◌≡◌, ◌≤ℤ◌, ◌⊎◌, ℕ, pos, All, List, map, Some, IfOk, IfSome};
 ghost use Rattle.f77_check.specs.Checked.{CheckedFields};
 ghost use Rattle.f77_check.specs.Patching.{IsInPlace};
-ghost use Rattle.f77_equivalence.specs.Alike.{site};
 ghost use Rattle.f77_equivalence.specs.Equivalent.{IsEquivalentWithin};
 ghost use Rattle.f77_equivalence.specs.Equivalent.{IsEquivalent};
 ghost use Rattle.f77_equivalence.specs.Start.{HoldsStart};
@@ -23,11 +22,11 @@ use crate::evaluator::{Atoms, Evaluator};
 use crate::halt::{Halt, unless_unknown};
 use crate::rows::Rows;
 use crate::samples::copied_samples;
+use crate::sides::statement_of;
 use crate::visiting::{Tour, Visit, Visits, tour_of};
 use crate::walking::Pair;
 use f77_actions::Resolved;
 use f77_check::Checked;
-use f77_code::Place;
 use f77_equivalence::start::holds_start;
 use f77_facts::entries::Entry;
 use f77_facts::facts::is_inside;
@@ -52,15 +51,6 @@ fn pair_of(alloc: Global, visit: &Visit) -> Result<Pair, AllocError>
         credit: 0,
         fresh: true,
     })
-}
-
-/// The number of the statement of a place.
-fn statement_of(place: Place) -> usize
-    ensures { result ≡ site place }
-{
-    match place {
-        Place::Execute(i) | Place::Increment(i) => i,
-    }
 }
 
 /// A pair for each visit to the statement of this number.

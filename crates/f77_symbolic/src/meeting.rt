@@ -57,12 +57,13 @@ impl Evaluator {
         }
     }
 
-    /// A sample is looked for on which two values differ, if rows are asked for and there is none.
+    /// Two values are compared. A sample is looked for on which they differ, if rows are asked for and there is none.
     fn seek_apart(&mut self, a: &Symbolic, b: &Symbolic) -> Result<(), Halt>
         ensures atoms { self.new.atoms ≡ self.old.atoms }
         ensures path { self.new.path ≡ self.old.path }
         ensures own { self.new.own ≡ self.old.own }
     {
+        self.samples.compare();
         if !self.samples.seeks {
             return Ok(());
         }

@@ -1,6 +1,7 @@
 //! Rows: what samples have of the dummy arguments where a walk is given up. Each may be a test that kills the changed
 //! program. Nothing is claimed of rows.
 
+use crate::gap::Gap;
 use crate::samples::{Sample, Samples};
 use crate::values::Slots;
 use std::alloc::{AllocError, Global};
@@ -12,6 +13,8 @@ pub struct Rows {
     pub list: Vec<Vec<i64>>,
     /// So many are kept.
     pub most: usize,
+    /// Where the first walk was given up.
+    pub gap: Option<Gap>,
 }
 
 /// The numbers of the slots of dummy arguments.
@@ -33,7 +36,14 @@ impl Rows {
         Rows {
             list: Vec::new(alloc),
             most,
+            gap: None,
         }
+    }
+
+    /// Leaves out all, for another changed program.
+    pub fn clear(&mut self) {
+        self.list.clear();
+        self.gap = None;
     }
 
     /// Adds the row of a sample, if it is another one.
@@ -47,13 +57,15 @@ impl Rows {
         Ok(())
     }
 
-    /// Adds the rows of samples: first of those that are on the path, then of all; the last made come first.
+    /// Adds the rows of samples: first of those that are on the path, then of all; the last made come first. Notes
+    /// where the walk was.
     pub(crate) fn add_all(
         &mut self,
         alloc: Global,
         samples: &Samples,
         dummies: &[Slots],
     ) -> Result<(), AllocError> {
+        self.gap = self.gap.or(samples.gap);
         for sample in samples.list.iter().rev() {
             if sample.is_on_path {
                 self.add(alloc, sample, dummies)?;

@@ -4,6 +4,7 @@
 
 ghost use Rattle.std.specs.Prelude.{◌<◌};
 
+use crate::gap::Gap;
 use crate::values::values_at;
 use f77_facts::facts::Fact;
 use f77_terms::atoms::{Key, Table};
@@ -37,6 +38,7 @@ pub struct Sample {
 #[derive(Drop)]
 pub struct Samples {
     pub list: Vec<Sample>,
+    pub gap: Option<Gap>,
     /// Rows are asked for: where two programs may differ a sample is looked for that shows it.
     pub seeks: bool,
 }
@@ -251,7 +253,11 @@ pub fn first_samples(
             is_on_path: false,
         })?;
     }
-    Ok(Samples { list, seeks })
+    Ok(Samples {
+        list,
+        gap: None,
+        seeks,
+    })
 }
 
 /// The samples in memory of their own, none of them on a path.
@@ -266,11 +272,28 @@ pub(crate) fn copied_samples(alloc: Global, samples: &Samples) -> Result<Samples
     }
     Ok(Samples {
         list,
+        gap: None,
         seeks: samples.seeks,
     })
 }
 
 impl Samples {
+    /// Both programs come to these statements.
+    pub fn come_to(&mut self, own: usize, other: usize) {
+        self.gap = Some(Gap {
+            own,
+            other,
+            is_compared: false,
+        });
+    }
+
+    /// What a slot holds in both is compared.
+    pub fn compare(&mut self) {
+        if let Some(gap) = &mut self.gap {
+            gap.is_compared = true;
+        }
+    }
+
     /// Those stay in which an atom is in a range.
     pub fn stay(&mut self, atom: usize, range: Range) {
         for sample in &mut self.list {

@@ -4,6 +4,7 @@ ghost use Rattle.std.specs.Prelude.{◌≡◌, is_some, option_map, slice_set, [
 ghost use Rattle.f77_actions.specs.declared.value.Value.{Value};
 ghost use Rattle.f77_code.specs.Moves as moves;
 ghost use Rattle.f77_code.specs.Moves.{Cells, state};
+ghost use Rattle.f77_equivalence.specs.Alike.{site};
 ghost use Rattle.f77_terms.specs.Terms.{Valuation};
 ghost use Rattle.f77_symbolic.specs.Memory.{AreInside, IsInside, cells_of, slot_of, content_of};
 ghost use Rattle.f77_symbolic.specs.Sides.{turn_of, turns_of};
@@ -192,6 +193,15 @@ pub(crate) fn jump(alloc: Global, side: &mut Side, to: &Jump) -> Result<Step, Al
     }
     side.place = Place::Execute(to.target);
     Ok(Step::Moves)
+}
+
+/// The number of the statement of a place.
+pub(crate) fn statement_of(place: Place) -> usize
+    ensures { result ≡ site place }
+{
+    match place {
+        Place::Execute(i) | Place::Increment(i) => i,
+    }
 }
 
 /// Control comes to a statement.

@@ -19,7 +19,7 @@ use crate::change::Change;
 use crate::evaluator::Evaluator;
 use crate::halt::{Halt, Split, is_shown, unless_unknown};
 use crate::samples::Sign;
-use crate::sides::{Side, Step};
+use crate::sides::{Side, Step, statement_of};
 use f77_actions::{Action, Resolved};
 use f77_code::Place;
 use f77_terms::copying::copied_path;
@@ -324,6 +324,11 @@ impl Evaluator {
             };
             behind = behind.max(pair.credit.checked_neg().ok_or(Halt::Unknown)?);
             *work = work.saturating_sub(self.samples.cost(&pair.path, pair.left.turns.len()));
+            let (own, other) = (
+                statement_of(pair.left.place),
+                statement_of(pair.right.place),
+            );
+            self.samples.come_to(own, other);
             self.give_way(change, pair, &mut todo)?;
         }
         Err(Halt::Unknown)

@@ -5,6 +5,7 @@ ghost use Rattle.mothra_codes.specs.Op.{index};
 ghost use Rattle.mothra_equivalents.specs.Equivalents.{AreEquivalents};
 ghost use Rattle.mothra_equivalents.specs.code.Equivalents.{AreOf, IsUpTo};
 
+use crate::left::{Left, add_left};
 use crate::prover::Prover;
 use crate::suggestions::{Search, Suggestion, add_suggestions, rows_for};
 use indexmap::IndexSet;
@@ -29,16 +30,24 @@ pub struct Found {
     pub list: Vec<Equivalent>,
     /// For so many others the bound on work was met before anything was told of them.
     pub unfinished: u64,
-    /// Tests for others, by operator, then number.
-    pub suggestions: Vec<Suggestion>,
+    pub others: Others,
 }
 
-/// Adds the operator's mutant with this number to the list, if it is proved equivalent; else tests that kill it.
-/// Nothing is asked of a killed one.
+/// What was found of mutants that are not proved equivalent, where tests are looked for; both by operator, then number.
+#[derive(Drop)]
+pub struct Others {
+    /// Tests that kill them.
+    pub suggestions: Vec<Suggestion>,
+    /// Where their proofs were given up.
+    pub left: Vec<Left>,
+}
+
+/// Adds the operator's mutant with this number to the list, if it is proved equivalent; else tests that kill it, and
+/// where its proof was given up. Nothing is asked of a killed one.
 fn add(
     alloc: Global,
     list: &mut Vec<Equivalent>,
-    suggestions: &mut Vec<Suggestion>,
+    others: &mut Others,
     search: Search,
     prover: &mut Prover<'_>,
     killed: &IndexSet<Ticket>,
@@ -63,8 +72,11 @@ fn add(
         ticket,
         prover.rows(),
         search,
-        suggestions,
+        &mut others.suggestions,
     )?;
+    if search.most > 0 {
+        add_left(prover.plan(), ticket, prover.gap(), &mut others.left)?;
+    }
     Ok(())
 }
 
@@ -72,7 +84,7 @@ fn add(
 fn add_operator(
     alloc: Global,
     list: &mut Vec<Equivalent>,
-    suggestions: &mut Vec<Suggestion>,
+    others: &mut Others,
     search: Search,
     prover: &mut Prover<'_>,
     killed: &IndexSet<Ticket>,
@@ -84,16 +96,7 @@ fn add_operator(
     ensures plan { prover.new ≡ prover.old }
 {
     for before in 0..count {
-        add(
-            alloc,
-            list,
-            suggestions,
-            search,
-            prover,
-            killed,
-            op,
-            before + 1,
-        )?;
+        add(alloc, list, others, search, prover, killed, op, before + 1)?;
     }
     Ok(())
 }
@@ -119,14 +122,17 @@ pub fn equivalents_of(
     ensures equivalents { IfOk result (λ found. AreEquivalents plan.now found.list.items) }
 {
     let mut list = Vec::new(alloc);
-    let mut suggestions = Vec::new(alloc);
+    let mut others = Others {
+        suggestions: Vec::new(alloc),
+        left: Vec::new(alloc),
+    };
     let mut prover = Prover::of(alloc, plan, asked_of(plan, killed), rows_for(search))?;
     for op in Op::ALL {
         let count = plan.count(op);
         add_operator(
             alloc,
             &mut list,
-            &mut suggestions,
+            &mut others,
             search,
             &mut prover,
             killed,
@@ -137,6 +143,6 @@ pub fn equivalents_of(
     Ok(Found {
         list,
         unfinished: prover.unfinished(),
-        suggestions,
+        others,
     })
 }

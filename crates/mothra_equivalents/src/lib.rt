@@ -2,8 +2,10 @@
 #![tactic(auto)]
 
 mod equivalents;
+mod left;
 mod prover;
 mod suggestions;
 
-pub use equivalents::{Equivalent, Found, equivalents_of};
+pub use equivalents::{Equivalent, Found, Others, equivalents_of};
+pub use left::Left;
 pub use suggestions::{Search, Suggestion};

@@ -12,6 +12,7 @@ ghost use Rattle.mothra_equivalents.specs.Equivalents.{IsProved, IsProvedMutant}
 use f77_check::Resolved;
 use f77_finder::finding::entries_of;
 use f77_symbolic::equivalent::Tours;
+use f77_symbolic::gap::Gap;
 use f77_symbolic::rows::Rows;
 use f77_tree::{Shared, Stmt};
 use mothra_codes::Ticket;
@@ -130,6 +131,11 @@ impl<'a> Prover<'a> {
         &self.rows.list
     }
 
+    /// Where the walk for the mutant that was asked about last was given up.
+    pub(crate) fn gap(&self) -> Option<Gap> {
+        self.rows.gap
+    }
+
     /// How many steps are to be spared for the mutant with this statement, if it is equivalent then. `resolved` is the
     /// statement's resolved form.
     fn judge_in_place(
@@ -166,7 +172,7 @@ impl<'a> Prover<'a> {
         ensures plan { self.new ≡ self.old }
     {
         self.asked = self.asked.saturating_sub(1);
-        self.rows.list.clear();
+        self.rows.clear();
         if !mutant.is_alone {
             return Ok(None);
         }

@@ -22,7 +22,8 @@ returns-then-branch-clause-steps t c =
     stepped_as start.cells v c.args.self.now.own new.path c.args.side.now c.act.new.side step _ _
     (ap (λ action. acted c.args.statements.now c.args.i r action cells turns) c.in-LogicalIf.is)
     (known_steps start.cells v c.args.self.now mid new c.args.side.now c.act.new.side step (truth_in cells c.in-LogicalIf.condition) cells then
-    c.in_ok-truth_of-in-LogicalIf.field-0 ((rw (c.deref-in-LogicalIf.ensures.value, c.deref.ensures) at c.in_ok-truth_of-in-LogicalIf.ensures.yields) start v (c.act.ensures.extends start v there) holds inside)
+    c.in_ok-truth_of-in-LogicalIf.field-0
+    ((rw (c.deref-in-LogicalIf.ensures.value, c.deref.ensures) at c.in_ok-truth_of-in-LogicalIf.ensures.yields) start v (c.act.ensures.extends start v there) holds inside)
     (λ holds. stepped_as start.cells v mid.own new.path c.args.side.now c.act.new.side step _ _ (ap then c.if-branch.true)
     (claim start v there holds inside))))
 
