@@ -1,8 +1,8 @@
 //! What encloses each statement: the ranges of DOs and the branches around it. From these follows
 //! where control may go.
 //!
-//! What encloses a statement is looked for among all statements of the program. A legal program has few (C14), so no
-//! list of what encloses each is kept.
+//! What encloses a statement is looked for among the statements where DOs and branches begin. A legal program has few
+//! (C14), so no list of what encloses each is kept.
 
 ghost use Rattle.std.specs.Prelude.{◌≡◌, ◌&&◌, ◌||◌, not, List, IfOk};
 ghost use Rattle.f77_program.specs.Program.{LineFields};
