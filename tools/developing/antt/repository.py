@@ -16,6 +16,8 @@ LIBRARY = "Rattle"
 # A word, with a path before it. After a dot it is a field and no name. Texts and comments have no words.
 LETTERS = r"[^\s(){}\[\];,@\"«».|]+"
 WORD = re.compile(rf"(?<!\.)(?<![^\s(){{}}\[\];,@\"«»|]){LETTERS}(?:\.{LETTERS})*")
+# An import that a file passes on: all names of a module below it, or some of another one.
+PASSED = re.compile(r"^(?:unfoldable )?pub use ([\w.+]+)\.(?:\*|\{([^}]*)\})$", re.M)
 NOISE = re.compile(r'"(?:[^"\\]|\\.)*"|(?:(?<=\s)|^)--(?=\s|-|$).*', re.M)
 
 
@@ -57,6 +59,12 @@ class File:
                 nodes.setdefault(name, set()).add(node)
         return nodes
 
+    @cached_property
+    def passed_on(self) -> list[tuple[str, set[str] | None]]:
+        """The modules of which the file passes names on, with these names: None for all of a module below it."""
+        return [(module, {name.strip() for name in names.split(",")} if names else None)
+                for module, names in PASSED.findall(self.text)]  # fmt: skip
+
 
 def spellings(name: str) -> list[str]:
     """How a name may be written: an operator by its parts, too."""
@@ -85,8 +93,14 @@ class Repository:
         for end in range(len(parts) - 1, 2, -1):
             file = self.files.get(".".join(parts[:end]))
             if file:
-                return file.by_name.get(parts[end], set())
+                return file.by_name.get(parts[end]) or self.passed_by(file, parts[end])
         return set()
+
+    def passed_by(self, file: File, name: str) -> set[Node]:
+        """What a name stands for that a file passes on."""
+        below = [f"{file.module}.{module}.{name}" for module, names in file.passed_on if names is None]
+        others = [f"{module}.{name}" for module, names in file.passed_on if names and name in names]
+        return set[Node]().union(*map(self.named, below + others))
 
 
 class Scope:
