@@ -29,7 +29,7 @@ PROVED 2 OF 9
 """
 UNFINISHED = LINES.replace("OF 9", "OF 9, 7 NOT FINISHED")
 ROWS = LINES.replace("PROVED", "ROW ABS 3 5 [1,-2,false,[3,4]]\nROW ABS 3 5 []\nPROVED")
-ENDS = ROWS.replace("PROVED", "LEFT ABS 3 5 AT 7 7 VALUES\nLEFT ABS 4 7 AT 8 12\nPROVED")
+ENDS = ROWS.replace("PROVED", "LEFT ABS 3 5 AT 7 7 VALUES K\nLEFT ABS 4 7 AT 8 12\nPROVED")
 
 
 class Reading(unittest.TestCase):
@@ -46,7 +46,7 @@ class Reading(unittest.TestCase):
         self.assertEqual(proofs_of(read_proofs(ROWS)).candidates, candidates)
 
     def test_where_a_proof_was_given_up(self) -> None:
-        ends = [Left("ABS", 3, 5, 7, 7, True), Left("ABS", 4, 7, 8, 12)]
+        ends = [Left("ABS", 3, 5, 7, 7, "K"), Left("ABS", 4, 7, 8, 12)]
         self.assertEqual(read_proofs(ENDS), read_proofs(ROWS)._replace(left=ends))
         self.assertEqual(read_proofs("LEFT SDL 1 1 AT 3 3\nPROVED 0 OF 1\n").left, [Left("SDL", 1, 1, 3, 3)])
         # A job names a mutant by its number in the whole list.
@@ -56,8 +56,8 @@ class Reading(unittest.TestCase):
         apart = "the proof ends where the program is at line 12 and the mutant at line 14"
         for own, other, told in ((12, 12, "the proof ends at line 12"), (12, 14, apart)):
             self.assertEqual(Left("ABS", 3, 5, own, other).text(), told)
-            values = f"{told}, and values may differ there"
-            self.assertEqual(Left("ABS", 3, 5, own, other, True).text(), values)
+            values = f"{told}, and values of K may differ there"
+            self.assertEqual(Left("ABS", 3, 5, own, other, "K").text(), values)
 
     def test_a_mutant_with_steps_to_spare_is_told_apart(self) -> None:
         found = proofs_of(read_proofs(LINES))
@@ -97,7 +97,7 @@ class Reading(unittest.TestCase):
             (ROWS.replace("[]", "7"), "row that is none"), (ROWS.replace("ABS 3 5", "ABS 3"), "row that is none"),
             (ROWS.replace("ROW ABS 3 5 []", "SPARE 1 SDL 2 2 LINE 9 CONTINUE"), "row that is none"),
             (ROWS.replace("ABS 3 5", "SDL 1 1"), "a row of a mutant that they name"),
-            (ENDS.replace("7 7 V", "7 V"), "LEFT that is none"), (ENDS.replace("VALUES", "VALUE"), "LEFT that is none"),
+            (ENDS.replace("7 7 V", "7 V"), "LEFT that is none"), (ENDS.replace(" K\n", "\n"), "LEFT that is none"),
             (ENDS.replace("8 12", "8 012"), "LEFT that is none"), (ENDS.replace("8 12", "8 12 "), "LEFT that is none"),
             (ENDS.replace("ABS 4 7", "ABS 4"), "LEFT that is none"), (ENDS.replace("ABS 4 7", "ABS 3 5"), "twice"),
             (ENDS.replace("LEFT ABS 4 7 AT 8 12", "ROW ABS 3 5 []"), "LEFT that is none"),

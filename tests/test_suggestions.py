@@ -327,16 +327,16 @@ class Ends(unittest.TestCase):
 
     MUTANTS = [Mutant("ROR", n, 2 * n, 3, f"IF (I.GT.{n}) K=1") for n in range(1, 5)]
 
-    def ends(self, *lines: tuple[int, int, bool]) -> dict[str, Left]:
+    def ends(self, *lines: tuple[int, int, str | None]) -> dict[str, Left]:
         """The ends of the first mutants, by name."""
         return {f"ROR {n * 2}": Left("ROR", n, n * 2, *line) for n, line in enumerate(lines, 1)}
 
     def test_survivors_with_the_same_end_stand_together(self) -> None:
         told = [
-            "  the proof ends at line 5, and values may differ there: ROR 2 and 6",
+            "  the proof ends at line 5, and values of K may differ there: ROR 2 and 6",
             "  the proof ends where the program is at line 5 and the mutant at line 6: ROR 4",
         ]
-        self.assertEqual(list(ends_lines(self.MUTANTS, self.ends((5, 5, True), (5, 6, False), (5, 5, True)))), told)
+        self.assertEqual(list(ends_lines(self.MUTANTS, self.ends((5, 5, "K"), (5, 6, None), (5, 5, "K")))), told)
         self.assertEqual(list(ends_lines(self.MUTANTS, {})), [])
 
     def test_they_stand_behind_the_survivors_of_their_line(self) -> None:
@@ -344,7 +344,7 @@ class Ends(unittest.TestCase):
         result.final.report.survivors, result.final.statements = self.MUTANTS[:1], {3: "IF (I.GT.0) K=1"}
         result.reached.by_line, result.reached.asked = {3: 7}, 7
         result.search.tried = [(at,) for at in range(7)]
-        result.proving.proofs.left = self.ends((5, 5, False), (5, 6, False))
+        result.proving.proofs.left = self.ends((5, 5, None), (5, 6, None))
         told = ["line 3: IF (I.GT.0) K=1 (1 left; 7 of the 7 rows came here)", "  ROR 2     IF (I.GT.[0 -> 1]) K=1"]
         self.assertEqual(list(left_lines(result))[1:], [*told, "  the proof ends at line 5: ROR 2"])
 

@@ -10,7 +10,7 @@ from mutants.texts.lines import NUMBER, Mutant, lines_of_text, mutant_of
 
 LINE = re.compile(r"(?:EQUIVALENT|SPARE ([1-9]\d*)) (.+)")
 ROW = re.compile(rf"ROW ([A-Z]{{3}}) {NUMBER} {NUMBER} (\[.*\])")
-LEFT = re.compile(rf"LEFT ([A-Z]{{3}}) {NUMBER} {NUMBER} AT {NUMBER} {NUMBER}( VALUES)?")
+LEFT = re.compile(rf"LEFT ([A-Z]{{3}}) {NUMBER} {NUMBER} AT {NUMBER} {NUMBER}(?: VALUES ([A-Z][A-Z0-9]{{0,5}}))?")
 LAST = re.compile(rf"PROVED {NUMBER} OF {NUMBER}(?:, ([1-9]\d*) NOT FINISHED)?")
 
 
@@ -38,21 +38,21 @@ class Candidate(NamedTuple):
 
 
 class Left(NamedTuple):
-    """A mutant whose proof was given up: the line where the program was then, and the one where the mutant was. With
-    `values` what both held was compared there."""
+    """A mutant whose proof was given up: the line where the program was then, the one where the mutant was, and the
+    name of the variable or the array of which values were compared there, if any were."""
 
     op: str
     number: int
     place: int
     own: int
     other: int
-    values: bool = False
+    name: str | None = None
 
     def text(self) -> str:
         """In words, where the proof ends, and whether values may be the reason."""
         both = f"at line {self.own}"
         apart = f"where the program is at line {self.own} and the mutant at line {self.other}"
-        values = ", and values may differ there" if self.values else ""
+        values = f", and values of {self.name} may differ there" if self.name else ""
         return f"the proof ends {both if self.own == self.other else apart}{values}"
 
 
@@ -98,7 +98,7 @@ def left_of(line: str) -> Left:
     match = LEFT.fullmatch(line)
     if not match:
         raise ValueError(f"the proofs have a line LEFT that is none: {line[:60]}")
-    return Left(match[1], int(match[2]), int(match[3]), int(match[4]), int(match[5]), bool(match[6]))
+    return Left(match[1], int(match[2]), int(match[3]), int(match[4]), int(match[5]), match[6])
 
 
 def assert_apart(proofs: Iterable[Proof], candidates: Iterable[Candidate], left: Iterable[Left]) -> None:

@@ -76,10 +76,10 @@ class Told(Search):
         self.assertIn(f"line 4: IF (J.LT.I) K=J (1 left; {found[1]} of the {found[1]} rows came here)\n", out)
 
     def test_where_the_proof_of_a_survivor_was_given_up(self) -> None:
-        text = "LEFT ROR 1 1 AT 5 5 VALUES\\nPROVED 0 OF 16\\n"
+        text = "LEFT ROR 1 1 AT 5 5 VALUES N\\nPROVED 0 OF 16\\n"
         saying = self.put_program("saying", f"#!/bin/sh\ncat > /dev/null\nprintf '{text}'\n")
         out = mutants("suggest", "--rounds", "9", self.program, self.tests, proofs=saying)[1]
-        told = "  the proof ends at line 5, and values may differ there: ROR 1\n"
+        told = "  the proof ends at line 5, and values of N may differ there: ROR 1\n"
         self.assertIn(f"{EQUIVALENT}{told}", out)
 
     def test_the_time_is_that_of_the_search_alone(self) -> None:

@@ -1,10 +1,11 @@
 -- Words that the command line takes are an inquiry, or have a bad list of operators.
-use Rattle.std.proofs.Common.{arith, ◌≡◌, ◌≤◌, ◌<◌, ◌^◌, ◌∙◌, ℕ, Bool, inl, ap, sym, subst, true, false, true≢false, List, [], ◌∷◌, map, Option, Some, None, Ok, Err, codes, is_some, IsSome, refl}
-use Rattle.std.specs.List.{list_any}
-use Rattle.clap.specs.Words.{Row, Shape, Text, fault_of, matches_of}
-use Rattle.clap.specs.Faults.{built_fault, entered_fault, level_fault}
-use Rattle.clap.specs.Simple.{App, argument_words, built, entered, label_of}
-use Rattle.clap.specs.Walk.{nothing_held, rows_after, walk}
+use Rattle.equivalents_app.proofs.Common.{arith, ◌≡◌, ◌≤◌, ◌<◌, ◌^◌, ◌∙◌, ℕ, Bool, inl, ap, sym, subst, true, false, true≢false, List, [], map, Option, Some}
+use Rattle.equivalents_app.proofs.Common.{None, Ok, Err, codes, IsSome, refl, list_any, Row, Text, fault_of, matches_of, InquiryMeaning, IsInquiryBounded}
+use Rattle.equivalents_app.proofs.Common.{IsInquiryFault, bad_operators, equivalents, flag_at, inquiry, inquiry_in, inquiry_meaning, inquiry_of}
+use Rattle.equivalents_app.proofs.Common.{meaning_of_inquiry, options_meaning, refused, Inquiry}
+use Rattle.clap.specs.Simple.{argument_words, built, label_of}
+use Rattle.clap.specs.Walk.{nothing_held, rows_after}
+use Rattle.clap.proofs.FaultLemmas.{leaf_fault}
 use Rattle.clap.proofs.OnLiterals.{clap_on_literals}
 use Rattle.mothra_codes.specs.declared.op.Op.{Op}
 use Rattle.mothra_cli.specs.Request.{operators_at}
@@ -13,26 +14,9 @@ use Rattle.mothra_cli.specs.declared.request.WordsFault.{WordsFault}
 use Rattle.mothra_cli.specs.declared.request.WordsFault.TheVariants.{Refused, BadOperatorList}
 use Rattle.mothra_cli.proofs.Accepted.{default_number}
 use Rattle.mothra_cli.proofs.OptionRows.{Each, HasNumber, Serves, has_default}
-use Rattle.equivalents_app.specs.Words.{InquiryMeaning, IsInquiryBounded, IsInquiryFault, bad_operators, equivalents, flag_at, inquiry}
-use Rattle.equivalents_app.specs.Words.{inquiry_in, inquiry_meaning, inquiry_of, meaning_of_inquiry, options_meaning, refused}
-use Rattle.equivalents_app.specs.code.Words.{ReadsInquiry}
-use Rattle.equivalents_app.specs.declared.words.Inquiry.{Inquiry}
+use Rattle.equivalents_app.specs.code.{ReadsInquiry}
 
 -- ---- the only level
-
--- a command without subcommands is one level
-one_level : (top : Shape) (words : List Text) (subs : List Shape) → subs ≡ []
-    → built_fault (record { top = top; subs = subs }) nothing_held words ≡ [] → level_fault top [] nothing_held words false [] ≡ []
-one_level top words [] none e = go (walk top.rules [] nothing_held words).stopped e
-  where
-    only : App
-    only = record { top = top; subs = [] }
-
-    go : (stop : Option (Text × List Text)) → level_fault top [] nothing_held words (is_some (entered only stop)) (entered_fault only stop) ≡ []
-        → level_fault top [] nothing_held words false [] ≡ []
-    go None f = f
-    go (Some p) f = f
-one_level top words (s ∷ rest) none e = cc
 
 no_subcommands : (built equivalents).subs ≡ []
 unfolding clap_on_literals equivalents
@@ -65,7 +49,7 @@ option_number : (id : Text) (low high : ℕ) → high < 2 ^ 32 → Each (Serves 
 option_number id low high small serves given words taken =
     let rest = argument_words equivalents words in
     let top = (built equivalents).top in
-    let level = one_level top rest (built equivalents).subs no_subcommands taken in
+    let level = sym (leaf_fault (built equivalents) nothing_held rest no_subcommands) ∙ taken in
     subst (λ names. HasNumber id low high (rows_after top.rules names rest)) (sym (ap (map label_of) no_subcommands))
     (default_number top rest id low high small serves given level)
 

@@ -1,19 +1,13 @@
 -- Which mutants of a program are named, concluded from the answers of the calls on its source.
-use Rattle.std.proofs.Common.{arith, ◌≡◌, ◌⊎◌, inl, inr, ℕ, suc, List, ◌∷◌, refl, sym, subst, Result, Ok, Err, MatchResult}
-use Rattle.std.specs.Prelude.{Contains, IsErrAnd, IsTrue, ◌↔◌}
-use Rattle.f77_program.specs.Program.{LineFields}
+use Rattle.equivalents_app.proofs.Common.{arith, ◌≡◌, ◌⊎◌, inl, inr, ℕ, suc, List, ◌∷◌, refl, sym, subst, Result, Ok, Err, MatchResult, Contains, IsErrAnd}
+use Rattle.equivalents_app.proofs.Common.{IsTrue, ◌↔◌, LineFields, Ops, JobFields, program_of, IsFirstTooLong, IsNoPlan, IsPlan, PlanFields, asked, IsFound}
+use Rattle.equivalents_app.proofs.Common.{IsNamedIn, Inquiry}
 use Rattle.mothra_app.specs.Fault.{of_legal_programs, of_mutants}
 use Rattle.mothra_app.specs.Program.{IsLegalProgramOf}
 use Rattle.mothra_app.specs.declared.fault.Fault.{Fault}
-use Rattle.mothra_app.specs.declared.fault.Fault.TheVariants.{Ops}
 use Rattle.mothra_codes.specs.declared.op.Op.{Op}
-use Rattle.mothra_job.specs.Job.{JobFields}
-use Rattle.mothra_ops.specs.Mutants.{program_of}
-use Rattle.mothra_ops.specs.Plan.{IsFirstTooLong, IsNoPlan, IsPlan, PlanFields, asked}
 use Rattle.mothra_replacements.specs.declared.fault.OpsFault.{OpsFault}
 use Rattle.mothra_replacements.specs.declared.fault.OpsFault.TheVariants as ops
-use Rattle.equivalents_app.specs.Finding.{IsFound, IsNamedIn}
-use Rattle.equivalents_app.specs.declared.words.Inquiry.{Inquiry}
 
 -- where the result is this fault, what holds of the fault holds of the result
 pub failed_by : {A : Type 0} (r : Result A Fault) (P : A → Type 0) (Q : Fault → Type 0) (fault : Fault) → IsErrAnd r (λ e. e ≡ fault) → Q fault

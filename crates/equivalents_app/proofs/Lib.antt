@@ -1,11 +1,8 @@
-mod Flags
+pub mod Common
 mod Asking
-mod Entries
-mod Parts
 mod Findings
 mod Longer
 mod Rooms
 mod Answered
 mod Storable
 mod Tests
-mod Order

@@ -1,13 +1,8 @@
 -- A run that returns or stops within a limit on steps has the same outcome within each larger limit.
-use Rattle.std.proofs.Common.{arith, ◌≡◌, ◌≤◌, ◌+◌, ◌-◌, ℕ, zero, suc, inl, inr, List, subst}
-use Rattle.f77_equivalence.specs.Equivalent.{IsEnd}
-use Rattle.f77_program.specs.Program.{LineFields}
-use Rattle.f77_meaning.specs.Interpreter.{IsOutcomeOf, Reports}
+use Rattle.equivalents_app.proofs.Common.{arith, ◌≡◌, ◌≤◌, ◌+◌, ◌-◌, ℕ, zero, suc, inl, inr, List, subst, IsEnd, LineFields, IsOutcomeOf, Reports, Arg, Outcome}
 use Rattle.f77_meaning.specs.Outcome.{IsOutcome}
 use Rattle.f77_meaning.specs.Step.{Config}
 use Rattle.f77_meaning.specs.Value.{Store}
-use Rattle.f77_meaning.specs.declared.argument.Arg.{Arg}
-use Rattle.f77_meaning.specs.declared.outcome.Outcome.{Outcome}
 use Rattle.f77_actions.specs.declared.finish.Finish.{Finish}
 use Rattle.f77_actions.specs.declared.finish.Finish.TheVariants.{StepLimit}
 

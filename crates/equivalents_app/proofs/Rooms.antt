@@ -1,21 +1,13 @@
 -- The room that tests leave, and the mutants that need at most this room.
-use Rattle.std.proofs.Common.{arith, leb-true, ◌≡◌, ◌≤◌, ◌<◌, ◌+◌, ℕ, zero, suc, true, true≢false, List, get_or, length, take, Option, Some, None, sym, subst}
-use Rattle.std.specs.Prelude.{filter, IfSome}
+use Rattle.equivalents_app.proofs.Common.{arith, leb-true, ◌≡◌, ◌≤◌, ◌<◌, ◌+◌, ℕ, zero, suc, true, true≢false, List, get_or, length, take, Option, Some, None}
+use Rattle.equivalents_app.proofs.Common.{sym, subst, filter, IfSome, All-filter, All-more, All-weaker, filter_passes, IsEnd, LineFields, IsOutcomeOf, Arg}
+use Rattle.equivalents_app.proofs.Common.{Outcome, program_of, PlanFields, AreNamedMutants, HasRoom, LeavesRoom, LeavesRoomOn}
 use Rattle.std.proofs.lemmas.List.{take_all}
-use Rattle.std.proofs.lemmas.List.Elements.{All-filter, All-more, All-weaker, filter_passes}
 use Rattle.std.proofs.lemmas.List.Kept.{AllPairs-filter}
-use Rattle.f77_equivalence.specs.Equivalent.{IsEnd}
-use Rattle.f77_program.specs.Program.{LineFields}
-use Rattle.f77_meaning.specs.Interpreter.{IsOutcomeOf}
-use Rattle.f77_meaning.specs.declared.argument.Arg.{Arg}
-use Rattle.f77_meaning.specs.declared.outcome.Outcome.{Outcome}
 use Rattle.mothra_codes.specs.Ticket.{Before}
 use Rattle.mothra_equivalents.specs.Equivalents.{AreEquivalents, IsNamed}
 use Rattle.mothra_equivalents.specs.declared.equivalents.Equivalent.{Equivalent}
-use Rattle.mothra_ops.specs.Mutants.{program_of}
-use Rattle.mothra_ops.specs.Plan.{PlanFields}
-use Rattle.equivalents_app.specs.Room.{AreNamedMutants, HasRoom, LeavesRoom, LeavesRoomOn}
-use Rattle.equivalents_app.specs.code.Room.{is_within}
+use Rattle.equivalents_app.specs.code.{is_within}
 
 -- ---- one test
 

@@ -1,23 +1,18 @@
 -- INTEGER holds the numbers of the tests of a job.
-use Rattle.std.proofs.Common.{arith, ◌≡◌, ◌^◌, ◌≤ℤ◌, ◌&&◌, ℕ, ℤ, pos, negsuc, Bool, true, false, refl, sym, subst, List, [], ◌∷◌, Option, Some, None, Ok, map, unwrap_or}
-use Rattle.std.specs.Prelude.{All, IfSome, filter_map, int_le, if◌then◌else◌, option_and_then, option_map}
-use Rattle.std.specs.List.{cons_option, list_all}
-use Rattle.std.specs.Option.{option_or}
+use Rattle.equivalents_app.proofs.Common.{arith, ◌≡◌, ◌^◌, ◌≤ℤ◌, ◌&&◌, ℕ, ℤ, pos, negsuc, Bool, true, false, refl, sym, subst, List, [], ◌∷◌, Option, Some}
+use Rattle.equivalents_app.proofs.Common.{None, Ok, map, unwrap_or, All, IfSome, filter_map, int_le, if◌then◌else◌, option_and_then, option_map, cons_option}
+use Rattle.equivalents_app.proofs.Common.{list_all, option_or, lt-ltb, All-cons, All-nil, values_in, Arg, JobFields, JobRead, job_faults, job_fields, job_of}
+use Rattle.equivalents_app.proofs.Common.{json_of, suite_in}
 use Rattle.std.specs.Int.Signed.{le_z_yes}
-use Rattle.std.proofs.lemmas.Bool.{lt-ltb}
 use Rattle.std.proofs.lemmas.Float.{T_from_true}
 use Rattle.std.proofs.lemmas.Int.{ints}
-use Rattle.std.proofs.lemmas.List.Elements.{All-cons, All-nil}
 use Rattle.serde_json.specs.Data.{Data, Items, no_items, item}
 use Rattle.serde_json.specs.Find.{as_array, as_bool, as_i64, as_number}
 use Rattle.f77_actions.specs.Number.{fits}
 use Rattle.f77_actions.specs.declared.value.Value.TheVariants as held
 use Rattle.f77_equivalence.specs.Storable.{AreStorable, is_storable}
-use Rattle.f77_meaning.specs.Interpreter.{values_in}
-use Rattle.f77_meaning.specs.declared.argument.Arg.{Arg}
 use Rattle.f77_meaning.specs.declared.argument.Arg.TheVariants.{Int, Truth, Ints, Truths}
 use Rattle.mothra_job.specs.FirstFault.{fault_or}
-use Rattle.mothra_job.specs.Job.{JobFields, JobRead, job_faults, job_fields, job_of, json_of, suite_in}
 use Rattle.mothra_job.specs.Suite.{argument, array_of_items, each, integer, integer_in_range, test, tests_of}
 use Rattle.mothra_job.specs.declared.job.JobFault.{JobFault}
 

@@ -1,5 +1,5 @@
 -- Which mutants of the program of a job are named, and the text that names them.
-use Rattle.std.specs.Prelude.{◌≡◌, ℕ, All, List, Result, Ok, Err}
+use Rattle.std.specs.Prelude.{◌≡◌, ℕ, List, Result, Ok, Err}
 use Rattle.f77_program.specs.Program.{LineFields}
 use Rattle.f77_meaning.specs.declared.argument.Arg.{Arg}
 use Rattle.mothra_app.specs.Program.{IsLegalProgramOf}
@@ -8,31 +8,27 @@ use Rattle.mothra_app.specs.declared.fault.Fault.{Fault}
 use Rattle.mothra_app.specs.declared.fault.Fault.TheVariants.{Ops}
 use Rattle.mothra_codes.specs.declared.op.Op.{Op}
 use Rattle.mothra_equivalents.specs.declared.equivalents.Equivalent.{Equivalent}
-use Rattle.mothra_equivalents.specs.declared.left.Left.{Left}
-use Rattle.mothra_equivalents.specs.declared.suggestions.Suggestion.{Suggestion}
+use Rattle.mothra_equivalents.specs.declared.unproved.Unproved.{Unproved}
 use Rattle.mothra_job.specs.Job.{JobFields}
 use Rattle.mothra_ops.specs.Plan.{IsFirstTooLong, PlanFields}
 use Rattle.mothra_replacements.specs.declared.fault.OpsFault.TheVariants.{TooMany}
-use Rattle.equivalents_app.specs.Left.{IsLeftOf}
 use Rattle.equivalents_app.specs.Room.{AreNamedMutants}
 use Rattle.equivalents_app.specs.Rendering.{written_text}
-use Rattle.equivalents_app.specs.Rows.{AreRowsFor}
+use Rattle.equivalents_app.specs.Unproved.{AreUnprovedFor}
 use Rattle.equivalents_app.specs.declared.words.Inquiry.{Inquiry}
 
 -- The text names mutants of the plan, for each of which the tests leave room under the limit on
--- steps, has rows of others, tells of others where their proofs were given up, and how many were
--- left at the bound on work. Which rows, and whether they kill, is left open; where no rows are
--- asked for there are none.
+-- steps; where rows are asked for, it has rows of others, and tells where their proofs were given
+-- up; and it says how many were left at the bound on work. Which others, which rows, and whether
+-- they kill, is left open.
 pub record IsNamedIn (plan : PlanFields) (tests : List (List Arg)) (i : Inquiry)
     (text : List ℕ) : Type 0 where
   pub list : List Equivalent
-  pub rows : List Suggestion
-  pub left : List Left
+  pub others : List Unproved
   pub unfinished : ℕ
   pub are : AreNamedMutants plan tests i.steps list
-  pub are_rows : AreRowsFor plan list i.rows rows
-  pub are_left : All (IsLeftOf list) left
-  pub is : text ≡ written_text plan list rows left unfinished i.json
+  pub are_others : AreUnprovedFor plan list i.rows others
+  pub is : text ≡ written_text plan list others unfinished i.json
 
 -- The outcome of an inquiry for a job: the text that names equivalent mutants of the plan; or
 -- the first fault. Which equivalent mutants are named is left open, but only such are named.

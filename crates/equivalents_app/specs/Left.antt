@@ -1,22 +1,24 @@
--- Mutants of which nothing is told, and where their proofs were given up.
-use Rattle.std.specs.Prelude.{◌≢◌, ◌++◌, ℕ, Bool, true, false, All, List, [], codes}
+-- Where the proofs of mutants that are not named were given up.
+use Rattle.std.specs.Prelude.{◌++◌, ℕ, List, [], Option, Some, None, codes}
 use Rattle.std.specs.Fmt.{decimal}
-use Rattle.mothra_equivalents.specs.declared.equivalents.Equivalent.{Equivalent}
-use Rattle.mothra_equivalents.specs.declared.left.Left.{Left}
+use Rattle.std.specs.Option.{option_map_or}
+use Rattle.mothra_codes.specs.declared.ticket.Ticket.{Ticket}
+use Rattle.mothra_equivalents.specs.declared.unproved.Left.{Left}
+use Rattle.mothra_equivalents.specs.declared.unproved.Unproved.{Unproved}
 use Rattle.mothra_ops.specs.Mutants.{mutant_name}
 
--- the mutant is not named
-abbrev pub IsLeftOf : List Equivalent → Left → Type 0
-IsLeftOf list left = All (λ equivalent. equivalent.ticket ≢ left.ticket) list
-
-abbrev pub compared_text : Bool → List ℕ
-compared_text true = codes " VALUES"
-compared_text false = []
+abbrev pub compared_text : Option (List ℕ) → List ℕ
+compared_text (Some name) = codes " VALUES " ++ name
+compared_text None = []
 
 -- the line of a mutant: its name, the lines at which the program and the mutant were where the
--- proof was given up, and whether what both hold was compared there
-abbrev pub left_line : ℕ → Left → List ℕ
-left_line every left =
-    codes "LEFT " ++ (mutant_name every left.ticket.op left.ticket.number
+-- proof was given up, and the variable or array of which values were compared there, if any were
+abbrev pub left_line : ℕ → Ticket → Left → List ℕ
+left_line every ticket left =
+    codes "LEFT " ++ (mutant_name every ticket.op ticket.number
     ++ (codes " AT " ++ (decimal left.own ++ (codes " " ++ (decimal left.other
-    ++ (compared_text left.is_compared ++ codes "\n"))))))
+    ++ (compared_text left.name ++ codes "\n"))))))
+
+-- that line, if the proof was given up
+abbrev pub left_lines : ℕ → Unproved → List ℕ
+left_lines every one = option_map_or (left_line every one.ticket) one.left []

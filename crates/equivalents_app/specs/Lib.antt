@@ -1,4 +1,5 @@
 pub mod Words
+pub mod Unproved
 pub mod Rows
 pub mod Left
 pub mod Rendering
@@ -7,3 +8,12 @@ pub mod Finding
 pub mod Serving
 pub mod Law
 pub mod code
+unfoldable pub use Words.*
+pub use Unproved.*
+pub use Rows.*
+pub use Left.*
+pub use Rendering.*
+pub use Room.*
+pub use Finding.*
+pub use Serving.*
+pub use Law.*

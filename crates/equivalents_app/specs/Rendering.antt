@@ -3,15 +3,13 @@ use Rattle.std.specs.Prelude.{ℕ, zero, suc, Bool, List, [], ◌++◌, Option, 
 use Rattle.std.specs.Prelude.{filter_map, flat_map, if◌then◌else◌, length, nat_le}
 use Rattle.std.specs.Fmt.{decimal}
 use Rattle.std.specs.Option.{option_map_or}
-use Rattle.f77_tree.specs.Joined.{separated}
 use Rattle.mothra_app.specs.Listing.{asked_total}
 use Rattle.mothra_codes.specs.Ticket.{ticket}
 use Rattle.mothra_codes.specs.declared.ticket.Ticket.{Ticket}
-use Rattle.equivalents_app.specs.Left.{left_line}
-use Rattle.equivalents_app.specs.Rows.{row_line}
+use Rattle.equivalents_app.specs.Left.{left_lines}
+use Rattle.equivalents_app.specs.Rows.{json_list, row_lines}
 use Rattle.mothra_equivalents.specs.declared.equivalents.Equivalent.{Equivalent}
-use Rattle.mothra_equivalents.specs.declared.left.Left.{Left}
-use Rattle.mothra_equivalents.specs.declared.suggestions.Suggestion.{Suggestion}
+use Rattle.mothra_equivalents.specs.declared.unproved.Unproved.{Unproved}
 use Rattle.mothra_job.specs.Equivalent.{ticket_text}
 use Rattle.mothra_ops.specs.Mutants.{MutantFields, change_text, mutant_name, mutant_of, original_number, program_of}
 use Rattle.mothra_ops.specs.Plan.{PlanFields}
@@ -49,10 +47,10 @@ last_line count total unfinished =
     ++ (unfinished_text unfinished ++ codes "\n"))))
 
 -- the lines of the named mutants, of rows, and of mutants whose proofs were given up; the last one
-abbrev pub lines_text : PlanFields → List Equivalent → List Suggestion → List Left → ℕ → List ℕ
-lines_text plan list rows left unfinished =
-    flat_map (equivalent_line plan) list ++ (flat_map (row_line plan.every) rows
-    ++ (flat_map (left_line plan.every) left
+abbrev pub lines_text : PlanFields → List Equivalent → List Unproved → ℕ → List ℕ
+lines_text plan list others unfinished =
+    flat_map (equivalent_line plan) list ++ (flat_map (row_lines plan.every) others
+    ++ (flat_map (left_lines plan.every) others
     ++ last_line (length list) (asked_total plan) unfinished))
 
 -- ---- as the list that the key `equivalent` of a job takes
@@ -72,12 +70,11 @@ abbrev pub entry_text : Ticket → List ℕ
 entry_text t = codes "\"" ++ (ticket_text t ++ codes "\"")
 
 abbrev pub json_line : ℕ → List Equivalent → List ℕ
-json_line every list = codes "[" ++ (separated entry_text [] (declarable every list) ++ codes "]\n")
+json_line every list = json_list entry_text (declarable every list) ++ codes "\n"
 
 -- ---- lines or JSON, as asked for
 
 -- Rule: what `equivalents` writes
-abbrev pub written_text : PlanFields → List Equivalent → List Suggestion → List Left → ℕ → Bool
-    → List ℕ
-written_text plan list rows left unfinished json =
-    if json then json_line plan.every list else lines_text plan list rows left unfinished
+abbrev pub written_text : PlanFields → List Equivalent → List Unproved → ℕ → Bool → List ℕ
+written_text plan list others unfinished json =
+    if json then json_line plan.every list else lines_text plan list others unfinished

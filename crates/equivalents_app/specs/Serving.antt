@@ -42,17 +42,12 @@ pub data IsInquiryAnswer (i : Inquiry) (read : JobRead) : Status → List ℕ �
 
 -- ---- by the words
 
--- the command line takes the words, and they are this
--- inquiry, with numbers within the bounds of their options
-pub record AsksForInquiry (words : List Text) (i : Inquiry) : Type 0 where
-  pub is : inquiry_of words ≡ Some i
-  pub bounded : IsInquiryBounded i
-
--- What may be written for the words and the bytes: an answer to the
--- inquiry, or the answer to words that are no inquiry.
+-- What may be written for the words and the bytes: an answer to the inquiry that the words are,
+-- with numbers within the bounds of their options, or the answer to words that are no inquiry.
 pub data MayBeWrittenByInquiry (words : List Text) (bytes : List ℕ) : Status → List ℕ → Type 0 where
   answer : {i : Inquiry} {status : Status} {text : List ℕ}
-      → AsksForInquiry words i → IsInquiryAnswer i (job_of bytes) status text
+      → inquiry_of words ≡ Some i → IsInquiryBounded i
+      → IsInquiryAnswer i (job_of bytes) status text
       → MayBeWrittenByInquiry words bytes status text
   bad_list : HasBadInquiryOperators words
       → MayBeWrittenByInquiry words bytes status.Words bad_operators

@@ -1,3 +1,4 @@
 pub mod Words
 pub mod Room
-pub mod Serving
+pub use Words.*
+pub use Room.*

@@ -3,17 +3,15 @@
 ghost use Rattle.std.specs.Prelude.{◌≡◌, ◌≤◌, ◌⊎◌, ℕ, List, Ok, Err, Contains, IfOk, IfSome, MatchResult};
 ghost use Rattle.std.specs.Prelude.{length, string_bytes};
 ghost use Rattle.mothra_app.specs.Fault.{of_mutants};
-ghost use Rattle.equivalents_app.specs.Finding.{IsFound, IsNamedIn};
+ghost use Rattle.equivalents_app.specs.{IsFound, IsNamedIn, AreNamedMutants, LeavesRoom};
+ghost use Rattle.equivalents_app.specs.{IsInquiryBounded};
 ghost use Rattle.f77_meaning.specs.declared.argument.Arg.{Arg as Given};
 ghost use Rattle.mothra_ops.specs.Mutants.{program_of};
-ghost use Rattle.equivalents_app.specs.Room.{AreNamedMutants, LeavesRoom};
-ghost use Rattle.equivalents_app.specs.Words.{IsInquiryBounded};
 
 use crate::killed::{bench_of, killed_on};
-use crate::left::left_of;
 use crate::rendering::text_of;
 use crate::room::{keep_within, room_of};
-use crate::rows::rows_of;
+use crate::unproved::unproved_of;
 use crate::words::Inquiry;
 use f77_meaning::{Arg, Values};
 use indexmap::IndexSet;
@@ -59,15 +57,13 @@ fn text_for(
         → IsNamedIn plan.now tests inquiry.now (string_bytes text)) }
 {
     let found = named_of(alloc, plan, killed, room, inquiry)?;
-    let others = found.others;
-    let rows = rows_of(alloc, plan, &found.list, others.suggestions, inquiry.rows)?;
-    let left = left_of(alloc, &found.list, others.left)?;
+    let told = found.others;
+    let others = unproved_of(alloc, plan, &found.list, told, inquiry.rows)?;
     text_of(
         alloc,
         plan,
         &found.list,
-        &rows,
-        &left,
+        &others,
         found.unfinished,
         inquiry.json,
     )

@@ -1,6 +1,6 @@
 //! Theorems on mutants that are proved equivalent.
 
-ghost use Rattle.equivalents_app.specs.Law.{NoTestKills};
+ghost use Rattle.equivalents_app.specs.{NoTestKills};
 
 use f77_meaning::law::one_outcome;
 

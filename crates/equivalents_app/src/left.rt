@@ -1,57 +1,57 @@
-//! Mutants of which nothing is told, and where their proofs were given up.
+//! The text of where the proofs of mutants that are not named were given up.
 
-ghost use Rattle.std.specs.Prelude.{◌≡◌, ◌++◌, All, IfOk, OnOk, flat_map, string_bytes};
-ghost use Rattle.equivalents_app.specs.Left.{IsLeftOf, left_line};
-ghost use Rattle.equivalents_app.specs.Left as definition;
+ghost use Rattle.std.specs.Prelude.{◌≡◌, ◌++◌, OnOk, flat_map, string_bytes};
+ghost use Rattle.equivalents_app.specs.{compared_text, left_line, left_lines};
 
-use crate::rows::is_named;
-use mothra_equivalents::{Equivalent, Left};
+use f77_tree::Name;
+use mothra_codes::Ticket;
+use mothra_equivalents::{Left, Unproved};
 use mothra_ops::push_name;
-use std::alloc::{AllocError, Global};
+use std::alloc::AllocError;
 
-/// Those of mutants that are not named.
-pub(crate) fn left_of(
-    alloc: Global,
-    list: &[Equivalent],
-    found: Vec<Left>,
-) -> Result<Vec<Left>, AllocError>
-    ensures { IfOk result (λ left. All (IsLeftOf list.now) left.items) }
+/// Adds of what values were compared where the proof was given up, if any were.
+fn push_compared(text: &mut String, name: Option<Name>) -> Result<(), AllocError>
+    ensures { OnOk result (string_bytes text.new ≡ string_bytes text.old ++ compared_text name) }
 {
-    let mut left = Vec::new(alloc);
-    for mutant in found {
-        if !is_named(list, mutant.ticket) {
-            left.push(mutant)?;
-        }
+    match name {
+        Some(name) => write!(text, " VALUES {name}"),
+        None => Ok(()),
     }
-    Ok(left)
-}
-
-/// What was done where the proof was given up.
-fn compared_text(is_compared: bool) -> &'static str
-    ensures { result.now ≡ definition.compared_text is_compared }
-{
-    if is_compared { " VALUES" } else { "" }
 }
 
 /// Adds the line of a mutant.
-fn push_mutant(text: &mut String, every: u32, mutant: Left) -> Result<(), AllocError>
-    ensures { OnOk result (string_bytes text.new ≡ string_bytes text.old ++ left_line every mutant) }
+fn push_line(text: &mut String, every: u32, ticket: Ticket, left: Left) -> Result<(), AllocError>
+    ensures { OnOk result (string_bytes text.new ≡ string_bytes text.old ++ left_line every ticket left) }
 {
     text.push_str("LEFT ")?;
-    push_name(text, every, mutant.ticket.op, mutant.ticket.number)?;
-    let own = mutant.own;
-    let other = mutant.other;
+    push_name(text, every, ticket.op, ticket.number)?;
+    let own = left.own;
+    let other = left.other;
     write!(text, " AT {own} {other}")?;
-    text.push_str(compared_text(mutant.is_compared))?;
+    push_compared(text, left.name)?;
     text.push_str("\n")
 }
 
-/// Adds a line for each mutant.
-pub(crate) fn push_left(text: &mut String, every: u32, left: &[Left]) -> Result<(), AllocError>
-    ensures { OnOk result (string_bytes text.new ≡ string_bytes text.old ++ flat_map (left_line every) left.now) }
+/// Adds the line of a mutant whose proof was given up.
+fn push_mutant(text: &mut String, every: u32, one: &Unproved) -> Result<(), AllocError>
+    ensures { OnOk result (string_bytes text.new ≡ string_bytes text.old ++ left_lines every one.now) }
 {
-    for mutant in left {
-        push_mutant(text, every, *mutant)?;
+    match one.left {
+        Some(left) => push_line(text, every, one.ticket, left),
+        None => Ok(()),
+    }
+}
+
+/// Adds the lines of mutants whose proofs were given up.
+pub(crate) fn push_left(
+    text: &mut String,
+    every: u32,
+    others: &[Unproved],
+) -> Result<(), AllocError>
+    ensures { OnOk result (string_bytes text.new ≡ string_bytes text.old ++ flat_map (left_lines every) others.now) }
+{
+    for one in others {
+        push_mutant(text, every, one)?;
     }
     Ok(())
 }

@@ -10,6 +10,7 @@ mod rendering;
 mod room;
 mod rows;
 mod serving;
+mod unproved;
 mod words;
 
 pub use mothra_app::{AppFault, Status, Watched};

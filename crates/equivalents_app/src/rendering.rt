@@ -1,19 +1,18 @@
 //! The text that names mutants of a plan.
 
-ghost use Rattle.std.specs.Prelude.{◌≡◌, ◌++◌, IfOk, OnOk, [], flat_map, string_bytes};
-ghost use Rattle.f77_tree.specs.Joined.{separated};
+ghost use Rattle.std.specs.Prelude.{◌≡◌, ◌++◌, IfOk, OnOk, flat_map, string_bytes};
 ghost use Rattle.mothra_app.specs.Listing.{asked_total};
 ghost use Rattle.mothra_ops.specs.Made.{IsMadeMutant};
 ghost use Rattle.mothra_ops.specs.Mutants.{mutant_fields, original_number};
-ghost use Rattle.equivalents_app.specs.Rendering.{declarable, entry_text, equivalent_line};
-ghost use Rattle.equivalents_app.specs.Rendering.{json_line, last_line, lines_text, promise_line};
+ghost use Rattle.equivalents_app.specs.{entry_text, equivalent_line, json_line, last_line};
+ghost use Rattle.equivalents_app.specs.{lines_text, promise_line};
 ghost use Rattle.equivalents_app.specs.Rendering as definition;
 
 use crate::left::push_left;
-use crate::rows::push_rows;
+use crate::rows::{push_list, push_rows};
 use mothra_app::listing::total_of;
 use mothra_codes::Ticket;
-use mothra_equivalents::{Equivalent, Left, Suggestion};
+use mothra_equivalents::{Equivalent, Unproved};
 use mothra_ops::{Mutant, Plan, push_name};
 use std::alloc::{AllocError, Global};
 
@@ -97,22 +96,21 @@ fn push_last(
     text.push_str("\n")
 }
 
-/// The lines of mutants of the plan, and of rows.
+/// The lines of the named mutants of the plan, and of others.
 fn lines_of(
     alloc: Global,
     plan: &Plan,
     list: &[Equivalent],
-    rows: &[Suggestion],
-    left: &[Left],
+    others: &[Unproved],
     unfinished: u64,
 ) -> Result<String, AllocError>
     ensures { IfOk result
-        (λ text. string_bytes text ≡ lines_text plan.now list.now rows.now left.now unfinished) }
+        (λ text. string_bytes text ≡ lines_text plan.now list.now others.now unfinished) }
 {
     let mut text = String::new(alloc);
     push_equivalents(&mut text, plan, list)?;
-    push_rows(&mut text, plan.every(), rows)?;
-    push_left(&mut text, plan.every(), left)?;
+    push_rows(&mut text, plan.every(), others)?;
+    push_left(&mut text, plan.every(), others)?;
     push_last(&mut text, plan, list.len(), unfinished)?;
     Ok(text)
 }
@@ -138,28 +136,22 @@ fn declared(every: u32, equivalent: Equivalent) -> Option<Ticket>
     })
 }
 
-/// Adds an entry of the JSON list, behind `before`.
-fn push_entry(text: &mut String, before: &str, ticket: Ticket) -> Result<(), AllocError>
-    ensures { OnOk result (string_bytes text.new ≡ string_bytes text.old ++ (before.now ++ entry_text ticket)) }
+/// The mutants that a job may declare, by their numbers in the whole list.
+fn declarable(alloc: Global, every: u32, list: &[Equivalent]) -> Result<Vec<Ticket>, AllocError>
+    ensures { IfOk result (λ tickets. tickets.items ≡ definition.declarable every list.now) }
+{
+    list.iter()
+        .filter_map(|equivalent| declared(every, *equivalent))
+        .collect(alloc)
+}
+
+/// Adds an entry of the JSON list.
+fn push_entry(text: &mut String, ticket: &Ticket) -> Result<(), AllocError>
+    ensures { OnOk result (string_bytes text.new ≡ string_bytes text.old ++ entry_text ticket.now) }
 {
     let code = ticket.op.code();
     let number = ticket.number;
-    write!(text, "{before}\"{code} {number}\"")
-}
-
-/// Adds the entries of the JSON list.
-fn push_entries(text: &mut String, every: u32, list: &[Equivalent]) -> Result<(), AllocError>
-    ensures { OnOk result
-        (string_bytes text.new ≡ string_bytes text.old ++ separated entry_text [] (declarable every list.now)) }
-{
-    let mut before = "";
-    for equivalent in list {
-        if let Some(ticket) = declared(every, *equivalent) {
-            push_entry(text, before, ticket)?;
-            before = ",";
-        }
-    }
-    Ok(())
+    write!(text, "\"{code} {number}\"")
 }
 
 /// The line that has the JSON list of the mutants.
@@ -167,28 +159,26 @@ fn json_of(alloc: Global, every: u32, list: &[Equivalent]) -> Result<String, All
     ensures { IfOk result (λ text. string_bytes text ≡ json_line every list.now) }
 {
     let mut text = String::new(alloc);
-    text.push_str("[")?;
-    push_entries(&mut text, every, list)?;
-    text.push_str("]\n")?;
+    push_list(&mut text, &declarable(alloc, every, list)?, push_entry)?;
+    text.push_str("\n")?;
     Ok(text)
 }
 
-/// The text that names mutants of the plan: lines, with rows and what is left behind them, or a JSON list.
+/// The text that names mutants of the plan: lines, with those of others behind them, or a JSON list.
 pub fn text_of(
     alloc: Global,
     plan: &Plan,
     list: &[Equivalent],
-    rows: &[Suggestion],
-    left: &[Left],
+    others: &[Unproved],
     unfinished: u64,
     json: bool,
 ) -> Result<String, AllocError>
     ensures { IfOk result
-        (λ text. string_bytes text ≡ definition.written_text plan.now list.now rows.now left.now unfinished json) }
+        (λ text. string_bytes text ≡ definition.written_text plan.now list.now others.now unfinished json) }
 {
     if json {
         json_of(alloc, plan.every(), list)
     } else {
-        lines_of(alloc, plan, list, rows, left, unfinished)
+        lines_of(alloc, plan, list, others, unfinished)
     }
 }

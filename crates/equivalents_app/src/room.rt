@@ -3,7 +3,7 @@
 ghost use Rattle.std.specs.Prelude.{◌≡◌, ◌≤◌, ◌+◌, IfOk, IfSome, filter, map};
 ghost use Rattle.f77_equivalence.specs.Equivalent.{IsEnd};
 ghost use Rattle.f77_program.specs.Program.{line_of};
-ghost use Rattle.equivalents_app.specs.Room.{LeavesRoom, LeavesRoomOn};
+ghost use Rattle.equivalents_app.specs.{LeavesRoom, LeavesRoomOn};
 ghost use Rattle.equivalents_app.specs.code.Room as definition;
 
 use f77_check::Checked;

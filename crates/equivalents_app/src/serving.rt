@@ -1,14 +1,16 @@
 //! From words and the bytes of a job to the bytes that are written.
 
-ghost use Rattle.std.specs.Prelude.{◌≡◌, ◌≢◌, ◌⊎◌, false, Ok, Err, Contains, IfOk, MatchResult, map, string_bytes};
+ghost use Rattle.std.specs.Prelude.{◌≡◌, ◌≢◌, ◌⊎◌, List, Some, false, Ok, Err, Contains, IfOk, MatchResult, map};
+ghost use Rattle.std.specs.Prelude.{string_bytes};
+ghost use Rattle.clap.specs.Words.{Text};
 ghost use Rattle.mothra_app.specs.Status.{is_read_fault, is_write_fault};
-ghost use Rattle.mothra_cli.specs.Input.{limit, IsRead, TakesAtMost};
+ghost use Rattle.mothra_cli.specs.Input.{limit, TakesAtMost};
 ghost use Rattle.mothra_cli.specs.Watched.{inside, has_failed};
 ghost use Rattle.mothra_job.specs.Job.{job_of};
-ghost use Rattle.equivalents_app.specs.Serving.{IsInquiryAnswer, IsInquiryAnswered, IsInquiryOutcome};
-ghost use Rattle.equivalents_app.specs.Serving.{WritesInquiryFront, WritesInquiryWhole, memory_faults};
-ghost use Rattle.equivalents_app.specs.code.Serving.{IsAnswerBy};
-ghost use Rattle.equivalents_app.specs.Words.{IsInquiryBounded};
+ghost use Rattle.equivalents_app.specs.{IsInquiryAnswer, IsInquiryAnswered, IsInquiryOutcome};
+ghost use Rattle.equivalents_app.specs.{WritesInquiryFront, WritesInquiryWhole, memory_faults};
+ghost use Rattle.equivalents_app.specs.{IsInquiryBounded};
+ghost use Rattle.equivalents_app.specs.Words as asked;
 
 use crate::finding::find;
 use crate::words::{Inquiry, inquiry_of};
@@ -35,7 +37,8 @@ fn text_for(alloc: Global, inquiry: &Inquiry, bytes: &[u8]) -> Result<String, Fa
 /// The answer to the inquiry on the job that the bytes are; a fault gives an answer with its line.
 fn answer_to(alloc: Global, inquiry: &Inquiry, bytes: &[u8]) -> Result<Answer, AllocError>
     requires { IsInquiryBounded inquiry.now }
-    ensures { IfOk result (λ a. IsInquiryAnswer inquiry.now (job_of bytes.now) a.status (string_bytes a.text)) }
+    ensures answer { IfOk result (λ a. IsInquiryAnswer inquiry.now (job_of bytes.now) a.status (string_bytes a.text)) }
+    ensures told { IfOk result (λ a. (a.status ≡ Status.Report) ⊎ (a.status ≡ Status.Fault)) }
 {
     match text_for(alloc, inquiry, bytes) {
         Ok(text) => Ok(Answer {
@@ -54,9 +57,10 @@ fn read_and_answer<R: Read>(
 ) -> Result<Answer, AppFault>
     requires bounded { IsInquiryBounded inquiry.now }
     requires works { has_failed reader.old ≡ false }
-    ensures answer { IfOk result
-        (λ a. IsAnswerBy inquiry.now (R.remaining (inside reader.old)) a.status (string_bytes a.text)) }
-    ensures read { IfOk result (λ a. IsRead limit (R.remaining (inside reader.old)) (R.remaining (inside reader.new))) }
+    ensures answered { IfOk result (λ a. (words : List Text) → asked.inquiry_of words ≡ Some inquiry.now
+        → IsInquiryAnswered words (R.remaining (inside reader.old)) (R.remaining (inside reader.new))
+        a.status (string_bytes a.text)) }
+    ensures told { IfOk result (λ a. (a.status ≡ Status.Report) ⊎ (a.status ≡ Status.Fault)) }
     ensures taken { TakesAtMost limit (R.remaining (inside reader.old)) (R.remaining (inside reader.new)) }
     ensures failed { has_failed reader.new ≡ is_read_fault result }
     ensures unwritten { result ≢ Err AppFault.Write }

@@ -4,10 +4,10 @@ ghost use Rattle.std.specs.Prelude.{◌≡◌, IfErr, IfOk, Ok, OnOk, Some, fals
 ghost use Rattle.clap.specs.Words.{FailsBy, app_of, fault_of, found_of, matches_of, rows_of, rule_of};
 ghost use Rattle.clap.specs.declared.builder.command.Command.TheViews.{out-Command};
 ghost use Rattle.mothra_cli.specs.Command.{steps_rule};
-ghost use Rattle.equivalents_app.specs.Words.{equivalents, flag_at, json_rule, rows_rule};
-ghost use Rattle.equivalents_app.specs.Words.{IsInquiryBounded, IsInquiryTaken};
-ghost use Rattle.equivalents_app.specs.Words.{inquiry_meaning, options_meaning, IsInquiryFault};
-ghost use Rattle.equivalents_app.specs.code.Words.{ReadsInquiry};
+ghost use Rattle.equivalents_app.specs.{equivalents, flag_at, json_rule, rows_rule};
+ghost use Rattle.equivalents_app.specs.{IsInquiryBounded, IsInquiryTaken, inquiry_meaning};
+ghost use Rattle.equivalents_app.specs.{options_meaning, IsInquiryFault};
+ghost use Rattle.equivalents_app.specs.code.{ReadsInquiry};
 ghost use Rattle.equivalents_app.specs.Words as asked;
 
 use clap::builder::ValueParser;

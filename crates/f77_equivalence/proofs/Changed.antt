@@ -1,14 +1,7 @@
 -- A checked program with one statement changed, and when that one is equivalent. Statements are numbered from 0 here.
 -- Proofs alone cite what stands here.
-use Rattle.std.specs.Prelude.{◌≡◌, ◌+◌, ℕ, List, Some}
-use Rattle.f77_check.specs.Checked.{CheckedFields}
-use Rattle.f77_actions.specs.declared.resolved.Resolved.{Resolved}
-use Rattle.f77_actions.specs.declared.finish.Finish.{Finish}
-use Rattle.f77_code.specs.Moves.{Cells, Ends}
-use Rattle.f77_code.specs.Sequences.{moved_by}
-use Rattle.f77_meaning.specs.declared.argument.Arg.{Arg}
-use Rattle.f77_equivalence.specs.Start.{start_state}
-use Rattle.f77_equivalence.specs.Changed.{IsEnding, HoldAlike}
+use Rattle.f77_equivalence.proofs.Common.{◌≡◌, ◌+◌, ℕ, List, Some, CheckedFields, Resolved, Finish, Cells, Ends, moved_by, Arg, start_state, IsEnding}
+use Rattle.f77_equivalence.proofs.Common.{HoldAlike}
 
 -- so it does within these steps and so many to spare
 abbrev pub EndsAlikeWithin : ℕ → CheckedFields → List Resolved → List Arg → Type 0

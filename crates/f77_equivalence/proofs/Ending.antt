@@ -1,41 +1,26 @@
 -- A changed program comes to what the program comes to where its runs end alike.
-use Rattle.std.proofs.Common.{◌≡◌, ◌+◌, ◌∙◌, ℕ, zero, suc, inr, List, map, Some, refl, sym, ap, subst}
-use Rattle.f77_program.specs.Program.{LineFields, line_of}
-use Rattle.f77_legal.specs.Names.{bounds_of}
+use Rattle.f77_equivalence.proofs.Common.{◌≡◌, ◌+◌, ◌∙◌, ℕ, zero, suc, inr, List, map, Some, refl, sym, ap, subst, LineFields, line_of, bounds_of}
+use Rattle.f77_equivalence.proofs.Common.{CheckedFields, shapes, Resolved, Fault, Finish, Cells, State, Move, Goes, Ends, moved_by, Arg, Comes, AreFitting}
+use Rattle.f77_equivalence.proofs.Common.{AreArguments, IsOutcomeOf, Reports, fault_outcome, values_in, RunSite, site_of, IsRunningIn, stands_for, values_at}
+use Rattle.f77_equivalence.proofs.Common.{IsStart, argument_values, HoldAlike, IsChange, IsEnding, IsEnd, start_state, AreStorable}
 use Rattle.f77_legal.proofs.FrameNames.{bounds_of_same}
 use Rattle.f77_legal.proofs.SameFrame.{length_same}
-use Rattle.f77_check.specs.Checked.{CheckedFields, shapes}
 use Rattle.f77_check.specs.Slots.{slot_count}
-use Rattle.f77_actions.specs.declared.resolved.Resolved.{Resolved}
-use Rattle.f77_actions.specs.declared.finish.Fault.{Fault}
 use Rattle.f77_actions.specs.declared.finish.Fault.TheVariants as fault
-use Rattle.f77_actions.specs.declared.finish.Finish.{Finish}
 use Rattle.f77_actions.specs.declared.finish.Finish.TheVariants as finish
-use Rattle.f77_code.specs.Moves.{Cells, State, Move, Goes, Ends}
-use Rattle.f77_code.specs.Sequences.{moved_by}
-use Rattle.f77_meaning.specs.declared.argument.Arg.{Arg}
 use Rattle.f77_meaning.specs.declared.outcome.Outcome.{Outcome}
 use Rattle.f77_meaning.specs.declared.outcome.Outcome.TheVariants as outcome
-use Rattle.f77_meaning.specs.Control.{Comes}
 use Rattle.f77_meaning.specs.Endless.{Reaches}
-use Rattle.f77_meaning.specs.Interpreter.{AreFitting, AreArguments, IsOutcomeOf, Reports, fault_outcome, values_in}
 use Rattle.f77_meaning.specs.States.{values_of}
 use Rattle.f77_meaning.proofs.StateDefinitions.{config_of}
 use Rattle.f77_meaning.specs.Outcome.{IsOutcome}
-use Rattle.f77_meaning.specs.code.Running.{RunSite, site_of}
-use Rattle.f77_meaning.proofs.InRun.{IsRunningIn, stands_for, values_at}
-use Rattle.f77_meaning.specs.Start.{IsStart, argument_values}
 use Rattle.f77_meaning.specs.Step.{Config}
 use Rattle.f77_meaning.specs.Value.{Store}
 use Rattle.f77_meaning.proofs.Moving.{ComesIn, moves_by, comes_by}
 use Rattle.f77_meaning.proofs.OneAnswer.{one_start}
 use Rattle.f77_meaning.proofs.OneWay.{one_outcome}
 use Rattle.f77_meaning.proofs.Unreached.{starts_same, reports_same}
-use Rattle.f77_equivalence.specs.Changed.{HoldAlike, IsChange, IsEnding}
 use Rattle.f77_equivalence.proofs.Changed.{EndsAlikeWithin}
-use Rattle.f77_equivalence.specs.Equivalent.{IsEnd}
-use Rattle.f77_equivalence.specs.Start.{start_state}
-use Rattle.f77_equivalence.specs.Storable.{AreStorable}
 use Rattle.f77_equivalence.proofs.Starting.{runs_there, starts_there}
 
 -- no fault is told as an end

@@ -1,17 +1,12 @@
 -- A statement in the place of another.
-use Rattle.std.proofs.Common.{arith, ◌≡◌, ◌-◌, ◌<◌, ℕ, List, length, map, sym, ap}
-use Rattle.std.specs.Prelude.{option_map, slice_get, slice_set}
-use Rattle.std.proofs.lemmas.Option.{slice_get_within}
+use Rattle.f77_equivalence.proofs.Common.{arith, ◌≡◌, ◌-◌, ◌<◌, ℕ, List, length, map, sym, ap, option_map, slice_get, slice_set, slice_get_within, LineFields}
+use Rattle.f77_equivalence.proofs.Common.{line_of, CheckedFields, IsChecked, Resolved, IsChange}
 use Rattle.f77_program.specs.Patching.{Fits, patched}
-use Rattle.f77_program.specs.Program.{LineFields, line_of}
 use Rattle.f77_tree.specs.Statement.{Statement}
 use Rattle.f77_legal.specs.Legal.{IsLegal}
 use Rattle.f77_legal.proofs.Replaced.{other_line}
-use Rattle.f77_check.specs.Checked.{CheckedFields, IsChecked}
 use Rattle.f77_check.specs.Patching.{IsInPlace}
-use Rattle.f77_actions.specs.declared.resolved.Resolved.{Resolved}
 use Rattle.f77_meaning.specs.Reached.{AreSameBut}
-use Rattle.f77_equivalence.specs.Changed.{IsChange}
 
 -- the statements but for the changed one are the same, and so are they resolved
 pub same_but : (p : List LineFields) (number : ℕ) (statement : Statement) → AreSameBut (number - 1) p (patched p number statement)

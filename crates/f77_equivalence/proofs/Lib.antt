@@ -1,3 +1,4 @@
+pub mod Common
 pub mod Moving
 pub mod Starting
 pub mod Ending

@@ -1,20 +1,14 @@
 -- A step of a program with one statement changed, elsewhere than at that statement.
-use Rattle.std.proofs.Common.{◌≡◌, ◌≢◌, ◌⊎◌, inl, inr, ℕ, ◌-◌, List, Option, Some, None, refl, sym, ap, subst, ℤ, pos, negsuc, zero, suc}
-use Rattle.std.specs.Prelude.{Result, Ok, Err, slice_get, slice_set, option_map, ◌+ℤ◌, if◌then◌else◌}
-use Rattle.std.specs.Option.{option_and_then, option_map_or}
+use Rattle.f77_equivalence.proofs.Common.{◌≡◌, ◌≢◌, ◌⊎◌, inl, inr, ℕ, ◌-◌, List, Option, Some, None, refl, sym, ap, subst, ℤ, pos, negsuc, zero, suc, Result}
+use Rattle.f77_equivalence.proofs.Common.{Ok, Err, slice_get, slice_set, option_map, ◌+ℤ◌, if◌then◌else◌, option_and_then, option_map_or, Resolved, Fault}
+use Rattle.f77_equivalence.proofs.Common.{Execute, Increment, held_in, number_in, truth_in, Cells, TurnList, Move, Goes, state, used, jump_chosen, acted, begun}
+use Rattle.f77_equivalence.proofs.Common.{incremented, go_on, passing, passing_at, moved, turn_at, is_executed, is_loop, cases_eq, AgreeBut, PassAlike, site}
 use Rattle.f77_actions.specs.declared.action.Action.{Action, LogicalIf', Loop}
-use Rattle.f77_actions.specs.declared.resolved.Resolved.{Resolved}
-use Rattle.f77_actions.specs.declared.finish.Fault.{Fault}
 use Rattle.f77_actions.specs.declared.value.Value.TheVariants as held
 use Rattle.f77_actions.specs.Number.{in_range, trip_count}
 use Rattle.f77_actions.specs.Value.{whole}
 use Rattle.f77_code.specs.declared.control.Place.{Place}
-use Rattle.f77_code.specs.declared.control.Place.TheVariants.{Execute, Increment}
 use Rattle.f77_code.specs.declared.control.Turn.{Turn}
-use Rattle.f77_code.specs.Evaluation.{held_in, number_in, truth_in}
-use Rattle.f77_code.specs.Moves.{Cells, TurnList, Move, Goes, state, used, jump_chosen, acted, begun, incremented, go_on, passing, passing_at, moved, turn_at, is_executed, is_loop}
-use Rattle.std.proofs.lemmas.Bool.{cases_eq}
-use Rattle.f77_equivalence.specs.Alike.{AgreeBut, PassAlike, site}
 
 begun_alike : (statements others : List Resolved) (d variable t : ℕ) (a b step : ℤ) (cells : Cells) (turns : TurnList) → PassAlike statements others t
     → begun others d variable t a b step cells turns ≡ begun statements d variable t a b step cells turns

@@ -1,46 +1,28 @@
 -- The start state: it is where runs start, and an entry says what is so there.
-use Rattle.std.proofs.Common.{arith, ◌≡◌, ◌⊎◌, inl, inr, ◌+◌, ◌-◌, ◌≤◌, ◌<◌, ℕ, zero, suc, Bool, true, true≢false, List, [], ◌∷◌, ◌++◌, length, map, Option, Some, None, refl, sym, ap, subst, ◌∙◌, ℤ}
-use Rattle.std.specs.Prelude.{option_map, replicate, slice_get, slice_set}
-use Rattle.std.specs.List.{list_all, zip}
-use Rattle.std.specs.Option.{option_and_then}
-use Rattle.std.proofs.lemmas.Bool.{and_parts, eqb-true}
+use Rattle.f77_equivalence.proofs.Common.{arith, ◌≡◌, ◌⊎◌, inl, inr, ◌+◌, ◌-◌, ◌≤◌, ◌<◌, ℕ, zero, suc, Bool, true, true≢false, List, [], ◌∷◌, ◌++◌, length, map}
+use Rattle.f77_equivalence.proofs.Common.{Option, Some, None, refl, sym, ap, subst, ◌∙◌, ℤ, option_map, replicate, slice_get, slice_set, list_all, zip}
+use Rattle.f77_equivalence.proofs.Common.{option_and_then, and_parts, eqb-true, same_Some, slice_get-map, line_of, bounds_of, kind_of, CheckedFields, IsChecked}
+use Rattle.f77_equivalence.proofs.Common.{held_in, Cells, turn_at, Inactive, SuitsFact, AreIn, SuitsTurn, AreLeft, Arg, Comes, AreFitting, has_shape, values_in}
+use Rattle.f77_equivalence.proofs.Common.{all_filled, filled, size_of, IsStart, constant_value, site_of, IsRunningIn, stands_for, HoldsStart, IsStartEntry}
+use Rattle.f77_equivalence.proofs.Common.{start_cells, start_state, start_turns, is_storable, AreStorable, facts_given}
 use Rattle.std.proofs.lemmas.List.{length-map, length-replicate, length_push, set_past}
-use Rattle.std.proofs.lemmas.Option.{same_Some, slice_get-map}
 use Rattle.f77_tree.specs.declared.data.Constant.{Constant}
 use Rattle.f77_tree.specs.declared.tree.Kind.{Kind}
 use Rattle.f77_tree.specs.declared.tree.Kind.TheVariants.{Integer, Logical}
 use Rattle.f77_tree.specs.Comparing.{same_kind}
-use Rattle.f77_program.specs.Program.{line_of}
-use Rattle.f77_legal.specs.Names.{bounds_of, kind_of}
-use Rattle.f77_check.specs.Checked.{CheckedFields, IsChecked}
 use Rattle.f77_check.specs.declared.checked.Shape.{Shape}
 use Rattle.f77_actions.specs.declared.value.Value.{Value}
 use Rattle.f77_actions.specs.declared.value.Value.TheVariants as held
-use Rattle.f77_code.specs.Evaluation.{held_in}
-use Rattle.f77_code.specs.Moves.{Cells, turn_at}
 use Rattle.f77_code.proofs.Listed.{all_at, pushed}
 use Rattle.f77_facts.specs.declared.entries.Entry.{Entry}
 use Rattle.f77_facts.specs.declared.facts.Fact.{Fact}
 use Rattle.f77_facts.specs.declared.loops.LoopFact.{LoopFact}
-use Rattle.f77_facts.specs.declared.loops.LoopFact.TheVariants.{Inactive}
 use Rattle.f77_facts.specs.Entries.{AreCovered, IsAmong}
-use Rattle.f77_facts.specs.Facts.{SuitsFact, AreIn}
-use Rattle.f77_facts.specs.Loops.{SuitsTurn, AreLeft}
 use Rattle.f77_facts.proofs.Slots.{set_both}
-use Rattle.f77_meaning.specs.declared.argument.Arg.{Arg}
 use Rattle.f77_meaning.specs.declared.argument.Arg.TheVariants.{Int, Truth, Ints, Truths}
-use Rattle.f77_meaning.specs.Control.{Comes}
-use Rattle.f77_meaning.specs.Interpreter.{AreFitting, has_shape, values_in}
-use Rattle.f77_meaning.specs.Spans.{all_filled, filled, size_of}
-use Rattle.f77_meaning.specs.Start.{IsStart, constant_value}
-use Rattle.f77_meaning.specs.code.Running.{site_of}
 use Rattle.f77_meaning.specs.code.Typed.{has_kind}
 use Rattle.f77_meaning.proofs.Beginning.{empty_size, filled_size, state_starts}
-use Rattle.f77_meaning.proofs.InRun.{IsRunningIn, stands_for}
 use Rattle.f77_meaning.proofs.SlotKinds.{kinds_count}
-use Rattle.f77_equivalence.specs.Start.{HoldsStart, IsStartEntry, start_cells, start_state, start_turns}
-use Rattle.f77_equivalence.specs.Storable.{is_storable, AreStorable}
-use Rattle.f77_equivalence.specs.code.StartSlots.{facts_given}
 
 module _ (checked : CheckedFields) (is : IsChecked checked) where
   -- a kind for each slot

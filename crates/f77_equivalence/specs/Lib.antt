@@ -5,3 +5,9 @@ pub mod Equivalent
 pub mod Start
 pub mod Changed
 pub mod code
+pub use Alike.*
+pub use Ways.*
+pub use Storable.*
+pub use Equivalent.*
+pub use Start.*
+pub use Changed.*

@@ -1,1 +1,2 @@
 pub mod StartSlots
+pub use StartSlots.*

@@ -11,17 +11,15 @@ ghost use Rattle.f77_meaning.specs.Interpreter.{AreFitting};
 ghost use Rattle.f77_meaning.specs.Spans.{all_filled, size_of};
 ghost use Rattle.f77_meaning.specs.Start.{constant_value};
 ghost use Rattle.f77_meaning.specs.code.Typed.{has_kind};
-ghost use Rattle.f77_equivalence.specs.Start.{HoldsStart, IsStartEntry};
-ghost use Rattle.f77_equivalence.specs.Storable.{AreStorable, is_storable};
-ghost use Rattle.f77_equivalence.specs.code.StartSlots.{facts_given};
+ghost use Rattle.f77_equivalence.specs.{HoldsStart, IsStartEntry, AreStorable, is_storable};
+ghost use Rattle.f77_equivalence.specs.code.{facts_given};
 
 use f77_check::{Checked, Shape};
 use f77_code::Place;
 use f77_facts::entries::{Entry, is_covered};
-use f77_facts::facts::{Fact, no_number, set};
-use f77_facts::known::Known;
+use f77_facts::facts::{Fact, filled, numbers_of, set};
 use f77_facts::loops::LoopFact;
-use f77_facts::truths::Truths;
+use f77_terms::ranges::Range;
 use f77_tree::{Constant, Kind};
 use std::alloc::{AllocError, Global};
 
@@ -56,36 +54,29 @@ fn argument_fact(kind: Kind) -> Fact
     ensures { (value : Value) → has_kind kind (Some value) ≡ true → is_storable value ≡ true
         → SuitsFact result (Some value) }
 {
-    match kind {
-        Kind::Integer => Fact::Number(Known {
-            may_lack: false,
-            low: i32::MIN,
-            high: i32::MAX,
-        }),
-        Kind::Logical => Fact::Truth(Truths {
-            may_lack: false,
-            may_hold: true,
-            may_fail: true,
-        }),
-    }
+    filled(kind, numbers_of(kind))
 }
 
 /// What is known of a slot of this kind to which DATA gives this value, if any.
 fn initial_fact(kind: Kind, initial: Option<Constant>) -> Fact
     ensures { SuitsFact result (option_map constant_value initial) }
 {
-    match initial {
-        Some(Constant::Number(number)) => Fact::Number(Known::exactly(number)),
-        Some(Constant::Truth(truth)) => Fact::Truth(Truths::exactly(truth)),
-        None => match kind {
-            Kind::Integer => Fact::Number(no_number()),
-            Kind::Logical => Fact::Truth(Truths {
+    let (kind, number) = match initial {
+        Some(Constant::Number(number)) => (Kind::Integer, i64::from(number)),
+        Some(Constant::Truth(truth)) => (Kind::Logical, i64::from(truth)),
+        None => {
+            return Fact {
+                kind,
                 may_lack: true,
-                may_hold: false,
-                may_fail: false,
-            }),
-        },
-    }
+                range: Range { low: 1, high: 0 },
+            };
+        }
+    };
+    let range = Range {
+        low: number,
+        high: number,
+    };
+    filled(kind, range)
 }
 
 /// What is known of the slots before arguments are put into them.

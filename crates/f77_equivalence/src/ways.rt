@@ -2,8 +2,7 @@
 
 ghost use Rattle.std.specs.Prelude.{◌≡◌, ◌<◌, ◌↔◌, IsTrue, true, length, slice_get, Some};
 ghost use Rattle.f77_code.specs.Moves as moves;
-ghost use Rattle.f77_equivalence.specs.Alike.{GoOnAlike};
-ghost use Rattle.f77_equivalence.specs.Ways.{HaveOneWayOn};
+ghost use Rattle.f77_equivalence.specs.{GoOnAlike, HaveOneWayOn};
 
 use f77_actions::{Action, Jump, Resolved};
 use f77_tree::Shared;

@@ -1,9 +1,6 @@
 -- Entries that cover others, an entry at a time.
-use Rattle.std.proofs.Common.{◌≡◌, ℕ, ◌<◌, List, length, Some, subst}
-use Rattle.std.specs.Prelude.{slice_get}
-use Rattle.std.proofs.lemmas.Option.{slice_get_within}
+use Rattle.f77_facts.proofs.Common.{◌≡◌, ℕ, ◌<◌, List, length, Some, subst, slice_get, slice_get_within, AreCovered, GrowsEntries, IsAmong}
 use Rattle.f77_facts.specs.declared.entries.Entry.{Entry}
-use Rattle.f77_facts.specs.Entries.{AreCovered, GrowsEntries, IsAmong}
 
 module _ (entries covered : List Entry) where
   -- the entry of this number is covered

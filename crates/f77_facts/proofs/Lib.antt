@@ -1,6 +1,5 @@
-pub mod Comparisons
+pub mod Common
 pub mod Slots
 pub mod Within
-pub mod Turns
 pub mod Stored
 pub mod Covering

@@ -1,14 +1,11 @@
 -- What is known after an assignment.
-use Rattle.std.proofs.Common.{arith, ◌≡◌, ◌⊎◌, inl, inr, ℕ, ◌<◌, ◌≤◌, ◌+◌, List, length, Option, Some, sym, subst}
-use Rattle.std.specs.Prelude.{slice_get, slice_set}
+use Rattle.f77_facts.proofs.Common.{arith, ◌≡◌, ◌⊎◌, inl, inr, ℕ, ◌<◌, ◌≤◌, ◌+◌, List, length, Option, Some, sym, subst, slice_get, slice_set, held_in, Cells}
+use Rattle.f77_facts.proofs.Common.{SuitsFact, AreIn}
 use Rattle.std.proofs.lemmas.Bool.{cases_lt}
 use Rattle.std.proofs.lemmas.List.{set_past}
 use Rattle.f77_actions.specs.declared.value.Value.{Value}
-use Rattle.f77_code.specs.Evaluation.{held_in}
-use Rattle.f77_code.specs.Moves.{Cells}
 use Rattle.f77_facts.specs.declared.facts.Fact.{Fact}
-use Rattle.f77_facts.specs.Facts.{SuitsFact, AreIn}
-use Rattle.f77_facts.specs.code.Assigning.{Widens}
+use Rattle.f77_facts.specs.code.{Widens}
 use Rattle.f77_facts.proofs.Slots.{set_one, set_both}
 
 pub widens_none : (facts : List Fact) (from : ℕ) (fact : Fact) → Widens facts facts from from fact

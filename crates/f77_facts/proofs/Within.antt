@@ -1,8 +1,6 @@
 -- What suits the items of one list suits those of another, an item at a time.
-use Rattle.std.proofs.Common.{arith, ◌≡◌, ℕ, ◌<◌, List, length, Some, sym, subst}
-use Rattle.std.specs.Prelude.{slice_get}
-use Rattle.std.proofs.lemmas.Option.{slice_get_within}
-use Rattle.f77_facts.proofs.Slots.{got_within}
+use Rattle.f77_facts.proofs.Common.{arith, ◌≡◌, ℕ, ◌<◌, List, length, Some, sym, subst, slice_get, slice_get_within}
+use Rattle.f77_code.proofs.Listed.{item_at}
 
 module _ {A B : Type 0} (IsSuited : A → B → Type 0) (inner outer : List A) where
   -- what a check of one item says
@@ -19,5 +17,5 @@ module _ {A B : Type 0} (IsSuited : A → B → Type 0) (inner outer : List A) w
       → ((k : ℕ) (a : A) → slice_get inner k ≡ Some a → IsSuited a (xs k)) → (k : ℕ) (b : A) → slice_get outer k ≡ Some b → IsSuited b (xs k)
   all_within same each xs suits k b f =
       let below : k < length inner = omega (arith, slice_get_within outer k b f, same) in
-      let it = got_within inner k below in
+      let it = item_at inner k below in
       each k below it.0 b it.1 f (xs k) (suits k it.0 it.1)

@@ -1,21 +1,34 @@
 -- What is known of what slots hold.
-use Rattle.std.specs.Prelude.{◌≡◌, ℕ, true, List, length, Option, Some, None, slice_get, Ok}
+use Rattle.std.specs.Prelude.{◌≡◌, ℕ, ℤ, pos, true, false, List, length, Option, Some, None, slice_get}
 use Rattle.f77_actions.specs.declared.value.Value.{Value}
 use Rattle.f77_actions.specs.declared.value.Value.TheVariants as held
-use Rattle.f77_actions.specs.Value.{whole}
 use Rattle.f77_code.specs.Evaluation.{held_in}
 use Rattle.f77_code.specs.Moves.{Cells}
 use Rattle.f77_facts.specs.declared.facts.Fact.{Fact}
-use Rattle.f77_facts.specs.declared.facts.Fact.TheVariants as kind
-use Rattle.f77_facts.specs.Known.{Suits}
-use Rattle.f77_facts.specs.Truths.{SuitsTruth}
+use Rattle.f77_terms.specs.Ranges.{IsIn}
+use Rattle.f77_tree.specs.declared.tree.Kind.{Kind}
+use Rattle.f77_tree.specs.declared.tree.Kind.TheVariants.{Integer, Logical}
 
--- What a slot may hold. One of LOGICAL holds no number.
+abbrev pub kind_of_value : Value → Kind
+kind_of_value (held.Number z) = Integer
+kind_of_value (held.Truth b) = Logical
+
+-- what is held as a number: a truth value is 1 or 0
+abbrev pub number_of : Option Value → ℤ
+number_of (Some (held.Number z)) = z
+number_of (Some (held.Truth true)) = pos 1
+number_of (Some (held.Truth false)) = pos 0
+number_of None = pos 0
+
+-- a value is of the kind, and its number in the range; there may be none where that may be
 abbrev pub SuitsFact : Fact → Option Value → Type 0
-SuitsFact (kind.Number known) cell = Suits known (whole cell)
-SuitsFact (kind.Truth truths) (Some (held.Number z)) = ⊥
-SuitsFact (kind.Truth truths) (Some (held.Truth b)) = SuitsTruth truths (Ok b)
-SuitsFact (kind.Truth truths) None = truths.may_lack ≡ true
+SuitsFact fact None = fact.may_lack ≡ true
+SuitsFact fact (Some value) =
+    (kind_of_value value ≡ fact.kind) × IsIn fact.range (number_of (Some value))
+
+-- what suits the first fact suits the second
+abbrev pub Implies : Fact → Fact → Type 0
+Implies fact other = (cell : Option Value) → SuitsFact fact cell → SuitsFact other cell
 
 -- the slots are as many as the facts, and each suits its own
 pub record AreIn (facts : List Fact) (cells : Cells) : Type 0 where

@@ -1,7 +1,9 @@
-pub mod Known
-pub mod Truths
 pub mod Facts
 pub mod Loops
 pub mod Assigning
 pub mod Entries
 pub mod code
+pub use Facts.*
+pub use Loops.*
+pub use Assigning.*
+pub use Entries.*

@@ -1,11 +1,10 @@
 //! What is known after an assignment.
 
-ghost use Rattle.std.specs.Prelude.{◌≤◌, ℕ, length, slice_set, Option};
+ghost use Rattle.std.specs.Prelude.{◌≤◌, ℕ, length, slice_set, Option, IfSome};
 ghost use Rattle.f77_actions.specs.declared.value.Value.{Value};
 ghost use Rattle.f77_code.specs.Moves.{Cells};
-ghost use Rattle.f77_facts.specs.Facts.{AreIn, SuitsFact};
-ghost use Rattle.f77_facts.specs.Assigning.{IsSlotReached};
-ghost use Rattle.f77_facts.specs.code.Assigning.{Widens};
+ghost use Rattle.f77_facts.specs.{AreIn, SuitsFact, IsSlotReached};
+ghost use Rattle.f77_facts.specs.code.{Widens};
 
 use crate::facts::{Fact, fact_at, hull_of, set};
 
@@ -16,26 +15,28 @@ pub struct Reach {
     pub count: usize,
 }
 
-/// One of these slots may be given what suits the fact.
-fn widen(facts: &mut [Fact], from: usize, end: usize, fact: Fact)
+/// One of these slots may be given what suits the fact, if all their facts are of its kind.
+fn widen(facts: &mut [Fact], from: usize, end: usize, fact: Fact) -> Option<()>
     requires { end ≤ length facts.old }
-    ensures { Widens facts.old facts.new from end fact }
+    ensures { IfSome result (λ _. Widens facts.old facts.new from end fact) }
 {
     for slot in from..end {
-        let hull = hull_of(fact_at(facts, slot), fact);
+        let hull = hull_of(fact_at(facts, slot), fact)?;
         set(facts, slot, hull);
     }
+    Some(())
 }
 
-/// One of these slots is given what suits the fact.
-pub fn assign(facts: &mut [Fact], reach: Reach, fact: Fact)
-    ensures { (cells : Cells) (k : ℕ) (cell : Option Value) → AreIn facts.old cells → IsSlotReached reach k
-        → SuitsFact fact cell → AreIn facts.new (slice_set cells k cell) }
+/// One of these slots is given what suits the fact. It is not told what is known then where they are several, and the
+/// fact of one is of another kind.
+pub fn assign(facts: &mut [Fact], reach: Reach, fact: Fact) -> Option<()>
+    ensures { IfSome result (λ _. (cells : Cells) (k : ℕ) (cell : Option Value) → AreIn facts.old cells
+        → IsSlotReached reach k → SuitsFact fact cell → AreIn facts.new (slice_set cells k cell)) }
 {
     if reach.count == 1 {
         set(facts, reach.first, fact);
-    } else {
-        let end = reach.first.saturating_add(reach.count).min(facts.len());
-        widen(facts, reach.first, end, fact);
+        return Some(());
     }
+    let end = reach.first.saturating_add(reach.count).min(facts.len());
+    widen(facts, reach.first, end, fact)
 }

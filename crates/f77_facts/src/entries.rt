@@ -1,7 +1,7 @@
 //! What is known at the places where control may be.
 
 ghost use Rattle.std.specs.Prelude.{◌≡◌, ◌<◌, true, length, slice_get, Some};
-ghost use Rattle.f77_facts.specs.Entries.{AreCovered, GrowsEntries};
+ghost use Rattle.f77_facts.specs.{AreCovered, GrowsEntries};
 
 use crate::facts::{Fact, is_empty, is_inside};
 use crate::loops::{LoopFact, is_loops_inside};

@@ -1,44 +1,47 @@
 //! What is known of what slots hold.
 
-ghost use Rattle.std.specs.Prelude.{◌≡◌, ◌<◌, ℤ, true, length, slice_get, slice_set, Option, Some};
+ghost use Rattle.std.specs.Prelude.{◌≡◌, ◌<◌, true, length, slice_get, slice_set, Option, Some, IfSome};
 ghost use Rattle.f77_actions.specs.declared.value.Value.{Value};
-ghost use Rattle.f77_actions.specs.Value.{whole};
+ghost use Rattle.f77_actions.specs.Number.{fits};
 ghost use Rattle.f77_code.specs.Moves.{Cells};
-ghost use Rattle.f77_facts.specs.Known.{IsBetween, Suits};
-ghost use Rattle.f77_facts.specs.Facts.{SuitsFact, AreIn, Lies};
+ghost use Rattle.f77_facts.specs.{SuitsFact, Implies, AreIn, Lies, kind_of_value, number_of};
+ghost use Rattle.f77_terms.specs.Ranges.{IsIn};
 
-use crate::known::{self, Known};
-use crate::truths::{self, Truths};
+use f77_terms::ranges::{self, Range, hull};
+use f77_tree::Kind;
 
-/// What is known of the value of a slot, and whether it may have none.
+/// What is known of a slot: of which kind its value is, the range of its number (a truth value is 1 or 0), and whether
+/// it may hold none.
 #[derive(Clone, Copy, Debug, PartialEq, Eq)]
-pub enum Fact {
-    /// Of an INTEGER value. A slot that holds a LOGICAL one has none.
-    Number(Known),
-    /// Of a LOGICAL value. The slot holds no INTEGER one.
-    Truth(Truths),
+pub struct Fact {
+    pub kind: Kind,
+    pub may_lack: bool,
+    pub range: Range,
 }
 
-/// There is no INTEGER value.
-pub fn no_number() -> Known
-    ensures lacks { result.may_lack ≡ true }
-    ensures none { (z : ℤ) → ¬ (IsBetween result.low z result.high) }
+/// What is known of a slot that holds a value of this kind, whose number is in the range.
+pub fn filled(kind: Kind, range: Range) -> Fact
+    ensures { (value : Value) → kind_of_value value ≡ kind → IsIn range (number_of (Some value))
+        → SuitsFact result (Some value) }
 {
-    Known {
-        may_lack: true,
-        low: 1,
-        high: 0,
+    Fact {
+        kind,
+        may_lack: false,
+        range,
     }
 }
 
-/// What is known of the INTEGER value of a slot.
-#[tactic(auto, using(crate::proofs::Slots::truth_lacks))]
-fn known_from(fact: Fact) -> Known
-    ensures { (cell : Option Value) → SuitsFact fact cell → Suits result (whole cell) }
+/// The numbers that values of this kind have where INTEGER holds them.
+pub fn numbers_of(kind: Kind) -> Range
+    ensures { (value : Value) → kind_of_value value ≡ kind → fits (number_of (Some value)) ≡ true
+        → IsIn result (number_of (Some value)) }
 {
-    match fact {
-        Fact::Number(known) => known,
-        Fact::Truth(_) => no_number(),
+    match kind {
+        Kind::Integer => Range {
+            low: i64::from(i32::MIN),
+            high: i64::from(i32::MAX),
+        },
+        Kind::Logical => Range { low: 0, high: 1 },
     }
 }
 
@@ -59,39 +62,31 @@ pub fn set(facts: &mut [Fact], slot: usize, fact: Fact)
     }
 }
 
-/// What is known where one of the two holds.
-#[tactic(auto, using(crate::proofs::Slots::truth_widens))]
-pub fn hull_of(a: Fact, b: Fact) -> Fact
-    ensures first { (cell : Option Value) → SuitsFact a cell → SuitsFact result cell }
-    ensures second { (cell : Option Value) → SuitsFact b cell → SuitsFact result cell }
+/// What is known where one of the two holds, if they are of one kind.
+pub fn hull_of(a: Fact, b: Fact) -> Option<Fact>
+    ensures first { IfSome result (λ fact. Implies a fact) }
+    ensures second { IfSome result (λ fact. Implies b fact) }
 {
-    match (a, b) {
-        (Fact::Truth(a), Fact::Truth(b)) => Fact::Truth(truths::hull_of(a, b)),
-        _ => Fact::Number(known::hull_of(known_from(a), known_from(b))),
+    if a.kind != b.kind {
+        return None;
     }
+    Some(Fact {
+        kind: a.kind,
+        may_lack: a.may_lack || b.may_lack,
+        range: hull(a.range, b.range),
+    })
 }
 
-#[tactic(auto, using(crate::proofs::Slots::truth_void))]
 fn is_void(fact: Fact) -> bool
     ensures { result ≡ true → (cell : Option Value) → ¬ (SuitsFact fact cell) }
 {
-    match fact {
-        Fact::Number(known) => known::is_void(known),
-        Fact::Truth(truths) => truths::is_void(truths),
-    }
+    !fact.may_lack && ranges::is_empty(fact.range)
 }
 
-#[tactic(auto, using(crate::proofs::Slots::truth_widens))]
 fn is_within(a: Fact, b: Fact) -> bool
-    ensures { result ≡ true → (cell : Option Value) → SuitsFact a cell → SuitsFact b cell }
+    ensures { result ≡ true → Implies a b }
 {
-    match b {
-        Fact::Number(known) => known::is_within(known_from(a), known),
-        Fact::Truth(truths) => match a {
-            Fact::Number(_) => false,
-            Fact::Truth(own) => truths::is_within(own, truths),
-        },
-    }
+    (b.may_lack || !a.may_lack) && a.kind == b.kind && ranges::is_within(a.range, b.range)
 }
 
 /// No cells suit these facts.

@@ -1,19 +1,19 @@
 //! What is known of which DOs are active, and of what they have left.
 
-ghost use Rattle.std.specs.Prelude.{◌≡◌, ◌<◌, true, length, slice_get, slice_set, Option, Some};
+ghost use Rattle.std.specs.Prelude.{◌≡◌, ◌<◌, true, length, slice_get, Option, Some};
 ghost use Rattle.f77_code.specs.declared.control.Turn.{Turn};
 ghost use Rattle.f77_code.specs.Moves.{TurnList};
-ghost use Rattle.f77_facts.specs.Loops.{SuitsTurn, AreLeft};
+ghost use Rattle.f77_facts.specs.{SuitsTurn, AreLeft};
 
-use crate::known::{self, Known};
+use f77_terms::ranges::{Range, is_within};
 
-/// What is known of a DO: whether it is active, and then how many passes it has left and how it is incremented.
+/// What is known of a DO.
 #[derive(Clone, Copy, Debug, PartialEq, Eq)]
 pub enum LoopFact {
     /// It is not active.
     Inactive,
-    /// It is active, with at least `fewest` and at most `most` passes to make, and such an incrementation parameter.
-    Active { fewest: u64, most: u64, step: Known },
+    /// It is active, with so many passes to make, and such an incrementation parameter.
+    Active { passes: Range, step: Range },
 }
 
 /// The fact of a DO, which goes by its statement. Statements are numbered from 0.
@@ -24,29 +24,18 @@ pub fn loop_at(loops: &[LoopFact], d: usize) -> LoopFact
     loops[d]
 }
 
-/// Gives a DO another fact, if there is such a statement.
-pub fn set_loop(loops: &mut [LoopFact], d: usize, fact: LoopFact)
-    ensures { loops.new ≡ slice_set loops.old d fact }
-{
-    if d < loops.len() {
-        loops[d] = fact;
-    }
-}
-
-#[tactic(auto, using(crate::proofs::Turns::turn_within))]
 fn is_loop_within(a: LoopFact, b: LoopFact) -> bool
     ensures { result ≡ true → (turn : Option Turn) → SuitsTurn a turn → SuitsTurn b turn }
 {
     match (a, b) {
         (LoopFact::Inactive, LoopFact::Inactive) => true,
         (
-            LoopFact::Active { fewest, most, step },
+            LoopFact::Active { passes, step },
             LoopFact::Active {
-                fewest: least,
-                most: greatest,
+                passes: count,
                 step: by,
             },
-        ) => least <= fewest && most <= greatest && known::is_within(step, by),
+        ) => is_within(passes, count) && is_within(step, by),
         _ => false,
     }
 }

@@ -58,7 +58,7 @@ impl Reached {
     }
 
     /// Control comes to the cut by another way.
-    fn take_in(&mut self, entry: &Entry, manner: Manner, thresholds: &[i32]) {
+    fn take_in(&mut self, entry: &Entry, manner: Manner, thresholds: &[i64]) {
         if lies_in(entry, &self.entry) {
             return;
         }

@@ -21,7 +21,7 @@ pub(crate) struct Search<'a> {
     /// What is known where runs start.
     pub(crate) start: Entry,
     /// What bounds may be widened to.
-    pub(crate) thresholds: Vec<i32>,
+    pub(crate) thresholds: Vec<i64>,
     left: u64,
 }
 

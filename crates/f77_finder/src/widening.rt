@@ -3,74 +3,66 @@
 
 use crate::thresholds::{threshold_above, threshold_below};
 use f77_facts::entries::Entry;
-use f77_facts::facts::{self, Fact};
-use f77_facts::known::{self, Known};
+use f77_facts::facts::{Fact, numbers_of};
 use f77_facts::loops::LoopFact;
+use f77_terms::ranges::{Range, hull, is_empty};
+use f77_tree::Kind;
 
 /// More passes than a DO may have, and so few that sums of such numbers are told still: what DOs have left is kept only
 /// where it has a bound.
-const MOST_PASSES: u64 = 1_099_511_627_776;
+const MOST_PASSES: i64 = 1_099_511_627_776;
 
-/// The hull of the old values and others, with those bounds at thresholds that are not the old ones.
-fn widened(old: Known, hull: Known, thresholds: Option<&[i32]>) -> Known {
+/// The old numbers or others, with those bounds at thresholds that are not the old ones, and else at these ends.
+fn widened(old: Range, other: Range, thresholds: Option<&[i64]>, ends: Range) -> Range {
+    let mut range = hull(old, other);
     let Some(thresholds) = thresholds else {
-        return hull;
+        return range;
     };
-    if old.high < old.low {
-        return hull;
+    if is_empty(old) {
+        return range;
     }
-    let mut known = hull;
-    if hull.low < old.low {
-        known.low = threshold_below(thresholds, hull.low);
+    if range.low < old.low {
+        range.low = threshold_below(thresholds, range.low).unwrap_or(ends.low);
     }
-    if old.high < hull.high {
-        known.high = threshold_above(thresholds, hull.high);
+    if old.high < range.high {
+        range.high = threshold_above(thresholds, range.high).unwrap_or(ends.high);
     }
-    known
+    range
 }
 
-/// The old fact or the other one.
-fn joined_fact(old: Fact, other: Fact, thresholds: Option<&[i32]>) -> Fact {
-    match (old, facts::hull_of(old, other)) {
-        (Fact::Number(old), Fact::Number(hull)) => Fact::Number(widened(old, hull, thresholds)),
-        (_, hull) => hull,
+/// The old fact or the other one, of the same slot.
+fn joined_fact(old: Fact, other: Fact, thresholds: Option<&[i64]>) -> Fact {
+    Fact {
+        kind: old.kind,
+        may_lack: old.may_lack || other.may_lack,
+        range: widened(old.range, other.range, thresholds, numbers_of(old.kind)),
     }
 }
 
 /// The old fact or the other one. Where just one of them says that the DO is active, the old one stands.
-fn joined_loop(old: LoopFact, other: LoopFact, thresholds: Option<&[i32]>) -> LoopFact {
-    let LoopFact::Active { fewest, most, step } = old else {
+fn joined_loop(old: LoopFact, other: LoopFact, thresholds: Option<&[i64]>) -> LoopFact {
+    let LoopFact::Active { passes, step } = old else {
         return old;
     };
     let LoopFact::Active {
-        fewest: least,
-        most: greatest,
+        passes: count,
         step: by,
     } = other
     else {
         return old;
     };
-    let (floor, ceiling) = match thresholds {
-        Some(_) => (1, MOST_PASSES),
-        None => (u64::MAX, 0),
+    let ends = Range {
+        low: count.low.min(1),
+        high: count.high.max(MOST_PASSES),
     };
     LoopFact::Active {
-        fewest: if least < fewest {
-            least.min(floor)
-        } else {
-            fewest
-        },
-        most: if most < greatest {
-            greatest.max(ceiling)
-        } else {
-            most
-        },
-        step: widened(step, known::hull_of(step, by), thresholds),
+        passes: widened(passes, count, thresholds.map(|_| [].as_slice()), ends),
+        step: widened(step, by, thresholds, numbers_of(Kind::Integer)),
     }
 }
 
 /// The entry allows what it allowed and what the other one of its place allows.
-pub(crate) fn join(entry: &mut Entry, other: &Entry, thresholds: Option<&[i32]>) {
+pub(crate) fn join(entry: &mut Entry, other: &Entry, thresholds: Option<&[i64]>) {
     for (fact, other) in entry.facts.iter_mut().zip(&other.facts) {
         *fact = joined_fact(*fact, *other, thresholds);
     }

@@ -1,16 +1,6 @@
 -- What is answered and what a step leads to, from what is answered before.
-use Rattle.std.proofs.Common.{◌≡◌, true, refl, sym, subst, ◌∙◌}
-use Rattle.std.specs.Prelude.{Result, Ok, Err, Some}
-use Rattle.f77_actions.specs.declared.finish.Fault.{Fault}
-use Rattle.f77_actions.specs.Value.{given, both}
-use Rattle.f77_code.specs.Moves.{Cells, Move, used}
-use Rattle.f77_terms.specs.Paths.{Holds}
-use Rattle.f77_terms.specs.Terms.{Valuation}
-use Rattle.f77_symbolic.specs.declared.evaluator.Evaluator.{Evaluator}
-use Rattle.f77_symbolic.specs.declared.sides.Side.{Side}
-use Rattle.f77_symbolic.specs.declared.sides.Step.{Step}
-use Rattle.f77_symbolic.specs.code.Evaluation.{Answers, StaysOn}
-use Rattle.f77_symbolic.specs.code.Sides.{Stepped}
+use Rattle.f77_symbolic.proofs.Common.{◌≡◌, true, refl, sym, subst, ◌∙◌, Result, Ok, Err, Some, Fault, given, both, Cells, Move, used, Holds, Valuation}
+use Rattle.f77_symbolic.proofs.Common.{Evaluator, Side, Step, Answers, StaysOn, Stepped}
 
 module _ (v : Valuation) (old mid new : Evaluator) where
   -- one step and then another

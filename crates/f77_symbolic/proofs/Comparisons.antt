@@ -1,12 +1,8 @@
 -- What comparisons of places and of steps tell, and checked operations.
-use Rattle.std.proofs.Common.{◌≡◌, true, Option, Some, refl, sym, subst, ap}
-use Rattle.std.specs.Option.{SomeIff}
+use Rattle.f77_symbolic.proofs.Common.{◌≡◌, true, Option, Some, refl, sym, subst, ap, SomeIff, Place, Execute, Increment, Step}
 use Rattle.std.proofs.lemmas.Bool.Decides.{Decides-eqb}
 use Rattle.f77_code.specs.contracts.control.PlacePartialEq.TheImpl as places
-use Rattle.f77_code.specs.declared.control.Place.{Place}
-use Rattle.f77_code.specs.declared.control.Place.TheVariants.{Execute, Increment}
 use Rattle.f77_symbolic.specs.contracts.sides.StepPartialEq.TheImpl as steps
-use Rattle.f77_symbolic.specs.declared.sides.Step.{Step}
 use Rattle.f77_symbolic.specs.declared.sides.Step.TheVariants as step
 
 pub same_place : (a b : Place) → places.ghosts.eq a b ≡ true → b ≡ a

@@ -1,10 +1,7 @@
 -- Divisions that need no atom.
-use Rattle.std.proofs.Common.{arith, ◌≡◌, ◌⊎◌, inl, inr, ◌<◌, sym, ap, subst, ◌∙◌, ℤ, pos, negsuc}
-use Rattle.std.specs.Prelude.{◌+ℤ◌, ◌*ℤ◌, int_div, int_rem, unsigned_abs}
-use Rattle.std.proofs.lemmas.Int.{ints, quot-rem, rem_below}
-use Rattle.f77_terms.specs.Terms.{Valuation, sum_value}
+use Rattle.f77_symbolic.proofs.Common.{arith, ◌≡◌, ◌⊎◌, inl, inr, ◌<◌, sym, ap, subst, ◌∙◌, ℤ, pos, negsuc, ◌+ℤ◌, ◌*ℤ◌, int_div, int_rem, unsigned_abs, ints}
+use Rattle.f77_symbolic.proofs.Common.{quot-rem, rem_below, Valuation, sum_value, IsDivision}
 use Rattle.f77_symbolic.specs.declared.arithmetic.Division.{Division}
-use Rattle.f77_symbolic.specs.code.Evaluation.{IsDivision}
 
 nothing_left : (r : ℤ) → unsigned_abs r < 1 → r ≡ pos 0
 nothing_left (pos n) h = omega (arith, ints, h)

@@ -1,13 +1,8 @@
 -- The slots of dummy arguments.
-use Rattle.std.proofs.Common.{arith, ◌≡◌, ◌<◌, ◌≤◌, ◌+◌, ℕ, List, [], ◌∷◌, ◌++◌, length, min, Some, subst, sym, ◌∙◌}
-use Rattle.std.specs.Prelude.{slice_get}
-use Rattle.std.proofs.lemmas.List.{get_or_append_left, length_push}
-use Rattle.std.proofs.lemmas.Option.{slice_get_within}
-use Rattle.f77_check.specs.declared.checked.Shape.{Shape}
+use Rattle.f77_symbolic.proofs.Common.{arith, ◌≡◌, ◌<◌, ◌≤◌, ◌+◌, ℕ, List, [], ◌∷◌, ◌++◌, length, min, Some, subst, sym, ◌∙◌, slice_get, get_or_append_left}
+use Rattle.f77_symbolic.proofs.Common.{length_push, slice_get_within, Shape, Slots, IsSlotOf}
 use Rattle.f77_equivalence.specs.code.StartSlots.{IsOfDummy}
 use Rattle.f77_meaning.specs.Spans.{size_of}
-use Rattle.f77_symbolic.specs.declared.values.Slots.{Slots}
-use Rattle.f77_symbolic.specs.code.Memory.{IsSlotOf}
 
 module _ (dummies : List ℕ) (shapes : List Shape) (slot : ℕ) where
   -- the shape of the argument of which it is one

@@ -1,19 +1,10 @@
 -- Where the elements of arrays lie.
-use Rattle.std.proofs.Common.{arith, ◌≡◌, ◌+◌, ◌*◌, ◌<◌, ◌≤◌, ℕ, zero, suc, Bool, true, false, [], ◌∷◌, refl, sym, ap, ◌∙◌, ℤ, pos, negsuc}
-use Rattle.std.specs.Prelude.{◌+ℤ◌, ◌-ℤ◌, ◌*ℤ◌, ◌≤ℤ◌, ◌<ℤ◌, if◌then◌else◌, nat_lt, Result, Ok, Err}
-use Rattle.std.proofs.lemmas.Bool.{ltb-true, ltb-false}
-use Rattle.std.proofs.lemmas.Int.{ints}
+use Rattle.f77_symbolic.proofs.Common.{arith, ◌≡◌, ◌+◌, ◌*◌, ◌<◌, ◌≤◌, ℕ, zero, suc, Bool, true, false, [], ◌∷◌, refl, sym, ap, ◌∙◌, ℤ, pos, negsuc, ◌+ℤ◌, ◌-ℤ◌}
+use Rattle.f77_symbolic.proofs.Common.{◌*ℤ◌, ◌≤ℤ◌, ◌<ℤ◌, if◌then◌else◌, nat_lt, Result, Ok, Err, ltb-true, ltb-false, ints, Fault, element, given, slot_behind}
+use Rattle.f77_symbolic.proofs.Common.{Valuation, Evaluator, Location, Answers, IsInside, slot_of}
 use Rattle.std.proofs.Math.Nat.{mul-le-mul_left}
-use Rattle.f77_actions.specs.declared.finish.Fault.{Fault}
 use Rattle.f77_actions.specs.declared.finish.Fault.TheVariants.{BadSubscript}
-use Rattle.f77_actions.specs.Value.{element, given}
-use Rattle.f77_terms.specs.Atoms.{slot_behind}
-use Rattle.f77_terms.specs.Terms.{Valuation}
 use Rattle.f77_terms.proofs.Products.{sum_times}
-use Rattle.f77_symbolic.specs.declared.evaluator.Evaluator.{Evaluator}
-use Rattle.f77_symbolic.specs.declared.memory.Location.{Location}
-use Rattle.f77_symbolic.specs.code.Evaluation.{Answers}
-use Rattle.f77_symbolic.specs.Memory.{IsInside, slot_of}
 use Rattle.f77_symbolic.proofs.Expecting.{Expected, answers_expected}
 
 -- a subscript is from 1 to the bound

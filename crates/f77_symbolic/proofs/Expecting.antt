@@ -1,17 +1,8 @@
 -- What is answered where it is expected that there is no fault.
-use Rattle.std.proofs.Common.{arith, ◌≡◌, ◌≢◌, ◌⊎◌, inl, inr, zero, suc, Bool, true, false, refl, subst, ℤ, pos, negsuc}
-use Rattle.std.specs.Prelude.{◌^◌, ◌+ℤ◌, ◌*ℤ◌, ◌≤ℤ◌, if◌then◌else◌, int_div, int_rem, Result, Ok, Err, Option, IfOk, IfSome}
-use Rattle.std.specs.Result.{result_ok}
-use Rattle.std.proofs.lemmas.Bool.{ltb-true, lt-ltb}
-use Rattle.std.proofs.lemmas.Int.{ints}
-use Rattle.f77_actions.specs.declared.finish.Fault.{Fault}
+use Rattle.f77_symbolic.proofs.Common.{arith, ◌≡◌, ◌≢◌, ◌⊎◌, inl, inr, zero, suc, Bool, true, false, refl, subst, ℤ, pos, negsuc, ◌^◌, ◌+ℤ◌, ◌*ℤ◌, ◌≤ℤ◌}
+use Rattle.f77_symbolic.proofs.Common.{if◌then◌else◌, int_div, int_rem, Result, Ok, Err, Option, IfOk, IfSome, result_ok, ltb-true, lt-ltb, ints, Fault, fits}
+use Rattle.f77_symbolic.proofs.Common.{in_range, quotient, modulus, pushed, Holds, Valuation, Evaluator, Answers, StaysOn}
 use Rattle.f77_actions.specs.declared.finish.Fault.TheVariants.{Overflow}
-use Rattle.f77_actions.specs.Number.{fits, in_range, quotient, modulus}
-use Rattle.f77_actions.specs.Value.{pushed}
-use Rattle.f77_terms.specs.Paths.{Holds}
-use Rattle.f77_terms.specs.Terms.{Valuation}
-use Rattle.f77_symbolic.specs.declared.evaluator.Evaluator.{Evaluator}
-use Rattle.f77_symbolic.specs.code.Evaluation.{Answers, StaysOn}
 use Rattle.f77_symbolic.proofs.Answering.{own_before, stays_same, stays_then, answers_after}
 
 -- what an option was made to

@@ -1,9 +1,6 @@
 -- Powers with an exponent above 0.
-use Rattle.std.proofs.Common.{arith, ◌≡◌, ℕ, zero, suc, refl, sym, ap, ◌∙◌, ℤ, pos, negsuc}
-use Rattle.std.specs.Prelude.{◌+ℤ◌, ◌*ℤ◌, ◌≤ℤ◌}
-use Rattle.std.proofs.lemmas.Int.{ints}
-use Rattle.std.proofs.Math.IntN.{zero-*ℤ}
-use Rattle.f77_actions.specs.Number.{exact_power, in_range, power}
+use Rattle.f77_symbolic.proofs.Common.{arith, ◌≡◌, ℕ, zero, suc, refl, sym, ap, ◌∙◌, ℤ, pos, negsuc, ◌+ℤ◌, ◌*ℤ◌, ◌≤ℤ◌, ints, zero-*ℤ, exact_power, in_range}
+use Rattle.f77_symbolic.proofs.Common.{power}
 
 pub power_above : (a : ℤ) (n : ℕ) → power a (pos (suc n)) ≡ in_range (exact_power a (suc n))
 power_above (pos zero) n = sym (ap in_range (zero-*ℤ (exact_power (pos 0) n)))

@@ -1,19 +1,13 @@
 -- A changed program is equivalent where it follows the program from each start.
-use Rattle.std.proofs.Common.{◌≡◌, ◌≢◌, ◌⊎◌, inl, inr, ◌+◌, ◌∙◌, ℕ, zero, suc, List, Option, Some, None, refl, ap, subst}
-use Rattle.std.specs.Option.{option_and_then}
+use Rattle.f77_symbolic.proofs.Common.{◌≡◌, ◌≢◌, ◌⊎◌, inl, inr, ◌+◌, ◌∙◌, ℕ, zero, suc, List, Option, Some, None, refl, ap, subst, option_and_then, Resolved}
+use Rattle.f77_symbolic.proofs.Common.{Cells, State, Move, Goes, Ends, moved, cases_eq, IsEnding, EquivalentWhereFollowed, End, EndAlike, IsAtSite, IsFirst}
+use Rattle.f77_symbolic.proofs.Common.{machine, together, EndsBy}
 use Rattle.f77_actions.specs.declared.finish.Finish.{Finish}
-use Rattle.f77_actions.specs.declared.resolved.Resolved.{Resolved}
-use Rattle.f77_code.specs.Moves.{Cells, State, Move, Goes, Ends, moved}
 use Rattle.f77_code.specs.Sequences.{moved_by, then_moved}
-use Rattle.f77_facts.proofs.Slots.{same_or_not}
 use Rattle.f77_equivalence.specs.Alike.{AgreeBut, PassAlike, site}
-use Rattle.f77_equivalence.specs.Changed.{IsEnding}
 use Rattle.f77_equivalence.specs.Start.{start_state}
 use Rattle.f77_equivalence.proofs.Ending.{keeps_ends_within}
 use Rattle.f77_equivalence.proofs.Moving.{moved_same}
-use Rattle.f77_symbolic.specs.Followed.{EquivalentWhereFollowed}
-use Rattle.f77_symbolic.specs.Machines.{End, EndAlike, IsAtSite, IsFirst, machine, together}
-use Rattle.f77_symbolic.specs.Walk.{EndsBy}
 use Rattle.f77_symbolic.proofs.Walk.{AreSameAt, ends_alike}
 
 ends_by : (statements : List Resolved) (n : ℕ) (s : State) (finish : Finish) (cells : Cells) → moved_by statements n s ≡ Some (Ends finish cells)
@@ -36,7 +30,7 @@ outcome_by statements (suc n) s e (inr (b, goes, rest)) = ap (option_and_then (t
 -- elsewhere than at the changed statement both do the same
 apart : (statements changed : List Resolved) (i : ℕ) → AgreeBut i statements changed → PassAlike statements changed i → (s : State)
     → IsAtSite i s ⊎ AreSameAt (machine statements) (machine changed) s
-apart statements changed i agree pass s = by (same_or_not (site s.place) i)
+apart statements changed i agree pass s = by (cases_eq (site s.place) i)
   where
     by : (site s.place ≡ i) ⊎ (site s.place ≢ i) → IsAtSite i s ⊎ AreSameAt (machine statements) (machine changed) s
     by (inl here) = inl here

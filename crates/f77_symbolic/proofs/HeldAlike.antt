@@ -1,20 +1,10 @@
 -- What dummy arguments hold is the same where their slots hold the same.
-use Rattle.std.proofs.Common.{arith, ◌≡◌, ◌<◌, ℕ, suc, ◌+◌, List, [], ◌∷◌, map, Option, Some, refl, sym, ap, ◌∙◌}
-use Rattle.std.specs.Prelude.{slice_get}
-use Rattle.std.specs.List.{zip}
-use Rattle.f77_program.specs.Program.{line_of}
-use Rattle.f77_check.specs.Checked.{CheckedFields, IsChecked}
-use Rattle.f77_check.specs.declared.checked.Shape.{Shape}
-use Rattle.f77_actions.specs.declared.value.Value.{Value}
-use Rattle.f77_code.specs.Evaluation.{held_in}
-use Rattle.f77_code.specs.Moves.{Cells}
-use Rattle.f77_equivalence.specs.Changed.{HoldAlike}
+use Rattle.f77_symbolic.proofs.Common.{arith, ◌≡◌, ◌<◌, ℕ, suc, ◌+◌, List, [], ◌∷◌, map, Option, Some, refl, sym, ap, ◌∙◌, slice_get, zip, line_of}
+use Rattle.f77_symbolic.proofs.Common.{CheckedFields, IsChecked, Shape, Value, held_in, Cells, HoldAlike, Slots, HaveDummies, HoldSameIn}
 use Rattle.f77_meaning.specs.Spans.{size_of}
 use Rattle.f77_meaning.specs.code.Spans.{span}
 use Rattle.f77_meaning.proofs.Reading.{spans_read}
 use Rattle.f77_meaning.proofs.Stored.{same_table}
-use Rattle.f77_symbolic.specs.declared.values.Slots.{Slots}
-use Rattle.f77_symbolic.specs.code.Memory.{HaveDummies, HoldSameIn}
 
 -- what the slots of the dummy arguments hold
 abbrev spans_in : Cells → List Shape → List ℕ → List (List (Option Value))

@@ -1,3 +1,4 @@
+pub mod Common
 pub mod Walk
 pub mod Answering
 pub mod Numbers
@@ -6,6 +7,7 @@ pub mod Expecting
 pub mod Elements
 pub mod Divisions
 pub mod Factors
+pub mod Extending
 pub mod Evaluating
 pub mod Located
 pub mod Written
@@ -22,6 +24,5 @@ pub mod Settling
 pub mod Sized
 pub mod Starting
 pub mod Steps
-pub mod Suiting
 pub mod Toured
 pub mod Tours

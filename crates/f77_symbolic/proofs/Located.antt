@@ -1,10 +1,7 @@
 -- The slots that locations are.
-use Rattle.std.proofs.Common.{arith, ◌≡◌, ◌<◌, ◌+◌, ℕ, Bool, true, false, refl, ap, sym, ◌∙◌, ℤ, pos, negsuc}
-use Rattle.std.specs.Prelude.{◌≤ℤ◌, ◌<ℤ◌, ◌+ℤ◌, ◌-ℤ◌, ◌*ℤ◌, ◌↔◌, IsTrue}
-use Rattle.std.proofs.lemmas.Int.{ints}
-use Rattle.f77_actions.specs.Number.{is_same}
-use Rattle.f77_facts.proofs.Comparisons.{same_equal, not_same_apart}
-use Rattle.f77_terms.specs.Atoms.{slot_behind}
+use Rattle.f77_symbolic.proofs.Common.{arith, ◌≡◌, ◌<◌, ◌+◌, ℕ, Bool, true, false, refl, ap, sym, ◌∙◌, ℤ, pos, negsuc, ◌≤ℤ◌, ◌<ℤ◌, ◌+ℤ◌, ◌-ℤ◌, ◌*ℤ◌, ◌↔◌}
+use Rattle.f77_symbolic.proofs.Common.{IsTrue, ints, is_same, slot_behind}
+use Rattle.f77_symbolic.proofs.Numbers.{same_equal, not_same_apart}
 
 -- of one slot alone it is the first one
 pub only_slot : (first count : ℕ) (z : ℤ) → pos 0 ≤ℤ z → z <ℤ pos count → count ≡ 1 → slot_behind first z ≡ first

@@ -1,23 +1,9 @@
 -- When two sides hold the same.
-use Rattle.std.proofs.Common.{arith, ◌≡◌, ◌≢◌, ◌⊎◌, inl, inr, ◌<◌, ◌+◌, ℕ, suc, false, List, [], ◌∷◌, length, get_or, Option, Some, None, refl, sym, subst, ap, ◌∙◌, below_more}
-use Rattle.std.specs.Prelude.{All, slice_get, slice_set, option_map}
-use Rattle.std.specs.Option.{option_and_then}
-use Rattle.std.proofs.lemmas.Option.{get_or_from_slice_get}
-use Rattle.f77_actions.specs.declared.value.Value.{Value}
-use Rattle.f77_code.specs.Evaluation.{held_in}
-use Rattle.f77_code.specs.Moves.{Cells}
-use Rattle.f77_facts.proofs.Slots.{got_other, same_or_not}
-use Rattle.f77_terms.specs.Terms.{Valuation}
-use Rattle.f77_symbolic.specs.declared.evaluator.Evaluator.{Evaluator}
-use Rattle.f77_symbolic.specs.declared.memory.Symbolic.{Symbolic}
-use Rattle.f77_symbolic.specs.declared.memory.Write.{Write}
-use Rattle.f77_symbolic.specs.declared.sides.SymbolicTurn.{SymbolicTurn}
-use Rattle.f77_symbolic.specs.declared.values.Slots.{Slots}
-use Rattle.f77_symbolic.specs.code.Evaluation.{StaysOn}
-use Rattle.f77_symbolic.specs.Memory.{cells_of, content_of, slot_of}
-use Rattle.f77_symbolic.specs.code.Memory.{HoldSameIn}
-use Rattle.f77_symbolic.specs.Sides.{turn_of, turns_of}
-use Rattle.f77_symbolic.proofs.Read.{Reads}
+use Rattle.f77_symbolic.proofs.Common.{arith, ◌≡◌, ◌≢◌, ◌⊎◌, inl, inr, ◌<◌, ◌+◌, ℕ, suc, false, List, [], ◌∷◌, length, get_or, Option, Some, None, refl, sym}
+use Rattle.f77_symbolic.proofs.Common.{subst, ap, ◌∙◌, below_more, All, slice_get, slice_set, option_map, get_or_from_slice_get, Value}
+use Rattle.f77_symbolic.proofs.Common.{held_in, Cells, cases_eq, Valuation, Evaluator, Symbolic, Write, SymbolicTurn, Slots, ReadsCell, StaysOn, HoldSameIn}
+use Rattle.f77_symbolic.proofs.Common.{cells_of, content_of, slot_of, turn_of, turns_of}
+use Rattle.f77_code.proofs.Written.{at_other}
 use Rattle.f77_symbolic.proofs.Written.{cells_length}
 
 -- of cells with which others start
@@ -62,7 +48,7 @@ module _ (v : Valuation) (slot : ℕ) where
   written_or : (cells : Cells) (ws : List Write) → IsWritten v slot ws ⊎ (held_in (cells_of cells v ws) slot ≡ held_in cells slot)
   written_or cells [] = inr refl
   written_or cells (w ∷ ws) =
-      by (same_or_not (slot_of v w.location) slot)
+      by (cases_eq (slot_of v w.location) slot)
       (written_or (slice_set cells (slot_of v w.location) (content_of v w.value)) ws)
     where
       by : (slot_of v w.location ≡ slot) ⊎ (slot_of v w.location ≢ slot)
@@ -71,7 +57,7 @@ module _ (v : Valuation) (slot : ℕ) where
       by (inl here) rest = inl (0, w, omega arith, refl, here)
       by (inr apart) (inl (k, x, within, is, there)) = inl (suc k, x, omega (arith, within), is, there)
       by (inr apart) (inr same) =
-          inr (same ∙ ap (option_and_then (λ cell. cell)) (got_other cells (slot_of v w.location) slot (content_of v w.value) (λ e. apart (sym e))))
+          inr (same ∙ at_other cells (slot_of v w.location) slot (content_of v w.value) (λ e. apart (sym e)))
 
 -- what is claimed of the slot of each write is so of a slot that one is to
 at_written : (v : Valuation) (slot : ℕ) (ws : List Write) (P : ℕ → Type 0) → All (λ w. P (slot_of v w.location)) ws → IsWritten v slot ws → P slot
@@ -103,7 +89,7 @@ same_cells_of start v left right same =
     (λ k. same k tt)
 
 -- what is read where no fault is assumed away
-pub read_so : (v : Valuation) (old new : Evaluator) (cell : Option Value) (value : Symbolic) → old.own ≡ false → Reads v old new cell value
+pub read_so : (v : Valuation) (old new : Evaluator) (cell : Option Value) (value : Symbolic) → old.own ≡ false → ReadsCell v old new cell value
     → StaysOn v old new × (cell ≡ content_of v value)
 read_so v old new cell value off (inl it) = it
 read_so v old new cell value off (inr it) = absurd (cc (off, it.0))

@@ -1,14 +1,11 @@
 -- Sizes of numbers, of quotients and of what divisions leave.
-use Rattle.std.proofs.Common.{arith, ◌≡◌, ◌≢◌, ◌<◌, ◌≤◌, ◌/◌, ◌%◌, ◌⊎◌, inl, inr, ℕ, zero, suc, List, [], ◌∷◌, length, Some, ℤ, pos, negsuc, neg_ℤ, refl, sym, subst, ap, ◌∙◌}
-use Rattle.std.specs.Prelude.{◌+ℤ◌, ◌-ℤ◌, ◌*ℤ◌, ◌≤ℤ◌, int_div, int_rem, unsigned_abs, slice_get}
-use Rattle.std.specs.Int.{int_max, int_min}
+use Rattle.f77_symbolic.proofs.Common.{arith, ◌≡◌, ◌≢◌, ◌<◌, ◌≤◌, ◌/◌, ◌%◌, ◌⊎◌, inl, inr, ℕ, zero, suc, List, [], ◌∷◌, length, Some, ℤ, pos, negsuc, neg_ℤ}
+use Rattle.f77_symbolic.proofs.Common.{refl, sym, subst, ap, ◌∙◌, ◌+ℤ◌, ◌-ℤ◌, ◌*ℤ◌, ◌≤ℤ◌, int_div, int_rem, unsigned_abs, slice_get, int_max, int_min, ints}
+use Rattle.f77_symbolic.proofs.Common.{clamps, rem_below, Valuation, monomial_value, part_value, parts_value, sum_value, LiesBetween}
 use Rattle.std.proofs.Math.Nat.{div-mul-le_self, div-le_self, mul-le-mul_left, mod-le}
 use Rattle.std.proofs.lemmas.Nat.{le-div}
-use Rattle.std.proofs.lemmas.Int.{ints, clamps, rem_below}
 use Rattle.f77_terms.specs.declared.terms.Part.{Part}
 use Rattle.f77_terms.specs.declared.terms.Term.{Term}
-use Rattle.f77_terms.specs.Terms.{Valuation, monomial_value, part_value, parts_value, sum_value}
-use Rattle.f77_terms.specs.Ranges.{LiesBetween}
 
 size_neg : (n : ℕ) → unsigned_abs (neg_ℤ (pos n)) ≡ n
 size_neg zero = refl
@@ -24,22 +21,16 @@ pub sized_least : (low high size x : ℤ) → size ≡ int_max (int_max low (pos
 sized_least low high size (pos n) is between = omega (arith, ints, clamps, is, between.below, between.above)
 sized_least low high size (negsuc n) is between = omega (arith, ints, clamps, is, between.below, between.above)
 
--- the lesser and the greater of two numbers in ranges
+-- the lesser of two numbers in ranges
 pub min_between : (a b c d low high x y : ℤ) → low ≡ int_min a c → high ≡ int_min b d → LiesBetween a x b → LiesBetween c y d → LiesBetween low (int_min x y) high
 min_between a b c d low high x y f g first second = record {
   above = omega (arith, ints, clamps, f, first.above, second.above);
   below = omega (arith, ints, clamps, g, first.below, second.below);
 }
 
-pub max_between : (a b c d low high x y : ℤ) → low ≡ int_max a c → high ≡ int_max b d → LiesBetween a x b → LiesBetween c y d → LiesBetween low (int_max x y) high
-max_between a b c d low high x y f g first second = record {
-  above = omega (arith, ints, clamps, f, first.above, second.above);
-  below = omega (arith, ints, clamps, g, first.below, second.below);
-}
-
--- a number and its negative: the greater is not below 0
-pub max_above : (a b s : ℤ) → s ≡ pos 1 *ℤ a +ℤ pos 1 *ℤ b → s ≡ pos 0 → pos 0 ≤ℤ int_max a b
-max_above a b s sum none = omega (arith, ints, clamps, sum, none)
+-- a number and its negative: the lesser is not above 0
+pub min_below : (a b s : ℤ) → s ≡ pos 1 *ℤ a +ℤ pos 1 *ℤ b → s ≡ pos 0 → int_min a b ≤ℤ pos 0
+min_below a b s sum none = omega (arith, ints, clamps, sum, none)
 
 -- what is left is no more than the dividend, less than the divisor, and has the sign of the dividend
 pub rem_sized : (x y : ℤ) → unsigned_abs (int_rem x y) ≤ unsigned_abs x
@@ -110,15 +101,6 @@ rem_same (negsuc n) y z is = ap (λ k. neg_ℤ (pos (suc n % k))) is
 pub apart_same : (y z : ℤ) → unsigned_abs z ≡ unsigned_abs y → y ≢ pos 0 → z ≢ pos 0
 apart_same y z is apart none = let some = size_apart y apart in let e = ap unsigned_abs none in absurd (omega (arith, is, some, e))
 
--- the greater of a number and its negative has its size
-pub max_sized : (a b m s : ℤ) → m ≡ int_max a b → s ≡ pos 1 *ℤ a +ℤ pos 1 *ℤ b → s ≡ pos 0 → unsigned_abs a ≡ unsigned_abs m
-max_sized (pos n) b m s is sum none =
-    let same : m ≡ pos n = omega (arith, ints, clamps, is, sum, none) in
-    ap unsigned_abs (sym same)
-max_sized (negsuc n) b m s is sum none =
-    let same : m ≡ pos (suc n) = omega (arith, ints, clamps, is, sum, none) in
-    ap unsigned_abs (sym same)
-
 pub neg_sized : (a n : ℤ) → n ≡ pos 0 +ℤ negsuc 0 *ℤ a → unsigned_abs n ≡ unsigned_abs a
 neg_sized (pos k) n is =
     let same : n ≡ neg_ℤ (pos k) = omega (arith, ints, is) in
@@ -126,6 +108,13 @@ neg_sized (pos k) n is =
 neg_sized (negsuc k) n is =
     let same : n ≡ pos (suc k) = omega (arith, ints, is) in
     ap unsigned_abs same
+
+-- the lesser of a number and its negative has its size
+pub min_sized : (a b m s : ℤ) → m ≡ int_min a b → s ≡ pos 1 *ℤ a +ℤ pos 1 *ℤ b → s ≡ pos 0 → unsigned_abs a ≡ unsigned_abs m
+min_sized (pos n) b m s is sum none = sym (neg_sized (pos n) m (omega (arith, ints, clamps, is, sum, none)))
+min_sized (negsuc n) b m s is sum none =
+    let same : m ≡ negsuc n = omega (arith, ints, clamps, is, sum, none) in
+    ap unsigned_abs (sym same)
 
 -- a term that is one part alone, but for its sign
 pub alone_sized : (v : Valuation) (term : Term) (part : Part) → term.constant ≡ pos 0 → length term.parts.items ≡ 1 → slice_get term.parts.items 0 ≡ Some part

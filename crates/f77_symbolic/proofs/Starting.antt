@@ -1,17 +1,7 @@
 -- At each state the walk may start: it has numbers that fit atoms.
-use Rattle.std.proofs.Common.{arith, ◌≡◌, ◌≤◌, ◌<◌, ◌+◌, ◌*◌, ◌-◌, ◌∙◌, cond, ltb, ℕ, List, Option, Some, None, length, refl, ap, ℤ, pos}
-use Rattle.std.proofs.lemmas.Bool.{lt-ltb, le-ltb}
-use Rattle.f77_code.specs.Evaluation.{held_in}
-use Rattle.f77_code.specs.declared.control.Turn.{Turn}
-use Rattle.f77_code.specs.Moves.{State, turn_at}
-use Rattle.f77_facts.specs.declared.facts.Fact.{Fact}
-use Rattle.f77_facts.specs.Facts.{AreIn}
-use Rattle.f77_terms.specs.Atoms.{FitsTable}
-use Rattle.f77_terms.specs.Terms.{Valuation}
-use Rattle.f77_symbolic.specs.declared.evaluator.Atoms.{Atoms}
-use Rattle.f77_symbolic.specs.Atoms.{AreNumbers, Interprets, presence_of}
-use Rattle.f77_symbolic.specs.Memory.{Start, kind_of_slot, number_of}
-use Rattle.f77_symbolic.specs.Visits.{AreTurnNumbers}
+use Rattle.f77_symbolic.proofs.Common.{arith, ◌≡◌, ◌≤◌, ◌<◌, ◌+◌, ◌*◌, ◌-◌, ◌∙◌, cond, ltb, ℕ, Option, Some, None, length, refl, ap, ℤ, pos, lt-ltb, le-ltb}
+use Rattle.f77_symbolic.proofs.Common.{held_in, Turn, State, turn_at, AreIn, number_of, FitsTable, Valuation, Atoms, AreNumbers, Interprets, presence_of, Start}
+use Rattle.f77_symbolic.proofs.Common.{AreTurnNumbers}
 
 -- so many numbers, and others behind them
 joined_at : ℕ → (ℕ → ℤ) → (ℕ → ℤ) → ℕ → ℤ
@@ -37,7 +27,7 @@ step_of None = pos 0
 step_of (Some turn) = turn.step
 
 -- the numbers of a state: of slots, whether they hold one, of passes and of steps
-module _ (s : State) (count : ℕ) (facts : List Fact) where
+module _ (s : State) (count : ℕ) where
   steps_from : ℕ → ℤ
   steps_from d = step_of (turn_at s.turns d)
 
@@ -45,7 +35,7 @@ module _ (s : State) (count : ℕ) (facts : List Fact) where
   turns_from = joined_at count (λ d. passes_of (turn_at s.turns d)) steps_from
 
   presence_from : ℕ → ℤ
-  presence_from = joined_at (length s.cells) (λ slot. presence_of (kind_of_slot facts slot) (held_in s.cells slot)) turns_from
+  presence_from = joined_at (length s.cells) (λ slot. presence_of (held_in s.cells slot)) turns_from
 
   pub numbers_of : ℕ → ℤ
   numbers_of = joined_at (length s.cells) (λ slot. number_of (held_in s.cells slot)) presence_from
@@ -53,20 +43,20 @@ module _ (s : State) (count : ℕ) (facts : List Fact) where
   abbrev pub start_of : Start
   start_of = record { cells = s.cells; numbers = numbers_of }
 
-  pub start_numbers : AreNumbers facts start_of
+  pub start_numbers : AreNumbers start_of
   unfolding numbers_of presence_from
   start_numbers = record {
     held = λ slot below. joined_below (length s.cells) slot (λ slot. number_of (held_in s.cells slot)) presence_from below;
     present = λ slot below.
         joined_behind (length s.cells) (length s.cells + slot) slot (λ slot. number_of (held_in s.cells slot)) presence_from refl
-        ∙ joined_below (length s.cells) slot (λ slot. presence_of (kind_of_slot facts slot) (held_in s.cells slot)) turns_from below;
+        ∙ joined_below (length s.cells) slot (λ slot. presence_of (held_in s.cells slot)) turns_from below;
   }
 
   behind : (n m : ℕ) → n ≡ length s.cells + (length s.cells + m) → numbers_of n ≡ turns_from m
   unfolding numbers_of presence_from
   behind n m is =
       joined_behind (length s.cells) n (length s.cells + m) (λ slot. number_of (held_in s.cells slot)) presence_from is
-      ∙ joined_behind (length s.cells) (length s.cells + m) m (λ slot. presence_of (kind_of_slot facts slot) (held_in s.cells slot)) turns_from refl
+      ∙ joined_behind (length s.cells) (length s.cells + m) m (λ slot. presence_of (held_in s.cells slot)) turns_from refl
 
   pub turn_numbers : AreTurnNumbers (length s.cells) count s.turns start_of
   unfolding turns_from steps_from passes_of step_of
@@ -80,5 +70,5 @@ module _ (s : State) (count : ℕ) (facts : List Fact) where
 
 -- atoms are interpreted there, where what is known of slots is so
 pub interprets_there : (s : State) (count : ℕ) (atoms : Atoms) (v : Valuation) → AreIn atoms.facts.items s.cells
-    → FitsTable (numbers_of s count atoms.facts.items) v atoms.table → Interprets atoms (start_of s count atoms.facts.items) v
-interprets_there s count atoms v inside fits = record { known = inside; are = start_numbers s count atoms.facts.items; fits = fits }
+    → FitsTable (numbers_of s count) v atoms.table → Interprets atoms (start_of s count) v
+interprets_there s count atoms v inside fits = record { known = inside; are = start_numbers s count; fits = fits }

@@ -1,42 +1,19 @@
 -- Steps, by what statements mean and where control goes.
-use Rattle.std.proofs.Common.{arith, ◌≡◌, ◌≢◌, ◌⊎◌, inl, inr, ◌+◌, ℕ, zero, suc, Bool, true, false, not, List, length, refl, sym, ap, ◌∙◌, subst}
-use Rattle.std.proofs.Common.{Option, Some, None, ℤ, pos, negsuc, int_div, of_z, to_z, w64}
-use Rattle.std.specs.Prelude.{◌+ℤ◌, ◌-ℤ◌, ◌*ℤ◌, if◌then◌else◌, Result, Ok, Err, IfOk, is_some, option_map, slice_get, slice_set}
-use Rattle.std.specs.Option.{SomeIff, option_and_then, option_map_or}
+use Rattle.f77_symbolic.proofs.Common.{arith, ◌≡◌, ◌≢◌, inl, inr, ◌+◌, ℕ, zero, suc, Bool, true, false, not, List, length, refl, sym, ap, ◌∙◌, subst}
+use Rattle.f77_symbolic.proofs.Common.{Option, Some, None, ℤ, pos, negsuc, int_div, of_z, to_z, w64, ◌+ℤ◌, ◌-ℤ◌, ◌*ℤ◌, if◌then◌else◌, Result, Ok, Err, IfOk}
+use Rattle.f77_symbolic.proofs.Common.{is_some, option_map, slice_get, slice_set, SomeIff, option_and_then, option_map_or, ints, slice_get_past, is_same}
+use Rattle.f77_symbolic.proofs.Common.{trip_count, whole, Fault, Resolved, Value, Cells, TurnList, Move, Goes, Ends, acted, begun, go_on, incremented}
+use Rattle.f77_symbolic.proofs.Common.{is_executed, is_loop, moved, passing, passing_at, state, turn_at, used, Execute, Increment, Turn, Holds, Valuation, Path}
+use Rattle.f77_symbolic.proofs.Common.{Evaluator, Location, Side, Step, SymbolicTurn, Answers, HasItem, HasSign, ReadsCell, GoesTo, HasLeft, Stepped}
+use Rattle.f77_symbolic.proofs.Common.{Symbolic, AreInside, IsInside, cells_of, content_of, slot_of, passes_left, state_of, turn_of, turns_of, bool_byte}
 use Rattle.std.specs.declared.cmp.Ordering.TheVariants.{Less, Equal, Greater}
 use Rattle.std.proofs.Math.Numerals.{add-one}
-use Rattle.std.proofs.lemmas.Int.{ints}
-use Rattle.std.proofs.lemmas.Option.{slice_get_past}
-use Rattle.f77_actions.specs.Number.{is_same, trip_count}
-use Rattle.f77_actions.specs.Value.{whole}
 use Rattle.f77_actions.specs.declared.action.Jump.{Jump}
-use Rattle.f77_actions.specs.declared.finish.Fault.{Fault}
 use Rattle.f77_actions.specs.declared.finish.Finish.TheVariants.{Returned, Stopped, Failed, StepLimit}
-use Rattle.f77_actions.specs.declared.resolved.Resolved.{Resolved}
-use Rattle.f77_actions.specs.declared.value.Value.{Value}
 use Rattle.f77_actions.specs.declared.value.Value.TheVariants as held
 use Rattle.f77_code.specs.Choice.{by_sign, item_chosen}
-use Rattle.f77_code.specs.Moves.{Cells, TurnList, Move, Goes, Ends, acted, begun, go_on, incremented, is_executed, is_loop, moved, passing, passing_at, state, turn_at, used}
-use Rattle.f77_code.specs.declared.control.Place.TheVariants.{Execute, Increment}
-use Rattle.f77_code.specs.declared.control.Turn.{Turn}
-use Rattle.f77_terms.specs.Paths.{Holds}
-use Rattle.f77_terms.specs.Terms.{Valuation}
-use Rattle.f77_terms.specs.declared.paths.Path.{Path}
-use Rattle.f77_symbolic.specs.declared.evaluator.Evaluator.{Evaluator}
-use Rattle.f77_symbolic.specs.declared.memory.Location.{Location}
-use Rattle.f77_symbolic.specs.declared.sides.Side.{Side}
-use Rattle.f77_symbolic.specs.declared.sides.Step.{Step}
 use Rattle.f77_symbolic.specs.declared.sides.Step.TheVariants as step
-use Rattle.f77_symbolic.specs.declared.sides.SymbolicTurn.{SymbolicTurn}
-use Rattle.f77_symbolic.specs.code.Evaluation.{Answers, HasItem, HasSign, StaysOn}
-use Rattle.f77_symbolic.specs.declared.memory.Symbolic.{Symbolic}
-use Rattle.f77_symbolic.specs.Memory.{AreInside, IsInside, cells_of, content_of, slot_of}
-use Rattle.f77_symbolic.specs.code.Memory.{IsLackingFor}
-use Rattle.f77_symbolic.proofs.Evaluating.{lacks_whole}
-use Rattle.f77_symbolic.specs.Sides.{passes_left, state_of, turn_of, turns_of}
-use Rattle.f77_symbolic.specs.code.Sides.{GoesTo, HasLeft, Stepped}
 use Rattle.f77_symbolic.proofs.Answering.{answers_at, known_steps, used_steps}
-use mir.Val.{bool_byte}
 use Rattle.f77_symbolic.proofs.Turned.{passing_none, passing_some, trips_are}
 
 module _ (start : Cells) (v : Valuation) (own : Bool) (path : Path) (before after : Side) (made : Step) where
@@ -47,9 +24,7 @@ module _ (start : Cells) (v : Valuation) (own : Bool) (path : Path) (before afte
   -- a move to the state of the side behind it
   pub moved_to : (m : Move) → made ≡ step.Moves → Holds v path → AreInside v after.writes.items → m ≡ Goes (state_of start v after)
       → Stepped start v own path before after made (Some m)
-  moved_to m moves holds inside is =
-      subst (λ made. Stepped start v own path before after made (Some m)) (sym moves)
-      (subst (λ m. Stepped start v own path before after step.Moves (Some m)) (sym is) (holds, inside, refl))
+  moved_to m moves holds inside is = stepped_as m _ is (moves, holds, inside, refl)
 
   -- control goes on from a side
   pub goes_stepped : (side : Side) (move : Cells → TurnList → Move) (m : Move) → GoesTo v side after made move → Holds v path → AreInside v side.writes.items
@@ -59,30 +34,12 @@ module _ (start : Cells) (v : Valuation) (own : Bool) (path : Path) (before afte
 -- where the path holds nowhere, the program itself faults
 pub stepped_void : (start : Cells) (v : Valuation) (own : Bool) (path : Path) (before after : Side) (made : Step) (m : Option Move) → (Holds v path → ⊥)
     → Stepped start v own path before after made m → Stepped start v own path before after step.Faults m
-stepped_void start v own path before after step.Moves None none stepped = stepped
-stepped_void start v own path before after step.Moves (Some (Goes s)) none stepped = absurd (none stepped.0)
-stepped_void start v own path before after step.Moves (Some (Ends Returned cells)) none stepped = stepped
-stepped_void start v own path before after step.Moves (Some (Ends Stopped cells)) none stepped = stepped
-stepped_void start v own path before after step.Moves (Some (Ends (Failed fault) cells)) none stepped = stepped
-stepped_void start v own path before after step.Moves (Some (Ends StepLimit cells)) none stepped = stepped
-stepped_void start v own path before after step.Returns None none stepped = stepped
-stepped_void start v own path before after step.Returns (Some (Goes s)) none stepped = stepped
-stepped_void start v own path before after step.Returns (Some (Ends Returned cells)) none stepped = absurd (none stepped.0)
-stepped_void start v own path before after step.Returns (Some (Ends Stopped cells)) none stepped = stepped
-stepped_void start v own path before after step.Returns (Some (Ends (Failed fault) cells)) none stepped = stepped
-stepped_void start v own path before after step.Returns (Some (Ends StepLimit cells)) none stepped = stepped
-stepped_void start v own path before after step.Stops None none stepped = stepped
-stepped_void start v own path before after step.Stops (Some (Goes s)) none stepped = stepped
-stepped_void start v own path before after step.Stops (Some (Ends Returned cells)) none stepped = stepped
-stepped_void start v own path before after step.Stops (Some (Ends Stopped cells)) none stepped = absurd (none stepped.0)
-stepped_void start v own path before after step.Stops (Some (Ends (Failed fault) cells)) none stepped = stepped
-stepped_void start v own path before after step.Stops (Some (Ends StepLimit cells)) none stepped = stepped
-stepped_void start v own path before after step.Faults None none stepped = stepped
-stepped_void start v own path before after step.Faults (Some (Goes s)) none stepped = stepped
-stepped_void start v own path before after step.Faults (Some (Ends Returned cells)) none stepped = stepped
-stepped_void start v own path before after step.Faults (Some (Ends Stopped cells)) none stepped = stepped
-stepped_void start v own path before after step.Faults (Some (Ends (Failed fault) cells)) none stepped = stepped
-stepped_void start v own path before after step.Faults (Some (Ends StepLimit cells)) none stepped = stepped
+stepped_void start v own path before after made None none stepped = stepped
+stepped_void start v own path before after made (Some (Goes s)) none stepped = absurd (none stepped.1)
+stepped_void start v own path before after made (Some (Ends (Failed fault) cells)) none stepped = stepped
+stepped_void start v own path before after made (Some (Ends Returned cells)) none stepped = absurd (none stepped.1)
+stepped_void start v own path before after made (Some (Ends Stopped cells)) none stepped = absurd (none stepped.1)
+stepped_void start v own path before after made (Some (Ends StepLimit cells)) none stepped = absurd (none stepped.1)
 
 -- a truth value by the number that stands for it
 pub truth_told : (b : Bool) (t f : ℤ) → f ≡ pos (bool_byte b) → t ≡ to_z w64 (of_z w64 f)
@@ -182,10 +139,9 @@ trips_left a b c distance dividend quotient first second is =
 
 -- the number that a slot holds, by what is read
 pub whole_read : (v : Valuation) (old mid : Evaluator) (cell : Option Value) (value : Symbolic) (C : ℤ → Type 0)
-    → (StaysOn v old mid × (cell ≡ content_of v value)) ⊎ ((old.own ≡ true) × IsLackingFor value cell)
-    → (Holds v mid.path → Answers v mid mid (whole (content_of v value)) C) → Answers v old mid (whole cell) C
+    → ReadsCell v old mid cell value → (Holds v mid.path → Answers v mid mid (whole (content_of v value)) C) → Answers v old mid (whole cell) C
 whole_read v old mid cell value C (inl read) next = answers_at v old mid mid whole (content_of v value) cell C read.0 (sym read.1) next
-whole_read v old mid cell value C (inr read) next = lacks_whole C v old mid value cell read.0 read.1
+whole_read v old mid cell value C (inr read) next = subst (λ cell. Answers v old mid (whole cell) C) (sym read.1) read.0
 
 -- what a DO has left
 module _ (v : Valuation) (before side after : Side) (made : Step) (end : Resolved) (d passes : ℕ) (step : ℤ) where

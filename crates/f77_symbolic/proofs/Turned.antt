@@ -1,20 +1,9 @@
 -- What active DOs have left, by terms.
-use Rattle.std.proofs.Common.{arith, ◌≡◌, ◌≢◌, ◌-◌, ◌<◌, ◌+◌, ℕ, zero, suc, Bool, true, false, List, [], ◌∷◌, ◌++◌, length}
-use Rattle.std.proofs.Common.{take, drop, get_or, Option, Some, None, refl, sym, ap, ◌∙◌, ℤ, pos, negsuc, int_div}
-use Rattle.std.specs.Prelude.{◌+ℤ◌, ◌-ℤ◌, ◌*ℤ◌, ◌≤ℤ◌, ◌<ℤ◌, option_map, slice_set}
-use Rattle.std.specs.List.{find}
-use Rattle.std.proofs.lemmas.Bool.{cond-true, cond-false}
-use Rattle.std.proofs.lemmas.Int.{ints}
-use Rattle.std.proofs.lemmas.List.{map-append, map-set, take_more, drop_more}
-use Rattle.f77_actions.specs.Number.{is_below, trip_count}
-use Rattle.f77_actions.specs.declared.resolved.Resolved.{Resolved}
-use Rattle.f77_code.specs.declared.control.Place.TheVariants.{Execute}
-use Rattle.f77_code.specs.Moves.{Cells, TurnList, Goes, go_on, passing, state}
-use Rattle.f77_code.specs.declared.control.Turn.{Turn}
-use Rattle.f77_facts.proofs.Comparisons.{below_lt, not_below_le}
-use Rattle.f77_terms.specs.Terms.{Valuation}
-use Rattle.f77_symbolic.specs.declared.sides.SymbolicTurn.{SymbolicTurn}
-use Rattle.f77_symbolic.specs.Sides.{passes_left, turn_of, turns_of}
+use Rattle.f77_symbolic.proofs.Common.{arith, ◌≡◌, ◌≢◌, ◌-◌, ◌<◌, ◌+◌, ℕ, zero, suc, Bool, true, false, List, length, drop, get_or, Option}
+use Rattle.f77_symbolic.proofs.Common.{Some, None, refl, sym, ap, ◌∙◌, ℤ, pos, negsuc, int_div, ◌+ℤ◌, ◌-ℤ◌, ◌*ℤ◌, ◌≤ℤ◌, ◌<ℤ◌, option_map, slice_set, find}
+use Rattle.f77_symbolic.proofs.Common.{cond-true, cond-false, ints, map-set, drop_more, is_below, trip_count, Resolved, Execute, Cells}
+use Rattle.f77_symbolic.proofs.Common.{TurnList, Goes, go_on, passing, state, Turn, Valuation, SymbolicTurn, passes_left, turn_of, turns_of}
+use Rattle.f77_symbolic.proofs.Numbers.{below_lt, not_below_le}
 
 -- the first that is found from a place on
 pub find_next : (p : ℕ → Bool) (xs : List ℕ) (i d : ℕ) → i < length xs → p (get_or xs i d) ≡ false → find p (drop i xs) ≡ find p (drop (i + 1) xs)
@@ -30,18 +19,6 @@ module _ (v : Valuation) where
   pub turns_set : (turns : List (Option SymbolicTurn)) (d : ℕ) (turn : Option SymbolicTurn)
       → turns_of v (slice_set turns d turn) ≡ slice_set (turns_of v turns) d (left turn)
   turns_set turns d turn = map-set left turns d turn
-
-  -- one turn more of those that were copied
-  pub turns_more : (turns copied new : List (Option SymbolicTurn)) (i : ℕ) (turn other : Option SymbolicTurn) → i < length turns
-      → turn ≡ get_or turns i turn → left other ≡ left turn → new ≡ copied ++ other ∷ []
-      → turns_of v copied ≡ turns_of v (take i turns) → turns_of v new ≡ turns_of v (take (i + 1) turns)
-  turns_more turns copied new i turn other within is same pushed before =
-      ap (turns_of v) pushed ∙ map-append left copied (other ∷ [])
-      ∙ ap (λ ts. ts ++ left other ∷ []) before
-      ∙ ap (λ t. turns_of v (take i turns) ++ t ∷ []) same
-      ∙ sym (map-append left (take i turns) (turn ∷ []))
-      ∙ ap (λ t. turns_of v (take i turns ++ t ∷ [])) is
-      ∙ sym (ap (turns_of v) (take_more turns i turn within))
 
 -- so many passes are left where one less than that many is not below 0
 pub some_left : (z : ℤ) → is_below (negsuc 0 +ℤ pos 1 *ℤ z) (pos 0) ≡ false → passes_left z ≢ 0

@@ -1,6 +1,6 @@
 -- The rules by which two machines are followed, and that they suffice.
-use Rattle.std.proofs.Common.{arith, ◌≡◌, ◌<◌, ◌≤◌, ◌+◌, ◌⊎◌, inl, inr, ℕ, zero, suc, Bool, true, false, refl, sym, subst}
-use Rattle.f77_symbolic.specs.Walk.{Machine, EndsBy, ReachesIn, Pairing, FollowsFor, IsEarlier, Under, KeysFollow, FollowsByKeys, LeadsUncut, IsReachable, diagonal}
+use Rattle.f77_symbolic.proofs.Common.{arith, ◌≡◌, ◌<◌, ◌≤◌, ◌+◌, ◌⊎◌, inl, inr, ℕ, zero, suc, Bool, true, false, refl, sym, subst, Machine, EndsBy, ReachesIn}
+use Rattle.f77_symbolic.proofs.Common.{Pairing, FollowsFor, IsEarlier, Under, KeysFollow, FollowsByKeys, LeadsUncut, IsReachable, diagonal}
 
 -- what holds of n where it holds of each lesser number holds of each
 pub everywhere : (P : ℕ → Type 0) → Under true P P → (n : ℕ) → P n
@@ -30,13 +30,18 @@ pub reached_on : {S E : Type 0} (machine : Machine S E) (Start : S → Type 0) (
 reached_on machine Start s b (a, start, n, leads) goes = (a, start, suc n, one_more machine n a s b leads goes)
 
 module _ (S E : Type 0) (p : Pairing S E) (closed : (s b : S) → p.Matters s → p.own.goes s b → p.Matters b) where
-  -- the first makes a step
-  pub own_step : (fresh : Bool) (room : ℕ) (s t : S) → ((e : E) → p.Wanted e → p.own.ends s e → ⊥)
+  -- the first makes a step: the second ends as it does, or follows from where it goes
+  pub own_step : (fresh : Bool) (room : ℕ) (s t : S)
+      → ((e : E) → p.Wanted e → p.own.ends s e → (f : E) × p.other.ends t f × p.Alike e f)
       → ((b : S) → p.own.goes s b → FollowsByKeys p false (suc room) b t) → FollowsByKeys p fresh room s t
   unfolding FollowsByKeys
-  own_step fresh room s t none next matters zero keys e wanted ends = absurd ends
-  own_step fresh room s t none next matters (suc n) keys e wanted (inl ends) = absurd (none e wanted ends)
-  own_step fresh room s t none next matters (suc n) keys e wanted (inr (b, goes, ends)) =
+  own_step fresh room s t each next matters zero keys e wanted ends = absurd ends
+  own_step fresh room s t each next matters (suc n) keys e wanted (inl ends) =
+      let it = each e wanted ends in
+      let now : EndsBy p.other (suc (n + room)) t it.0 = inl it.1 in
+      let same : suc (n + room) ≡ suc n + room = omega arith in
+      (it.0, subst (λ k. EndsBy p.other k t it.0) same now, it.2)
+  own_step fresh room s t each next matters (suc n) keys e wanted (inr (b, goes, ends)) =
       let it = next b goes (closed s b matters goes) n (λ m h. keys m (earlier fresh m n h)) e wanted ends in
       let same : n + suc room ≡ suc n + room = omega arith in
       (it.0, subst (λ k. EndsBy p.other k t it.0) same it.1, it.2)
@@ -49,36 +54,6 @@ module _ (S E : Type 0) (p : Pairing S E) (closed : (s b : S) → p.Matters s �
       let more : EndsBy p.other (suc (n + room)) t it.0 = inr (b, goes, it.1) in
       let same : suc (n + room) ≡ n + suc room = omega arith in
       (it.0, subst (λ k. EndsBy p.other k t it.0) same more, it.2)
-
-  -- both end
-  pub both_end : (fresh : Bool) (room : ℕ) (s t : S) → ((b : S) → p.own.goes s b → ⊥)
-      → ((e : E) → p.Wanted e → p.own.ends s e → (f : E) × p.other.ends t f × p.Alike e f) → FollowsByKeys p fresh room s t
-  unfolding FollowsByKeys
-  both_end fresh room s t none each matters zero keys e wanted ends = absurd ends
-  both_end fresh room s t none each matters (suc n) keys e wanted (inl ends) =
-      let it = each e wanted ends in
-      let now : EndsBy p.other (suc (n + room)) t it.0 = inl it.1 in
-      let same : suc (n + room) ≡ suc n + room = omega arith in
-      (it.0, subst (λ k. EndsBy p.other k t it.0) same now, it.2)
-  both_end fresh room s t none each matters (suc n) keys e wanted (inr (b, goes, ends)) = absurd (none b goes)
-
-  -- both do the same
-  pub joint : (fresh : Bool) (room : ℕ) (s t : S)
-      → ((e : E) → p.Wanted e → p.own.ends s e → (f : E) × p.other.ends t f × p.Alike e f)
-      → ((b : S) → p.own.goes s b → (c : S) × p.other.goes t c × FollowsByKeys p false room b c) → FollowsByKeys p fresh room s t
-  unfolding FollowsByKeys
-  joint fresh room s t each next matters zero keys e wanted ends = absurd ends
-  joint fresh room s t each next matters (suc n) keys e wanted (inl ends) =
-      let it = each e wanted ends in
-      let now : EndsBy p.other (suc (n + room)) t it.0 = inl it.1 in
-      let same : suc (n + room) ≡ suc n + room = omega arith in
-      (it.0, subst (λ k. EndsBy p.other k t it.0) same now, it.2)
-  joint fresh room s t each next matters (suc n) keys e wanted (inr (b, goes, ends)) =
-      let to = next b goes in
-      let it = to.2 (closed s b matters goes) n (λ m h. keys m (earlier fresh m n h)) e wanted ends in
-      let now : EndsBy p.other (suc (n + room)) t it.0 = inr (to.0, to.1, it.1) in
-      let same : suc (n + room) ≡ suc n + room = omega arith in
-      (it.0, subst (λ k. EndsBy p.other k t it.0) same now, it.2)
 
   -- they stand at a key, and a step was made
   pub at_key : (room : ℕ) (s t : S) → p.Key room s t → FollowsByKeys p false room s t
@@ -119,8 +94,8 @@ module _ (S E : Type 0) (own other : Machine S E) (Wanted : E → Type 0) (Alike
   from_key : (room : ℕ) (s : S) → IsReachable own Start s → spare ≤ room → Here s ⊎ AreSameAt own other s → FollowsByKeys p true room s s
   from_key room s reached h (inl here) = roomier S E p closed true spare room s s h (there s reached here)
   from_key room s reached h (inr same) =
-      joint S E p closed true room s s (λ e wanted ends. (e, same.ends e ends, alike e wanted))
-      (λ b goes. (b, same.goes b goes, at_key S E p closed room b b (refl, h)))
+      own_step S E p closed true room s s (λ e wanted ends. (e, same.ends e ends, alike e wanted))
+      (λ b goes. other_step S E p closed false room b s b (same.goes b goes) (at_key S E p closed room b b (refl, h)))
 
   -- with so many steps to spare the other ends as the machine does
   pub ends_alike : (n : ℕ) (s : S) → Start s → FollowsFor p spare n s s

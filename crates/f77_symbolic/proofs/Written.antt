@@ -1,22 +1,13 @@
 -- What slots hold behind writes.
-use Rattle.std.proofs.Common.{◌≡◌, ◌≢◌, ◌⊎◌, inl, inr, ◌<◌, ◌+◌, ℕ, zero, suc, List, [], ◌∷◌, ◌++◌, length, take, get_or, Option, Some, refl, sym, subst, ap, ◌∙◌}
-use Rattle.std.specs.Prelude.{slice_get, slice_set}
-use Rattle.std.specs.List.{remove}
-use Rattle.std.proofs.lemmas.List.{length-set, set-set, set_comm, take_more}
-use Rattle.std.proofs.lemmas.Option.{slice_get_within, get_or_from_slice_get}
-use Rattle.f77_actions.specs.declared.value.Value.{Value}
-use Rattle.f77_code.specs.Moves.{Cells}
-use Rattle.f77_facts.proofs.Slots.{same_or_not}
-use Rattle.f77_terms.specs.Terms.{Valuation}
-use Rattle.f77_symbolic.specs.declared.memory.Location.{Location}
-use Rattle.f77_symbolic.specs.declared.memory.Write.{Write}
-use Rattle.f77_symbolic.specs.Memory.{AreInside, IsInside, cells_of, slot_of, content_of}
+use Rattle.f77_symbolic.proofs.Common.{◌≡◌, ◌≢◌, ◌⊎◌, inl, inr, ℕ, zero, suc, List, [], ◌∷◌, ◌++◌, length, Option, Some, refl, sym, subst, ap, ◌∙◌, slice_get}
+use Rattle.f77_symbolic.proofs.Common.{slice_set, remove, length-set, set-set, set_comm, slice_get_within, get_or_from_slice_get, Value, Cells, cases_eq}
+use Rattle.f77_symbolic.proofs.Common.{Valuation, Location, Write, AreInside, IsInside, cells_of, slot_of, content_of}
 use Rattle.f77_symbolic.proofs.Located.{only_slot}
 
 -- cells that differ in one slot at most, where a slot is set
 set_but : (slot k : ℕ) (cell a : Option Value) (cells others : Cells) → slice_set cells slot cell ≡ slice_set others slot cell
     → slice_set (slice_set cells k a) slot cell ≡ slice_set (slice_set others k a) slot cell
-set_but slot k cell a cells others same = by (same_or_not k slot)
+set_but slot k cell a cells others same = by (cases_eq k slot)
   where
     by : (k ≡ slot) ⊎ (k ≢ slot) → slice_set (slice_set cells k a) slot cell ≡ slice_set (slice_set others k a) slot cell
     by (inl here) = rw here (set-set cells slot a cell ∙ same ∙ sym (set-set others slot a cell))
@@ -72,16 +63,3 @@ module _ (v : Valuation) where
       (sym (ap (λ k. slice_set (slice_set cells k (content_of v x.value)) slot cell) there ∙ set-set cells slot (content_of v x.value) cell))
   cells_without slot cell cells (x ∷ ws) (suc place) w is here =
       cells_without slot cell (slice_set cells (slot_of v x.location) (content_of v x.value)) ws place w is here
-
-  -- one write more of those that were copied
-  pub cells_more : (cells : Cells) (ws copied new : List Write) (i : ℕ) (w other : Write) → i < length ws → w ≡ get_or ws i w
-      → slot_of v other.location ≡ slot_of v w.location → content_of v other.value ≡ content_of v w.value → new ≡ copied ++ other ∷ []
-      → cells_of cells v copied ≡ cells_of cells v (take i ws) → cells_of cells v new ≡ cells_of cells v (take (i + 1) ws)
-  cells_more cells ws copied new i w other within is slot content pushed before =
-      ap (cells_of cells v) pushed ∙ cells_push cells copied other
-      ∙ ap (λ cs. slice_set cs (slot_of v other.location) (content_of v other.value)) before
-      ∙ ap (λ k. slice_set (cells_of cells v (take i ws)) k (content_of v other.value)) slot
-      ∙ ap (λ c. slice_set (cells_of cells v (take i ws)) (slot_of v w.location) c) content
-      ∙ sym (cells_push cells (take i ws) w)
-      ∙ ap (λ x. cells_of cells v (take i ws ++ x ∷ [])) is
-      ∙ sym (ap (cells_of cells v) (take_more ws i w within))

@@ -6,3 +6,10 @@ pub mod Atoms
 pub mod Sides
 pub mod Visits
 pub mod code
+unfoldable pub use Walk.*
+unfoldable pub use Machines.*
+pub use Followed.*
+pub use Memory.*
+pub use Atoms.*
+pub use Sides.*
+pub use Visits.*

@@ -1,41 +1,20 @@
 -- What slots hold behind symbolic writes.
-use Rattle.std.specs.Prelude.{◌∷◌, ◌≤ℤ◌, ◌<ℤ◌, ℕ, true, false, not, List, [], All}
-use Rattle.std.specs.Prelude.{Option, Some, None, option_map, slice_get, slice_set, ℤ, pos}
+use Rattle.std.specs.Prelude.{◌∷◌, ◌≤ℤ◌, ◌<ℤ◌, ℕ, not, List, [], All, Option, Some, slice_set, pos}
 use Rattle.f77_actions.specs.declared.value.Value.{Value}
 use Rattle.f77_actions.specs.declared.value.Value.TheVariants as held
 use Rattle.f77_actions.specs.Number.{is_same}
 use Rattle.f77_code.specs.Moves.{Cells}
-use Rattle.f77_facts.specs.declared.facts.Fact.{Fact}
-use Rattle.f77_facts.specs.declared.facts.Fact.TheVariants as fact
 use Rattle.f77_terms.specs.Atoms.{Numbers, slot_behind}
 use Rattle.f77_terms.specs.Terms.{Valuation, sum_value}
 use Rattle.f77_symbolic.specs.declared.memory.Location.{Location}
 use Rattle.f77_symbolic.specs.declared.memory.Symbolic.{Symbolic}
 use Rattle.f77_symbolic.specs.declared.memory.Symbolic.TheVariants as symbolic
 use Rattle.f77_symbolic.specs.declared.memory.Write.{Write}
-use Rattle.f77_tree.specs.declared.tree.Kind.{Kind}
-use Rattle.f77_tree.specs.declared.tree.Kind.TheVariants.{Integer, Logical}
-
--- what is held as a number: a truth value is 1 or 0
-abbrev pub number_of : Option Value → ℤ
-number_of (Some (held.Number z)) = z
-number_of (Some (held.Truth true)) = pos 1
-number_of (Some (held.Truth false)) = pos 0
-number_of None = pos 0
 
 -- where a walk starts: what the slots hold, and the numbers that atoms may stand for
 pub record Start : Type 0 where
   pub cells : Cells
   pub numbers : Numbers
-
--- the kind of which a fact tells
-abbrev pub kind_of_fact : Fact → Kind
-kind_of_fact (fact.Number known) = Integer
-kind_of_fact (fact.Truth truths) = Logical
-
--- the kind of which the fact of a slot tells
-abbrev pub kind_of_slot : List Fact → ℕ → Option Kind
-kind_of_slot facts slot = option_map kind_of_fact (slice_get facts slot)
 
 abbrev pub slot_of : Valuation → Location → ℕ
 slot_of v location = slot_behind location.first (sum_value v location.index)

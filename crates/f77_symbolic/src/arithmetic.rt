@@ -5,18 +5,16 @@ ghost use Rattle.f77_actions.specs.Number as exact;
 ghost use Rattle.f77_actions.specs.Value as meaning;
 ghost use Rattle.f77_code.specs.Evaluation.{calculated};
 ghost use Rattle.f77_terms.specs.Terms.{Valuation, monomial_value, sum_value};
-ghost use Rattle.f77_symbolic.specs.Atoms.{Interprets};
-ghost use Rattle.f77_symbolic.specs.code.Atoms.{Extends};
-ghost use Rattle.f77_symbolic.specs.code.Evaluation.{Always, Calculates, IsDivision, StaysOn};
-ghost use Rattle.f77_symbolic.specs.Memory.{Start};
+ghost use Rattle.f77_symbolic.specs.{Interprets, Start};
+ghost use Rattle.f77_symbolic.specs.code.{Extends, Always, Calculates, IsDivision, StaysOn};
 
 use crate::evaluator::Evaluator;
 use crate::halt::Halt;
 use crate::spans::is_constant_zero;
 use f77_actions::Arithmetic;
 use f77_actions::number::power;
-use f77_terms::atoms::{Key, is_in_order, key_at};
-use f77_terms::knowing::{constant_of, know_division, know_maximum, know_minimum};
+use f77_terms::atoms::{Function, Key, is_in_order, key_at};
+use f77_terms::knowing::{constant_of, know_division, know_minimum};
 use f77_terms::monomials::Monomial;
 use f77_terms::terms::{
     Part, Term, atom_term, constant_term, copy, difference, part_at, product, sum,
@@ -119,30 +117,27 @@ impl Evaluator {
         if self.is_at_most(b, a)? {
             return Ok(copy(self.alloc, b)?);
         }
-        let key = Key::Minimum(copy(self.alloc, a)?, copy(self.alloc, b)?);
+        let key = Key::Function(
+            Function::Minimum,
+            copy(self.alloc, a)?,
+            copy(self.alloc, b)?,
+        );
         let minimum = self.atom_of(key)?;
         know_minimum(self.alloc, &mut self.path, a, b, minimum)?;
         self.span_minimum(a, b, minimum)?;
         Ok(atom_term(self.alloc, minimum)?)
     }
 
-    /// MAX0 of two numbers: one of them, or an atom.
+    /// MAX0 of two numbers: the negative of MIN0 of their negatives.
     fn greater(&mut self, a: &Term, b: &Term) -> Result<Term, Halt>
         ensures calculates { IfOk result (λ value. Calculates self.old self.new value
             (λ v. calculated Arithmetic.Greatest (sum_value v a.now) (sum_value v b.now))) }
         ensures extends { Extends self.old.atoms self.new.atoms }
     {
-        if self.is_at_most(b, a)? {
-            return Ok(copy(self.alloc, a)?);
-        }
-        if self.is_at_most(a, b)? {
-            return Ok(copy(self.alloc, b)?);
-        }
-        let key = Key::Maximum(copy(self.alloc, a)?, copy(self.alloc, b)?);
-        let maximum = self.atom_of(key)?;
-        know_maximum(self.alloc, &mut self.path, a, b, maximum)?;
-        self.span_maximum(a, b, maximum)?;
-        Ok(atom_term(self.alloc, maximum)?)
+        let first = self.plus(-1, a, 0)?;
+        let second = self.plus(-1, b, 0)?;
+        let least = self.lesser(&first, &second)?;
+        self.plus(-1, &least, 0)
     }
 
     /// IABS: the greater of the number and its negative.
@@ -185,9 +180,17 @@ impl Evaluator {
         if let Some(plain) = self.plain_division(a, b)? {
             return Ok(plain);
         }
-        let first = Key::Quotient(copy(self.alloc, a)?, copy(self.alloc, b)?);
+        let first = Key::Function(
+            Function::Quotient,
+            copy(self.alloc, a)?,
+            copy(self.alloc, b)?,
+        );
         let quotient = self.atom_of(first)?;
-        let second = Key::Remainder(copy(self.alloc, a)?, copy(self.alloc, b)?);
+        let second = Key::Function(
+            Function::Remainder,
+            copy(self.alloc, a)?,
+            copy(self.alloc, b)?,
+        );
         let remainder = self.atom_of(second)?;
         know_division(self.alloc, &mut self.path, a, b, quotient, remainder)?;
         self.span_division(a, b, quotient, remainder)?;
@@ -220,7 +223,7 @@ impl Evaluator {
         self.ranged(division.remainder)
     }
 
-    /// The number of which an atom is the size: it stands for MAX0 of the number and its negative.
+    /// The number that an atom has the size of: it stands for MIN0 of the number and its negative.
     fn inside_of(&self, part: Part) -> Result<Option<Term>, Halt>
         ensures { IfOk result (λ made. IfSome made (λ inside. (start : Start) (v : Valuation)
             → Interprets self.now.atoms start v
@@ -233,7 +236,10 @@ impl Evaluator {
             return Ok(None);
         }
         let key = key_at(&self.atoms.table.keys, atom);
-        let Key::Maximum(a, b) = key else {
+        let Key::Function(function, a, b) = key else {
+            return Ok(None);
+        };
+        let Function::Minimum = function else {
             return Ok(None);
         };
         if !is_in_order(key, atom) {

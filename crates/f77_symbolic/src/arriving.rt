@@ -1,107 +1,92 @@
 //! What is known of a state to which the program comes: bounds of what slots hold, and of what DOs have left.
 
-ghost use Rattle.std.specs.Prelude.{◌≡◌, ◌≤◌, ◌<◌, ◌≤ℤ◌, not, pos, vec_len};
-ghost use Rattle.std.specs.Prelude.{Ok, option_map, slice_set, IfOk, IfSome};
+ghost use Rattle.std.specs.Prelude.{◌<◌, ◌≤ℤ◌, not, pos, vec_len, option_map, slice_set, Some, IfOk, IfSome};
+ghost use Rattle.f77_actions.specs.declared.value.Value.TheVariants.{Truth};
 ghost use Rattle.f77_actions.specs.Number.{is_same};
 ghost use Rattle.f77_code.specs.Moves.{Cells};
 ghost use Rattle.f77_facts.specs.Assigning.{IsSlotReached};
-ghost use Rattle.f77_facts.specs.Facts.{AreIn, SuitsFact};
-ghost use Rattle.f77_facts.specs.Known.{IsBetween};
+ghost use Rattle.f77_facts.specs.Facts.{AreIn, SuitsFact, number_of};
 ghost use Rattle.f77_facts.specs.Loops.{AreLeft, SuitsTurn};
-ghost use Rattle.f77_facts.specs.Truths.{SuitsTruth};
 ghost use Rattle.f77_terms.specs.Atoms.{FitsTable};
 ghost use Rattle.f77_terms.specs.Paths.{Holds};
 ghost use Rattle.f77_terms.specs.Ranges.{IsIn};
 ghost use Rattle.f77_terms.specs.Terms.{Valuation, sum_value};
-ghost use Rattle.f77_symbolic.specs.Atoms.{AreNumbers, Interprets};
-ghost use Rattle.f77_symbolic.specs.Memory.{AreInside, IsInside, Start, cells_of, content_of, slot_of};
-ghost use Rattle.f77_symbolic.specs.Sides.{passes_left, state_of, turn_of, turns_of};
-ghost use Rattle.f77_symbolic.specs.Visits.{IsOfEntry};
-ghost use Rattle.f77_symbolic.specs.code.Atoms.{Extends};
+ghost use Rattle.f77_symbolic.specs.{AreNumbers, Interprets, AreInside, IsInside, Start, cells_of};
+ghost use Rattle.f77_symbolic.specs.{content_of, slot_of, passes_left, state_of, turn_of, turns_of};
+ghost use Rattle.f77_symbolic.specs.{IsOfEntry};
+ghost use Rattle.f77_symbolic.specs.code.{Extends};
 
-use crate::bounding::{has_others, has_zero, narrow_slot, passes_from, reach_within};
+use crate::bounding::{narrow_slot, reach_within};
 use crate::evaluator::Evaluator;
 use crate::halt::{Halt, unless_unknown};
 use crate::memory::{Location, Symbolic, Write};
 use crate::sides::{Side, SymbolicTurn};
 use f77_facts::assigning::{Reach, assign};
 use f77_facts::entries::Entry;
-use f77_facts::facts::Fact;
-use f77_facts::known::Known;
+use f77_facts::facts::{Fact, filled};
 use f77_facts::loops::LoopFact;
-use f77_facts::truths::Truths;
 use f77_terms::atoms::{Key, key_at};
 use f77_terms::knowing::is_bounded;
 use f77_terms::paths::settle;
 use f77_terms::ranges::{Range, atom_range, term_range};
 use f77_terms::terms::Term;
+use f77_tree::{Kind, Shared};
 use std::alloc::AllocError;
 
 /// No DO begins with more passes.
-const MOST_PASSES: u64 = 4294967296;
+const MOST_PASSES: i64 = 4294967296;
 
 impl Evaluator {
     /// The least number that a term may be, which INTEGER holds.
-    fn low_of(&self, term: &Term, range: Option<Range>) -> Result<i32, Halt>
+    fn low_of(&self, term: &Term, range: Option<Range>) -> Result<i64, Halt>
         ensures { IfOk result (λ low. (v : Valuation) → Holds v self.now.path
             → IfSome range (λ range. IsIn range (sum_value v term.now)) → low ≤ℤ sum_value v term.now) }
     {
+        let least = i64::from(i32::MIN);
         if let Some(range) = range {
-            if let Ok(low) = i32::try_from(range.low) {
-                return Ok(low);
+            if range.low >= least {
+                return Ok(range.low);
             }
         }
-        let least = i64::from(i32::MIN);
         unless_unknown(is_bounded(self.alloc, &self.path, -1, term, least)?)?;
-        Ok(i32::MIN)
+        Ok(least)
     }
 
     /// The greatest number that a term may be, which INTEGER holds.
-    fn high_of(&self, term: &Term, range: Option<Range>) -> Result<i32, Halt>
+    fn high_of(&self, term: &Term, range: Option<Range>) -> Result<i64, Halt>
         ensures { IfOk result (λ high. (v : Valuation) → Holds v self.now.path
             → IfSome range (λ range. IsIn range (sum_value v term.now)) → sum_value v term.now ≤ℤ high) }
     {
+        let most = i64::from(i32::MAX);
         if let Some(range) = range {
-            if let Ok(high) = i32::try_from(range.high) {
-                return Ok(high);
+            if range.high <= most {
+                return Ok(range.high);
             }
         }
-        let most = -i64::from(i32::MAX);
-        unless_unknown(is_bounded(self.alloc, &self.path, 1, term, most)?)?;
-        Ok(i32::MAX)
+        unless_unknown(is_bounded(self.alloc, &self.path, 1, term, -most)?)?;
+        Ok(most)
     }
 
-    /// Bounds of a term.
-    fn known_of(&self, term: &Term) -> Result<Known, Halt>
-        ensures { IfOk result (λ known. (v : Valuation) → Holds v self.now.path
-            → IsBetween known.low (sum_value v term.now) known.high) }
+    /// The range of a term, which INTEGER holds.
+    fn range_of(&self, term: &Term) -> Result<Range, Halt>
+        ensures { IfOk result (λ range. (v : Valuation) → Holds v self.now.path
+            → IsIn range (sum_value v term.now)) }
     {
         let range = term_range(&self.path.known, term);
         let low = self.low_of(term, range)?;
         let high = self.high_of(term, range)?;
-        Ok(Known {
-            may_lack: false,
-            low,
-            high,
-        })
+        Ok(Range { low, high })
     }
 
-    /// Which truth values a term stands for.
-    fn truths_of(&self, term: &Term) -> Truths
+    /// The numbers of the truth values that a term stands for.
+    fn truths_of(&self, term: &Term) -> Range
         ensures { (v : Valuation) → Holds v self.now.path
-            → SuitsTruth result (Ok (not (is_same (sum_value v term.now) (pos 0)))) }
+            → IsIn result (number_of (Some (Truth (not (is_same (sum_value v term.now) (pos 0)))))) }
     {
         match term_range(&self.path.known, term) {
-            Some(range) => Truths {
-                may_lack: false,
-                may_hold: has_others(range),
-                may_fail: has_zero(range),
-            },
-            None => Truths {
-                may_lack: false,
-                may_hold: true,
-                may_fail: true,
-            },
+            Some(range) if range.low > 0 || range.high < 0 => Range { low: 1, high: 1 },
+            Some(Range { low: 0, high: 0 }) => Range { low: 0, high: 0 },
+            _ => Range { low: 0, high: 1 },
         }
     }
 
@@ -124,8 +109,8 @@ impl Evaluator {
             → SuitsFact fact (content_of v value.now)) }
     {
         match value {
-            Symbolic::Number(term) => Ok(Fact::Number(self.known_of(term)?)),
-            Symbolic::Truth(term) => Ok(Fact::Truth(self.truths_of(term))),
+            Symbolic::Number(term) => Ok(filled(Kind::Integer, self.range_of(term)?)),
+            Symbolic::Truth(term) => Ok(filled(Kind::Logical, self.truths_of(term))),
         }
     }
 
@@ -136,16 +121,14 @@ impl Evaluator {
             → AreIn facts.new (slice_set cells (slot_of v write.now.location) (content_of v write.now.value))) }
     {
         let fact = self.fact_of(&write.value)?;
-        assign(facts, self.reach_of(&write.location), fact);
-        Ok(())
+        assign(facts, self.reach_of(&write.location), fact).ok_or(Halt::Unknown)
     }
 
     /// Takes into account what is known of an atom.
     fn narrow_by(&self, facts: &mut [Fact], atom: usize)
         requires { atom < vec_len self.now.atoms.table.keys }
         ensures { (start : Start) (v : Valuation) → FitsTable start.numbers v self.now.atoms.table
-            → Holds v self.now.path → AreIn facts.old start.cells → AreNumbers facts.old start
-            → AreIn facts.new start.cells × AreNumbers facts.new start }
+            → Holds v self.now.path → AreIn facts.old start.cells → AreNumbers start → AreIn facts.new start.cells }
     {
         let Some(range) = atom_range(&self.path.known, atom) else {
             return;
@@ -169,7 +152,7 @@ impl Evaluator {
     }
 
     /// What is known of slots behind the writes.
-    fn facts_behind(&self, writes: &[Write]) -> Result<Vec<Fact>, Halt>
+    fn facts_behind(&self, writes: &[Shared<Write>]) -> Result<Vec<Fact>, Halt>
         ensures { IfOk result (λ facts. (start : Start) (v : Valuation) → Interprets self.now.atoms start v
             → Holds v self.now.path → AreInside v writes.now
             → AreIn facts.items (cells_of start.cells v writes.now)) }
@@ -181,35 +164,39 @@ impl Evaluator {
         Ok(facts)
     }
 
-    /// The fewest and the most passes that a DO has left.
-    fn passes_of(&self, passes: &Term) -> Result<(u64, u64), Halt>
-        ensures { IfOk result (λ both. (v : Valuation) → Holds v self.now.path
-            → (both.0 ≤ passes_left (sum_value v passes.now))
-            × (passes_left (sum_value v passes.now) ≤ both.1)) }
+    /// How many passes a DO has left.
+    fn passes_of(&self, passes: &Term) -> Result<Range, Halt>
+        ensures { IfOk result (λ range. (v : Valuation) → Holds v self.now.path
+            → IsIn range (pos (passes_left (sum_value v passes.now)))) }
     {
         if let Some(range) = term_range(&self.path.known, passes) {
-            return Ok((passes_from(range.low), passes_from(range.high)));
+            return Ok(Range {
+                low: range.low.max(0),
+                high: range.high.max(0),
+            });
         }
-        let most = -(MOST_PASSES as i64);
-        unless_unknown(is_bounded(self.alloc, &self.path, 1, passes, most)?)?;
-        Ok((0, MOST_PASSES))
+        unless_unknown(is_bounded(self.alloc, &self.path, 1, passes, -MOST_PASSES)?)?;
+        Ok(Range {
+            low: 0,
+            high: MOST_PASSES,
+        })
     }
 
     /// What is known of what a DO has left.
-    fn loop_fact(&self, turn: &Option<SymbolicTurn>) -> Result<LoopFact, Halt>
+    fn loop_fact(&self, turn: &Option<Shared<SymbolicTurn>>) -> Result<LoopFact, Halt>
         ensures { IfOk result (λ fact. (v : Valuation) → Holds v self.now.path
             → SuitsTurn fact (option_map (turn_of v) turn.now)) }
     {
         let Some(turn) = turn else {
             return Ok(LoopFact::Inactive);
         };
-        let (fewest, most) = self.passes_of(&turn.passes)?;
-        let step = self.known_of(&turn.step)?;
-        Ok(LoopFact::Active { fewest, most, step })
+        let passes = self.passes_of(&turn.passes)?;
+        let step = self.range_of(&turn.step)?;
+        Ok(LoopFact::Active { passes, step })
     }
 
     /// What is known of what each DO has left.
-    fn loops_of(&self, turns: &[Option<SymbolicTurn>]) -> Result<Vec<LoopFact>, Halt>
+    fn loops_of(&self, turns: &[Option<Shared<SymbolicTurn>>]) -> Result<Vec<LoopFact>, Halt>
         ensures { IfOk result (λ loops. (v : Valuation) → Holds v self.now.path
             → AreLeft loops.items (turns_of v turns.now)) }
     {

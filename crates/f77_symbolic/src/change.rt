@@ -1,7 +1,7 @@
 //! A program with one statement changed.
 
 ghost use Rattle.std.specs.Prelude.{◌≡◌, ◌<◌, length, slice_set, IfOk};
-ghost use Rattle.f77_symbolic.specs.code.Pairs.{IsReady};
+ghost use Rattle.f77_symbolic.specs.code.{IsReady};
 
 use crate::halt::{Halt, unless_unknown};
 use crate::values::{Slots, dummies_of};

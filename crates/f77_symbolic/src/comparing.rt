@@ -5,7 +5,7 @@ ghost use Rattle.f77_actions.specs.Number.{is_below, is_same};
 ghost use Rattle.f77_code.specs.Evaluation.{compared, joined};
 ghost use Rattle.f77_terms.specs.Paths.{Holds};
 ghost use Rattle.f77_terms.specs.Terms.{Valuation, sum_value};
-ghost use Rattle.f77_symbolic.specs.code.Evaluation.{HasItem, HasSign};
+ghost use Rattle.f77_symbolic.specs.code.{HasItem, HasSign};
 
 use crate::evaluator::Evaluator;
 use crate::halt::{Halt, Split, signed};

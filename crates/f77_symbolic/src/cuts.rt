@@ -1,17 +1,14 @@
 //! Cuts: the places from which the program is walked. They are its start, and each place to which control comes on more
 //! than one way: so no loop is without one, and few paths lead from one to the next.
 
-ghost use Rattle.std.specs.Prelude.{◌≡◌, ◌≤ℤ◌, true, length, IfOk, IfSome};
+ghost use Rattle.std.specs.Prelude.{◌≡◌, true, length, IfOk};
 ghost use Rattle.std.specs.List.{list_any};
 ghost use Rattle.f77_code.specs.declared.control.Place.TheVariants as Place;
 ghost use Rattle.f77_terms.specs.Paths.{Holds};
+ghost use Rattle.f77_terms.specs.Ranges.{IsIn};
 ghost use Rattle.f77_terms.specs.Terms.{Valuation, sum_value};
-ghost use Rattle.f77_symbolic.specs.Atoms.{Interprets};
-ghost use Rattle.f77_symbolic.specs.code.Atoms.{Extends};
-ghost use Rattle.f77_symbolic.specs.code.Evaluation.{StaysOn};
-ghost use Rattle.f77_symbolic.specs.Memory.{Start};
-ghost use Rattle.f77_symbolic.specs.Visits.{is_same_place};
-ghost use Rattle.f77_symbolic.specs.code.Visits.{IsFirstVisit, StandsForTurn};
+ghost use Rattle.f77_symbolic.specs.{Interprets, Start, is_same_place};
+ghost use Rattle.f77_symbolic.specs.code.{Extends, StaysOn, IsFirstVisit, StandsForTurn};
 
 use crate::evaluator::Evaluator;
 use crate::halt::Halt;
@@ -21,7 +18,7 @@ use f77_actions::{Action, Resolved};
 use f77_code::Place;
 use f77_facts::loops::{LoopFact, loop_at};
 use f77_terms::atoms::Key;
-use f77_terms::paths::{add_below, add_range};
+use f77_terms::paths::add_range;
 use f77_terms::ranges::Range;
 use f77_terms::terms::{Term, atom_term, constant_term};
 use f77_tree::Shared;
@@ -143,25 +140,19 @@ pub fn cuts_of(
 }
 
 impl Evaluator {
-    /// A number from low to high, or from low on: a constant, or what stands behind the slots where the walk starts.
-    fn unknown_number(&mut self, number: usize, low: i64, high: Option<i64>) -> Result<Term, Halt>
+    /// A number of the range: a constant, or what stands behind the slots where the walk starts.
+    fn unknown_number(&mut self, number: usize, range: Range) -> Result<Term, Halt>
         ensures stands { IfOk result (λ term. (start : Start) (v : Valuation) → Interprets self.new.atoms start v
-            → Holds v self.old.path → low ≤ℤ start.numbers number
-            → IfSome high (λ high. start.numbers number ≤ℤ high)
+            → Holds v self.old.path → IsIn range (start.numbers number)
             → StaysOn v self.old self.new × (sum_value v term ≡ start.numbers number)) }
         ensures extends { Extends self.old.atoms self.new.atoms }
     {
-        if high == Some(low) {
-            return Ok(constant_term(self.alloc, low));
+        if range.high == range.low {
+            return Ok(constant_term(self.alloc, range.low));
         }
         let atom = self.atom_of(Key::Slot(number))?;
-        let term = atom_term(self.alloc, atom)?;
-        if let Some(high) = high {
-            add_range(&mut self.path, atom, Range { low, high })?;
-            return Ok(term);
-        }
-        add_below(self.alloc, &mut self.path, -1, &term, low)?;
-        Ok(term)
+        add_range(&mut self.path, atom, range)?;
+        Ok(atom_term(self.alloc, atom)?)
     }
 
     /// What the DO d has left.
@@ -170,11 +161,11 @@ impl Evaluator {
         d: usize,
         count: usize,
         fact: LoopFact,
-    ) -> Result<Option<SymbolicTurn>, Halt>
+    ) -> Result<Option<Shared<SymbolicTurn>>, Halt>
         ensures stands { IfOk result (λ turn. StandsForTurn self.old self.new d count fact turn) }
         ensures extends { Extends self.old.atoms self.new.atoms }
     {
-        let LoopFact::Active { fewest, most, step } = fact else {
+        let LoopFact::Active { passes, step } = fact else {
             return Ok(None);
         };
         if self.atoms.facts.len() >= MOST_SLOTS || count >= MOST_SLOTS || d >= MOST_SLOTS {
@@ -182,11 +173,9 @@ impl Evaluator {
         }
         // Behind the slots there is whether each holds a value.
         let first = 2 * self.atoms.facts.len();
-        let low = i64::try_from(fewest).ok().ok_or(Halt::Unknown)?;
-        let passes = self.unknown_number(first + d, low, i64::try_from(most).ok())?;
-        let high = Some(i64::from(step.high));
-        let step = self.unknown_number(first + count + d, i64::from(step.low), high)?;
-        Ok(Some(SymbolicTurn { passes, step }))
+        let passes = self.unknown_number(first + d, passes)?;
+        let step = self.unknown_number(first + count + d, step)?;
+        Ok(Some(Shared::new(self.alloc, SymbolicTurn { passes, step })?))
     }
 
     /// The first visit of a walk from an entry.

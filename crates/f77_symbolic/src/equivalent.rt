@@ -6,15 +6,12 @@ ghost use Rattle.f77_check.specs.Patching.{IsInPlace};
 ghost use Rattle.f77_equivalence.specs.Equivalent.{IsEquivalentWithin};
 ghost use Rattle.f77_equivalence.specs.Equivalent.{IsEquivalent};
 ghost use Rattle.f77_equivalence.specs.Start.{HoldsStart};
-ghost use Rattle.f77_facts.specs.declared.entries.Entry.{Entry as Known};
-ghost use Rattle.f77_code.specs.declared.control.Place.{Place};
 ghost use Rattle.f77_legal.specs.Legal.{IsLegal};
 ghost use Rattle.f77_program.specs.Patching.{Fits, patched};
 ghost use Rattle.f77_program.specs.Program.{line_of};
 ghost use Rattle.f77_tree.specs.Statement.{statement_of};
-ghost use Rattle.f77_symbolic.specs.code.Atoms.{Extends};
-ghost use Rattle.f77_symbolic.specs.Visits.{AreVisits, IsTourOf};
-ghost use Rattle.f77_symbolic.specs.code.Visits.{FollowsFrom, FollowsThere, HavePairs, IsPairOf};
+ghost use Rattle.f77_symbolic.specs.code.{Extends, HavePairs, IsBehindBy, IsBehindOn, IsPairOf};
+ghost use Rattle.f77_symbolic.specs.{IsTourOf};
 
 use crate::change::{Change, change_of};
 use crate::cuts::cuts_of;
@@ -30,8 +27,8 @@ use f77_check::Checked;
 use f77_equivalence::start::holds_start;
 use f77_facts::entries::Entry;
 use f77_facts::facts::is_inside;
-use f77_terms::atoms::law_of_atoms;
-use f77_terms::copying::{copied_path, copied_table};
+use f77_terms::atoms::{Table, law_of_atoms};
+use f77_terms::copying::copied_path;
 use f77_terms::paths::new_path;
 use f77_tree::{Shared, Stmt};
 use std::alloc::{AllocError, Global};
@@ -72,7 +69,9 @@ impl Visits {
         ensures { IfOk result (λ evaluator. Extends self.now.atoms evaluator.atoms) }
     {
         let facts = self.atoms.facts.to_vec(alloc)?;
-        let table = copied_table(alloc, &self.atoms.table)?;
+        let table = Table {
+            keys: self.atoms.table.keys.to_vec(alloc)?,
+        };
         Ok(Evaluator {
             alloc,
             atoms: Atoms { facts, table },
@@ -91,10 +90,7 @@ impl Visits {
         work: &mut u64,
         rows: &mut Rows,
     ) -> Result<i64, Halt>
-        ensures follows { IfOk result (λ behind.
-            (spare : ℕ) (checked : CheckedFields) (places : List Place) (entry : Known)
-            → behind ≤ℤ pos spare → AreVisits checked.statements places entry self.now
-            → FollowsFrom checked places entry change.now spare) }
+        ensures follows { IfOk result (λ behind. IsBehindBy change.now behind self.now) }
         ensures above { IfOk result (λ behind. pos 0 ≤ℤ behind) }
     {
         law_of_atoms(&self.atoms.table);
@@ -124,8 +120,7 @@ impl Tour {
         work: &mut u64,
         rows: &mut Rows,
     ) -> Result<i64, Halt>
-        ensures follows { IfOk result (λ behind. (spare : ℕ) (checked : CheckedFields)
-            → behind ≤ℤ pos spare → IsTourOf checked self.now → FollowsThere checked change.now spare) }
+        ensures follows { IfOk result (λ behind. IsBehindOn change.now behind (λ checked. IsTourOf checked self.now)) }
         ensures above { IfOk result (λ behind. pos 0 ≤ℤ behind) }
     {
         let mut most = 0;
@@ -155,8 +150,8 @@ fn fewest_behind(
     work: &mut u64,
     rows: &mut Rows,
 ) -> Result<Option<i64>, AllocError>
-    ensures follows { IfOk result (λ found. IfSome found (λ behind. (spare : ℕ) (checked : CheckedFields)
-        → behind ≤ℤ pos spare → All (IsTourOf checked) tours.now → FollowsThere checked change.now spare)) }
+    ensures follows { IfOk result (λ found. IfSome found (λ behind.
+        IsBehindOn change.now behind (λ checked. All (IsTourOf checked) tours.now))) }
     ensures above { IfOk result (λ found. IfSome found (λ behind. pos 0 ≤ℤ behind)) }
 {
     let mut fewest: Option<i64> = None;

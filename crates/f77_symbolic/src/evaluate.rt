@@ -7,11 +7,9 @@ ghost use Rattle.f77_actions.specs.Value.{element, given};
 ghost use Rattle.f77_code.specs.Evaluation.{number_in, slot_in, truth_in};
 ghost use Rattle.f77_terms.specs.Atoms.{slot_behind};
 ghost use Rattle.f77_terms.specs.Terms.{Valuation, sum_value};
-ghost use Rattle.f77_symbolic.specs.code.Atoms.{Extends};
-ghost use Rattle.f77_symbolic.specs.code.Evaluation.{Always, Answers, Calculates, Expects};
-ghost use Rattle.f77_symbolic.specs.code.Evaluation.{YieldsNumber, YieldsSlot, YieldsTruth};
-ghost use Rattle.f77_symbolic.specs.Memory.{IsInside, slot_of, content_of};
-ghost use Rattle.f77_symbolic.specs.code.Memory.{IsLackingFor};
+ghost use Rattle.f77_symbolic.specs.code.{Extends, Always, Answers, Calculates, Expects};
+ghost use Rattle.f77_symbolic.specs.code.{YieldsNumber, YieldsSlot, YieldsTruth};
+ghost use Rattle.f77_symbolic.specs.{IsInside, slot_of, content_of};
 
 use crate::comparing::connected;
 use crate::evaluator::Evaluator;
@@ -20,6 +18,7 @@ use crate::memory::{Location, Symbolic, Write, fixed};
 use f77_actions::{Condition, Element, Number};
 use f77_terms::knowing::constant_of;
 use f77_terms::terms::{Term, constant_term};
+use f77_tree::Shared;
 use std::alloc::Global;
 
 /// The location with this index: a slot of its own where the index is a constant.
@@ -95,7 +94,11 @@ impl Evaluator {
 
     /// The location of a reference.
     #[cycle(values)]
-    pub(crate) fn location_of(&mut self, writes: &[Write], e: &Element) -> Result<Location, Halt>
+    pub(crate) fn location_of(
+        &mut self,
+        writes: &[Shared<Write>],
+        e: &Element,
+    ) -> Result<Location, Halt>
         ensures yields { IfOk result (λ location. YieldsSlot self.old self.new writes.now location
             (λ cells. slot_in cells e.now)) }
         ensures extends { Extends self.old.atoms self.new.atoms }
@@ -136,7 +139,7 @@ impl Evaluator {
 
     /// The value of an INTEGER expression.
     #[cycle(values)]
-    pub(crate) fn number_of(&mut self, writes: &[Write], x: &Number) -> Result<Term, Halt>
+    pub(crate) fn number_of(&mut self, writes: &[Shared<Write>], x: &Number) -> Result<Term, Halt>
         ensures yields { IfOk result (λ term. YieldsNumber self.old self.new writes.now term
             (λ cells. number_in cells x.now)) }
         ensures extends { Extends self.old.atoms self.new.atoms }
@@ -171,9 +174,8 @@ impl Evaluator {
 
     /// The truth value that a slot holds.
     fn logic(&self, value: Symbolic) -> Result<bool, Halt>
-        ensures answers { IfOk result (λ b. Always self.now self.now (λ start v. Answers v self.now self.now
+        ensures { IfOk result (λ b. Always self.now self.now (λ start v. Answers v self.now self.now
             (meaning.logic (content_of v value)) (λ c. b ≡ c))) }
-        ensures truth { IfOk result (λ _. (cell : Option Value) → IsLackingFor value cell → cell ≡ None) }
     {
         match value {
             Symbolic::Truth(term) => Ok(!self.is_nothing(term)?),
@@ -182,7 +184,7 @@ impl Evaluator {
     }
 
     /// The value of a LOGICAL expression.
-    pub(crate) fn truth_of(&mut self, writes: &[Write], c: &Condition) -> Result<bool, Halt>
+    pub(crate) fn truth_of(&mut self, writes: &[Shared<Write>], c: &Condition) -> Result<bool, Halt>
         ensures yields { IfOk result (λ b. YieldsTruth self.old self.new writes.now b
             (λ cells. truth_in cells c.now)) }
         ensures extends { Extends self.old.atoms self.new.atoms }

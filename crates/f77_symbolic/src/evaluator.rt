@@ -4,8 +4,7 @@ ghost use Rattle.std.specs.Prelude.{◌≡◌, ◌≢◌, ◌+ℤ◌, ◌*ℤ◌
 ghost use Rattle.f77_terms.specs.Atoms.{key_value};
 ghost use Rattle.f77_terms.specs.Paths.{Holds};
 ghost use Rattle.f77_terms.specs.Terms.{Valuation, sum_value};
-ghost use Rattle.f77_symbolic.specs.code.Atoms.{Extends};
-ghost use Rattle.f77_symbolic.specs.code.Evaluation.{AlwaysTells, Expects};
+ghost use Rattle.f77_symbolic.specs.code.{Extends, AlwaysTells, Expects};
 
 use crate::halt::{Halt, unless_unknown};
 use crate::samples::{Samples, Sign, Wanted};
@@ -61,7 +60,7 @@ impl Evaluator {
         ensures extends { Extends self.old.atoms self.new.atoms }
     {
         unless_unknown(self.atoms.table.keys.len() < MOST_ATOMS)?;
-        let atom = interned(&mut self.atoms.table, key)?.ok_or(Halt::Unknown)?;
+        let atom = interned(self.alloc, &mut self.atoms.table, key)?.ok_or(Halt::Unknown)?;
         self.samples.learn(&self.atoms.table)?;
         Ok(atom)
     }

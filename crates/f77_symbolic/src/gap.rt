@@ -7,6 +7,6 @@ pub struct Gap {
     pub own: usize,
     /// The one at which the changed program is.
     pub other: usize,
-    /// What a slot holds in both was compared last.
-    pub is_compared: bool,
+    /// The slot of which the values were compared last, or the first one of an array, if any were.
+    pub slot: Option<usize>,
 }

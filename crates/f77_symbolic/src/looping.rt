@@ -7,10 +7,8 @@ ghost use Rattle.f77_code.specs.Moves as moves;
 ghost use Rattle.f77_code.specs.Moves.{Cells};
 ghost use Rattle.f77_terms.specs.Paths.{Holds};
 ghost use Rattle.f77_terms.specs.Terms.{Valuation, sum_value};
-ghost use Rattle.f77_symbolic.specs.code.Atoms.{Extends};
-ghost use Rattle.f77_symbolic.specs.Memory.{AreInside, cells_of};
-ghost use Rattle.f77_symbolic.specs.Sides.{passes_left, state_of, turn_of, turns_of};
-ghost use Rattle.f77_symbolic.specs.code.Sides.{GoesTo, HasLeft, AlwaysSteps};
+ghost use Rattle.f77_symbolic.specs.code.{Extends, GoesTo, HasLeft, AlwaysSteps};
+ghost use Rattle.f77_symbolic.specs.{AreInside, cells_of, passes_left, state_of, turn_of, turns_of};
 
 use crate::evaluator::Evaluator;
 use crate::halt::{Halt, unless_unknown};
@@ -28,7 +26,7 @@ fn pass(
     side: &mut Side,
     end: &Resolved,
     d: usize,
-    turn: Option<SymbolicTurn>,
+    turn: Option<Shared<SymbolicTurn>>,
 ) -> Result<Step, Halt>
     ensures { IfOk result (λ found. (v : Valuation) (passes : ℕ) (step : ℤ) → HasLeft v turn passes step
         → GoesTo v side.old side.new found (λ cells turns. moves.passing end.now d passes step cells turns)) }
@@ -49,7 +47,7 @@ fn advance(
     d: usize,
     variable: usize,
     number: Term,
-    turn: Option<SymbolicTurn>,
+    turn: Option<Shared<SymbolicTurn>>,
 ) -> Result<Step, Halt>
     ensures { IfOk result (λ found. (start : Cells) (v : Valuation) (passes : ℕ) (step : ℤ)
         → AreInside v side.old.writes.items → HasLeft v turn passes step
@@ -63,14 +61,14 @@ fn advance(
 
 impl Evaluator {
     /// What a DO has left with so many passes: nothing where that is below 1.
-    fn turn_with(&self, passes: Term, step: Term) -> Result<Option<SymbolicTurn>, Halt>
+    fn turn_with(&self, passes: Term, step: Term) -> Result<Option<Shared<SymbolicTurn>>, Halt>
         ensures { IfOk result (λ turn. (v : Valuation) → Holds v self.now.path
             → HasLeft v turn (passes_left (sum_value v passes)) (sum_value v step)) }
     {
         if self.is_negative(self.plus(1, &passes, -1)?)? {
             return Ok(None);
         }
-        Ok(Some(SymbolicTurn { passes, step }))
+        Ok(Some(Shared::new(self.alloc, SymbolicTurn { passes, step })?))
     }
 
     /// The DO d begins with these parameters.
@@ -149,10 +147,10 @@ impl Evaluator {
         statements: &[Shared<Resolved>],
         d: usize,
         action: &Action,
-        turn: SymbolicTurn,
+        turn: &SymbolicTurn,
     ) -> Result<Step, Halt>
         ensures steps { IfOk result (λ found. AlwaysSteps self.old self.new side.old side.new found
-            (λ v cells turns. Some (moves.incremented statements.now d action.now (turn_of v turn) cells turns))) }
+            (λ v cells turns. Some (moves.incremented statements.now d action.now (turn_of v turn.now) cells turns))) }
         ensures counts { IfOk result (λ _. moves.is_loop action.now ≡ true) }
         ensures extends { Extends self.old.atoms self.new.atoms }
     {
@@ -172,7 +170,7 @@ impl Evaluator {
         let next = sum(self.alloc, &before, &turn.step)?.ok_or(Halt::Unknown)?;
         let number = self.ranged(next)?;
         let passes = self.plus(1, &turn.passes, -1)?;
-        let left = self.turn_with(passes, turn.step)?;
+        let left = self.turn_with(passes, copy(self.alloc, &turn.step)?)?;
         advance(
             self.alloc,
             side,

@@ -3,13 +3,9 @@
 ghost use Rattle.std.specs.Prelude.{◌≡◌, ◌<◌, ℕ, All, Some, true, false, length, option_map, slice_get, IfOk};
 ghost use Rattle.f77_terms.specs.Paths.{Holds};
 ghost use Rattle.f77_terms.specs.Terms.{Valuation};
-ghost use Rattle.f77_symbolic.specs.Atoms.{Interprets};
-ghost use Rattle.f77_symbolic.specs.code.Atoms.{Extends};
-ghost use Rattle.f77_symbolic.specs.code.Evaluation.{Always, StaysOn};
-ghost use Rattle.f77_symbolic.specs.Memory.{AreInside, IsInside};
-ghost use Rattle.f77_symbolic.specs.code.Memory.{HoldSameIn, IsAsked};
-ghost use Rattle.f77_symbolic.specs.Memory.{Start, cells_of, slot_of, content_of};
-ghost use Rattle.f77_symbolic.specs.Sides.{state_of, turn_of, turns_of};
+ghost use Rattle.f77_symbolic.specs.{Interprets, AreInside, IsInside, Start, cells_of, slot_of};
+ghost use Rattle.f77_symbolic.specs.{content_of, state_of, turn_of, turns_of};
+ghost use Rattle.f77_symbolic.specs.code.{Extends, Always, StaysOn, HoldSameIn, IsAsked};
 
 use crate::evaluator::Evaluator;
 use crate::halt::{Halt, unless_unknown};
@@ -18,9 +14,10 @@ use crate::samples::Sign;
 use crate::sides::{Side, SymbolicTurn};
 use crate::values::Slots;
 use f77_terms::paths::Path;
+use f77_tree::Shared;
 
 /// What a DO has left, by its number.
-fn turn_in(turns: &[Option<SymbolicTurn>], d: usize) -> &Option<SymbolicTurn>
+fn turn_in(turns: &[Option<Shared<SymbolicTurn>>], d: usize) -> &Option<Shared<SymbolicTurn>>
     requires { d < length turns.now }
     ensures { slice_get turns.now d ≡ Some result.now }
 {
@@ -57,13 +54,14 @@ impl Evaluator {
         }
     }
 
-    /// Two values are compared. A sample is looked for on which they differ, if rows are asked for and there is none.
-    fn seek_apart(&mut self, a: &Symbolic, b: &Symbolic) -> Result<(), Halt>
+    /// Two values of a slot are compared. A sample is looked for on which they differ, if rows are asked for and there
+    /// is none.
+    fn seek_apart(&mut self, slot: usize, a: &Symbolic, b: &Symbolic) -> Result<(), Halt>
         ensures atoms { self.new.atoms ≡ self.old.atoms }
         ensures path { self.new.path ≡ self.old.path }
         ensures own { self.new.own ≡ self.old.own }
     {
-        self.samples.compare();
+        self.samples.compare(slot);
         if !self.samples.seeks {
             return Ok(());
         }
@@ -80,8 +78,8 @@ impl Evaluator {
     /// Both sides hold the same in the slot of a location, if that is of the list.
     fn show_same_at(
         &mut self,
-        left: &[Write],
-        right: &[Write],
+        left: &[Shared<Write>],
+        right: &[Shared<Write>],
         location: &Location,
         only: Option<&[Slots]>,
     ) -> Result<(), Halt>
@@ -96,16 +94,16 @@ impl Evaluator {
         }
         let own = self.read(left, location)?;
         let other = self.read(right, location)?;
-        self.seek_apart(&own, &other)?;
+        self.seek_apart(location.first, &own, &other)?;
         self.show_same_value(&own, &other)
     }
 
     /// Both sides hold the same in the slots of these writes that are of the list.
     fn show_same_in(
         &mut self,
-        left: &[Write],
-        right: &[Write],
-        writes: &[Write],
+        left: &[Shared<Write>],
+        right: &[Shared<Write>],
+        writes: &[Shared<Write>],
         only: Option<&[Slots]>,
     ) -> Result<(), Halt>
         ensures same { IfOk result (λ _. Always self.old self.new (λ start v. self.old.own ≡ false
@@ -124,8 +122,8 @@ impl Evaluator {
     /// Both sides hold the same in the slots of the list.
     pub(crate) fn show_same(
         &mut self,
-        left: &[Write],
-        right: &[Write],
+        left: &[Shared<Write>],
+        right: &[Shared<Write>],
         only: Option<&[Slots]>,
     ) -> Result<(), Halt>
         ensures same { IfOk result (λ _. Always self.old self.new (λ start v. AreInside v left.now
@@ -141,7 +139,11 @@ impl Evaluator {
     }
 
     /// Both DOs have the same left.
-    fn show_same_turn(&self, a: &Option<SymbolicTurn>, b: &Option<SymbolicTurn>) -> Result<(), Halt>
+    fn show_same_turn(
+        &self,
+        a: &Option<Shared<SymbolicTurn>>,
+        b: &Option<Shared<SymbolicTurn>>,
+    ) -> Result<(), Halt>
         ensures { IfOk result (λ _. (v : Valuation) → Holds v self.now.path
             → option_map (turn_of v) b.now ≡ option_map (turn_of v) a.now) }
     {
@@ -158,8 +160,8 @@ impl Evaluator {
     /// All DOs have the same left.
     fn show_same_turns(
         &self,
-        a: &[Option<SymbolicTurn>],
-        b: &[Option<SymbolicTurn>],
+        a: &[Option<Shared<SymbolicTurn>>],
+        b: &[Option<Shared<SymbolicTurn>>],
     ) -> Result<(), Halt>
         ensures { IfOk result (λ _. (v : Valuation) → Holds v self.now.path → turns_of v b.now ≡ turns_of v a.now) }
     {

@@ -5,11 +5,11 @@ ghost use Rattle.f77_actions.specs.declared.value.Value.{Value};
 ghost use Rattle.f77_code.specs.Moves.{Cells};
 ghost use Rattle.f77_meaning.specs.Start as meaning;
 ghost use Rattle.f77_terms.specs.Terms.{Valuation};
-ghost use Rattle.f77_symbolic.specs.Memory.{AreInside, IsInside, cells_of, slot_of, content_of};
-ghost use Rattle.f77_symbolic.specs.code.Memory.{IsWriteTo};
+ghost use Rattle.f77_symbolic.specs.{AreInside, IsInside, cells_of, slot_of, content_of};
+ghost use Rattle.f77_symbolic.specs.code.{IsWriteTo};
 
 use f77_terms::terms::{Term, constant_term, copy};
-use f77_tree::Constant;
+use f77_tree::{Constant, Shared};
 use std::alloc::{AllocError, Global};
 
 /// One of so many slots from the first one on: it lies so far behind that.
@@ -47,18 +47,6 @@ pub(crate) fn fixed(alloc: Global, slot: usize) -> Location
     }
 }
 
-/// The location in memory of its own.
-fn copied_location(alloc: Global, location: &Location) -> Result<Location, AllocError>
-    ensures inside { IfOk result (λ copied. (v : Valuation) → IsInside v location.now → IsInside v copied) }
-    ensures slot { IfOk result (λ copied. (v : Valuation) → slot_of v copied ≡ slot_of v location.now) }
-{
-    Ok(Location {
-        first: location.first,
-        count: location.count,
-        index: copy(alloc, &location.index)?,
-    })
-}
-
 /// The value in memory of its own.
 pub(crate) fn copied_value(alloc: Global, value: &Symbolic) -> Result<Symbolic, AllocError>
     ensures { IfOk result (λ copied. (v : Valuation) → content_of v copied ≡ content_of v value.now) }
@@ -67,21 +55,6 @@ pub(crate) fn copied_value(alloc: Global, value: &Symbolic) -> Result<Symbolic, 
         Symbolic::Number(term) => Ok(Symbolic::Number(copy(alloc, term)?)),
         Symbolic::Truth(term) => Ok(Symbolic::Truth(copy(alloc, term)?)),
     }
-}
-
-/// The writes in memory of their own.
-pub(crate) fn copied_writes(alloc: Global, writes: &[Write]) -> Result<Vec<Write>, AllocError>
-    ensures cells { IfOk result (λ copied. (start : Cells) (v : Valuation)
-        → cells_of start v copied.items ≡ cells_of start v writes.now) }
-    ensures inside { IfOk result (λ copied. (v : Valuation) → AreInside v writes.now → AreInside v copied.items) }
-{
-    let mut copied = Vec::with_capacity(alloc, writes.len())?;
-    for write in writes {
-        let location = copied_location(alloc, &write.location)?;
-        let value = copied_value(alloc, &write.value)?;
-        copied.push(Write { location, value })?;
-    }
-    Ok(copied)
 }
 
 /// The value of a constant.
@@ -95,7 +68,7 @@ fn constant_value(alloc: Global, constant: Constant) -> Symbolic
 }
 
 /// The write of this number.
-pub(crate) fn write_at(writes: &[Write], place: usize) -> &Write
+pub(crate) fn write_at(writes: &[Shared<Write>], place: usize) -> &Write
     requires { place < length writes.now }
     ensures { slice_get writes.now place ≡ Some result.now }
 {
@@ -103,7 +76,7 @@ pub(crate) fn write_at(writes: &[Write], place: usize) -> &Write
 }
 
 /// The place of a write to this one slot, if there is one.
-fn place_of(writes: &[Write], slot: usize) -> Option<usize>
+fn place_of(writes: &[Shared<Write>], slot: usize) -> Option<usize>
     ensures { IfSome result (λ place. IsWriteTo writes.now place slot) }
 {
     for place in 0..writes.len() {
@@ -116,7 +89,7 @@ fn place_of(writes: &[Write], slot: usize) -> Option<usize>
 }
 
 /// Leaves out a write to this one slot, which is to be written to again.
-fn forget(writes: &mut Vec<Write>, slot: usize)
+fn forget(writes: &mut Vec<Shared<Write>>, slot: usize)
     ensures same { (start : Cells) (v : Valuation) (cell : Option Value) → AreInside v writes.old.items
         → slice_set (cells_of start v writes.new.items) slot cell
         ≡ slice_set (cells_of start v writes.old.items) slot cell }
@@ -129,7 +102,8 @@ fn forget(writes: &mut Vec<Write>, slot: usize)
 
 /// Puts a value into the slot of a location.
 pub(crate) fn put(
-    writes: &mut Vec<Write>,
+    alloc: Global,
+    writes: &mut Vec<Shared<Write>>,
     location: Location,
     value: Symbolic,
 ) -> Result<(), AllocError>
@@ -142,6 +116,6 @@ pub(crate) fn put(
     if location.count == 1 {
         forget(writes, location.first);
     }
-    writes.push(Write { location, value })?;
+    writes.push(Shared::new(alloc, Write { location, value })?)?;
     Ok(())
 }

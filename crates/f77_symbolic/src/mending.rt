@@ -1,7 +1,7 @@
 //! Samples are mended: the number of one slot is changed, so that a sample is on a path and a term has a sign there.
 
 use crate::samples::{Sample, Samples, Sign, Wanted};
-use f77_terms::atoms::{Key, Table};
+use f77_terms::atoms::{Function, Key, Table};
 use f77_terms::monomials::Monomial;
 use f77_terms::terms::{Part, Term};
 use std::alloc::{AllocError, Global};
@@ -75,7 +75,7 @@ fn multiple_with(multiple: i64, divisor: i64) -> Option<i64> {
 fn common_multiple(table: &Table) -> i64 {
     let mut multiple = 1;
     for key in &table.keys {
-        if let Key::Remainder(_, b) = key {
+        if let Key::Function(Function::Remainder, _, b) = &**key {
             if b.parts.len() == 0 {
                 multiple = multiple_with(multiple, b.constant).unwrap_or(multiple);
             }
@@ -87,7 +87,7 @@ fn common_multiple(table: &Table) -> i64 {
 impl Sample {
     /// The slot that an atom is of.
     fn slot_of(&self, table: &Table, atom: usize) -> Option<usize> {
-        match table.keys.get(atom)? {
+        match &**table.keys.get(atom)? {
             Key::Slot(slot) => Some(*slot),
             Key::Element(first, index) => self.slot_behind(*first, index),
             _ => None,
@@ -108,12 +108,12 @@ impl Sample {
 
     /// The same for an atom that is a function of terms.
     fn change_inside(&self, table: &Table, atom: usize, by: i64) -> Option<(usize, i64)> {
-        match table.keys.get(atom)? {
-            Key::Slot(_) | Key::Element(..) => None,
-            Key::Quotient(a, b) => self.change_in(table, a, by.checked_mul(self.value(b)?)?),
-            Key::Remainder(a, _) | Key::Minimum(a, _) | Key::Maximum(a, _) => {
-                self.change_in(table, a, by)
+        match &**table.keys.get(atom)? {
+            Key::Function(Function::Quotient, a, b) => {
+                self.change_in(table, a, by.checked_mul(self.value(b)?)?)
             }
+            Key::Function(_, a, _) => self.change_in(table, a, by),
+            _ => None,
         }
     }
 

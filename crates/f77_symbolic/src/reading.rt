@@ -1,28 +1,27 @@
 //! What the slot of a location holds.
 
-ghost use Rattle.std.specs.Prelude.{◌≡◌, ◌<◌, ◌≤◌, ◌≤ℤ◌, ◌⊎◌, ◌↔◌, [], Option, pos, length, true, IfOk, IsTrue};
+ghost use Rattle.std.specs.Prelude.{◌≡◌, ◌<◌, ◌≤◌, ◌≤ℤ◌, ◌↔◌, [], Option, Some, pos, length, true, IfOk, IsTrue};
 ghost use Rattle.f77_actions.specs.declared.value.Value.{Value};
 ghost use Rattle.f77_code.specs.Evaluation.{held_in};
+ghost use Rattle.f77_facts.specs.Facts.{SuitsFact, kind_of_value, number_of};
 ghost use Rattle.f77_terms.specs.Atoms.{key_value};
 ghost use Rattle.f77_terms.specs.Paths.{Holds};
 ghost use Rattle.f77_terms.specs.Ranges.{AreKnown};
 ghost use Rattle.f77_terms.specs.Terms.{Valuation, sum_value};
-ghost use Rattle.f77_symbolic.specs.declared.values.Values.{Values};
-ghost use Rattle.f77_symbolic.specs.code.Atoms.{Extends};
-ghost use Rattle.f77_symbolic.specs.code.Evaluation.{Always, ReadsSlot, StaysOn};
-ghost use Rattle.f77_symbolic.specs.Memory.{IsInside};
-ghost use Rattle.f77_symbolic.specs.code.Memory.{IsLacking, IsLackingFor, SuitsValues};
-ghost use Rattle.f77_symbolic.specs.Memory.{slot_of, content_of, number_of};
+ghost use Rattle.f77_symbolic.specs.{presence_of, IsInside, slot_of, content_of};
+ghost use Rattle.f77_symbolic.specs.code.{Extends, Always, GoesOnIfHeld, ReadsCell, ReadsSlot};
+ghost use Rattle.f77_symbolic.specs.code.{StaysOn};
 
 use crate::evaluator::Evaluator;
 use crate::halt::{Halt, signed, unless_unknown};
 use crate::memory::{Location, Symbolic, Write, copied_value, write_at};
-use crate::values::{Values, values_at, values_of_all};
+use crate::values::known_of_all;
+use f77_facts::facts::{Fact, fact_at};
 use f77_terms::atoms::Key;
 use f77_terms::paths::add_range;
-use f77_terms::ranges::{Range, atom_range};
+use f77_terms::ranges::{Range, atom_range, is_empty};
 use f77_terms::terms::{Term, atom_term, constant_term, copy};
-use f77_tree::Kind;
+use f77_tree::{Kind, Shared};
 
 /// A larger array that has not arguments of one kind alone is read by fixed subscripts.
 const MOST_ELEMENTS: usize = 40;
@@ -39,9 +38,8 @@ fn is_above(known: &[Option<Range>], atom: usize) -> bool
 
 /// A value of this kind, by its number.
 fn value_of(kind: Kind, term: Term) -> Symbolic
-    ensures is { (values : Values) (v : Valuation) (cell : Option Value) → kind ≡ values.kind → SuitsValues values cell
-        → sum_value v term ≡ number_of cell → content_of v result ≡ cell }
-    ensures lacks { (cell : Option Value) → IsLacking kind cell → IsLackingFor result cell }
+    ensures { (v : Valuation) (held : Value) → kind_of_value held ≡ kind → sum_value v term ≡ number_of (Some held)
+        → content_of v result ≡ Some held }
 {
     match kind {
         Kind::Integer => Symbolic::Number(term),
@@ -71,14 +69,17 @@ impl Evaluator {
         self.is_nothing(self.plus(1, &between, offset)?)
     }
 
-    /// A slot that may hold no value does hold one: the path comes to know that where the program itself reads it, and
+    /// A slot of which this is known holds a value: the path comes to know that where the program itself reads it, and
     /// knows it already where the changed one does. `key` means 1 if the slot holds a value.
-    fn expect_present(&mut self, key: Key) -> Result<(), Halt>
-        ensures present { IfOk result (λ _. Always self.old self.new (λ start v.
-            (key_value start.numbers v key ≡ pos 1 → StaysOn v self.old self.new)
-            × ((self.old.own ≡ true) ⊎ (pos 1 ≤ℤ key_value start.numbers v key)))) }
+    fn expect_present(&mut self, fact: Fact, key: Key) -> Result<(), Halt>
+        ensures present { IfOk result (λ _. Always self.old self.new (λ start v. (cell : Option Value)
+            → SuitsFact fact cell → key_value start.numbers v key ≡ presence_of cell
+            → GoesOnIfHeld v self.old self.new cell)) }
         ensures extends { Extends self.old.atoms self.new.atoms }
     {
+        if !fact.may_lack {
+            return Ok(());
+        }
         let atom = self.atom_of(key)?;
         if !self.own {
             return unless_unknown(is_above(&self.path.known, atom));
@@ -87,28 +88,26 @@ impl Evaluator {
         Ok(())
     }
 
-    /// The value of an atom, which is one of these values. The path comes to know its range.
-    fn valued(&mut self, values: Values, atom: usize) -> Result<Symbolic, Halt>
-        ensures valued { IfOk result (λ value. (v : Valuation) → Holds v self.old.path
-            → (cell : Option Value) → SuitsValues values cell → v atom ≡ number_of cell
-            → StaysOn v self.old self.new × (content_of v value ≡ cell)) }
-        ensures lacks { IfOk result (λ value. (cell : Option Value) → IsLacking values.kind cell
-            → IsLackingFor value cell) }
+    /// The value that suits a fact, by the key of its number. The path comes to know its range.
+    fn valued(&mut self, fact: Fact, key: Key) -> Result<Symbolic, Halt>
+        ensures valued { IfOk result (λ value. Always self.old self.new (λ start v. (held : Value)
+            → SuitsFact fact (Some held) → key_value start.numbers v key ≡ number_of (Some held)
+            → StaysOn v self.old self.new × (content_of v value ≡ Some held))) }
         ensures extends { Extends self.old.atoms self.new.atoms }
     {
-        let range = Range {
-            low: values.low,
-            high: values.high,
-        };
+        let range = fact.range;
+        if range.low >= range.high {
+            return Ok(value_of(fact.kind, constant_term(self.alloc, range.low)));
+        }
+        let atom = self.atom_of(key)?;
         add_range(&mut self.path, atom, range)?;
         self.samples.stay(atom, range);
-        Ok(value_of(values.kind, atom_term(self.alloc, atom)?))
+        Ok(value_of(fact.kind, atom_term(self.alloc, atom)?))
     }
 
     /// What a slot holds that holds no value of this kind: the program itself faults, so that the path holds nowhere.
     fn never_there(&mut self, kind: Kind) -> Result<Symbolic, Halt>
         ensures own { IfOk result (λ _. self.old.own ≡ true) }
-        ensures lacks { IfOk result (λ value. (cell : Option Value) → IsLacking kind cell → IsLackingFor value cell) }
         ensures extends { Extends self.old.atoms self.new.atoms }
     {
         unless_unknown(self.own)?;
@@ -116,26 +115,32 @@ impl Evaluator {
         Ok(value_of(kind, constant_term(self.alloc, 0)))
     }
 
+    /// What a slot holds of which this is known, by the keys of whether it holds a value and of the number of that.
+    fn known_value(&mut self, fact: Fact, presence: Key, number: Key) -> Result<Symbolic, Halt>
+        ensures reads { IfOk result (λ value. Always self.old self.new (λ start v. (cell : Option Value)
+            → SuitsFact fact cell → key_value start.numbers v presence ≡ presence_of cell
+            → key_value start.numbers v number ≡ number_of cell → ReadsCell v self.old self.new cell value)) }
+        ensures extends { Extends self.old.atoms self.new.atoms }
+    {
+        if is_empty(fact.range) {
+            return self.never_there(fact.kind);
+        }
+        self.expect_present(fact, presence)?;
+        self.valued(fact, number)
+    }
+
     /// What a slot holds where the run starts.
     fn slot_at_start(&mut self, slot: usize) -> Result<Symbolic, Halt>
         ensures reads { IfOk result (λ value. Always self.old self.new (λ start v.
-            (StaysOn v self.old self.new × (held_in start.cells slot ≡ content_of v value))
-            ⊎ ((self.old.own ≡ true) × IsLackingFor value (held_in start.cells slot)))) }
+            ReadsCell v self.old self.new (held_in start.cells slot) value)) }
         ensures extends { Extends self.old.atoms self.new.atoms }
     {
-        let values = values_at(&self.atoms.facts, slot).ok_or(Halt::Unknown)?;
-        if values.low > values.high {
-            return self.never_there(values.kind);
+        let behind = self.atoms.facts.len();
+        if slot >= behind {
+            return Err(Halt::Unknown);
         }
-        if values.may_lack {
-            let behind = self.atoms.facts.len();
-            self.expect_present(Key::Slot(behind + slot))?;
-        }
-        if values.low == values.high {
-            return Ok(value_of(values.kind, constant_term(self.alloc, values.low)));
-        }
-        let atom = self.atom_of(Key::Slot(slot))?;
-        self.valued(values, atom)
+        let fact = fact_at(&self.atoms.facts, slot);
+        self.known_value(fact, Key::Slot(behind + slot), Key::Slot(slot))
     }
 
     /// The slot that a location is, found by trying its slots one after another.
@@ -161,16 +166,12 @@ impl Evaluator {
         if location.count == 1 {
             return self.slot_at_start(location.first);
         }
-        match values_of_all(&self.atoms.facts, location.first, location.count) {
-            Some(values) => {
-                let index = copy(self.alloc, &location.index)?;
-                if values.may_lack {
-                    let behind = self.atoms.facts.len();
-                    self.expect_present(Key::Element(behind + location.first, index))?;
-                }
-                let key = Key::Element(location.first, copy(self.alloc, &location.index)?);
-                let atom = self.atom_of(key)?;
-                self.valued(values, atom)
+        match known_of_all(&self.atoms.facts, location.first, location.count) {
+            Some(fact) => {
+                let behind = self.atoms.facts.len() + location.first;
+                let presence = Key::Element(behind, copy(self.alloc, &location.index)?);
+                let number = Key::Element(location.first, copy(self.alloc, &location.index)?);
+                self.known_value(fact, presence, number)
             }
             None => {
                 let slot = self.slot_found(location)?;
@@ -180,7 +181,11 @@ impl Evaluator {
     }
 
     /// What the last write to the slot of a location put there, and else what it held where the run started.
-    pub(crate) fn read(&mut self, writes: &[Write], location: &Location) -> Result<Symbolic, Halt>
+    pub(crate) fn read(
+        &mut self,
+        writes: &[Shared<Write>],
+        location: &Location,
+    ) -> Result<Symbolic, Halt>
         ensures reads { IfOk result (λ value. ReadsSlot self.old self.new writes.now location.now value) }
         ensures extends { Extends self.old.atoms self.new.atoms }
     {

@@ -5,9 +5,8 @@
 ghost use Rattle.std.specs.Prelude.{◌<◌};
 
 use crate::gap::Gap;
-use crate::values::values_at;
 use f77_facts::facts::Fact;
-use f77_terms::atoms::{Key, Table};
+use f77_terms::atoms::{Function, Key, Table};
 use f77_terms::monomials::Monomial;
 use f77_terms::paths::Path;
 use f77_terms::ranges::Range;
@@ -38,6 +37,7 @@ pub struct Sample {
 #[derive(Drop)]
 pub struct Samples {
     pub list: Vec<Sample>,
+    /// Where the walk of both programs is, if there is one.
     pub gap: Option<Gap>,
     /// Rows are asked for: where two programs may differ a sample is looked for that shows it.
     pub seeks: bool,
@@ -134,10 +134,9 @@ impl Sample {
         match key {
             Key::Slot(slot) => self.held.get(*slot).copied(),
             Key::Element(first, index) => self.held.get(self.slot_behind(*first, index)?).copied(),
-            Key::Quotient(a, b) => self.value(a)?.checked_div(self.value(b)?),
-            Key::Remainder(a, b) => self.value(a)?.checked_rem(self.value(b)?),
-            Key::Minimum(a, b) => Some(self.value(a)?.min(self.value(b)?)),
-            Key::Maximum(a, b) => Some(self.value(a)?.max(self.value(b)?)),
+            Key::Function(Function::Quotient, a, b) => self.value(a)?.checked_div(self.value(b)?),
+            Key::Function(Function::Remainder, a, b) => self.value(a)?.checked_rem(self.value(b)?),
+            Key::Function(Function::Minimum, a, b) => Some(self.value(a)?.min(self.value(b)?)),
         }
     }
 
@@ -224,8 +223,8 @@ fn between(z: i64, low: i64, high: i64) -> Option<i64> {
 /// A number that a slot may hold; one that says that it holds a value; and behind these passes of a DO, or by how much
 /// it goes on.
 fn number_at(facts: &[Fact], slot: usize, any: i64) -> i64 {
-    match values_at(facts, slot) {
-        Some(values) => between(any, values.low, values.high).unwrap_or(values.low),
+    match facts.get(slot) {
+        Some(fact) => between(any, fact.range.low, fact.range.high).unwrap_or(fact.range.low),
         None if slot < facts.len().saturating_mul(2) => 1,
         None => between(any, 1, 6).unwrap_or(1),
     }
@@ -283,14 +282,14 @@ impl Samples {
         self.gap = Some(Gap {
             own,
             other,
-            is_compared: false,
+            slot: None,
         });
     }
 
-    /// What a slot holds in both is compared.
-    pub fn compare(&mut self) {
+    /// What both hold in this slot is compared, or in one of an array that begins with it.
+    pub fn compare(&mut self, slot: usize) {
         if let Some(gap) = &mut self.gap {
-            gap.is_compared = true;
+            gap.slot = Some(slot);
         }
     }
 

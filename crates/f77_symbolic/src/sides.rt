@@ -6,14 +6,14 @@ ghost use Rattle.f77_code.specs.Moves as moves;
 ghost use Rattle.f77_code.specs.Moves.{Cells, state};
 ghost use Rattle.f77_equivalence.specs.Alike.{site};
 ghost use Rattle.f77_terms.specs.Terms.{Valuation};
-ghost use Rattle.f77_symbolic.specs.Memory.{AreInside, IsInside, cells_of, slot_of, content_of};
-ghost use Rattle.f77_symbolic.specs.Sides.{turn_of, turns_of};
-ghost use Rattle.f77_symbolic.specs.code.Sides.{GoesTo};
+ghost use Rattle.f77_symbolic.specs.{AreInside, IsInside, cells_of, slot_of, content_of, turn_of};
+ghost use Rattle.f77_symbolic.specs.{turns_of};
+ghost use Rattle.f77_symbolic.specs.code.{GoesTo};
 
-use crate::memory::{Location, Symbolic, Write, copied_writes, put};
+use crate::memory::{Location, Symbolic, Write, put};
 use f77_actions::{Jump, Resolved};
 use f77_code::Place;
-use f77_terms::terms::{Term, copy};
+use f77_terms::terms::Term;
 use f77_tree::Shared;
 use std::alloc::{AllocError, Global};
 
@@ -28,9 +28,9 @@ pub struct SymbolicTurn {
 #[derive(Drop)]
 pub struct Side {
     pub place: Place,
-    pub writes: Shared<Vec<Write>>,
+    pub writes: Shared<Vec<Shared<Write>>>,
     /// For each statement, what it has left if it is an active DO.
-    pub turns: Shared<Vec<Option<SymbolicTurn>>>,
+    pub turns: Shared<Vec<Option<Shared<SymbolicTurn>>>>,
 }
 
 impl Clone for Side {
@@ -49,7 +49,7 @@ impl Clone for Side {
 pub(crate) fn first_side(
     alloc: Global,
     place: Place,
-    turns: Vec<Option<SymbolicTurn>>,
+    turns: Vec<Option<Shared<SymbolicTurn>>>,
 ) -> Result<Side, AllocError>
     ensures place { IfOk result (λ side. side.place ≡ place) }
     ensures writes { IfOk result (λ side. side.writes.items ≡ []) }
@@ -72,62 +72,29 @@ pub enum Step {
     Faults,
 }
 
-/// The turn in memory of its own.
-fn copied_turn(
-    alloc: Global,
-    turn: &Option<SymbolicTurn>,
-) -> Result<Option<SymbolicTurn>, AllocError>
-    ensures { IfOk result (λ copied. (v : Valuation)
-        → option_map (turn_of v) copied ≡ option_map (turn_of v) turn.now) }
-{
-    match turn {
-        Some(turn) => Ok(Some(SymbolicTurn {
-            passes: copy(alloc, &turn.passes)?,
-            step: copy(alloc, &turn.step)?,
-        })),
-        None => Ok(None),
-    }
-}
-
-/// The turns in memory of their own.
-fn copied_turns(
-    alloc: Global,
-    turns: &[Option<SymbolicTurn>],
-) -> Result<Vec<Option<SymbolicTurn>>, AllocError>
-    ensures { IfOk result (λ copied. (v : Valuation) → turns_of v copied.items ≡ turns_of v turns.now) }
-{
-    let mut copied = Vec::with_capacity(alloc, turns.len())?;
-    for turn in turns {
-        copied.push(copied_turn(alloc, turn)?)?;
-    }
-    Ok(copied)
-}
-
 /// What the DO of this number has left, if it is active.
 pub(crate) fn turn_at(
-    alloc: Global,
-    turns: &[Option<SymbolicTurn>],
+    turns: &[Option<Shared<SymbolicTurn>>],
     d: usize,
-) -> Result<Option<SymbolicTurn>, AllocError>
+) -> Result<Option<Shared<SymbolicTurn>>, AllocError>
     ensures { IfOk result (λ turn. (v : Valuation)
         → moves.turn_at (turns_of v turns.now) d ≡ option_map (turn_of v) turn) }
 {
-    if d < turns.len() {
-        copied_turn(alloc, &turns[d])
-    } else {
-        Ok(None)
+    match turns.get(d) {
+        Some(Some(turn)) => Ok(Some(turn.clone()?)),
+        _ => Ok(None),
     }
 }
 
 /// The DO of this number is active.
-fn is_active(turns: &[Option<SymbolicTurn>], d: usize) -> bool
+fn is_active(turns: &[Option<Shared<SymbolicTurn>>], d: usize) -> bool
     ensures { (v : Valuation) → is_some (moves.turn_at (turns_of v turns.now) d) ≡ result }
 {
     d < turns.len() && turns[d].is_some()
 }
 
 /// Sets what the DO of this number has left.
-fn set(turns: &mut [Option<SymbolicTurn>], d: usize, turn: Option<SymbolicTurn>)
+fn set(turns: &mut [Option<Shared<SymbolicTurn>>], d: usize, turn: Option<Shared<SymbolicTurn>>)
     ensures { (v : Valuation) → turns_of v turns.new
         ≡ slice_set (turns_of v turns.old) d (option_map (turn_of v) turn) }
 {
@@ -137,7 +104,7 @@ fn set(turns: &mut [Option<SymbolicTurn>], d: usize, turn: Option<SymbolicTurn>)
 }
 
 /// The first of these DOs that is active.
-fn innermost(turns: &[Option<SymbolicTurn>], ends: &[usize]) -> Option<usize>
+fn innermost(turns: &[Option<Shared<SymbolicTurn>>], ends: &[usize]) -> Option<usize>
     ensures { (v : Valuation) → moves.innermost (turns_of v turns.now) ends.now ≡ result }
 {
     for d in ends {
@@ -161,7 +128,7 @@ pub(crate) fn go_on(side: &mut Side, resolved: &Resolved) -> Step
 }
 
 /// None of these DOs is active any more.
-fn leave(turns: &mut [Option<SymbolicTurn>], leaves: &[usize])
+fn leave(turns: &mut [Option<Shared<SymbolicTurn>>], leaves: &[usize])
     ensures { (v : Valuation) → turns_of v turns.new ≡ moves.without (turns_of v turns.old) leaves.now }
 {
     for d in leaves {
@@ -172,13 +139,13 @@ fn leave(turns: &mut [Option<SymbolicTurn>], leaves: &[usize])
 /// The turns without those of these DOs.
 fn without(
     alloc: Global,
-    turns: &[Option<SymbolicTurn>],
+    turns: &[Option<Shared<SymbolicTurn>>],
     leaves: &[usize],
-) -> Result<Shared<Vec<Option<SymbolicTurn>>>, AllocError>
+) -> Result<Shared<Vec<Option<Shared<SymbolicTurn>>>>, AllocError>
     ensures { IfOk result (λ left. (v : Valuation)
         → turns_of v left.items ≡ moves.without (turns_of v turns.now) leaves.now) }
 {
-    let mut left = copied_turns(alloc, turns)?;
+    let mut left = turns.to_vec(alloc)?;
     leave(&mut left, leaves);
     Shared::new(alloc, left)
 }
@@ -228,8 +195,8 @@ impl Side {
             → AreInside v self.new.writes.items) }
         ensures turns { self.new.turns ≡ self.old.turns }
     {
-        let mut writes = copied_writes(alloc, &self.writes)?;
-        put(&mut writes, location, value)?;
+        let mut writes = self.writes.to_vec(alloc)?;
+        put(alloc, &mut writes, location, value)?;
         self.writes = Shared::new(alloc, writes)?;
         Ok(())
     }
@@ -239,13 +206,13 @@ impl Side {
         &mut self,
         alloc: Global,
         d: usize,
-        turn: Option<SymbolicTurn>,
+        turn: Option<Shared<SymbolicTurn>>,
     ) -> Result<(), AllocError>
         ensures turns { IfOk result (λ _. (v : Valuation) → turns_of v self.new.turns.items
             ≡ slice_set (turns_of v self.old.turns.items) d (option_map (turn_of v) turn)) }
         ensures writes { self.new.writes ≡ self.old.writes }
     {
-        let mut turns = copied_turns(alloc, &self.turns)?;
+        let mut turns = self.turns.to_vec(alloc)?;
         set(&mut turns, d, turn);
         self.turns = Shared::new(alloc, turns)?;
         Ok(())

@@ -3,12 +3,11 @@
 
 ghost use Rattle.std.specs.Prelude.{◌≡◌, ◌≢◌, ◌⊎◌, ◌≤ℤ◌, ℤ, pos, true, IfOk, IfSome};
 ghost use Rattle.std.specs.Prelude.{int_div, int_rem, unsigned_abs};
-ghost use Rattle.std.specs.Int.{int_max, int_min};
+ghost use Rattle.std.specs.Int.{int_min};
 ghost use Rattle.f77_terms.specs.Paths.{Holds};
 ghost use Rattle.f77_terms.specs.Ranges.{IsIn};
 ghost use Rattle.f77_terms.specs.Terms.{Valuation, sum_value};
-ghost use Rattle.f77_symbolic.specs.code.Evaluation.{StaysOn};
-ghost use Rattle.f77_symbolic.specs.code.Spans.{IsSmall};
+ghost use Rattle.f77_symbolic.specs.code.{StaysOn, IsSmall};
 
 use crate::evaluator::Evaluator;
 use crate::halt::Halt;
@@ -97,25 +96,12 @@ fn minimum_range(a: Range, b: Range) -> Range
     }
 }
 
-/// The range of the greater of two numbers.
-fn maximum_range(a: Range, b: Range) -> Range
-    ensures { (x y : ℤ) → IsIn a x → IsIn b y → IsIn result (int_max x y) }
+/// The range without its numbers above 0, if there are none.
+fn range_to_zero(range: Range, is_below: bool) -> Range
+    ensures { (x : ℤ) → IsIn range x → (is_below ≡ true → x ≤ℤ pos 0) → IsIn result x }
 {
-    Range {
-        low: a.low.max(b.low),
-        high: a.high.max(b.high),
-    }
-}
-
-/// The range without its numbers below 0, if these are sizes.
-fn range_from_zero(range: Range, is_size: bool) -> Range
-    ensures { (x : ℤ) → IsIn range x → (is_size ≡ true → pos 0 ≤ℤ x) → IsIn result x }
-{
-    if is_size && range.low < 0 {
-        return Range {
-            low: 0,
-            high: range.high,
-        };
+    if is_below && range.high > 0 {
+        return Range { high: 0, ..range };
     }
     range
 }
@@ -172,29 +158,16 @@ impl Evaluator {
         Ok(())
     }
 
-    /// Notes the range of the lesser of two numbers.
+    /// Notes the range of the lesser of two numbers. That of a number and its negative is not above 0.
     pub(crate) fn span_minimum(&mut self, a: &Term, b: &Term, atom: usize) -> Result<(), Halt>
         ensures stays { IfOk result (λ _. (v : Valuation) → Holds v self.old.path
             → v atom ≡ int_min (sum_value v a.now) (sum_value v b.now) → StaysOn v self.old self.new) }
         ensures atoms { self.new.atoms ≡ self.old.atoms }
     {
-        if let Some((first, second)) = self.ranges_of(a, b) {
-            let range = minimum_range(first, second);
-            add_range(&mut self.path, atom, range)?;
-        }
-        Ok(())
-    }
-
-    /// Notes the range of the greater of two numbers. A size is not below 0.
-    pub(crate) fn span_maximum(&mut self, a: &Term, b: &Term, atom: usize) -> Result<(), Halt>
-        ensures stays { IfOk result (λ _. (v : Valuation) → Holds v self.old.path
-            → v atom ≡ int_max (sum_value v a.now) (sum_value v b.now) → StaysOn v self.old self.new) }
-        ensures atoms { self.new.atoms ≡ self.old.atoms }
-    {
         let both = self.combination(1, a, 1, b)?;
-        let is_size = is_constant_zero(&both);
+        let is_below = is_constant_zero(&both);
         if let Some((first, second)) = self.ranges_of(a, b) {
-            let range = range_from_zero(maximum_range(first, second), is_size);
+            let range = range_to_zero(minimum_range(first, second), is_below);
             add_range(&mut self.path, atom, range)?;
         }
         Ok(())

@@ -6,9 +6,7 @@ ghost use Rattle.f77_code.specs.Choice as choice;
 ghost use Rattle.f77_code.specs.Moves.{acted, moved, state};
 ghost use Rattle.f77_terms.specs.Paths.{Holds};
 ghost use Rattle.f77_terms.specs.Terms.{Valuation};
-ghost use Rattle.f77_symbolic.specs.code.Atoms.{Extends};
-ghost use Rattle.f77_symbolic.specs.code.Evaluation.{HasSign};
-ghost use Rattle.f77_symbolic.specs.code.Sides.{Acts, AlwaysSteps, StepsFrom};
+ghost use Rattle.f77_symbolic.specs.code.{Extends, HasSign, Acts, AlwaysSteps, StepsFrom};
 
 use crate::evaluator::Evaluator;
 use crate::halt::{Halt, unless_unknown};
@@ -201,13 +199,13 @@ impl Evaluator {
         if d >= statements.len() {
             return Err(Halt::Unknown);
         }
-        let turn = turn_at(self.alloc, &side.turns, d)?.ok_or(Halt::Unknown)?;
+        let turn = turn_at(&side.turns, d)?.ok_or(Halt::Unknown)?;
         self.increment(
             side,
             statements,
             d,
             &statement_at(statements, d).action,
-            turn,
+            &turn,
         )
     }
 

@@ -1,9 +1,11 @@
 //! Where the program comes by itself: it is walked alone once, for all its mutants.
 
-ghost use Rattle.std.specs.Prelude.{IfOk};
-ghost use Rattle.f77_symbolic.specs.code.Atoms.{Extends};
-ghost use Rattle.f77_symbolic.specs.Visits.{AreVisits, IsTour};
-ghost use Rattle.f77_symbolic.specs.code.Visits.{Arrives, GivesWayAlone, IsAdded, WalksOn};
+ghost use Rattle.std.specs.Prelude.{List, IfOk};
+ghost use Rattle.f77_actions.specs.declared.resolved.Resolved.{Resolved};
+ghost use Rattle.f77_code.specs.declared.control.Place.{Place};
+ghost use Rattle.f77_symbolic.specs.declared.evaluator.Atoms.{Atoms};
+ghost use Rattle.f77_symbolic.specs.code.{Extends, AreExplored, Arrives, GivesWayAlone, Whichever};
+ghost use Rattle.f77_symbolic.specs.{AreVisits, IsTour};
 
 use crate::cuts::is_cut;
 use crate::evaluator::{Atoms, Evaluator};
@@ -42,73 +44,81 @@ pub struct Tour {
     pub each: Vec<Visits>,
 }
 
-/// Adds the visit on one of the two ways.
-fn add_on(
+/// A walk of the program: the visits to come and those that were made, and what is known where it came to cuts.
+#[derive(Drop)]
+pub(crate) struct Walk {
+    pub todo: Vec<Visit>,
+    pub list: Vec<Visit>,
+    pub arrivals: Vec<Entry>,
+}
+
+/// The visit gives way to the same on each of the two ways.
+fn split_visit(
     alloc: Global,
     visit: &Visit,
     split: &Split,
-    first: bool,
-    todo: &mut Vec<Visit>,
+    walk: &mut Walk,
 ) -> Result<(), AllocError>
-    ensures { IfOk result (λ _. IsAdded visit.now split.now first todo.old.items todo.new.items) }
+    ensures { IfOk result (λ _. (atoms : Atoms) (statements : List Resolved) (places : List Place)
+        → GivesWayAlone atoms statements places walk.old walk.new visit.now) }
 {
-    let path = path_on(alloc, &visit.path, split, first)?;
+    let path = path_on(alloc, &visit.path, split, true)?;
     let side = visit.side.clone()?;
-    Ok(todo.push(Visit { path, side })?)
+    walk.todo.push(Visit { path, side })?;
+    let path = path_on(alloc, &visit.path, split, false)?;
+    let side = visit.side.clone()?;
+    Ok(walk.todo.push(Visit { path, side })?)
 }
 
 impl Evaluator {
-    /// A step leads to a side: what is known there is noted at a cut, and else the visit there is to come.
+    /// Where a step is no end it leads to a side: what is known there is noted at a cut, and else the visit there is
+    /// to come.
     fn arrive(
         &mut self,
         cuts: &[Place],
+        step: Step,
         side: Side,
-        todo: &mut Vec<Visit>,
-        arrivals: &mut Vec<Entry>,
+        walk: &mut Walk,
     ) -> Result<(), Halt>
-        ensures arrives { IfOk result (λ _. Arrives cuts.now self.old side todo.old.items todo.new.items
-            arrivals.old.items arrivals.new.items) }
+        ensures arrives { IfOk result (λ _. (statements : List Resolved)
+            → Arrives statements cuts.now self.old step side walk.old walk.new) }
         ensures extends { Extends self.old.atoms self.new.atoms }
     {
+        if step != Step::Moves {
+            return Ok(());
+        }
         if is_cut(cuts, side.place) {
-            arrivals.push(self.settled_entry(&side)?)?;
+            walk.arrivals.push(self.settled_entry(&side)?)?;
             return Ok(());
         }
         let path = self.taken_path();
-        todo.push(Visit { path, side })?;
+        walk.todo.push(Visit { path, side })?;
         Ok(())
     }
 
-    /// The program makes a step alone: the visit is noted, and, if the step is no end, another one is to come, or what
-    /// is known at a cut is noted. Or the visit is split, or its path does not hold.
+    /// The program makes a step alone: the visit is noted, and what the step leads to. Or the visit is split, or its
+    /// path does not hold.
     fn step_alone(
         &mut self,
         statements: &[Shared<Resolved>],
         cuts: &[Place],
         visit: Visit,
-        todo: &mut Vec<Visit>,
-        list: &mut Vec<Visit>,
-        arrivals: &mut Vec<Entry>,
+        walk: &mut Walk,
     ) -> Result<(), Halt>
-        ensures gives { IfOk result (λ _. GivesWayAlone self.new.atoms statements.now cuts.now visit
-            todo.old.items todo.new.items list.old.items list.new.items arrivals.old.items arrivals.new.items) }
+        ensures gives { IfOk result
+            (λ _. GivesWayAlone self.new.atoms statements.now cuts.now walk.old walk.new visit) }
         ensures extends { Extends self.old.atoms self.new.atoms }
     {
         match self.step_from(&visit.path, true, &visit.side, statements) {
             Ok((step, side)) => {
-                list.push(visit)?;
-                if step == Step::Moves {
-                    self.arrive(cuts, side, todo, arrivals)?;
-                }
+                walk.list.push(visit)?;
+                self.arrive(cuts, step, side, walk)?;
                 Ok(())
             }
-            Err(halt) => {
-                if let Some(split) = self.split_of(halt, &visit.path)? {
-                    add_on(self.alloc, &visit, &split, true, todo)?;
-                    add_on(self.alloc, &visit, &split, false, todo)?;
-                }
-                Ok(())
-            }
+            Err(halt) => match self.split_of(halt, &visit.path)? {
+                Some(split) => Ok(split_visit(self.alloc, &visit, &split, walk)?),
+                None => Ok(()),
+            },
         }
     }
 
@@ -119,21 +129,23 @@ impl Evaluator {
         cuts: &[Place],
         first: Visit,
         work: &mut u64,
-        list: &mut Vec<Visit>,
-        arrivals: &mut Vec<Entry>,
-    ) -> Result<(), Halt>
-        ensures walks { IfOk result (λ _.
-            WalksOn self.new.atoms statements.now cuts.now first list.new.items arrivals.new.items) }
+    ) -> Result<Walk, Halt>
+        ensures walks { IfOk result (λ walk. Whichever self.new.atoms
+            (λ start v. AreExplored statements.now cuts.now walk start v first)) }
         ensures extends { Extends self.old.atoms self.new.atoms }
     {
-        let mut todo = Vec::new(self.alloc);
-        todo.push(first)?;
+        let mut walk = Walk {
+            todo: Vec::new(self.alloc),
+            list: Vec::new(self.alloc),
+            arrivals: Vec::new(self.alloc),
+        };
+        walk.todo.push(first)?;
         while *work > 0 {
-            let Some(visit) = todo.pop() else {
-                return Ok(());
+            let Some(visit) = walk.todo.pop() else {
+                return Ok(walk);
             };
             *work = work.saturating_sub(self.samples.cost(&visit.path, statements.len()));
-            self.step_alone(statements, cuts, visit, &mut todo, list, arrivals)?;
+            self.step_alone(statements, cuts, visit, &mut walk)?;
         }
         Err(Halt::Unknown)
     }
@@ -156,7 +168,6 @@ fn visits_from(
     unless_unknown(entry.loops.len() == statements.len())?;
     *work = work.saturating_sub(statements.len() as u64 / STATEMENTS);
     let samples = first_samples(alloc, &entry.facts, statements.len(), seeks)?;
-    let mut list = Vec::new(alloc);
     let facts = entry.facts.to_vec(alloc)?;
     let table = new_table(alloc);
     let mut evaluator = Evaluator {
@@ -167,15 +178,14 @@ fn visits_from(
         samples,
     };
     let first = evaluator.first_visit(statements.len(), entry.place, &entry.loops)?;
-    let mut arrivals = Vec::new(alloc);
-    evaluator.walk_alone(statements, cuts, first, work, &mut list, &mut arrivals)?;
+    let walk = evaluator.walk_alone(statements, cuts, first, work)?;
     unless_unknown(is_inside(&entry.facts, &evaluator.atoms.facts))?;
     law_of_atoms(&evaluator.atoms.table);
     Ok(Visits {
         atoms: evaluator.atoms,
         samples: evaluator.samples,
-        list,
-        arrivals,
+        list: walk.list,
+        arrivals: walk.arrivals,
     })
 }
 

@@ -5,15 +5,11 @@ ghost use Rattle.f77_actions.specs.declared.finish.Finish.{Finish};
 ghost use Rattle.f77_check.specs.Checked.{CheckedFields};
 ghost use Rattle.f77_terms.specs.Paths.{Holds};
 ghost use Rattle.f77_terms.specs.Terms.{Valuation};
-ghost use Rattle.f77_symbolic.specs.Atoms.{Interprets};
+ghost use Rattle.f77_symbolic.specs.{Interprets, AreInside, Start, state_of};
 ghost use Rattle.f77_symbolic.specs.declared.change.Change.{Change};
 ghost use Rattle.f77_symbolic.specs.declared.evaluator.Atoms.{Atoms};
-ghost use Rattle.f77_symbolic.specs.code.Atoms.{Extends};
-ghost use Rattle.f77_symbolic.specs.code.Evaluation.{Always, IsOnWay};
-ghost use Rattle.f77_symbolic.specs.Memory.{AreInside, Start};
-ghost use Rattle.f77_symbolic.specs.code.Pairs.{AreSettled, EndsSo, GivesWay, IsPairOn, IsReady, IsThere, RestsOn};
-ghost use Rattle.f77_symbolic.specs.Sides.{state_of};
-ghost use Rattle.f77_symbolic.specs.code.Sides.{IsEndOf};
+ghost use Rattle.f77_symbolic.specs.code.{Extends, Always, IsOnWay, AreSettled, EndsSo, GivesWay};
+ghost use Rattle.f77_symbolic.specs.code.{IsPairOn, IsReady, IsThere, RestsOn, IsEndOf};
 
 use crate::change::Change;
 use crate::evaluator::Evaluator;

@@ -1,19 +1,5 @@
--- One of several cases is there.
-use Rattle.std.proofs.Common.{arith, ◌≡◌, ◌≢◌, ◌⊎◌, inl, inr, zero, suc, List, [], ◌∷◌, ◌++◌, ℤ, pos, negsuc, refl, sym, subst}
-use Rattle.std.specs.Prelude.{◌+ℤ◌, ◌*ℤ◌, ◌≤ℤ◌}
-use Rattle.std.proofs.lemmas.Int.{ints}
-use Rattle.std.proofs.lemmas.List.Quantifiers.{Any-push}
-use Rattle.f77_terms.specs.declared.paths.Case.{Case}
-use Rattle.f77_terms.specs.Terms.{Valuation}
-use Rattle.f77_terms.specs.Bounds.{AreBelow}
-use Rattle.f77_terms.specs.Paths.{IsOneOf}
-use Rattle.f77_terms.proofs.There.{any_before}
-
-pub stays : (v : Valuation) (old new more : List Case) → new ≡ old ++ more → IsOneOf v old → IsOneOf v new
-stays v old new more is there = subst (IsOneOf v) (sym is) (any_before (λ case. AreBelow v case.bounds.items) old more there)
-
-pub pushed_there : (v : Valuation) (old new : List Case) (case : Case) → new ≡ old ++ case ∷ [] → AreBelow v case.bounds.items → IsOneOf v new
-pushed_there v old new case is there = subst (IsOneOf v) (sym is) (Any-push (λ case. AreBelow v case.bounds.items) old case there)
+-- The sides of 0.
+use Rattle.f77_terms.proofs.Common.{arith, ◌≢◌, ◌⊎◌, inl, inr, zero, suc, ℤ, pos, negsuc, refl, ◌+ℤ◌, ◌*ℤ◌, ◌≤ℤ◌, ints}
 
 -- a number that is not 0 is below it or above it
 pub apart : (z : ℤ) → z ≢ pos 0 → ((pos 1 +ℤ pos 1 *ℤ z) ≤ℤ pos 0) ⊎ ((pos 1 +ℤ negsuc 0 *ℤ z) ≤ℤ pos 0)

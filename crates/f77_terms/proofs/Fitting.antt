@@ -1,17 +1,12 @@
 -- Valuations that fit tables of atoms.
-use Rattle.std.proofs.Common.{arith, ◌≡◌, ◌<◌, ◌+◌, ℕ, zero, suc, List, [], ◌∷◌, ◌++◌, length, length-append, get_or, Some, ℤ, pos, refl, sym, ap, ◌∙◌}
-use Rattle.std.specs.Prelude.{◌+ℤ◌, ◌*ℤ◌, int_div, int_rem, slice_get}
-use Rattle.std.specs.Int.{int_max, int_min}
-use Rattle.std.proofs.lemmas.List.{get_or_append_left, get_or-append-add}
+use Rattle.f77_terms.proofs.Common.{arith, ◌≡◌, ◌<◌, ◌+◌, ℕ, zero, suc, List, [], ◌∷◌, ◌++◌, length, length-append, get_or, Some, ℤ, pos, refl, sym, ap, ◌∙◌}
+use Rattle.f77_terms.proofs.Common.{◌+ℤ◌, ◌*ℤ◌, slice_get, get_or_append_left, get_or-append-add, Part, HasAtomsBelow, Valuation, monomial_value, parts_value}
+use Rattle.f77_terms.proofs.Common.{sum_value, Numbers, AreOfAtomsBelow, IsOfAtomsBelow, IsOfEarlierAtoms, slot_behind, function_value, key_value}
 use Rattle.f77_terms.specs.declared.atoms.Key.{Key}
 use Rattle.f77_terms.specs.declared.atoms.Key.TheVariants as key
 use Rattle.f77_terms.specs.declared.monomials.Monomial.{Monomial}
 use Rattle.f77_terms.specs.declared.monomials.Monomial.TheVariants as monomial
-use Rattle.f77_terms.specs.declared.terms.Part.{Part}
 use Rattle.f77_terms.specs.declared.terms.Term.{Term}
-use Rattle.f77_terms.specs.Monomials.{HasAtomsBelow}
-use Rattle.f77_terms.specs.Terms.{Valuation, monomial_value, parts_value, sum_value}
-use Rattle.f77_terms.specs.Atoms.{Numbers, AreOfAtomsBelow, IsOfAtomsBelow, IsOfEarlierAtoms, slot_behind, key_value}
 
 -- valuations that agree on the atoms below a number agree on what has no others
 module _ (n : ℕ) (v w : Valuation) (agree : (k : ℕ) → k < n → v k ≡ w k) where
@@ -33,16 +28,11 @@ module _ (n : ℕ) (v w : Valuation) (agree : (k : ℕ) → k < n → v k ≡ w 
   terms_agree : (term : Term) → IsOfAtomsBelow n term → sum_value v term ≡ sum_value w term
   terms_agree term within = ap (λ z. term.constant +ℤ z) (parts_agree term.parts.items within)
 
-  both_agree : (f : ℤ → ℤ → ℤ) (a b : Term) → IsOfAtomsBelow n a → IsOfAtomsBelow n b → f (sum_value v a) (sum_value v b) ≡ f (sum_value w a) (sum_value w b)
-  both_agree f a b first second = ap (λ z. f z (sum_value v b)) (terms_agree a first) ∙ ap (f (sum_value w a)) (terms_agree b second)
-
   pub keys_agree : (held : Numbers) (key : Key) → IsOfEarlierAtoms n key → key_value held v key ≡ key_value held w key
   keys_agree held (key.Slot slot) order = refl
   keys_agree held (key.Element first index) order = ap (λ z. held (slot_behind first z)) (terms_agree index order)
-  keys_agree held (key.Quotient a b) order = both_agree int_div a b order.0 order.1
-  keys_agree held (key.Remainder a b) order = both_agree int_rem a b order.0 order.1
-  keys_agree held (key.Minimum a b) order = both_agree int_min a b order.0 order.1
-  keys_agree held (key.Maximum a b) order = both_agree int_max a b order.0 order.1
+  keys_agree held (key.Function f a b) order =
+      ap (λ z. function_value f z (sum_value v b)) (terms_agree a order.0) ∙ ap (function_value f (sum_value w a)) (terms_agree b order.1)
 
 -- the number of each atom in a list
 abbrev pub number_of : List ℤ → Valuation

@@ -1,10 +1,7 @@
 -- The order of sums and products.
-use Rattle.std.proofs.Common.{arith, ◌≡◌, ◌<◌, ◌+◌, ◌⊎◌, SFits, w64, inl, inr, ℕ, zero, suc, ℤ, pos, negsuc, sym, ap, subst, ◌∙◌}
-use Rattle.std.specs.Prelude.{◌+ℤ◌, ◌-ℤ◌, ◌*ℤ◌, ◌≤ℤ◌, ◌<ℤ◌, unsigned_abs}
-use Rattle.std.proofs.Math.IntN.{*ℤ_comm, zero-*ℤ, *ℤ-zero, *ℤ-one}
-use Rattle.std.proofs.lemmas.Int.{ints}
+use Rattle.f77_terms.proofs.Common.{arith, ◌≡◌, ◌<◌, ◌+◌, ◌⊎◌, SFits, w64, inl, inr, ℕ, zero, suc, ℤ, pos, negsuc, sym, ap, subst, ◌∙◌, ◌+ℤ◌, ◌-ℤ◌, ◌*ℤ◌, ◌≤ℤ◌}
+use Rattle.f77_terms.proofs.Common.{◌<ℤ◌, unsigned_abs, *ℤ_comm, zero-*ℤ, *ℤ-zero, *ℤ-one, ints, LiesBetween}
 use Rattle.f77_terms.proofs.Products.{times_sum, sum_times}
-use Rattle.f77_terms.specs.Ranges.{LiesBetween}
 
 multiple_below : (n : ℕ) (a : ℤ) → a ≤ℤ pos 0 → (pos n *ℤ a) ≤ℤ pos 0
 multiple_below n (pos zero) h = omega (arith, ints)
@@ -50,27 +47,20 @@ at_most_or (negsuc n) = inl (omega (arith, ints))
 
 -- what is between two numbers, so many times, is between them, so many times
 pub between_products : (l x h y low high : ℤ) → l ≤ℤ x → x ≤ℤ h → LiesBetween low (l *ℤ y) high → LiesBetween low (h *ℤ y) high → LiesBetween low (x *ℤ y) high
-between_products l x h y low high a b p q = by (at_most_or y)
-  where
-    by : (y ≤ℤ pos 0) ⊎ (pos 1 ≤ℤ y) → LiesBetween low (x *ℤ y) high
-    by (inl below) =
-        let first = falling y l x below a in
-        let second = falling y x h below b in
-        let one = *ℤ_comm l y in
-        let two = *ℤ_comm x y in
-        let three = *ℤ_comm h y in
-        let g = q.above in
-        let k = p.below in
-        record { above = omega (arith, ints, first, second, one, two, three, g, k); below = omega (arith, ints, first, second, one, two, three, g, k) }
-    by (inr above) =
-        let first = rising y l x (omega (arith, ints, above)) a in
-        let second = rising y x h (omega (arith, ints, above)) b in
-        let one = *ℤ_comm l y in
-        let two = *ℤ_comm x y in
-        let three = *ℤ_comm h y in
-        let g = p.above in
-        let k = q.below in
-        record { above = omega (arith, ints, first, second, one, two, three, g, k); below = omega (arith, ints, first, second, one, two, three, g, k) }
+between_products l x h y low high a b p q =
+    let one = *ℤ_comm l y in
+    let two = *ℤ_comm x y in
+    let three = *ℤ_comm h y in
+    elim (at_most_or y) [
+      | inl below ↦
+          let first = falling y l x below a in
+          let second = falling y x h below b in
+          record { above = omega (arith, ints, first, second, one, two, three, q.above); below = omega (arith, ints, first, second, one, two, three, p.below) }
+      | inr above ↦
+          let first = rising y l x (omega (arith, ints, above)) a in
+          let second = rising y x h (omega (arith, ints, above)) b in
+          record { above = omega (arith, ints, first, second, one, two, three, p.above); below = omega (arith, ints, first, second, one, two, three, q.below) }
+    ]
 
 -- a number, so many times
 pub risen : (m x l h low high : ℤ) → pos 0 ≤ℤ m → LiesBetween l x h → low ≡ m *ℤ l → high ≡ m *ℤ h → LiesBetween low (m *ℤ x) high

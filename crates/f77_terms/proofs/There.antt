@@ -1,11 +1,6 @@
 -- One of several is there, where cases are added.
-use Rattle.std.proofs.Common.{arith, ◌≡◌, ◌≢◌, ◌<◌, ◌≤◌, ◌+◌, ◌⊎◌, inl, inr, ℕ, zero, suc, List, [], ◌∷◌, ◌++◌, length, length-append, take, get_or, ap, sym, subst, ◌∙◌}
-use Rattle.std.specs.Prelude.{All, Any}
-use Rattle.std.proofs.lemmas.List.{get_or_append_left, take_more, take_all}
-use Rattle.std.proofs.lemmas.Bool.Decides.{eqb_tells}
-
-pub same_or_not : (j k : ℕ) → (j ≡ k) ⊎ (j ≢ k)
-same_or_not j k = elim (eqb_tells j k) [ inl p ↦ inl p.1 | inr p ↦ inr p.1 ]
+use Rattle.f77_terms.proofs.Common.{arith, ◌≡◌, ◌<◌, ◌≤◌, ◌+◌, ◌⊎◌, inl, inr, ℕ, zero, suc, List, [], ◌∷◌, ◌++◌, length, length-append, take, get_or, ap, sym}
+use Rattle.f77_terms.proofs.Common.{subst, ◌∙◌, All, Any, get_or_append_left, take_more, take_all}
 
 pub any_before : {X : Type 0} (P : X → Type 0) (xs ys : List X) → Any P xs → Any P (xs ++ ys)
 any_before P xs ys there =

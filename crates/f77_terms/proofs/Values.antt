@@ -1,12 +1,8 @@
 -- The values of terms.
-use Rattle.std.proofs.Common.{arith, ◌≡◌, ◌≤◌, ℕ, zero, suc, ◌+◌, ◌-◌, List, [], ◌∷◌, ◌++◌, length, length-drop, take, drop, add-one, ℤ, pos, sym, ap, ◌∙◌}
-use Rattle.std.specs.Prelude.{◌+ℤ◌, ◌*ℤ◌, slice_get, slice_set, Option, Some, None, IfSome, Result, Ok, Err, IfOk}
-use Rattle.std.specs.List.{insert, remove}
-use Rattle.std.proofs.lemmas.Int.{ints}
-use Rattle.std.proofs.lemmas.List.{take_all}
+use Rattle.f77_terms.proofs.Common.{arith, ◌≡◌, ◌≤◌, ℕ, zero, suc, ◌+◌, ◌-◌, List, [], ◌∷◌, ◌++◌, length, length-drop, take, drop, add-one, ℤ, pos, sym, ap}
+use Rattle.f77_terms.proofs.Common.{◌∙◌, ◌+ℤ◌, ◌*ℤ◌, slice_get, slice_set, Option, Some, None, IfSome, Result, Ok, Err, IfOk, insert, remove, ints, take_all}
+use Rattle.f77_terms.proofs.Common.{Part, Valuation, monomial_value, part_value, parts_value}
 use Rattle.f77_terms.proofs.Products.{times_sum, sum_times, times_product, last_swapped}
-use Rattle.f77_terms.specs.declared.terms.Part.{Part}
-use Rattle.f77_terms.specs.Terms.{Valuation, monomial_value, part_value, parts_value}
 
 pub parts_put : (v : Valuation) (parts : List Part) (place : ℕ) (part : Part) → parts_value v (insert parts place part) ≡ parts_value v parts +ℤ part_value v part
 parts_put v [] zero part = omega (arith, ints)

@@ -1,6 +1,8 @@
 -- The meaning of atoms.
 use Rattle.std.specs.Prelude.{◌≡◌, ◌+◌, ℕ, ℤ, pos, negsuc, List, Some, slice_get, int_div, int_rem}
-use Rattle.std.specs.Int.{int_max, int_min}
+use Rattle.std.specs.Int.{int_min}
+use Rattle.f77_terms.specs.declared.atoms.Function.{Function}
+use Rattle.f77_terms.specs.declared.atoms.Function.TheVariants as function
 use Rattle.f77_terms.specs.declared.atoms.Key.{Key}
 use Rattle.f77_terms.specs.declared.atoms.Key.TheVariants as key
 use Rattle.f77_terms.specs.declared.atoms.Table.{Table}
@@ -18,14 +20,17 @@ abbrev pub slot_behind : ℕ → ℤ → ℕ
 slot_behind first (pos n) = first + n
 slot_behind first (negsuc n) = first
 
+-- what a function makes of two numbers
+abbrev pub function_value : Function → ℤ → ℤ → ℤ
+function_value function.Quotient a b = int_div a b
+function_value function.Remainder a b = int_rem a b
+function_value function.Minimum a b = int_min a b
+
 -- the number that a key means
 abbrev pub key_value : Numbers → Valuation → Key → ℤ
 key_value held v (key.Slot slot) = held slot
 key_value held v (key.Element first index) = held (slot_behind first (sum_value v index))
-key_value held v (key.Quotient a b) = int_div (sum_value v a) (sum_value v b)
-key_value held v (key.Remainder a b) = int_rem (sum_value v a) (sum_value v b)
-key_value held v (key.Minimum a b) = int_min (sum_value v a) (sum_value v b)
-key_value held v (key.Maximum a b) = int_max (sum_value v a) (sum_value v b)
+key_value held v (key.Function f a b) = function_value f (sum_value v a) (sum_value v b)
 
 -- each atom of the parts is below this number
 abbrev pub AreOfAtomsBelow : ℕ → List Part → Type 0
@@ -39,10 +44,7 @@ IsOfAtomsBelow n term = AreOfAtomsBelow n term.parts.items
 abbrev pub IsOfEarlierAtoms : ℕ → Key → Type 0
 IsOfEarlierAtoms n (key.Slot slot) = Unit {0}
 IsOfEarlierAtoms n (key.Element first index) = IsOfAtomsBelow n index
-IsOfEarlierAtoms n (key.Quotient a b) = IsOfAtomsBelow n a × IsOfAtomsBelow n b
-IsOfEarlierAtoms n (key.Remainder a b) = IsOfAtomsBelow n a × IsOfAtomsBelow n b
-IsOfEarlierAtoms n (key.Minimum a b) = IsOfAtomsBelow n a × IsOfAtomsBelow n b
-IsOfEarlierAtoms n (key.Maximum a b) = IsOfAtomsBelow n a × IsOfAtomsBelow n b
+IsOfEarlierAtoms n (key.Function f a b) = IsOfAtomsBelow n a × IsOfAtomsBelow n b
 
 -- Each atom has the number that its key means. A key with atoms behind its own means nothing.
 abbrev pub FitsTable : Numbers → Valuation → Table → Type 0

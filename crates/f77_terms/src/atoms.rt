@@ -1,13 +1,23 @@
 //! Atoms: numbers with a meaning.
 
 ghost use Rattle.std.specs.Prelude.{◌≡◌, ◌<◌, true, length, slice_get, Some, IfOk, IfSome};
-ghost use Rattle.f77_terms.specs.Terms.{Valuation};
-ghost use Rattle.f77_terms.specs.Atoms.{FitsTable, IsOfAtomsBelow, IsOfEarlierAtoms, Numbers, key_value};
-ghost use Rattle.f77_terms.specs.Monomials.{HasAtomsBelow};
+ghost use Rattle.f77_terms.specs.{Valuation, FitsTable, IsOfAtomsBelow, IsOfEarlierAtoms, Numbers};
+ghost use Rattle.f77_terms.specs.{key_value, HasAtomsBelow};
 
 use crate::monomials::Monomial;
 use crate::terms::{Term, is_same_term, part_at};
+use f77_tree::Shared;
 use std::alloc::{AllocError, Global};
+
+/// A function of two numbers.
+#[derive(Clone, Copy, Debug, PartialEq, Eq)]
+pub enum Function {
+    /// The quotient, truncated toward zero.
+    Quotient,
+    /// What a division leaves.
+    Remainder,
+    Minimum,
+}
 
 /// What an atom is.
 #[derive(Debug, Drop)]
@@ -16,18 +26,14 @@ pub enum Key {
     Slot(usize),
     /// The number that the slot holds which lies so far behind this one.
     Element(usize, Term),
-    /// The quotient, truncated toward zero.
-    Quotient(Term, Term),
-    /// What a division leaves.
-    Remainder(Term, Term),
-    Minimum(Term, Term),
-    Maximum(Term, Term),
+    /// What a function makes of two numbers.
+    Function(Function, Term, Term),
 }
 
 /// The atoms: the number of each is the place of its key.
 #[derive(Debug, Drop)]
 pub struct Table {
-    pub keys: Vec<Key>,
+    pub keys: Vec<Shared<Key>>,
 }
 
 /// A table without atoms.
@@ -69,9 +75,7 @@ pub fn is_in_order(key: &Key, n: usize) -> bool
     match key {
         Key::Slot(_) => true,
         Key::Element(_, index) => is_within(index, n),
-        Key::Quotient(a, b) | Key::Remainder(a, b) | Key::Minimum(a, b) | Key::Maximum(a, b) => {
-            is_within(a, n) && is_within(b, n)
-        }
+        Key::Function(_, a, b) => is_within(a, n) && is_within(b, n),
     }
 }
 
@@ -82,16 +86,15 @@ fn is_same_key(a: &Key, b: &Key) -> bool
     match (a, b) {
         (Key::Slot(i), Key::Slot(j)) => *i == *j,
         (Key::Element(i, s), Key::Element(j, t)) => *i == *j && is_same_term(s, t),
-        (Key::Quotient(s, t), Key::Quotient(x, y)) => is_same_term(s, x) && is_same_term(t, y),
-        (Key::Remainder(s, t), Key::Remainder(x, y)) => is_same_term(s, x) && is_same_term(t, y),
-        (Key::Minimum(s, t), Key::Minimum(x, y)) => is_same_term(s, x) && is_same_term(t, y),
-        (Key::Maximum(s, t), Key::Maximum(x, y)) => is_same_term(s, x) && is_same_term(t, y),
+        (Key::Function(f, s, t), Key::Function(g, x, y)) => {
+            *f == *g && is_same_term(s, x) && is_same_term(t, y)
+        }
         _ => false,
     }
 }
 
 /// The key at a place.
-pub fn key_at(keys: &[Key], place: usize) -> &Key
+pub fn key_at(keys: &[Shared<Key>], place: usize) -> &Key
     requires { place < length keys.now }
     ensures { slice_get keys.now place ≡ Some result.now }
 {
@@ -113,7 +116,7 @@ fn atom_with(table: &Table, key: &Key) -> Option<usize>
 }
 
 /// The atom with a key, which is made if there is none, unless a term of the key has atoms that are not of the table.
-pub fn interned(table: &mut Table, key: Key) -> Result<Option<usize>, AllocError>
+pub fn interned(alloc: Global, table: &mut Table, key: Key) -> Result<Option<usize>, AllocError>
     ensures kept { (held : Numbers) (v : Valuation) → FitsTable held v table.new → FitsTable held v table.old }
     ensures made { IfOk result (λ made. IfSome made (λ atom. (held : Numbers) (v : Valuation)
         → FitsTable held v table.new → v atom ≡ key_value held v key)) }
@@ -125,7 +128,7 @@ pub fn interned(table: &mut Table, key: Key) -> Result<Option<usize>, AllocError
     if !is_in_order(&key, atom) {
         return Ok(None);
     }
-    table.keys.push(key)?;
+    table.keys.push(Shared::new(alloc, key)?)?;
     Ok(Some(atom))
 }
 

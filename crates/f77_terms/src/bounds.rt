@@ -1,8 +1,7 @@
 //! Bounds: terms that are at most 0.
 
 ghost use Rattle.std.specs.Prelude.{◌≡◌, ◌+ℤ◌, ◌*ℤ◌, ◌≤ℤ◌, ℤ, pos, true, IfOk, IfSome};
-ghost use Rattle.f77_terms.specs.Terms.{Valuation, parts_value, sum_value};
-ghost use Rattle.f77_terms.specs.Bounds.{IsBelow, AreBelow};
+ghost use Rattle.f77_terms.specs.{Valuation, parts_value, sum_value, IsBelow, AreBelow};
 
 use crate::copying::copied_terms;
 use crate::numbers::{ceiling, divisor_of};

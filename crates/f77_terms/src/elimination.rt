@@ -1,10 +1,7 @@
 //! Whether bounds contradict each other: one monomial after another is eliminated (Fourier and Motzkin).
 
 ghost use Rattle.std.specs.Prelude.{◌≡◌, ◌≤ℤ◌, pos, true, IfOk};
-ghost use Rattle.f77_terms.specs.Terms.{Valuation};
-ghost use Rattle.f77_terms.specs.Bounds.{IsBelow, AreBelow};
-ghost use Rattle.f77_terms.specs.Ranges.{AreKnown};
-ghost use Rattle.f77_terms.specs.code.Bounds.{Follow};
+ghost use Rattle.f77_terms.specs.{Valuation, IsBelow, AreBelow, AreKnown};
 
 use crate::bounds::{add_bound, add_combined, add_tight, is_refuted};
 use crate::copying::copied_terms;
@@ -145,7 +142,7 @@ fn add_without(
 
 /// What follows from the bounds, without the monomial.
 fn eliminated(alloc: Global, bounds: &[Term], monomial: Monomial) -> Result<Vec<Term>, AllocError>
-    ensures { IfOk result (λ left. Follow bounds.now left.items) }
+    ensures { IfOk result (λ left. (v : Valuation) → AreBelow v bounds.now → AreBelow v left.items) }
 {
     let mut left = Vec::new(alloc);
     for bound in bounds {

@@ -1,13 +1,12 @@
-//! What quotients, remainders, minima and maxima say of terms.
+//! What quotients, remainders and minima say of terms.
 
 ghost use Rattle.std.specs.Prelude.{◌≡◌, ◌≢◌, ◌⊎◌, ◌+ℤ◌, ◌*ℤ◌, ◌≤ℤ◌, ℤ, pos, negsuc, IfOk, int_rem};
-ghost use Rattle.f77_terms.specs.Terms.{Valuation, sum_value};
-ghost use Rattle.f77_terms.specs.Bounds.{AreBelow};
-ghost use Rattle.f77_terms.specs.Paths.{HasCase, Holds};
+ghost use Rattle.f77_terms.specs.{Valuation, sum_value, AreBelow, HasCase, Holds};
 
 use crate::bounds::add_bound;
-use crate::paths::{Case, Choice, Path, add_case, add_equal};
+use crate::paths::{Case, Choice, Path, add_equal};
 use crate::terms::{Term, add_multiple, combined, product};
+use f77_tree::Shared;
 use std::alloc::{AllocError, Global};
 
 /// Adds that a term, m times, another, n times, and a constant are at most 0, unless a number gets too large.
@@ -46,7 +45,11 @@ fn divisor_case(alloc: Global, m: i64, divisor: &Term, rest: &Term) -> Result<Ca
 }
 
 /// The divisor is above 0 or below, and the remainder of less size.
-pub fn divisor_cases(alloc: Global, divisor: &Term, rest: &Term) -> Result<Choice, AllocError>
+pub fn divisor_cases(
+    alloc: Global,
+    divisor: &Term,
+    rest: &Term,
+) -> Result<Shared<Choice>, AllocError>
     ensures { IfOk result (λ choice. (v : Valuation) (n : ℤ) → sum_value v divisor.now ≢ pos 0
         → sum_value v rest.now ≡ int_rem n (sum_value v divisor.now) → HasCase v choice) }
 {
@@ -56,14 +59,12 @@ pub fn divisor_cases(alloc: Global, divisor: &Term, rest: &Term) -> Result<Choic
 }
 
 /// One of two cases is there.
-pub fn two_cases(alloc: Global, first: Case, second: Case) -> Result<Choice, AllocError>
+pub fn two_cases(alloc: Global, first: Case, second: Case) -> Result<Shared<Choice>, AllocError>
     ensures { IfOk result (λ choice. (v : Valuation) → AreBelow v first.bounds.items ⊎ AreBelow v second.bounds.items
         → HasCase v choice) }
 {
-    let mut cases = Vec::new(alloc);
-    add_case(&mut cases, first)?;
-    add_case(&mut cases, second)?;
-    Ok(Choice { cases })
+    let cases = vec![in alloc; first, second]?;
+    Shared::new(alloc, Choice { cases })
 }
 
 /// The case where two terms, each m times, are at most 0.
@@ -79,7 +80,7 @@ fn sign_case(alloc: Global, m: i64, a: &Term, b: &Term) -> Result<Case, AllocErr
 }
 
 /// The remainder has the sign of the dividend.
-pub fn sign_cases(alloc: Global, dividend: &Term, rest: &Term) -> Result<Choice, AllocError>
+pub fn sign_cases(alloc: Global, dividend: &Term, rest: &Term) -> Result<Shared<Choice>, AllocError>
     ensures { IfOk result (λ choice. (v : Valuation) (d : ℤ)
         → sum_value v rest.now ≡ int_rem (sum_value v dividend.now) d → HasCase v choice) }
 {

@@ -1,10 +1,8 @@
 //! What is known of terms, and what a path comes to know once.
 
 ghost use Rattle.std.specs.Prelude.{◌≡◌, ◌≢◌, ◌+ℤ◌, ◌*ℤ◌, ◌≤ℤ◌, pos, true, int_div, int_rem, IfOk, IfSome};
-ghost use Rattle.std.specs.Int.{int_max, int_min};
-ghost use Rattle.f77_terms.specs.Bounds.{IsBelow};
-ghost use Rattle.f77_terms.specs.Paths.{Holds, IsUnequal};
-ghost use Rattle.f77_terms.specs.Terms.{IsWorth, Valuation, sum_value};
+ghost use Rattle.std.specs.Int.{int_min};
+ghost use Rattle.f77_terms.specs.{IsBelow, Holds, IsUnequal, IsWorth, Valuation, sum_value};
 
 use crate::facts::{add_pair_bound, add_whole, divisor_cases, order_case, sign_cases, two_cases};
 use crate::monomials::Monomial;
@@ -139,27 +137,5 @@ pub fn know_minimum(
     add_pair_bound(alloc, &mut path.below, 1, &least, -1, b, 0)?;
     let first = order_case(alloc, 1, a, -1, &least)?;
     let second = order_case(alloc, 1, b, -1, &least)?;
-    add_choice(path, two_cases(alloc, first, second)?)
-}
-
-/// Adds what is known of the greater of two terms, once.
-pub fn know_maximum(
-    alloc: Global,
-    path: &mut Path,
-    a: &Term,
-    b: &Term,
-    maximum: usize,
-) -> Result<(), AllocError>
-    ensures { IfOk result (λ _. (v : Valuation) → Holds v path.old
-        → v maximum ≡ int_max (sum_value v a.now) (sum_value v b.now) → Holds v path.new) }
-{
-    if has_choice_of(path, maximum) {
-        return Ok(());
-    }
-    let greatest = atom_term(alloc, maximum)?;
-    add_pair_bound(alloc, &mut path.below, 1, a, -1, &greatest, 0)?;
-    add_pair_bound(alloc, &mut path.below, 1, b, -1, &greatest, 0)?;
-    let first = order_case(alloc, 1, &greatest, -1, a)?;
-    let second = order_case(alloc, 1, &greatest, -1, b)?;
     add_choice(path, two_cases(alloc, first, second)?)
 }

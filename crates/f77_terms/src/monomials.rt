@@ -1,7 +1,7 @@
 //! Products of atoms.
 
 ghost use Rattle.std.specs.Prelude.{◌≡◌, ◌*ℤ◌, IfSome};
-ghost use Rattle.f77_terms.specs.Terms.{Valuation, monomial_value};
+ghost use Rattle.f77_terms.specs.{Valuation, monomial_value};
 
 /// One to four atoms, in rising order, whose numbers are multiplied.
 #[derive(Clone, Copy, Debug, PartialEq, Eq, PartialOrd, Ord)]

@@ -1,14 +1,13 @@
 //! What of a path is near some terms: what is bound to their atoms, step by step.
 
-ghost use Rattle.std.specs.Prelude.{All, IfOk};
-ghost use Rattle.f77_terms.specs.Bounds.{AreBelow};
-ghost use Rattle.f77_terms.specs.Paths.{Holds, IsUnequal};
-ghost use Rattle.f77_terms.specs.Terms.{Valuation};
+ghost use Rattle.std.specs.Prelude.{IfOk};
+ghost use Rattle.f77_terms.specs.{Holds, Valuation};
 
-use crate::copying::copied_choice;
+use crate::copying::copied_path;
 use crate::monomials::atoms_of;
 use crate::paths::{Choice, Path};
-use crate::terms::{Term, copy};
+use crate::terms::Term;
+use f77_tree::Shared;
 use std::alloc::{AllocError, Global};
 use std::slice;
 
@@ -68,7 +67,7 @@ fn is_choice_near(marks: &[bool], choice: &Choice) -> bool {
 }
 
 /// Marks the atoms of those choices that are near.
-fn spread_choices(marks: &mut Vec<bool>, choices: &[Choice]) -> Result<bool, AllocError> {
+fn spread_choices(marks: &mut Vec<bool>, choices: &[Shared<Choice>]) -> Result<bool, AllocError> {
     let mut is_new = false;
     for choice in choices {
         if is_choice_near(marks, choice) {
@@ -95,36 +94,14 @@ fn marks_near(alloc: Global, path: &Path, terms: &[Term]) -> Result<Vec<bool>, A
     Ok(marks)
 }
 
-/// Those of the terms that are near.
-fn terms_near(alloc: Global, marks: &[bool], terms: &[Term]) -> Result<Vec<Term>, AllocError>
-    ensures below { IfOk result (λ near. (v : Valuation) → AreBelow v terms.now → AreBelow v near.items) }
-    ensures unequal { IfOk result (λ near. (v : Valuation) → All (IsUnequal v) terms.now
-        → All (IsUnequal v) near.items) }
-{
-    let mut near = Vec::new(alloc);
-    for term in terms {
-        if is_near(marks, term) {
-            near.push(copy(alloc, term)?)?;
-        }
-    }
-    Ok(near)
-}
-
 /// What of a path is near these terms.
 pub(crate) fn path_near(alloc: Global, path: &Path, terms: &[Term]) -> Result<Path, AllocError>
     ensures { IfOk result (λ near. (v : Valuation) → Holds v path.now → Holds v near) }
 {
     let marks = marks_near(alloc, path, terms)?;
-    let mut choices = Vec::new(alloc);
-    for choice in &path.choices {
-        if is_choice_near(&marks, choice) {
-            choices.push(copied_choice(alloc, choice)?)?;
-        }
-    }
-    Ok(Path {
-        known: Vec::from_slice(alloc, &path.known)?,
-        below: terms_near(alloc, &marks, &path.below)?,
-        unequal: terms_near(alloc, &marks, &path.unequal)?,
-        choices,
-    })
+    let mut near = copied_path(alloc, path)?;
+    near.below.retain(|term| is_near(&marks, term));
+    near.unequal.retain(|term| is_near(&marks, term));
+    near.choices.retain(|choice| is_choice_near(&marks, choice));
+    Ok(near)
 }

@@ -1,16 +1,15 @@
 //! Paths: what is known where control comes, and whether that is possible.
 
 ghost use Rattle.std.specs.Prelude.{◌≡◌, ◌+ℤ◌, ◌*ℤ◌, ◌≤ℤ◌, pos, true, IfOk};
-ghost use Rattle.f77_terms.specs.Terms.{Valuation, sum_value};
-ghost use Rattle.f77_terms.specs.Bounds.{IsBelow, AreBelow};
-ghost use Rattle.f77_terms.specs.Ranges.{IsIn, AreKnown};
-ghost use Rattle.f77_terms.specs.Paths.{IsUnequal, IsOneOf, HasCase, Holds};
+ghost use Rattle.f77_terms.specs.{Valuation, sum_value, IsBelow, AreBelow, IsIn, AreKnown};
+ghost use Rattle.f77_terms.specs.{IsUnequal, HasCase, Holds};
 
 use crate::bounds::{add_bound, joint_bounds};
 use crate::near::path_near;
 use crate::ranges::{Range, narrow_all, narrow_all_apart, set_within};
 use crate::splitting::{is_refuted_with, side_case};
 use crate::terms::Term;
+use f77_tree::Shared;
 use std::alloc::{AllocError, Global};
 
 /// So many pairs of bounds are combined for one question at most.
@@ -37,16 +36,7 @@ pub struct Path {
     pub known: Vec<Option<Range>>,
     pub below: Vec<Term>,
     pub unequal: Vec<Term>,
-    pub choices: Vec<Choice>,
-}
-
-/// Adds a case.
-pub fn add_case(cases: &mut Vec<Case>, case: Case) -> Result<(), AllocError>
-    ensures kept { IfOk result (λ _. (v : Valuation) → IsOneOf v cases.old.items → IsOneOf v cases.new.items) }
-    ensures added { IfOk result (λ _. (v : Valuation) → AreBelow v case.bounds.items → IsOneOf v cases.new.items) }
-{
-    cases.push(case)?;
-    Ok(())
+    pub choices: Vec<Shared<Choice>>,
 }
 
 /// Where the path holds, not all of these terms are at most 0.
@@ -135,7 +125,7 @@ pub fn add_unequal(path: &mut Path, term: Term) -> Result<(), AllocError>
 }
 
 /// Adds that one of the cases is there.
-pub fn add_choice(path: &mut Path, choice: Choice) -> Result<(), AllocError>
+pub fn add_choice(path: &mut Path, choice: Shared<Choice>) -> Result<(), AllocError>
     ensures { IfOk result (λ _. (v : Valuation) → Holds v path.old → HasCase v choice → Holds v path.new) }
 {
     path.choices.push(choice)?;

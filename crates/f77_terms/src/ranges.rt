@@ -2,10 +2,8 @@
 
 ghost use Rattle.std.specs.Prelude.{◌≡◌, ◌≢◌, ◌<◌, ◌+ℤ◌, ◌*ℤ◌, ◌≤ℤ◌, ℤ, pos, true, length, vec_len};
 ghost use Rattle.std.specs.Prelude.{slice_get, Some, IfSome, All};
-ghost use Rattle.f77_terms.specs.Terms.{Valuation, monomial_value, part_value, parts_value, sum_value};
-ghost use Rattle.f77_terms.specs.Bounds.{IsBelow, AreBelow};
-ghost use Rattle.f77_terms.specs.Ranges.{IsIn, AreKnown};
-ghost use Rattle.f77_terms.specs.Paths.{IsUnequal};
+ghost use Rattle.f77_terms.specs.{Valuation, monomial_value, part_value, parts_value, sum_value};
+ghost use Rattle.f77_terms.specs.{IsBelow, AreBelow, IsIn, AreKnown, IsUnequal};
 
 use crate::monomials::Monomial;
 use crate::numbers::ceiling;
@@ -42,14 +40,44 @@ fn multiple_range(range: Range, m: i64) -> Option<Range>
     }
 }
 
+/// No number is in the range.
+pub fn is_empty(range: Range) -> bool
+    ensures { result ≡ true → (x : ℤ) → ¬ (IsIn range x) }
+{
+    range.high < range.low
+}
+
+/// Each number of the first range is in the second.
+pub fn is_within(a: Range, b: Range) -> bool
+    ensures { result ≡ true → (x : ℤ) → IsIn a x → IsIn b x }
+{
+    is_empty(a) || b.low <= a.low && a.high <= b.high
+}
+
 /// The least range that has both.
-fn hull(a: Range, b: Range) -> Range
+pub fn hull(a: Range, b: Range) -> Range
     ensures first { (x : ℤ) → IsIn a x → IsIn result x }
     ensures second { (x : ℤ) → IsIn b x → IsIn result x }
 {
+    if is_empty(a) {
+        return b;
+    }
+    if is_empty(b) {
+        return a;
+    }
     Range {
         low: if a.low < b.low { a.low } else { b.low },
         high: if a.high < b.high { b.high } else { a.high },
+    }
+}
+
+/// The numbers that are in both.
+pub fn common(a: Range, b: Range) -> Range
+    ensures { (x : ℤ) → IsIn a x → IsIn b x → IsIn result x }
+{
+    Range {
+        low: if a.low < b.low { b.low } else { a.low },
+        high: if a.high < b.high { a.high } else { b.high },
     }
 }
 
@@ -268,7 +296,7 @@ pub fn is_void(known: &[Option<Range>]) -> bool
 {
     for atom in 0..known.len() {
         if let Some(range) = atom_range(known, atom) {
-            if range.high < range.low {
+            if is_empty(range) {
                 return true;
             }
         }
@@ -295,7 +323,5 @@ pub fn set_within(known: &mut [Option<Range>], atom: usize, range: Range)
     ensures { (v : Valuation) → AreKnown v known.old → IsIn range (v atom) → AreKnown v known.new }
 {
     let old = atom_range(known, atom).unwrap_or(range);
-    let low = old.low.max(range.low);
-    let high = old.high.min(range.high);
-    set_range(known, atom, Range { low, high });
+    set_range(known, atom, common(old, range));
 }

@@ -1,19 +1,17 @@
 //! Cases of a path: whether one is possible, and how it splits by what is not 0 and by choices.
 
 ghost use Rattle.std.specs.Prelude.{◌≡◌, ◌+ℤ◌, ◌*ℤ◌, ◌≤ℤ◌, pos, true, IfOk, IfSome};
-ghost use Rattle.f77_terms.specs.Terms.{Valuation, sum_value};
-ghost use Rattle.f77_terms.specs.Bounds.{AreBelow};
-ghost use Rattle.f77_terms.specs.Ranges.{AreKnown};
-ghost use Rattle.f77_terms.specs.Paths.{IsUnequal, IsOneOf, HasCase, Holds};
+ghost use Rattle.f77_terms.specs.{Valuation, sum_value, AreBelow, AreKnown, IsUnequal, IsOneOf};
+ghost use Rattle.f77_terms.specs.{HasCase, Holds};
 
 use crate::assignment::Assignment;
 use crate::bounds::{add_bound, joint_bounds};
-use crate::copying::copied_choice;
 use crate::elimination::{Level, are_contradictory};
 use crate::facts::two_cases;
 use crate::paths::{Case, Choice, Path};
 use crate::ranges::{Range, is_exceeded, is_void, narrow_all};
 use crate::terms::Term;
+use f77_tree::Shared;
 use std::alloc::{AllocError, Global};
 
 /// So often each bound narrows the ranges of atoms.
@@ -56,7 +54,7 @@ pub fn side_case(alloc: Global, m: i64, term: &Term) -> Result<Case, AllocError>
 }
 
 /// A term that is not 0 is below it or above it.
-fn sides(alloc: Global, term: &Term) -> Result<Choice, AllocError>
+fn sides(alloc: Global, term: &Term) -> Result<Shared<Choice>, AllocError>
     ensures { IfOk result (λ choice. (v : Valuation) → IsUnequal v term.now → HasCase v choice) }
 {
     let below = side_case(alloc, 1, term)?;
@@ -65,7 +63,7 @@ fn sides(alloc: Global, term: &Term) -> Result<Choice, AllocError>
 }
 
 /// A choice of the path: the sides of what is not 0 come before its choices.
-fn choice_at(alloc: Global, path: &Path, place: usize) -> Result<Option<Choice>, AllocError>
+fn choice_at(alloc: Global, path: &Path, place: usize) -> Result<Option<Shared<Choice>>, AllocError>
     ensures { IfOk result (λ found. IfSome found (λ choice. (v : Valuation) → Holds v path.now → HasCase v choice)) }
 {
     if place < path.unequal.len() {
@@ -73,7 +71,7 @@ fn choice_at(alloc: Global, path: &Path, place: usize) -> Result<Option<Choice>,
     }
     let behind = place - path.unequal.len();
     if behind < path.choices.len() {
-        return Ok(Some(copied_choice(alloc, &path.choices[behind])?));
+        return Ok(Some(path.choices[behind].clone()?));
     }
     Ok(None)
 }

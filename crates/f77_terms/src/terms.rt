@@ -2,8 +2,8 @@
 
 ghost use Rattle.std.specs.Prelude.{◌≡◌, ◌≤◌, ◌<◌, ◌+◌, ◌+ℤ◌, ◌-ℤ◌, ◌*ℤ◌, ℤ, true, length, vec_len};
 ghost use Rattle.std.specs.Prelude.{slice_get, Some, IfOk, IfSome};
-ghost use Rattle.f77_terms.specs.Terms.{Valuation, monomial_value, part_value, parts_value, sum_value};
-ghost use Rattle.f77_terms.specs.Terms.{IsWorth, AddsIfDone};
+ghost use Rattle.f77_terms.specs.{Valuation, monomial_value, part_value, parts_value, sum_value};
+ghost use Rattle.f77_terms.specs.{IsWorth, AddsIfDone};
 
 use crate::monomials::{Monomial, monomial_product};
 use std::alloc::{AllocError, Global};
@@ -37,11 +37,8 @@ pub fn constant_term(alloc: Global, constant: i64) -> Term
 pub fn monomial_term(alloc: Global, monomial: Monomial) -> Result<Term, AllocError>
     ensures { IfOk result (λ term. (v : Valuation) → sum_value v term ≡ monomial_value v monomial) }
 {
-    let mut parts = Vec::new(alloc);
-    parts.push(Part {
-        factor: 1,
-        monomial,
-    })?;
+    let factor = 1;
+    let parts = vec![in alloc; Part { factor, monomial }]?;
     Ok(Term { constant: 0, parts })
 }
 

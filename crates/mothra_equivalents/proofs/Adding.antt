@@ -1,13 +1,9 @@
 -- Mutants are added at the end of a list.
-use Rattle.std.proofs.Common.{arith, ◌≡◌, ◌+◌, ◌++◌, ℕ, inl, inr, refl, sym, List, [], ◌∷◌, get_or, subst}
+use Rattle.mothra_equivalents.proofs.Common.{arith, ◌≡◌, ◌+◌, ◌++◌, ℕ, inl, inr, refl, sym, List, [], ◌∷◌, get_or, subst, Before, ticket, Ticket, PlanFields}
+use Rattle.mothra_equivalents.proofs.Common.{AreOf, IsUpTo, IsNamed}
 use Rattle.std.proofs.lemmas.List.Elements.{All-push, All-weaker}
 use Rattle.std.proofs.lemmas.List.Quantifiers.{all_pairs_push}
 use Rattle.mothra_codes.specs.declared.op.Op.{Op}
-use Rattle.mothra_codes.specs.Ticket.{Before, ticket}
-use Rattle.mothra_codes.specs.declared.ticket.Ticket.{Ticket}
-use Rattle.mothra_ops.specs.Plan.{PlanFields}
-use Rattle.mothra_equivalents.specs.code.Equivalents.{AreOf, IsUpTo}
-use Rattle.mothra_equivalents.specs.Equivalents.{IsNamed}
 use Rattle.mothra_equivalents.specs.declared.equivalents.Equivalent.{Equivalent}
 
 -- a ticket before a number of an operator is before the next number

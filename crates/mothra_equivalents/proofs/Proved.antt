@@ -1,17 +1,12 @@
 -- What is proved of the mutant of a ticket.
-use Rattle.std.proofs.Common.{◌≡◌, ℕ, None, Option, Some, Result, map, subst, sym}
-use Rattle.std.specs.Prelude.{IfOk, IfSome}
+use Rattle.mothra_equivalents.proofs.Common.{◌≡◌, ℕ, None, Option, Some, Result, map, subst, sym, IfOk, IfSome, Statement, statement_of, Ticket, mutant_fields}
+use Rattle.mothra_equivalents.proofs.Common.{mutant_of, program_of, PlanFields, IsProved, IsProvedMutant}
 use Rattle.std.proofs.lemmas.Result.{IfOk-weaker}
 use Rattle.f77_check.specs.Checked.{CheckedFields}
 use Rattle.f77_equivalence.specs.Equivalent.{IsEquivalent, IsEquivalentWithin}
 use Rattle.f77_program.specs.Patching.{patched}
 use Rattle.f77_program.specs.Program.{line_of}
-use Rattle.f77_tree.specs.Statement.{Statement, statement_of}
-use Rattle.mothra_codes.specs.declared.ticket.Ticket.{Ticket}
-use Rattle.mothra_ops.specs.Mutants.{mutant_fields, mutant_of, program_of}
-use Rattle.mothra_ops.specs.Plan.{PlanFields}
 use Rattle.mothra_ops.specs.declared.mutant.Mutant.{Mutant}
-use Rattle.mothra_equivalents.specs.Equivalents.{IsProved, IsProvedMutant}
 
 abbrev IsOf : PlanFields → Mutant → ℕ → Type 0
 IsOf plan m spare = IsProved spare (program_of plan) (patched (program_of plan) m.edit.statement (statement_of m.stmt.value))

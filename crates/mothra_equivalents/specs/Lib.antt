@@ -1,2 +1,3 @@
 pub mod Equivalents
 pub mod code
+pub use Equivalents.*

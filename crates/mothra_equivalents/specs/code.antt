@@ -1,1 +1,2 @@
 pub mod Equivalents
+pub use Equivalents.*

@@ -2,12 +2,11 @@
 
 ghost use Rattle.std.specs.Prelude.{◌≡◌, ◌+◌, IfOk, OnOk};
 ghost use Rattle.mothra_codes.specs.Op.{index};
-ghost use Rattle.mothra_equivalents.specs.Equivalents.{AreEquivalents};
-ghost use Rattle.mothra_equivalents.specs.code.Equivalents.{AreOf, IsUpTo};
+ghost use Rattle.mothra_equivalents.specs.{AreEquivalents};
+ghost use Rattle.mothra_equivalents.specs.code.{AreOf, IsUpTo};
 
-use crate::left::{Left, add_left};
 use crate::prover::Prover;
-use crate::suggestions::{Search, Suggestion, add_suggestions, rows_for};
+use crate::unproved::{Search, Unproved, add_unproved, rows_for};
 use indexmap::IndexSet;
 use mothra_codes::{Op, Ticket};
 use mothra_ops::Plan;
@@ -30,24 +29,14 @@ pub struct Found {
     pub list: Vec<Equivalent>,
     /// For so many others the bound on work was met before anything was told of them.
     pub unfinished: u64,
-    pub others: Others,
+    /// What is told of others, by operator, then number; nothing where no tests are looked for.
+    pub others: Vec<Unproved>,
 }
 
-/// What was found of mutants that are not proved equivalent, where tests are looked for; both by operator, then number.
-#[derive(Drop)]
-pub struct Others {
-    /// Tests that kill them.
-    pub suggestions: Vec<Suggestion>,
-    /// Where their proofs were given up.
-    pub left: Vec<Left>,
-}
-
-/// Adds the operator's mutant with this number to the list, if it is proved equivalent; else tests that kill it, and
-/// where its proof was given up. Nothing is asked of a killed one.
+/// Adds what is found of the operator's mutant with this number. Nothing is asked of a killed one.
 fn add(
     alloc: Global,
-    list: &mut Vec<Equivalent>,
-    others: &mut Others,
+    found: &mut Found,
     search: Search,
     prover: &mut Prover<'_>,
     killed: &IndexSet<Ticket>,
@@ -55,7 +44,7 @@ fn add(
     number: u32,
 ) -> Result<(), AllocError>
     ensures front { OnOk result
-        (IsUpTo prover.old op number list.old.items → IsUpTo prover.old op (number + 1) list.new.items) }
+        (IsUpTo prover.old op number found.old.list.items → IsUpTo prover.old op (number + 1) found.new.list.items) }
     ensures plan { prover.new ≡ prover.old }
 {
     let ticket = Ticket { op, number };
@@ -63,28 +52,26 @@ fn add(
         return Ok(());
     }
     if let Some(spare) = prover.spare(alloc, ticket)? {
-        list.push(Equivalent { ticket, spare })?;
+        found.list.push(Equivalent { ticket, spare })?;
         return Ok(());
     }
-    add_suggestions(
-        alloc,
-        prover.plan(),
-        ticket,
-        prover.rows(),
-        search,
-        &mut others.suggestions,
-    )?;
     if search.most > 0 {
-        add_left(prover.plan(), ticket, prover.gap(), &mut others.left)?;
+        add_unproved(
+            alloc,
+            prover.plan(),
+            ticket,
+            prover.rows(),
+            search,
+            &mut found.others,
+        )?;
     }
     Ok(())
 }
 
-/// Adds the mutants of the operator that are proved equivalent to the list; `count` is how many mutants it has.
+/// Adds what is found of the mutants of the operator; `count` is how many it has.
 fn add_operator(
     alloc: Global,
-    list: &mut Vec<Equivalent>,
-    others: &mut Others,
+    found: &mut Found,
     search: Search,
     prover: &mut Prover<'_>,
     killed: &IndexSet<Ticket>,
@@ -92,11 +79,11 @@ fn add_operator(
     count: u32,
 ) -> Result<(), AllocError>
     ensures front { OnOk result
-        (AreOf prover.old (index op) list.old.items → AreOf prover.old (index op + 1) list.new.items) }
+        (AreOf prover.old (index op) found.old.list.items → AreOf prover.old (index op + 1) found.new.list.items) }
     ensures plan { prover.new ≡ prover.old }
 {
     for before in 0..count {
-        add(alloc, list, others, search, prover, killed, op, before + 1)?;
+        add(alloc, found, search, prover, killed, op, before + 1)?;
     }
     Ok(())
 }
@@ -121,28 +108,16 @@ pub fn equivalents_of(
 ) -> Result<Found, AllocError>
     ensures equivalents { IfOk result (λ found. AreEquivalents plan.now found.list.items) }
 {
-    let mut list = Vec::new(alloc);
-    let mut others = Others {
-        suggestions: Vec::new(alloc),
-        left: Vec::new(alloc),
+    let mut found = Found {
+        list: Vec::new(alloc),
+        unfinished: 0,
+        others: Vec::new(alloc),
     };
     let mut prover = Prover::of(alloc, plan, asked_of(plan, killed), rows_for(search))?;
     for op in Op::ALL {
         let count = plan.count(op);
-        add_operator(
-            alloc,
-            &mut list,
-            &mut others,
-            search,
-            &mut prover,
-            killed,
-            op,
-            count,
-        )?;
+        add_operator(alloc, &mut found, search, &mut prover, killed, op, count)?;
     }
-    Ok(Found {
-        list,
-        unfinished: prover.unfinished(),
-        others,
-    })
+    found.unfinished = prover.unfinished();
+    Ok(found)
 }

@@ -2,10 +2,8 @@
 #![tactic(auto)]
 
 mod equivalents;
-mod left;
 mod prover;
-mod suggestions;
+mod unproved;
 
-pub use equivalents::{Equivalent, Found, Others, equivalents_of};
-pub use left::Left;
-pub use suggestions::{Search, Suggestion};
+pub use equivalents::{Equivalent, Found, equivalents_of};
+pub use unproved::{Left, Search, Unproved};

@@ -7,12 +7,11 @@ ghost use Rattle.f77_check.specs.Patching.{IsInPlace};
 ghost use Rattle.mothra_ops.specs.Edits.{IsMutant};
 ghost use Rattle.mothra_ops.specs.Made.{IsMadeMutant};
 ghost use Rattle.mothra_ops.specs.Mutants.{program_of};
-ghost use Rattle.mothra_equivalents.specs.Equivalents.{IsProved, IsProvedMutant};
+ghost use Rattle.mothra_equivalents.specs.{IsProved, IsProvedMutant};
 
 use f77_check::Resolved;
 use f77_finder::finding::entries_of;
 use f77_symbolic::equivalent::Tours;
-use f77_symbolic::gap::Gap;
 use f77_symbolic::rows::Rows;
 use f77_tree::{Shared, Stmt};
 use mothra_codes::Ticket;
@@ -48,7 +47,7 @@ pub(crate) struct Prover<'a> {
     left: u64,
     /// For so many mutants the work did not do.
     unfinished: u64,
-    /// What may kill the mutant that was asked about last.
+    /// What the proof left of the mutant that was asked about last.
     rows: Rows,
 }
 
@@ -126,14 +125,9 @@ impl<'a> Prover<'a> {
         self.plan
     }
 
-    /// Rows that may kill the mutant that was asked about last.
-    pub(crate) fn rows(&self) -> &[Vec<i64>] {
-        &self.rows.list
-    }
-
-    /// Where the walk for the mutant that was asked about last was given up.
-    pub(crate) fn gap(&self) -> Option<Gap> {
-        self.rows.gap
+    /// What the proof left of the mutant that was asked about last.
+    pub(crate) fn rows(&self) -> &Rows {
+        &self.rows
     }
 
     /// How many steps are to be spared for the mutant with this statement, if it is equivalent then. `resolved` is the

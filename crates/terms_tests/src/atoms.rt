@@ -1,7 +1,7 @@
 //! Atoms, and what is known of them.
 
 use crate::made::made;
-use f77_terms::atoms::{Key, interned, new_table};
+use f77_terms::atoms::{Function, Key, interned, new_table};
 use f77_terms::knowing::{know_division, know_minimum};
 use f77_terms::monomials::Monomial;
 use f77_terms::paths::{add_below, add_range, is_below, new_path};
@@ -13,16 +13,28 @@ use std::test::Fail;
 fn makes_an_atom_once(rt: HostRuntime) -> Result<(), Fail> {
     let alloc = rt.alloc();
     let mut table = new_table(alloc);
-    assert_eq!(rt; interned(&mut table, Key::Slot(7))?, Some(0));
-    let half = Key::Quotient(atom_term(alloc, 0)?, constant_term(alloc, 2));
-    assert_eq!(rt; interned(&mut table, half)?, Some(1));
-    assert_eq!(rt; interned(&mut table, Key::Slot(7))?, Some(0));
-    let half = Key::Quotient(atom_term(alloc, 0)?, constant_term(alloc, 2));
-    assert_eq!(rt; interned(&mut table, half)?, Some(1));
-    let rest = Key::Remainder(atom_term(alloc, 0)?, constant_term(alloc, 2));
-    assert_eq!(rt; interned(&mut table, rest)?, Some(2));
+    assert_eq!(rt; interned(alloc, &mut table, Key::Slot(7))?, Some(0));
+    let half = Key::Function(
+        Function::Quotient,
+        atom_term(alloc, 0)?,
+        constant_term(alloc, 2),
+    );
+    assert_eq!(rt; interned(alloc, &mut table, half)?, Some(1));
+    assert_eq!(rt; interned(alloc, &mut table, Key::Slot(7))?, Some(0));
+    let half = Key::Function(
+        Function::Quotient,
+        atom_term(alloc, 0)?,
+        constant_term(alloc, 2),
+    );
+    assert_eq!(rt; interned(alloc, &mut table, half)?, Some(1));
+    let rest = Key::Function(
+        Function::Remainder,
+        atom_term(alloc, 0)?,
+        constant_term(alloc, 2),
+    );
+    assert_eq!(rt; interned(alloc, &mut table, rest)?, Some(2));
     let later = Key::Element(3, atom_term(alloc, 9)?);
-    assert_eq!(rt; interned(&mut table, later)?, None);
+    assert_eq!(rt; interned(alloc, &mut table, later)?, None);
     Ok(())
 }
 

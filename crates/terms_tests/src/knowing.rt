@@ -3,8 +3,7 @@
 use crate::made::{X, Y, made};
 use f77_terms::copying::copied_path;
 use f77_terms::knowing::{
-    constant_of, is_bounded, is_plainly_bounded, know_division, know_maximum, know_minimum,
-    know_unequal,
+    constant_of, is_bounded, is_plainly_bounded, know_division, know_minimum, know_unequal,
 };
 use f77_terms::monomials::Monomial;
 use f77_terms::paths::{
@@ -95,20 +94,6 @@ fn settles_what_is_unequal(rt: HostRuntime) -> Result<(), Fail> {
 }
 
 #[test]
-fn knows_maxima(rt: HostRuntime) -> Result<(), Fail> {
-    let alloc = rt.alloc();
-    let mut path = ordered(alloc)?;
-    let x = atom_term(alloc, 0)?;
-    let y = atom_term(alloc, 1)?;
-    know_maximum(alloc, &mut path, &x, &y, 2)?;
-    let most = made(alloc, -4, &[(1, Monomial::One(2))])?;
-    assert!(rt; is_below(alloc, &path, &most)?);
-    let less = made(alloc, -3, &[(1, Monomial::One(2))])?;
-    assert!(rt; !is_below(alloc, &path, &less)?);
-    Ok(())
-}
-
-#[test]
 fn knows_what_is_unequal_once(rt: HostRuntime) -> Result<(), Fail> {
     let alloc = rt.alloc();
     let mut path = new_path(alloc);
@@ -132,8 +117,5 @@ fn knows_divisions_once(rt: HostRuntime) -> Result<(), Fail> {
     know_minimum(alloc, &mut path, &x, &y, 4)?;
     know_minimum(alloc, &mut path, &x, &y, 4)?;
     assert_eq!(rt; path.choices.len(), 3);
-    know_maximum(alloc, &mut path, &x, &y, 5)?;
-    know_maximum(alloc, &mut path, &x, &y, 5)?;
-    assert_eq!(rt; path.choices.len(), 4);
     Ok(())
 }

@@ -8,6 +8,7 @@ use f77_terms::paths::{
 };
 use f77_terms::ranges::Range;
 use f77_terms::terms::{Term, is_same_term, product, sum};
+use f77_tree::Shared;
 use std::alloc::{AllocError, Global};
 use std::test::Fail;
 
@@ -87,14 +88,12 @@ fn refutes_what_is_unequal(rt: HostRuntime) -> Result<(), Fail> {
 fn refutes_choices(rt: HostRuntime) -> Result<(), Fail> {
     let alloc = rt.alloc();
     let mut path = new_path(alloc);
-    let mut low = Vec::new(alloc);
-    low.push(made(alloc, 5, &[(1, X)])?)?;
-    let mut high = Vec::new(alloc);
-    high.push(made(alloc, 5, &[(-1, X)])?)?;
-    let mut cases = Vec::new(alloc);
-    cases.push(Case { bounds: low })?;
-    cases.push(Case { bounds: high })?;
-    add_choice(&mut path, Choice { cases })?;
+    let bounds = vec![in alloc; made(alloc, 5, &[(1, X)])?]?;
+    let low = Case { bounds };
+    let bounds = vec![in alloc; made(alloc, 5, &[(-1, X)])?]?;
+    let high = Case { bounds };
+    let cases = vec![in alloc; low, high]?;
+    add_choice(&mut path, Shared::new(alloc, Choice { cases })?)?;
     let least = made(alloc, -4, &[(-1, X)])?;
     let most = made(alloc, -4, &[(1, X)])?;
     assert!(rt; refuted(alloc, &path, &[least, most])?);

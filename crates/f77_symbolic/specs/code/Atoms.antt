@@ -6,5 +6,5 @@ use Rattle.f77_symbolic.specs.Memory.{Start}
 use Rattle.f77_symbolic.specs.Atoms.{Interprets}
 
 -- what interprets the new atoms interprets the old ones
-abbrev pub Extends : Atoms → Atoms → Type 0
-Extends old new = (start : Start) (v : Valuation) → Interprets new start v → Interprets old start v
+pub record Extends (old new : Atoms) : Type 0 where
+  pub back : (start : Start) (v : Valuation) → Interprets new start v → Interprets old start v

@@ -5,6 +5,7 @@ use Rattle.std.specs.Prelude.{Bool, true, false, List, Option, Some, None, Resul
 use Rattle.std.specs.declared.cmp.Ordering.{Ordering}
 use Rattle.std.specs.declared.cmp.Ordering.TheVariants.{Less, Equal, Greater}
 use Rattle.f77_actions.specs.declared.finish.Fault.{Fault}
+use Rattle.f77_actions.specs.declared.value.Value.{Value}
 use Rattle.f77_code.specs.Evaluation.{held_in}
 use Rattle.f77_code.specs.Moves.{Cells}
 use Rattle.f77_terms.specs.Paths.{Holds}
@@ -19,7 +20,6 @@ use Rattle.f77_symbolic.specs.declared.memory.Symbolic.{Symbolic}
 use Rattle.f77_symbolic.specs.declared.memory.Write.{Write}
 use Rattle.f77_symbolic.specs.Atoms.{Interprets}
 use Rattle.f77_symbolic.specs.Memory.{AreInside, IsInside, Start, cells_of, slot_of, content_of}
-use Rattle.f77_symbolic.specs.code.Memory.{IsLackingFor}
 
 -- the new path holds, and the evaluator is of the same program
 pub record StaysOn (v : Valuation) (old new : Evaluator) : Type 0 where
@@ -65,13 +65,20 @@ abbrev pub YieldsSlot : Evaluator → Evaluator → List Write → Location → 
 YieldsSlot old new writes location meaning =
     Yields old new writes meaning (λ v k. IsInside v location × (slot_of v location ≡ k))
 
--- the slot of the location holds this value behind these writes, or it holds none of its kind and the program itself
--- reads it
+-- what is read is this value, or there is none and the program itself reads it
+abbrev pub ReadsCell : Valuation → Evaluator → Evaluator → Option Value → Symbolic → Type 0
+ReadsCell v old new cell value = (StaysOn v old new × (cell ≡ content_of v value)) ⊎ ((old.own ≡ true) × (cell ≡ None))
+
+-- the slot of the location is read behind these writes
 abbrev pub ReadsSlot : Evaluator → Evaluator → List Write → Location → Symbolic → Type 0
 ReadsSlot old new writes location value =
     Always old new (λ start v. AreInside v writes → IsInside v location
-    → (StaysOn v old new × (held_in (cells_of start.cells v writes) (slot_of v location) ≡ content_of v value))
-    ⊎ ((old.own ≡ true) × IsLackingFor value (held_in (cells_of start.cells v writes) (slot_of v location))))
+    → ReadsCell v old new (held_in (cells_of start.cells v writes) (slot_of v location)) value)
+
+-- the new path holds where there is a value, and where there is none it is the program itself
+abbrev pub GoesOnIfHeld : Valuation → Evaluator → Evaluator → Option Value → Type 0
+GoesOnIfHeld v old new (Some value) = StaysOn v old new
+GoesOnIfHeld v old new None = old.own ≡ true
 
 -- Where the claim is true the new path holds. Where it is not the program faults, and it is the program itself.
 abbrev pub Expects : Evaluator → Evaluator → (Valuation → Type 0) → Type 0

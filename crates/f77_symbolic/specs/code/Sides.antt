@@ -18,17 +18,21 @@ use Rattle.f77_symbolic.specs.Atoms.{Interprets}
 use Rattle.f77_symbolic.specs.Memory.{AreInside, Start, cells_of}
 use Rattle.f77_symbolic.specs.Sides.{turn_of, turns_of, state_of}
 
+-- a run ends so where this is the step
+abbrev pub IsEndOf : Step → Finish → Type 0
+IsEndOf step.Returns finish = finish ≡ Returned
+IsEndOf step.Stops finish = finish ≡ Stopped
+IsEndOf _ finish = ⊥
+
 -- The move leads to the state of the side behind it, or it is the end that is said.
 -- Only the program's own faults are left out.
 abbrev pub Stepped : Cells → Valuation → Bool → Path → Side → Side → Step → Option Move → Type 0
-Stepped start v own path before after _ (Some (Ends (Failed fault) cells)) = own ≡ true
-Stepped start v own path before after step.Moves (Some (Goes s)) =
-    Holds v path × AreInside v after.writes.items × (s ≡ state_of start v after)
-Stepped start v own path before after step.Returns (Some (Ends Returned cells)) =
-    Holds v path × (cells ≡ cells_of start v before.writes.items)
-Stepped start v own path before after step.Stops (Some (Ends Stopped cells)) =
-    Holds v path × (cells ≡ cells_of start v before.writes.items)
-Stepped start v own path before after _ move = ⊥
+Stepped start v own path before after made None = ⊥
+Stepped start v own path before after made (Some (Goes s)) = (made ≡ step.Moves) × Holds v path
+    × AreInside v after.writes.items × (s ≡ state_of start v after)
+Stepped start v own path before after made (Some (Ends (Failed fault) cells)) = own ≡ true
+Stepped start v own path before after made (Some (Ends finish cells)) =
+    IsEndOf made finish × Holds v path × (cells ≡ cells_of start v before.writes.items)
 
 -- so it is from this path on, whatever the atoms mean
 abbrev pub StepsFrom : Path → Bool → Evaluator → Side → Side → Step
@@ -48,12 +52,6 @@ abbrev pub Acts : Evaluator → Evaluator → Side → Side → Step → Resolve
 Acts old new before after step resolved action =
     (statements : List Resolved) (i : ℕ)
     → AlwaysSteps old new before after step (λ v cells turns. Some (acted statements i resolved action cells turns))
-
--- a run ends so where this is the step
-abbrev pub IsEndOf : Step → Finish → Type 0
-IsEndOf step.Returns Returned = Unit {0}
-IsEndOf step.Stops Stopped = Unit {0}
-IsEndOf _ _ = ⊥
 
 -- the step is a move, from the states of one side to those of the other, and nothing is written
 pub record GoesTo (v : Valuation) (before after : Side) (made : Step) (move : Cells → TurnList → Move) : Type 0 where

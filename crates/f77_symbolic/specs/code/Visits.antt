@@ -1,9 +1,7 @@
 -- What the walk of the program alone comes to.
 -- Private functions and proofs alone cite what stands here.
-use Rattle.std.specs.Prelude.{◌≡◌, ◌⊎◌, ◌<◌, ◌++◌, ◌∷◌, []}
-use Rattle.std.specs.Prelude.{ℕ, pos, Bool, true, false, All, Any, List, Option, Some}
+use Rattle.std.specs.Prelude.{◌≡◌, ◌<◌, ◌≤ℤ◌, ℕ, ℤ, pos, true, false, All, Contains, List, Option, Some}
 use Rattle.std.specs.Prelude.{length, option_map}
-use Rattle.std.specs.List.{list_any}
 use Rattle.f77_actions.specs.declared.resolved.Resolved.{Resolved}
 use Rattle.f77_code.specs.declared.control.Place.{Place}
 use Rattle.f77_code.specs.Moves.{State, TurnList, Goes, moved, turn_at}
@@ -19,48 +17,51 @@ use Rattle.f77_symbolic.specs.declared.evaluator.Atoms.{Atoms}
 use Rattle.f77_symbolic.specs.declared.evaluator.Evaluator.{Evaluator}
 use Rattle.f77_symbolic.specs.declared.sides.Side.{Side}
 use Rattle.f77_symbolic.specs.declared.sides.SymbolicTurn.{SymbolicTurn}
-use Rattle.f77_symbolic.specs.declared.halt.Split.{Split}
 use Rattle.f77_symbolic.specs.declared.walking.Pair.{Pair}
+use Rattle.f77_symbolic.specs.declared.sides.Step.{Step}
+use Rattle.f77_symbolic.specs.declared.sides.Step.TheVariants as step
 use Rattle.f77_symbolic.specs.declared.visiting.Visit.{Visit}
+use Rattle.f77_symbolic.specs.declared.visiting.Visits.{Visits}
+use Rattle.f77_symbolic.specs.declared.visiting.Walk.{Walk}
 use Rattle.f77_symbolic.specs.declared.change.Change.{Change}
 use Rattle.f77_symbolic.specs.Machines.{IsAtSite, IsFirst, machine, together}
 use Rattle.f77_symbolic.specs.Walk.{FollowsByKeys, IsReachable}
 use Rattle.f77_symbolic.specs.Atoms.{Interprets}
 use Rattle.f77_symbolic.specs.Memory.{AreInside, Start}
-use Rattle.f77_symbolic.specs.code.Evaluation.{Always, IsOnWay, StaysOn}
-use Rattle.f77_symbolic.specs.code.Pairs.{IsReady}
+use Rattle.f77_symbolic.specs.code.Evaluation.{Always, StaysOn}
+use Rattle.f77_symbolic.specs.code.Pairs.{IsReady, IsSettled}
 use Rattle.f77_symbolic.specs.Sides.{state_of, turn_of}
-use Rattle.f77_symbolic.specs.Visits.{LeadsTo, IsVisit, IsVisitNoted, AreTurnNumbers, IsOfEntry}
-use Rattle.f77_symbolic.specs.Visits.{is_cut_in, is_same_place}
-
--- steps lead to the state from the state of a visit
-pub record IsBehind (statements : List Resolved) (places : List Place) (start : Start) (v : Valuation) (s : State)
-    (visit : Visit) : Type 0 where
-  pub from : State
-  pub visits : IsVisit start v from visit
-  pub steps : ℕ
-  pub leads : LeadsTo statements places steps from s
-
--- steps lead from the state of a visit to one that is followed by this state, which is at a cut
-pub record IsAhead (statements : List Resolved) (places : List Place) (start : Start) (v : Valuation) (t : State)
-    (visit : Visit) : Type 0 where
-  pub last : State
-  pub behind : IsBehind statements places start v last visit
-  pub goes : moved statements last ≡ Some (Goes t)
-  pub cut : is_cut_in places t ≡ true
+use Rattle.f77_symbolic.specs.Visits.{AreTurnNumbers, AreVisits, IsOfEntry, IsVisit, IsVisitNoted}
+use Rattle.f77_symbolic.specs.Visits.{LeadsTo, is_cut_in}
 
 -- what is known of the state is among the arrivals
 abbrev pub IsMet : List Entry → State → Type 0
-IsMet arrivals t = IsAmong arrivals t.place t.cells t.turns
+IsMet arrivals s = IsAmong arrivals s.place s.cells s.turns
 
--- it is found, or a visit that is still to come leads there
-abbrev pub IsFoundOrAhead : Type 0 → (Visit → Type 0) → List Visit → Type 0
-IsFoundOrAhead There Leads todo = There ⊎ Any Leads todo
+-- all to which steps lead from the state is noted, and what is known at cuts then is among the arrivals
+abbrev pub IsExplored : List Resolved → List Place → Walk → Start → Valuation → State → Type 0
+IsExplored statements places whole start v s = (n : ℕ) (t : State) → LeadsTo statements places n s t
+    → IsVisitNoted whole.list.items start v t
+    × ((u : State) → moved statements t ≡ Some (Goes u) → is_cut_in places u ≡ true
+    → IsMet whole.arrivals.items u)
 
--- it is found still to which the visit or one that was to come leads, or that was found
-abbrev pub StaysFound : (Visit → Type 0) → Visit → List Visit → List Visit → Type 0 → Type 0 → Type 0
-StaysFound Leads visit old new Before After =
-    (Leads visit → IsFoundOrAhead After Leads new) × (IsFoundOrAhead Before Leads old → IsFoundOrAhead After Leads new)
+-- so it is from each state of the visit
+abbrev pub AreExplored : List Resolved → List Place → Walk → Start → Valuation → Visit → Type 0
+AreExplored statements places whole start v visit =
+    (s : State) → IsVisit start v s visit → IsExplored statements places whole start v s
+
+-- what is known of the state is among the arrivals, if it is at a cut, and else all is explored from there
+abbrev pub IsMetOrExplored : List Resolved → List Place → Walk → Start → Valuation → State → Type 0
+IsMetOrExplored statements places whole start v s =
+    (is_cut_in places s ≡ true → IsMet whole.arrivals.items s)
+    × (is_cut_in places s ≡ false → IsExplored statements places whole start v s)
+
+-- what the walk noted and met is in the whole walk, and there all is explored from the visits to come
+pub record IsPartOf (statements : List Resolved) (places : List Place) (whole : Walk) (start : Start)
+    (v : Valuation) (walk : Walk) : Type 0 where
+  pub todo : All (AreExplored statements places whole start v) walk.todo.items
+  pub list : All (Contains whole.list.items) walk.list.items
+  pub arrivals : All (Contains whole.arrivals.items) walk.arrivals.items
 
 -- where the turn of a DO suits what is known, the symbolic turn stands for it, and the new path holds
 abbrev pub StandsForTurn : Evaluator → Evaluator → ℕ → ℕ → LoopFact → Option SymbolicTurn → Type 0
@@ -80,59 +81,61 @@ IsFirstVisit old new count place loops visit =
 abbrev pub Whichever : Atoms → (Start → Valuation → Type 0) → Type 0
 Whichever atoms Claim = (start : Start) (v : Valuation) → Interprets atoms start v → Claim start v
 
--- the visit is added on one of two ways
-abbrev pub IsAdded : Visit → Split → Bool → List Visit → List Visit → Type 0
-IsAdded visit split way old new = (on : Visit) × (new ≡ old ++ (on ∷ [])) × ((v : Valuation) → Holds v visit.path
-    → IsOnWay v split way → Holds v on.path) × (on.side ≡ visit.side)
+-- Where the new walk is part of a whole one, so is the old one. And where a step is made to the side, and the path of
+-- the evaluator holds, the state there is met or explored.
+abbrev pub Arrives : List Resolved → List Place → Evaluator → Step → Side → Walk → Walk → Type 0
+Arrives statements places evaluator made side old new = Whichever evaluator.atoms (λ start v. (whole : Walk)
+    → IsPartOf statements places whole start v new → IsPartOf statements places whole start v old
+    × (made ≡ step.Moves → Holds v evaluator.path → AreInside v side.writes.items
+    → IsMetOrExplored statements places whole start v (state_of start.cells v side)))
 
--- the entry says what is known of the states of the side, where the path of the evaluator holds
-abbrev pub IsKnownAs : Evaluator → Side → Entry → Type 0
-IsKnownAs evaluator side entry = (start : Start) (v : Valuation) → Interprets evaluator.atoms start v
-    → Holds v evaluator.path → AreInside v side.writes.items → IsOfEntry entry (state_of start.cells v side)
+-- where the new walk is part of a whole one, so is the old one, and all is explored from this visit
+abbrev pub GivesWayAlone : Atoms → List Resolved → List Place → Walk → Walk → Visit → Type 0
+GivesWayAlone atoms statements places old new visit = Whichever atoms (λ start v. (whole : Walk)
+    → IsPartOf statements places whole start v new
+    → IsPartOf statements places whole start v old × AreExplored statements places whole start v visit)
 
--- at a cut what is known of the side is added to the arrivals, and elsewhere a visit of it is to come
-abbrev pub Arrives : List Place → Evaluator → Side → List Visit → List Visit → List Entry → List Entry → Type 0
-Arrives places evaluator side old new arrivals later =
-    ((list_any (λ other. is_same_place other side.place) places ≡ true) × (new ≡ old)
-    × (entry : Entry) × IsKnownAs evaluator side entry × (later ≡ arrivals ++ (entry ∷ [])))
-    ⊎ ((list_any (λ other. is_same_place other side.place) places ≡ false) × (later ≡ arrivals)
-    × (new ≡ old ++ (record { path = evaluator.path; side = side } ∷ [])))
+-- from the state on the changed program follows the program
+abbrev pub FollowsAt : ℕ → CheckedFields → Change → State → Type 0
+FollowsAt spare checked change s = FollowsByKeys (together checked change.statements.items spare) true spare s s
 
--- when the visit has given way to others, what was to be noted and what was to be met stays found
-abbrev pub GivesWayAlone : Atoms → List Resolved → List Place → Visit → List Visit → List Visit
-    → List Visit → List Visit → List Entry → List Entry → Type 0
-GivesWayAlone atoms statements places visit old new noted after arrivals later = Whichever atoms (λ start v. (s : State)
-    → StaysFound (IsBehind statements places start v s) visit old new
-    (IsVisitNoted noted start v s) (IsVisitNoted after start v s)
-    × StaysFound (IsAhead statements places start v s) visit old new (IsMet arrivals s) (IsMet later s))
+-- so it does from each state of a visit to the statement
+abbrev pub FollowsVisit : ℕ → CheckedFields → Change → Start → Valuation → ℕ → Visit → Type 0
+FollowsVisit spare checked change start v place visit = site visit.side.place ≡ place
+    → (s : State) → IsVisit start v s visit → FollowsAt spare checked change s
 
--- all to which steps lead from the visit is noted, and what is known at cuts then is among the arrivals
-abbrev pub WalksOn : Atoms → List Resolved → List Place → Visit → List Visit → List Entry → Type 0
-WalksOn atoms statements places first noted arrivals = Whichever atoms (λ start v. (s : State)
-    → (IsBehind statements places start v s first → IsVisitNoted noted start v s)
-    × (IsAhead statements places start v s first → IsMet arrivals s))
+-- where the pair is settled, so it does from the visit
+abbrev pub IsPairOf : Visit → Pair → Type 0
+IsPairOf visit pair =
+    (spare : ℕ) (checked : CheckedFields) (change : Change) (start : Start) (v : Valuation) (place : ℕ)
+    → IsSettled spare checked change start v pair → FollowsVisit spare checked change start v place visit
 
--- the pair in which both programs are where the visit is
-pub record IsPairOf (visit : Visit) (pair : Pair) : Type 0 where
-  pub path : (v : Valuation) → Holds v visit.path → Holds v pair.path
-  pub left : pair.left ≡ visit.side
-  pub right : pair.right ≡ visit.side
-  pub credit : pair.credit ≡ pos 0
-  pub fresh : pair.fresh ≡ true
-
--- there is a pair of each visit to the statement
+-- where the pairs are settled, so it does from the visits
 abbrev pub HavePairs : ℕ → List Pair → List Visit → Type 0
-HavePairs place pairs visits = All (λ visit. site visit.side.place ≡ place → Any (IsPairOf visit) pairs) visits
+HavePairs place pairs visits =
+    (spare : ℕ) (checked : CheckedFields) (change : Change) (start : Start) (v : Valuation)
+    → All (IsSettled spare checked change start v) pairs
+    → All (FollowsVisit spare checked change start v place) visits
 
--- the changed program follows the program from each state of the entry's walk that is at the changed statement
+-- from each state of the entry's walk that is at the changed statement
 abbrev pub FollowsFrom : CheckedFields → List Place → Entry → Change → ℕ → Type 0
 FollowsFrom checked places entry change spare = (first s : State) (n : ℕ)
     → IsReady checked change → IsOfEntry entry first → LeadsTo checked.statements places n first s
-    → site s.place ≡ change.place
-    → FollowsByKeys (together checked change.statements.items spare) true spare s s
+    → site s.place ≡ change.place → FollowsAt spare checked change s
 
--- it follows wherever the program comes to the changed statement
+-- by so many steps at most the changed program is behind on the walk of these visits
+abbrev pub IsBehindBy : Change → ℤ → Visits → Type 0
+IsBehindBy change behind visits =
+    (spare : ℕ) (checked : CheckedFields) (places : List Place) (entry : Entry) → behind ≤ℤ pos spare
+    → AreVisits checked.statements places entry visits → FollowsFrom checked places entry change spare
+
+-- wherever the program comes to the changed statement
 abbrev pub FollowsThere : CheckedFields → Change → ℕ → Type 0
 FollowsThere checked change spare = (s : State) → IsReady checked change
     → IsReachable (machine checked.statements) (IsFirst checked) s → IsAtSite change.place s
-    → FollowsByKeys (together checked change.statements.items spare) true spare s s
+    → FollowsAt spare checked change s
+
+-- by so many steps at most it is behind there, where these are tours of the program
+abbrev pub IsBehindOn : Change → ℤ → (CheckedFields → Type 0) → Type 0
+IsBehindOn change behind Tours = (spare : ℕ) (checked : CheckedFields)
+    → behind ≤ℤ pos spare → Tours checked → FollowsThere checked change spare

@@ -1,8 +1,4 @@
-use Rattle.std.proofs.Common.{ap, inr, map, subst, string_bytes}
-use Rattle.f77_program.specs.Program.{line_of}
-use Rattle.f77_check.specs.Checked.{CheckedFields}
-use Rattle.mothra_app.specs.declared.fault.Fault.TheVariants.{Ops}
-use Rattle.equivalents_app.specs.Finding.{IsNamedIn}
+use Rattle.equivalents_app.proofs.Common.{ap, inr, map, subst, string_bytes, line_of, CheckedFields, Ops, IsNamedIn}
 use Rattle.equivalents_app.proofs.Findings.{failed_by, found, memory_in, plan_refused, program_refused}
 use Rattle.equivalents_app.proofs.finding.find.Goals as goal
 

@@ -1,9 +1,4 @@
-use Rattle.std.proofs.Common.{◌≡◌, ◌∙◌, string_bytes, subst, sym}
-use Rattle.std.proofs.lemmas.Result.{IfOk-weaker}
-use Rattle.mothra_ops.specs.Mutants.{program_of}
-use Rattle.mothra_ops.specs.Plan.{PlanFields}
-use Rattle.equivalents_app.specs.Finding.{IsNamedIn}
-use Rattle.equivalents_app.specs.Room.{LeavesRoom}
+use Rattle.equivalents_app.proofs.Common.{◌≡◌, ◌∙◌, string_bytes, subst, sym, IfOk-weaker, program_of, PlanFields, IsNamedIn, LeavesRoom}
 use Rattle.equivalents_app.proofs.finding.text_beside.Goals as goal
 
 pub returns : goal.returns

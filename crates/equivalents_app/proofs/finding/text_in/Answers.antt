@@ -1,10 +1,4 @@
-use Rattle.std.proofs.Common.{map, subst}
-use Rattle.std.specs.Prelude.{IfSome}
-use Rattle.std.proofs.lemmas.Result.{IfOk-weaker}
-use Rattle.f77_check.specs.Checked.{CheckedFields}
-use Rattle.f77_program.specs.Program.{line_of}
-use Rattle.mothra_ops.specs.Mutants.{program_of}
-use Rattle.equivalents_app.specs.Room.{LeavesRoom}
+use Rattle.equivalents_app.proofs.Common.{map, subst, IfSome, IfOk-weaker, CheckedFields, line_of, program_of, LeavesRoom}
 use Rattle.equivalents_app.proofs.finding.text_in.Goals as goal
 
 pub returns-in-Some : goal.returns-in-Some

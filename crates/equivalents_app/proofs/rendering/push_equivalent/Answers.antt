@@ -1,8 +1,4 @@
-use Rattle.std.proofs.Common.{◌≡◌, ◌++◌, [], string_bytes, subst}
-use Rattle.std.specs.Prelude.{OnOk, Option}
-use Rattle.std.specs.Option.{option_map_or}
-use Rattle.mothra_ops.specs.Mutants.{MutantFields}
-use Rattle.equivalents_app.specs.Rendering.{promise_line}
+use Rattle.equivalents_app.proofs.Common.{◌≡◌, ◌++◌, [], string_bytes, subst, OnOk, Option, option_map_or, MutantFields, promise_line}
 use Rattle.equivalents_app.proofs.rendering.push_equivalent.Goals as goal
 
 pub returns-in-Some : goal.returns-in-Some

@@ -1,6 +1,4 @@
-use Rattle.std.proofs.Common.{◌≡◌, ◌++◌, string_bytes, take}
-use Rattle.std.specs.Prelude.{flat_map}
-use Rattle.equivalents_app.specs.Rendering.{equivalent_line}
+use Rattle.equivalents_app.proofs.Common.{◌≡◌, ◌++◌, string_bytes, take, flat_map, equivalent_line}
 use Rattle.equivalents_app.proofs.rendering.push_equivalents.Given as goal
 
 -- what is written are the lines of the mutants so far

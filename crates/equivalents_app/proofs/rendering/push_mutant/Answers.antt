@@ -1,8 +1,10 @@
-use Rattle.std.proofs.Common.{rules, ◌∙◌, ◌++◌, ℕ, ap, codes, string_bytes}
-use Rattle.mothra_ops.specs.Mutants.{change_text, mutant_fields, program_of}
-use Rattle.equivalents_app.specs.Rendering.{promise_text}
-use Rattle.equivalents_app.proofs.Parts.{three_parts}
+use Rattle.equivalents_app.proofs.Common.{rules, ◌≡◌, ◌∙◌, ◌++◌, ℕ, List, ap, append_assoc, codes, string_bytes, change_text, mutant_fields, program_of}
+use Rattle.equivalents_app.proofs.Common.{promise_text}
 use Rattle.equivalents_app.proofs.rendering.push_mutant.Goals as goal
+
+three_parts : (old a b c one two three : List ℕ) → one ≡ old ++ a → two ≡ one ++ b → three ≡ two ++ c → three ≡ old ++ (a ++ (b ++ c))
+three_parts old a b c one two three first second third =
+    third ∙ ap (λ t. t ++ c) (second ∙ ap (λ t. t ++ b) first) ∙ append_assoc (old ++ a) b c ∙ append_assoc old a (b ++ c)
 
 pub returns : goal.returns
 returns c =

@@ -1,7 +1,4 @@
-use Rattle.std.proofs.Common.{arith, map, rules, subst}
-use Rattle.std.specs.Prelude.{IfSome}
-use Rattle.f77_program.specs.Program.{line_of}
-use Rattle.equivalents_app.specs.Room.{LeavesRoomOn}
+use Rattle.equivalents_app.proofs.Common.{arith, map, rules, subst, IfSome, line_of, LeavesRoomOn}
 use Rattle.equivalents_app.proofs.Rooms.{all_left, one_more}
 use Rattle.equivalents_app.proofs.room.room_of.Goals as goal
 

@@ -1,6 +1,4 @@
-use Rattle.std.proofs.Common.{map, take}
-use Rattle.f77_program.specs.Program.{line_of}
-use Rattle.equivalents_app.specs.Room.{LeavesRoom}
+use Rattle.equivalents_app.proofs.Common.{map, take, line_of, LeavesRoom}
 use Rattle.equivalents_app.proofs.room.room_of.Given as goal
 
 abbrev pub invariant-loop-test : goal.invariant-loop-test

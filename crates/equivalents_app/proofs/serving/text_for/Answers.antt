@@ -1,6 +1,4 @@
-use Rattle.std.proofs.Common.{refl}
-use Rattle.mothra_app.specs.declared.fault.Fault.TheVariants.{Job}
-use Rattle.mothra_job.specs.Job.{job_of}
+use Rattle.equivalents_app.proofs.Common.{refl, Job, job_of}
 use Rattle.mothra_job.proofs.FewTests.{few_tests}
 use Rattle.equivalents_app.proofs.Answered.{job_refused, outcome_found, read_so}
 use Rattle.equivalents_app.proofs.Findings.{failed_by}

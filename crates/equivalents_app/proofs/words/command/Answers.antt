@@ -1,7 +1,5 @@
-use Rattle.std.proofs.Common.{rules, true, ◌≡◌, ◌∙◌, ap₂, codes, []}
-use Rattle.clap.specs.Words.{App, app_of, with_rule}
+use Rattle.equivalents_app.proofs.Common.{rules, true, ◌≡◌, ◌∙◌, ap₂, codes, [], App, app_of, with_rule, equivalents}
 use Rattle.clap.specs.Simple.{new_shape}
-use Rattle.equivalents_app.specs.Words.{equivalents}
 use Rattle.equivalents_app.proofs.words.command.Goals as goal
 
 pub returns-clause-app : goal.returns-clause-app

@@ -1,5 +1,4 @@
-use Rattle.std.proofs.Common.{rules, map}
-use Rattle.std.proofs.lemmas.Result.{err_from_is_err_and}
+use Rattle.equivalents_app.proofs.Common.{rules, map, err_from_is_err_and}
 use Rattle.equivalents_app.proofs.Asking.{asks, meaning_taken, is_bounded, is_fault, is_inquiry, some_inquiry}
 use Rattle.equivalents_app.proofs.words.inquiry_of.Goals as goal
 

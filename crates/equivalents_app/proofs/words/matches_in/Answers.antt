@@ -1,8 +1,6 @@
-use Rattle.std.proofs.Common.{rules, ◌≡◌, ◌∙◌, ap, refl, subst, true, map}
-use Rattle.std.proofs.lemmas.Result.{IfOk-weaker}
-use Rattle.clap.specs.Words.{App, app_of, fault_of, is_simple, is_simple_and_free, matches_of, FailsBy}
+use Rattle.equivalents_app.proofs.Common.{rules, ◌≡◌, ◌∙◌, ap, refl, subst, true, map, IfOk-weaker, App, app_of, fault_of, is_simple, is_simple_and_free}
+use Rattle.equivalents_app.proofs.Common.{matches_of, FailsBy, equivalents}
 use Rattle.clap.proofs.OnLiterals.{clap_on_literals}
-use Rattle.equivalents_app.specs.Words.{equivalents}
 use Rattle.equivalents_app.proofs.words.matches_in.Goals as goal
 
 is_plain : is_simple_and_free equivalents ≡ true

@@ -1,4 +1,4 @@
-use Rattle.std.proofs.Common.{◌≡◌, ◌∷◌, sym}
+use Rattle.f77_equivalence.proofs.Common.{◌≡◌, ◌∷◌, sym}
 use Rattle.f77_equivalence.proofs.Starting.{argument_given}
 use Rattle.f77_equivalence.proofs.start.+give_arguments.Goals as goal
 

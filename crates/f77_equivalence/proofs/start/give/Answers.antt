@@ -1,5 +1,4 @@
-use Rattle.std.proofs.Common.{arith, ◌≡◌, ◌⊎◌, inl, inr, ◌+◌, ◌-◌, ◌≤◌, length, sym, ◌∙◌}
-use Rattle.std.proofs.lemmas.Bool.{cases_lt}
+use Rattle.f77_equivalence.proofs.Common.{arith, ◌≡◌, ◌⊎◌, inl, inr, ◌+◌, ◌-◌, ◌≤◌, length, sym, ◌∙◌, cases_lt}
 use Rattle.f77_equivalence.proofs.Starting.{given_all, given_more}
 use Rattle.f77_equivalence.proofs.start.give.Goals as goal
 

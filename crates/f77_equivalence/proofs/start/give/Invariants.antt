@@ -1,5 +1,4 @@
-use Rattle.std.proofs.Common.{◌≡◌, ◌+◌, ◌-◌}
-use Rattle.f77_equivalence.specs.code.StartSlots.{facts_given}
+use Rattle.f77_equivalence.proofs.Common.{◌≡◌, ◌+◌, ◌-◌, facts_given}
 use Rattle.f77_equivalence.proofs.start.give.Given as goal
 
 abbrev pub invariant-loop-slot : goal.invariant-loop-slot

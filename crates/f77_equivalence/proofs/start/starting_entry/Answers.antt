@@ -1,19 +1,7 @@
-use Rattle.std.proofs.Common.{arith, ◌≡◌, ◌∙◌, ◌++◌, length, map, take, drop, ap, subst, sym, List}
+use Rattle.f77_equivalence.proofs.Common.{arith, ◌≡◌, ◌∙◌, ◌++◌, length, map, take, drop, ap, subst, sym, List, option_map, replicate, zip, Cells, Execute}
+use Rattle.f77_equivalence.proofs.Common.{Inactive, AreIn, AreLeft, Arg, AreFitting, all_filled, constant_value, start_cells, start_turns, AreStorable}
 use Rattle.std.proofs.Math.Seq.{take-append_seam}
-use Rattle.std.specs.Prelude.{option_map, replicate}
-use Rattle.std.specs.List.{zip}
 use Rattle.f77_check.specs.declared.start.Start.{Start}
-use Rattle.f77_code.specs.Moves.{Cells}
-use Rattle.f77_code.specs.declared.control.Place.TheVariants.{Execute}
-use Rattle.f77_facts.specs.declared.loops.LoopFact.TheVariants.{Inactive}
-use Rattle.f77_facts.specs.Facts.{AreIn}
-use Rattle.f77_facts.specs.Loops.{AreLeft}
-use Rattle.f77_meaning.specs.declared.argument.Arg.{Arg}
-use Rattle.f77_meaning.specs.Interpreter.{AreFitting}
-use Rattle.f77_meaning.specs.Spans.{all_filled}
-use Rattle.f77_meaning.specs.Start.{constant_value}
-use Rattle.f77_equivalence.specs.Start.{start_cells, start_turns}
-use Rattle.f77_equivalence.specs.Storable.{AreStorable}
 use Rattle.f77_equivalence.proofs.Starting.{kind_each, start_left}
 use Rattle.f77_equivalence.proofs.start.starting_entry.Goals as goal
 

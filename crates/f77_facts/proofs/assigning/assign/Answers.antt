@@ -1,6 +1,5 @@
-use Rattle.std.proofs.Common.{arith, ◌≡◌, subst}
-use Rattle.std.specs.Prelude.{slice_set}
-use Rattle.f77_facts.specs.Facts.{AreIn}
+use Rattle.f77_facts.proofs.Common.{arith, ◌≡◌, subst, slice_set, AreIn}
+use Rattle.f77_terms.proofs.Values.{some_then}
 use Rattle.f77_facts.proofs.Slots.{set_both}
 use Rattle.f77_facts.proofs.Stored.{widens_all}
 use Rattle.f77_facts.proofs.assigning.assign.Goals as goal
@@ -13,7 +12,9 @@ returns-then-reach-eq1 c cells k cell inside reached suits =
     rw c.set.ensures (subst (λ i. AreIn (slice_set facts first c.args.fact) (slice_set cells i cell)) same
     (set_both facts cells first c.args.fact cell inside suits))
 
-pub returns-else-reach-eq1 : goal.returns-else-reach-eq1
-returns-else-reach-eq1 c cells k cell inside reached suits =
-    widens_all c.args.facts.now c.widen.new.facts c.args.reach.first c.min-end.result k c.args.fact c.widen.ensures reached.above
-    (λ below. omega (arith, reached.below, below)) cells cell inside suits
+pub returns : goal.returns
+returns c =
+    some_then c.widen.result c.widen.ensures
+    (λ _ widens cells k cell inside reached suits.
+    widens_all c.args.facts.now c.widen.new.facts c.args.reach.first c.min-end.result k c.args.fact widens reached.above
+    (λ below. omega (arith, reached.below, below)) cells cell inside suits)

@@ -1,4 +1,4 @@
-use Rattle.std.proofs.Common.{arith}
+use Rattle.f77_facts.proofs.Common.{arith}
 use Rattle.f77_facts.proofs.Stored.{widens_none, widens_more, widens_to}
 use Rattle.f77_facts.proofs.assigning.widen.Goals as goal
 
@@ -8,8 +8,8 @@ loop-slot-init c = widens_none c.args.facts.now c.args.from c.args.fact
 pub loop-slot-preserved : goal.loop-slot-preserved
 loop-slot-preserved c =
     rw c.set.ensures
-    (widens_more c.args.facts.now c.loop-slot.facts c.args.from c.loop-slot.slot c.args.fact c.fact_at.result c.hull_of-hull.result c.loop-slot.invariant c.fact_at.ensures
-    c.hull_of-hull.ensures.first c.hull_of-hull.ensures.second)
+    (widens_more c.args.facts.now c.loop-slot.facts c.args.from c.loop-slot.slot c.args.fact c.fact_at.result c.in_ok-hull.hull c.loop-slot.invariant c.fact_at.ensures
+    c.in_ok-hull.ensures.first c.in_ok-hull.ensures.second)
 
 pub returns : goal.returns
 returns c = widens_to c.args.facts.now c.loop-slot.facts c.args.from c.loop-slot.slot c.args.end c.args.fact (omega arith) c.loop-slot.invariant

@@ -1,4 +1,4 @@
-use Rattle.f77_facts.specs.code.Assigning.{Widens}
+use Rattle.f77_facts.specs.code.{Widens}
 use Rattle.f77_facts.proofs.assigning.widen.Given as goal
 
 abbrev pub invariant-loop-slot : goal.invariant-loop-slot

@@ -1,5 +1,4 @@
-use Rattle.std.proofs.Common.{arith, below_more, subst}
-use Rattle.f77_facts.specs.Entries.{AreCovered}
+use Rattle.f77_facts.proofs.Common.{arith, below_more, subst, AreCovered}
 use Rattle.f77_facts.proofs.Covering.{one_covered, all_covered}
 use Rattle.f77_facts.proofs.entries.are_covered.Goals as goal
 

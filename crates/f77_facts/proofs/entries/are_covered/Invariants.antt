@@ -1,4 +1,4 @@
-use Rattle.std.proofs.Common.{◌<◌, ℕ}
+use Rattle.f77_facts.proofs.Common.{◌<◌, ℕ}
 use Rattle.f77_facts.proofs.Covering.{IsCoveredAt}
 use Rattle.f77_facts.proofs.entries.are_covered.Given as goal
 

@@ -1,4 +1,4 @@
-use Rattle.std.proofs.Common.{rules}
+use Rattle.f77_facts.proofs.Common.{rules}
 use Rattle.f77_facts.proofs.entries.is_covered.Goals as goal
 
 pub returns-then-is_loops_inside : goal.returns-then-is_loops_inside

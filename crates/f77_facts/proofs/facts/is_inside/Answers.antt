@@ -1,6 +1,4 @@
-use Rattle.std.proofs.Common.{arith, below_more, ◌≡◌, ◌∙◌, length}
-use Rattle.f77_code.specs.Evaluation.{held_in}
-use Rattle.f77_facts.specs.Facts.{SuitsFact}
+use Rattle.f77_facts.proofs.Common.{arith, below_more, ◌≡◌, ◌∙◌, length, held_in, SuitsFact}
 use Rattle.f77_facts.proofs.Within.{one_within, all_within}
 use Rattle.f77_facts.proofs.facts.is_inside.Goals as goal
 

@@ -1,5 +1,4 @@
-use Rattle.std.proofs.Common.{◌<◌, ℕ}
-use Rattle.f77_facts.specs.Facts.{SuitsFact}
+use Rattle.f77_facts.proofs.Common.{◌<◌, ℕ, SuitsFact}
 use Rattle.f77_facts.proofs.Within.{IsWithin}
 use Rattle.f77_facts.proofs.facts.is_inside.Given as goal
 

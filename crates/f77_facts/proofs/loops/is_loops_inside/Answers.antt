@@ -1,6 +1,4 @@
-use Rattle.std.proofs.Common.{arith, below_more, ◌≡◌, ◌∙◌, length}
-use Rattle.f77_code.specs.Moves.{turn_at}
-use Rattle.f77_facts.specs.Loops.{SuitsTurn}
+use Rattle.f77_facts.proofs.Common.{arith, below_more, ◌≡◌, ◌∙◌, length, turn_at, SuitsTurn}
 use Rattle.f77_facts.proofs.Within.{one_within, all_within}
 use Rattle.f77_facts.proofs.loops.is_loops_inside.Goals as goal
 

@@ -1,5 +1,4 @@
-use Rattle.std.proofs.Common.{◌<◌, ℕ}
-use Rattle.f77_facts.specs.Loops.{SuitsTurn}
+use Rattle.f77_facts.proofs.Common.{◌<◌, ℕ, SuitsTurn}
 use Rattle.f77_facts.proofs.Within.{IsWithin}
 use Rattle.f77_facts.proofs.loops.is_loops_inside.Given as goal
 

@@ -1,10 +1,7 @@
-use Rattle.std.proofs.Common.{rules, arith, ◌≡◌, ◌⊎◌, inl, inr, length, Some, pos, negsuc, ap, subst, w64}
-use Rattle.std.specs.Prelude.{slice_get}
-use Rattle.std.proofs.lemmas.Int.{ints}
+use Rattle.f77_symbolic.proofs.Common.{rules, arith, ◌≡◌, ◌⊎◌, inl, inr, length, Some, pos, negsuc, ap, subst, w64, slice_get, ints, SFits}
 use Rattle.f77_symbolic.proofs.Sized.{alone_sized}
 use Rattle.f77_symbolic.proofs.arithmetic.alone_in.Goals as goal
 use Rattle.f77_symbolic.proofs.arithmetic.alone_in.Goals.{else-part-ne1-via-then-part-ne1+else-part, else-part-ne1-via-else-part-ne1}
-use mir.Val.{SFits}
 
 pub returns : goal.returns
 returns c v =

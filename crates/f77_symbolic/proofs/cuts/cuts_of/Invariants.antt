@@ -1,7 +1,5 @@
-use Rattle.std.proofs.Common.{◌≡◌, true}
-use Rattle.std.specs.List.{list_any}
+use Rattle.f77_symbolic.proofs.Common.{◌≡◌, true, list_any, is_same_place}
 use Rattle.f77_code.specs.declared.control.Place.TheVariants as place
-use Rattle.f77_symbolic.specs.Visits.{is_same_place}
 use Rattle.f77_symbolic.proofs.cuts.cuts_of.Given as goal
 
 abbrev pub invariant-loop-i : goal.invariant-loop-i

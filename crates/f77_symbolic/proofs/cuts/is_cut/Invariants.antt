@@ -1,6 +1,4 @@
-use Rattle.std.proofs.Common.{◌≡◌, false, take}
-use Rattle.std.specs.List.{list_any}
-use Rattle.f77_symbolic.specs.Visits.{is_same_place}
+use Rattle.f77_symbolic.proofs.Common.{◌≡◌, false, take, list_any, is_same_place}
 use Rattle.f77_symbolic.proofs.cuts.is_cut.Given as goal
 
 abbrev pub invariant-loop-other : goal.invariant-loop-other

@@ -1,10 +1,6 @@
-use Rattle.std.proofs.Common.{◌≡◌, true, subst, sym}
-use Rattle.std.specs.Prelude.{All}
-use Rattle.std.specs.List.{list_any}
-use Rattle.std.proofs.lemmas.List.Elements.{All-push}
+use Rattle.f77_symbolic.proofs.Common.{◌≡◌, true, subst, sym, All, list_any, All-push, IsTour, IsTourOf, is_same_place}
 use Rattle.f77_check.specs.declared.start.Start.{Start}
 use Rattle.f77_code.specs.declared.control.Place.TheVariants as place
-use Rattle.f77_symbolic.specs.Visits.{IsTour, IsTourOf, is_same_place}
 use Rattle.f77_symbolic.proofs.equivalent.add_tour.Goals as goal
 
 pub returns-in-Ok : goal.returns-in-Ok

@@ -1,24 +1,25 @@
-use Rattle.std.proofs.Common.{◌≤◌, ◌∙◌, length, ap, arith, inl, inr, subst}
-use Rattle.std.specs.Prelude.{Vec}
+use Rattle.f77_symbolic.proofs.Common.{◌≤◌, ◌∙◌, length, ap, arith, subst, Some, All, Vec, take_all, All-more, All-pop, Pair, IsSettled, FollowsVisit}
+use Rattle.f77_symbolic.proofs.Common.{HavePairs}
 use Rattle.std.specs.declared.alloc.Global.{Global}
-use Rattle.std.proofs.lemmas.List.{take_all}
-use Rattle.f77_symbolic.specs.declared.walking.Pair.{Pair}
-use Rattle.f77_symbolic.specs.code.Visits.{HavePairs}
-use Rattle.f77_symbolic.proofs.Chained.{pairs_more}
 use Rattle.f77_symbolic.proofs.equivalent.pairs_at.Goals as goal
 use Rattle.f77_symbolic.proofs.equivalent.pairs_at.Goals.{then-statement_of-place+in_ok-pair_of+in_ok-push, else-statement_of-place}
 
 pub loop-visit-preserved : goal.loop-visit-preserved
-loop-visit-preserved c =
-    pairs_more c.args.place c.args.visits.now c.loop-visit.pairs.items c.if-statement_of-place.pairs.items c.loop-visit.visit-index c.visit-item.result
-    (omega arith) c.visit-item.is
-    (elim c.if-statement_of-place.branch [
+loop-visit-preserved c spare checked change start v all =
+    let Claim = FollowsVisit spare checked change start v c.args.place in
+    let it : All (IsSettled spare checked change start v) c.loop-visit.pairs.items × Claim c.visit-item.result =
+    elim c.if-statement_of-place.branch [
       | then-statement_of-place+in_ok-pair_of+in_ok-push w ↦
-          inl (w.in_ok-pair_of.field-0, w.in_ok-pair_of.ensures, ap (λ (list : Vec Pair Global). list.items) w.pairs-is ∙ w.in_ok-push.ensures.items)
-      | else-statement_of-place w ↦
-          inr ((λ e. w.if-statement_of-place.false (c.statement_of.ensures ∙ e)), ap (λ (list : Vec Pair Global). list.items) w.pairs-is)
-    ])
-    c.loop-visit.invariant
+          let last = All-pop (IsSettled spare checked change start v) c.if-statement_of-place.pairs.items c.loop-visit.pairs.items (Some w.in_ok-pair_of.field-0)
+          (ap (λ (list : Vec Pair Global). list.items) w.pairs-is ∙ w.in_ok-push.ensures.items) all in
+          (last.0, w.in_ok-pair_of.ensures spare checked change start v c.args.place last.1)
+      | else-statement_of-place w ↦ (
+        subst (λ (list : Vec Pair Global). All (IsSettled spare checked change start v) list.items) w.pairs-is all,
+        λ here. absurd (w.if-statement_of-place.false (c.statement_of.ensures ∙ here)),
+      )
+    ] in
+    All-more Claim c.args.visits.now c.loop-visit.visit-index c.visit-item.result (omega arith) (c.loop-visit.invariant spare checked change start v it.0)
+    (subst Claim c.visit-item.is it.1)
 
 pub returns : goal.returns
 returns c =

@@ -1,5 +1,4 @@
-use Rattle.std.proofs.Common.{take}
-use Rattle.f77_symbolic.specs.code.Visits.{HavePairs}
+use Rattle.f77_symbolic.proofs.Common.{take, HavePairs}
 use Rattle.f77_symbolic.proofs.equivalent.pairs_at.Given as goal
 
 abbrev pub invariant-loop-visit : goal.invariant-loop-visit

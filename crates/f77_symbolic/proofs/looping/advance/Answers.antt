@@ -1,11 +1,5 @@
-use Rattle.std.proofs.Common.{ap, sym, ◌∙◌, Some}
-use Rattle.std.specs.Prelude.{slice_set}
+use Rattle.f77_symbolic.proofs.Common.{ap, sym, ◌∙◌, Some, slice_set, passing, ok_then, sum_value, cells_of, turns_of}
 use Rattle.f77_actions.specs.declared.value.Value.TheVariants as held
-use Rattle.f77_code.specs.Moves.{passing}
-use Rattle.f77_terms.proofs.Values.{ok_then}
-use Rattle.f77_terms.specs.Terms.{sum_value}
-use Rattle.f77_symbolic.specs.Memory.{cells_of}
-use Rattle.f77_symbolic.specs.Sides.{turns_of}
 use Rattle.f77_symbolic.proofs.looping.advance.Goals as goal
 
 pub returns : goal.returns

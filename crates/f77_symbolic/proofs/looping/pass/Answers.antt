@@ -1,4 +1,4 @@
-use Rattle.std.proofs.Common.{◌+◌}
+use Rattle.f77_symbolic.proofs.Common.{◌+◌}
 use Rattle.f77_symbolic.proofs.Steps.{some_told_if, turn_none, turn_some}
 use Rattle.f77_symbolic.proofs.looping.pass.Goals as goal
 

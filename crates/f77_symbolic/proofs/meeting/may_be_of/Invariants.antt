@@ -1,7 +1,4 @@
-use Rattle.std.proofs.Common.{ℕ, ◌<◌, ◌≤◌, ◌+◌, get_or}
-use Rattle.f77_terms.specs.Terms.{Valuation}
-use Rattle.f77_symbolic.specs.declared.values.Slots.{Slots}
-use Rattle.f77_symbolic.specs.Memory.{IsInside, slot_of}
+use Rattle.f77_symbolic.proofs.Common.{ℕ, ◌<◌, ◌≤◌, ◌+◌, get_or, Valuation, Slots, IsInside, slot_of}
 use Rattle.f77_symbolic.proofs.meeting.may_be_of.Given as goal
 
 abbrev pub invariant-loop-slots : goal.invariant-loop-slots

@@ -1,4 +1,4 @@
-use Rattle.std.proofs.Common.{◌∙◌}
+use Rattle.f77_symbolic.proofs.Common.{◌∙◌}
 use Rattle.f77_symbolic.proofs.Written.{cells_without, inside_at, slot_alone}
 use Rattle.f77_symbolic.proofs.memory.forget.Goals as goal
 

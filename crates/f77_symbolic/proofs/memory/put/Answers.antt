@@ -1,8 +1,4 @@
-use Rattle.std.proofs.Common.{◌≡◌, ap, refl, ◌∙◌}
-use Rattle.std.specs.Prelude.{slice_set}
-use Rattle.std.proofs.lemmas.List.Elements.{All-push}
-use Rattle.f77_symbolic.specs.declared.memory.Write.{Write}
-use Rattle.f77_symbolic.specs.Memory.{AreInside, IsInside, cells_of, slot_of, content_of}
+use Rattle.f77_symbolic.proofs.Common.{◌≡◌, ap, refl, ◌∙◌, slice_set, All-push, Write, AreInside, IsInside, cells_of, slot_of, content_of}
 use Rattle.f77_symbolic.proofs.Written.{cells_push, set_alone}
 use Rattle.f77_symbolic.proofs.memory.put.Goals as goal
 use Rattle.f77_symbolic.proofs.memory.put.Goals.{then-location-eq1, else-location-eq1}
@@ -19,7 +15,7 @@ returns-clause-cells c start v are is =
           w.if-location-eq1.true (w.forget.ensures.same start v content are))
       | else-location-eq1 w ↦ rw w.writes-is refl
     ] in
-    ap (cells_of start v) c.in_ok-push.ensures.items ∙ cells_push v start c.if-location-eq1.writes.items _ ∙ same
+    ap (cells_of start v) (rw c.in_ok-new.ensures at c.in_ok-push.ensures.items) ∙ cells_push v start c.if-location-eq1.writes.items _ ∙ same
 
 pub returns-clause-inside : goal.returns-clause-inside
 returns-clause-inside c v are is =
@@ -28,4 +24,4 @@ returns-clause-inside c v are is =
       | then-location-eq1 w ↦ rw w.writes-is (w.forget.ensures.inside v are)
       | else-location-eq1 w ↦ rw w.writes-is are
     ] in
-    rw c.in_ok-push.ensures.items (All-push (λ (w : Write). IsInside v w.location) c.if-location-eq1.writes.items _ before is)
+    rw (c.in_ok-push.ensures.items, c.in_ok-new.ensures) (All-push (λ (w : Write). IsInside v w.location) c.if-location-eq1.writes.items _ before is)

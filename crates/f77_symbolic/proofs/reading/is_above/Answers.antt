@@ -1,8 +1,6 @@
-use Rattle.std.proofs.Common.{arith, rules, SFits, w64, pos}
-use Rattle.std.specs.Prelude.{◌≤ℤ◌}
+use Rattle.f77_symbolic.proofs.Common.{arith, rules, SFits, w64, pos, ◌≤ℤ◌, ints, to_z-of_z}
 use Rattle.std.specs.Int.Signed.{le_z_yes}
 use Rattle.std.proofs.lemmas.Float.{T_from_true}
-use Rattle.std.proofs.lemmas.Int.{ints, to_z-of_z}
 use Rattle.f77_symbolic.proofs.reading.is_above.Goals as goal
 
 pub returns-in-Some : goal.returns-in-Some

@@ -1,9 +1,4 @@
-use Rattle.std.proofs.Common.{◌≡◌, refl, ap, ◌∙◌}
-use Rattle.std.specs.Option.{option_map_or}
-use Rattle.f77_code.specs.declared.control.Place.TheVariants.{Execute, Increment}
-use Rattle.f77_code.specs.Moves.{Goes, place_behind, state}
-use Rattle.f77_symbolic.specs.Memory.{cells_of}
-use Rattle.f77_symbolic.specs.Sides.{turns_of}
+use Rattle.f77_symbolic.proofs.Common.{◌≡◌, refl, ap, ◌∙◌, option_map_or, Execute, Increment, Goes, place_behind, state, cells_of, turns_of}
 use Rattle.f77_symbolic.proofs.sides.go_on.Goals as goal
 use Rattle.f77_symbolic.proofs.sides.go_on.Goals.{in-Some, in-None}
 

@@ -1,9 +1,4 @@
-use Rattle.std.proofs.Common.{arith, ap, ◌∙◌}
-use Rattle.std.specs.Prelude.{is_some}
-use Rattle.std.specs.List.{find}
-use Rattle.std.proofs.lemmas.List.{drop_all}
-use Rattle.f77_code.specs.Moves.{turn_at}
-use Rattle.f77_symbolic.specs.Sides.{turns_of}
+use Rattle.f77_symbolic.proofs.Common.{arith, ap, ◌∙◌, is_some, find, drop_all, turn_at, turns_of}
 use Rattle.f77_symbolic.proofs.Turned.{find_here, find_next}
 use Rattle.f77_symbolic.proofs.sides.innermost.Goals as goal
 

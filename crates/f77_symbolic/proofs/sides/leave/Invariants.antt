@@ -1,7 +1,4 @@
-use Rattle.std.proofs.Common.{◌≡◌, drop}
-use Rattle.f77_code.specs.Moves.{without}
-use Rattle.f77_terms.specs.Terms.{Valuation}
-use Rattle.f77_symbolic.specs.Sides.{turns_of}
+use Rattle.f77_symbolic.proofs.Common.{◌≡◌, drop, without, Valuation, turns_of}
 use Rattle.f77_symbolic.proofs.sides.leave.Given as goal
 
 abbrev pub invariant-loop-d : goal.invariant-loop-d

@@ -1,10 +1,6 @@
-use Rattle.std.proofs.Common.{rules, ◌≡◌, pos, w64}
-use Rattle.std.specs.Prelude.{◌-ℤ◌}
-use Rattle.std.specs.Int.{int_max}
-use Rattle.std.proofs.lemmas.Int.{to_z-of_z}
+use Rattle.f77_symbolic.proofs.Common.{rules, ◌≡◌, pos, w64, ◌-ℤ◌, int_max, to_z-of_z, SFits}
 use Rattle.f77_symbolic.proofs.Sized.{sized_least}
 use Rattle.f77_symbolic.proofs.spans.least_size_of.Goals as goal
-use mir.Val.{SFits}
 
 pub returns-clause-sizes : goal.returns-clause-sizes
 returns-clause-sizes c x inside =

@@ -1,9 +1,6 @@
-use Rattle.std.proofs.Common.{rules, ◌≡◌, w64}
-use Rattle.std.specs.Int.{int_min}
-use Rattle.std.proofs.lemmas.Int.{to_z-of_z}
+use Rattle.f77_symbolic.proofs.Common.{rules, ◌≡◌, w64, int_min, to_z-of_z, SFits}
 use Rattle.f77_symbolic.proofs.Sized.{min_between}
 use Rattle.f77_symbolic.proofs.spans.minimum_range.Goals as goal
-use mir.Val.{SFits}
 
 pub returns : goal.returns
 returns c x y first second =

@@ -1,10 +1,7 @@
-use Rattle.std.proofs.Common.{rules, arith, ◌≡◌, ◌≢◌, inl, pos, refl, sym, subst, w64}
-use Rattle.std.specs.Prelude.{◌≤ℤ◌, ◌<ℤ◌, int_div, unsigned_abs}
-use Rattle.std.specs.Int.{int_max}
-use Rattle.std.proofs.lemmas.Int.{ints, to_z-of_z, quot_is, quot_fits}
+use Rattle.f77_symbolic.proofs.Common.{rules, arith, ◌≡◌, ◌≢◌, inl, pos, refl, sym, subst, w64, ◌≤ℤ◌, ◌<ℤ◌, int_div, unsigned_abs, int_max, ints, to_z-of_z}
+use Rattle.f77_symbolic.proofs.Common.{quot_is, quot_fits, SFits}
 use Rattle.f77_symbolic.proofs.Sized.{quot_above, quot_under, quot_within}
 use Rattle.f77_symbolic.proofs.spans.quotient_range.Goals as goal
-use mir.Val.{SFits}
 
 pub nonzero_div-size : goal.nonzero_div-size
 nonzero_div-size c =

@@ -1,10 +1,6 @@
-use Rattle.std.proofs.Common.{rules, arith, ◌≡◌, pos, w64}
-use Rattle.std.specs.Prelude.{◌-ℤ◌, int_rem}
-use Rattle.std.specs.Int.{int_max, int_min}
-use Rattle.std.proofs.lemmas.Int.{ints, clamps, to_z-of_z}
+use Rattle.f77_symbolic.proofs.Common.{rules, arith, ◌≡◌, pos, w64, ◌-ℤ◌, int_rem, int_max, int_min, ints, clamps, to_z-of_z, SFits}
 use Rattle.f77_symbolic.proofs.Sized.{rem_above, rem_under, rem_within}
 use Rattle.f77_symbolic.proofs.spans.remainder_range.Goals as goal
-use mir.Val.{SFits}
 
 pub sized_range-requires : goal.sized_range-requires
 sized_range-requires c =

@@ -1,5 +1,4 @@
-use Rattle.std.proofs.Common.{subst}
-use Rattle.f77_symbolic.specs.code.Evaluation.{HasSign}
+use Rattle.f77_symbolic.proofs.Common.{subst, HasSign}
 use Rattle.f77_symbolic.proofs.Steps.{sign_less, sign_more, sign_zero}
 use Rattle.f77_symbolic.proofs.stepping.by_sign.Goals as goal
 

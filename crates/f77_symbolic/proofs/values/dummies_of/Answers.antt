@@ -1,4 +1,4 @@
-use Rattle.std.proofs.Common.{arith, below_more, sym}
+use Rattle.f77_symbolic.proofs.Common.{arith, below_more, sym}
 use Rattle.std.proofs.lemmas.List.Quantifiers.{Any-push}
 use Rattle.f77_symbolic.proofs.Dummies.{dummy_within, of_dummy, slot_more}
 use Rattle.f77_symbolic.proofs.values.dummies_of.Goals as goal

@@ -1,7 +1,5 @@
-use Rattle.std.proofs.Common.{ℕ, ◌<◌}
-use Rattle.f77_check.specs.declared.checked.Shape.{Shape}
+use Rattle.f77_symbolic.proofs.Common.{ℕ, ◌<◌, Shape, IsSlotOf}
 use Rattle.f77_equivalence.specs.code.StartSlots.{IsOfDummy}
-use Rattle.f77_symbolic.specs.code.Memory.{IsSlotOf}
 use Rattle.f77_symbolic.proofs.values.dummies_of.Given as goal
 
 abbrev pub invariant-loop-n : goal.invariant-loop-n

@@ -1,32 +1,42 @@
-use Rattle.std.proofs.Common.{◌∙◌, ap, arith, inl, inr, subst, sym}
-use Rattle.std.specs.Prelude.{Vec}
+use Rattle.f77_symbolic.proofs.Common.{◌≡◌, ◌≤◌, ◌∙◌, ◌++◌, ◌∷◌, [], ap, arith, false, length, subst, sym, take, true, List, All, Any, Vec, take_all, All-more}
+use Rattle.f77_symbolic.proofs.Common.{All-weaker, get_or_from_slice_get, slice_get_within, Entry, Visits}
 use Rattle.std.specs.declared.alloc.Global.{Global}
-use Rattle.std.proofs.lemmas.Option.{slice_get_within}
+use Rattle.std.proofs.lemmas.List.Quantifiers.{Any-push}
 use Rattle.f77_facts.specs.Entries.{GrowsEntries}
-use Rattle.f77_symbolic.specs.declared.visiting.Visits.{Visits}
-use Rattle.f77_symbolic.proofs.Tours.{tour_more}
+use Rattle.f77_terms.proofs.There.{any_before}
+use Rattle.f77_symbolic.proofs.Tours.{IsToured, IsWalked}
 use Rattle.f77_symbolic.proofs.visiting.tour_of.Goals as goal
 use Rattle.f77_symbolic.proofs.visiting.tour_of.Goals.{then-is_cut+in_ok-visits+in_ok-unless_unknown+in_ok-push, else-is_cut}
 
 pub loop-number-preserved : goal.loop-number-preserved
 loop-number-preserved c =
-    tour_more c.args.statements.now c.args.cuts.now c.args.entries.now c.loop-number.number c.entry_at-entry.result.now c.loop-number.each.items
-    c.if-is_cut.each.items c.entry_at-entry.ensures
-    (elim c.if-is_cut.branch [
+    let entries = c.args.entries.now in
+    let entry = c.entry_at-entry.result.now in
+    let old = c.loop-number.each.items in
+    let new = c.if-is_cut.each.items in
+    let Walked : Entry → Visits → Type 0 = IsWalked c.args.statements.now c.args.cuts.now entries in
+    let Toured : List Visits → Entry → Type 0 = IsToured c.args.statements.now c.args.cuts.now entries in
+    let it : ((other : Entry) → Toured old other → Toured new other) × Toured new entry = elim c.if-is_cut.branch [
       | then-is_cut+in_ok-visits+in_ok-unless_unknown+in_ok-push w ↦
-          inl (
-            w.in_ok-visits.visits,
-            (
-              w.in_ok-visits.ensures,
-              subst (λ list. GrowsEntries list c.args.entries.now) w.deref.ensures.value (w.are_covered.ensures w.in_ok-unless_unknown.ensures),
-            ),
-            ap (λ (list : Vec Visits Global). list.items) w.each-is ∙ w.in_ok-push.ensures.items,
+          let visits = w.in_ok-visits.visits in
+          let same : new ≡ old ++ visits ∷ [] = ap (λ (list : Vec Visits Global). list.items) w.each-is ∙ w.in_ok-push.ensures.items in
+          let grows = subst (λ list. GrowsEntries list entries) w.deref.ensures.value (w.are_covered.ensures w.in_ok-unless_unknown.ensures) in (
+            (λ other there cut. subst (Any (Walked other)) (sym same) (any_before (Walked other) old (visits ∷ []) (there cut))),
+            (λ cut. subst (Any (Walked entry)) (sym same) (Any-push (Walked entry) old visits (w.in_ok-visits.ensures, grows))),
           )
-      | else-is_cut w ↦ inr (sym c.is_cut.ensures ∙ w.if-is_cut.false, ap (λ (list : Vec Visits Global). list.items) w.each-is)
-    ])
-    c.loop-number.invariant
+      | else-is_cut w ↦ (
+        (λ other there. subst (λ list. Toured list other) (sym (ap (λ (list : Vec Visits Global). list.items) w.each-is)) there),
+        (λ cut. let e : true ≡ false = sym cut ∙ sym c.is_cut.ensures ∙ w.if-is_cut.false in absurd (cc (e))),
+      )
+    ] in
+    All-more (Toured new) entries c.loop-number.number entry (omega arith)
+    (All-weaker (Toured old) (Toured new) it.0 (take c.loop-number.number entries) c.loop-number.invariant)
+    (subst (Toured new) (sym (get_or_from_slice_get entries c.loop-number.number entry entry c.entry_at-entry.ensures)) it.1)
 
 pub returns : goal.returns
-returns c k entry is cut =
-    let below = slice_get_within c.args.entries.now k entry is in
-    c.loop-number.invariant k (omega (arith, below)) entry is cut
+returns c k entry is =
+    let entries = c.args.entries.now in
+    let Toured = IsToured c.args.statements.now c.args.cuts.now entries c.loop-number.each.items in
+    let all : length entries ≤ c.loop-number.number = omega arith in
+    subst Toured (get_or_from_slice_get entries k entry entry is)
+    (subst (All Toured) (take_all c.loop-number.number entries all) c.loop-number.invariant k entry (slice_get_within entries k entry is))

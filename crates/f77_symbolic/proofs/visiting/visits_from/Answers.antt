@@ -1,11 +1,5 @@
-use Rattle.std.proofs.Common.{◌≡◌, length, refl, ap, arith, subst, sym}
-use Rattle.f77_code.specs.Moves.{State}
-use Rattle.f77_facts.specs.Facts.{Lies}
-use Rattle.f77_facts.specs.Loops.{AreLeft}
-use Rattle.f77_terms.specs.Terms.{Valuation}
-use Rattle.f77_symbolic.specs.Atoms.{Interprets}
-use Rattle.f77_symbolic.specs.Memory.{Start}
-use Rattle.f77_symbolic.specs.Visits.{AreTurnNumbers, IsOfEntry, IsVisit}
+use Rattle.f77_symbolic.proofs.Common.{◌≡◌, length, refl, ap, arith, subst, sym, State, Lies, AreLeft, Valuation, Interprets, Start, AreTurnNumbers, IsOfEntry}
+use Rattle.f77_symbolic.proofs.Common.{IsVisit}
 use Rattle.f77_symbolic.proofs.Starting.{interprets_there, numbers_of, start_of, turn_numbers}
 use Rattle.f77_symbolic.proofs.visiting.visits_from.Goals as goal
 use Rattle.f77_symbolic.proofs.visiting.visits_from.Goals.{After-law_of_atoms}
@@ -23,7 +17,7 @@ visits_first c first start v cells is numbers of =
     let slots = ap length c.deref-2.ensures.value in
     let count = c.in_ok-facts.ensures.len in
     let same : length c.args.entry.now.facts.items ≡ length c.in_ok-facts.facts.items = omega arith in
-    c.in_ok-first.ensures.first start v (c.walk_alone.ensures.extends start v is) (c.new_path.ensures v) first cells
+    c.in_ok-first.ensures.first start v (c.walk_alone.ensures.extends.back start v is) (c.new_path.ensures v) first cells
     (subst (λ k. AreTurnNumbers k (length c.args.statements.now) first.turns start) same numbers) of.place
     (subst (λ loops. AreLeft loops first.turns) (sym c.deref-3.ensures.value) of.left)
 
@@ -33,20 +27,12 @@ returns d =
     record {
       facts = lies c;
       noted = λ first s n start v cells is numbers of leads.
-          (c.in_ok-walk_alone.ensures.walks start v is s).0
-          (record { from = first; visits = visits_first c first start v cells is numbers of; steps = n; leads = leads });
+          (c.in_ok-walk.ensures.walks start v is first (visits_first c first start v cells is numbers of) n s leads).0;
       lands = λ first s t n of leads goes cut.
           let count = length c.args.statements.now in
-          let facts = c.walk_alone.new.self.atoms.facts.items in
-          let start = start_of first count facts in
-          let law = c.law_of_atoms.ensures (numbers_of first count facts) in
+          let start = start_of first count in
+          let law = c.law_of_atoms.ensures (numbers_of first count) in
           let is = interprets_there first count c.walk_alone.new.self.atoms law.0 (lies c first.cells of.inside) law.1 in
-          let numbers = subst (λ k. AreTurnNumbers k count first.turns start) of.inside.count (turn_numbers first count facts) in
-          (c.in_ok-walk_alone.ensures.walks start law.0 is t).1
-          (record {
-            last = s;
-            behind = record { from = first; visits = visits_first c first start law.0 refl is numbers of; steps = n; leads = leads };
-            goes = goes;
-            cut = cut;
-          });
+          let numbers = subst (λ k. AreTurnNumbers k count first.turns start) of.inside.count (turn_numbers first count) in
+          (c.in_ok-walk.ensures.walks start law.0 is first (visits_first c first start law.0 refl is numbers of) n s leads).1 t goes cut;
     }

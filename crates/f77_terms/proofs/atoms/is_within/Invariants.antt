@@ -1,7 +1,4 @@
-use Rattle.std.proofs.Common.{◌≡◌, ◌<◌, ℕ, Some}
-use Rattle.std.specs.Prelude.{slice_get}
-use Rattle.f77_terms.specs.declared.terms.Part.{Part}
-use Rattle.f77_terms.specs.Monomials.{HasAtomsBelow}
+use Rattle.f77_terms.proofs.Common.{◌≡◌, ◌<◌, ℕ, Some, slice_get, Part, HasAtomsBelow}
 use Rattle.f77_terms.proofs.atoms.is_within.Given as goal
 
 abbrev pub invariant-loop-place : goal.invariant-loop-place

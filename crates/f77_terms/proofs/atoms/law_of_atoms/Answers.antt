@@ -1,4 +1,4 @@
-use Rattle.std.proofs.Common.{arith, []}
+use Rattle.f77_terms.proofs.Common.{arith, []}
 use Rattle.f77_terms.proofs.Fitting.{number_of, numbers_of, number_made}
 use Rattle.f77_terms.proofs.atoms.law_of_atoms.Goals as goal
 

@@ -1,6 +1,4 @@
-use Rattle.std.proofs.Common.{arith, SFits, w64}
-use Rattle.std.proofs.lemmas.Int.{ints, to_z-of_z}
-use Rattle.f77_terms.specs.Terms.{sum_value}
+use Rattle.f77_terms.proofs.Common.{arith, SFits, w64, ints, to_z-of_z, sum_value}
 use Rattle.f77_terms.proofs.Orders.{combined_below}
 use Rattle.f77_terms.proofs.Values.{ok_then}
 use Rattle.f77_terms.proofs.bounds.add_combined.Goals as goal

@@ -1,6 +1,4 @@
-use Rattle.std.proofs.Common.{sym, subst}
-use Rattle.std.proofs.lemmas.List.Elements.{All-push, All-set}
-use Rattle.f77_terms.specs.Bounds.{IsBelow, AreBelow}
+use Rattle.f77_terms.proofs.Common.{sym, subst, All-push, All-set, IsBelow, AreBelow}
 use Rattle.f77_terms.proofs.bounds.add_tight.Goals as goal
 
 pub returns-in-Some-2 : goal.returns-in-Some-2

@@ -1,7 +1,4 @@
-use Rattle.std.proofs.Common.{arith, rules, ◌≡◌, ◌+◌, SFits, w64, take, refl}
-use Rattle.std.specs.Prelude.{◌*ℤ◌}
-use Rattle.std.proofs.lemmas.Int.{ints, to_z-of_z}
-use Rattle.f77_terms.specs.Terms.{parts_value}
+use Rattle.f77_terms.proofs.Common.{arith, rules, ◌≡◌, ◌+◌, SFits, w64, take, refl, ◌*ℤ◌, ints, to_z-of_z, parts_value}
 use Rattle.f77_terms.proofs.Values.{parts_more, all_parts, divided_more}
 use Rattle.f77_terms.proofs.bounds.divided_parts.Goals as goal
 

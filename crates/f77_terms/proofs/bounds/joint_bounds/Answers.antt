@@ -1,6 +1,4 @@
-use Rattle.std.proofs.Common.{arith}
-use Rattle.std.proofs.lemmas.Int.{ints}
-use Rattle.f77_terms.specs.Bounds.{IsBelow}
+use Rattle.f77_terms.proofs.Common.{arith, ints, IsBelow}
 use Rattle.f77_terms.proofs.There.{at_item}
 use Rattle.f77_terms.proofs.bounds.joint_bounds.Goals as goal
 

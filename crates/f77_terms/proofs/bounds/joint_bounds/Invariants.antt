@@ -1,5 +1,4 @@
-use Rattle.f77_terms.specs.Terms.{Valuation}
-use Rattle.f77_terms.specs.Bounds.{AreBelow}
+use Rattle.f77_terms.proofs.Common.{Valuation, AreBelow}
 use Rattle.f77_terms.proofs.bounds.joint_bounds.Given as goal
 
 abbrev pub invariant-loop-bound : goal.invariant-loop-bound

@@ -1,6 +1,4 @@
-use Rattle.std.proofs.Common.{arith, rules, SFits, w64}
-use Rattle.std.proofs.lemmas.Int.{ints, to_z-of_z}
-use Rattle.f77_terms.specs.Terms.{parts_value}
+use Rattle.f77_terms.proofs.Common.{arith, rules, SFits, w64, ints, to_z-of_z, parts_value}
 use Rattle.f77_terms.proofs.bounds.tightened.Goals as goal
 
 pub returns : goal.returns

@@ -1,5 +1,4 @@
-use Rattle.std.proofs.Common.{rules, arith, SFits, w64}
-use Rattle.std.proofs.lemmas.Int.{ints}
+use Rattle.f77_terms.proofs.Common.{rules, arith, SFits, w64, ints}
 use Rattle.f77_terms.proofs.Values.{ok_then}
 use Rattle.f77_terms.proofs.elimination.add_known.Goals as goal
 

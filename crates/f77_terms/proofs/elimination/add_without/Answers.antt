@@ -1,5 +1,4 @@
-use Rattle.std.proofs.Common.{arith}
-use Rattle.f77_terms.specs.Bounds.{IsBelow}
+use Rattle.f77_terms.proofs.Common.{arith, IsBelow}
 use Rattle.f77_terms.proofs.There.{at_item}
 use Rattle.f77_terms.proofs.elimination.add_without.Goals as goal
 use Rattle.f77_terms.proofs.elimination.add_without.Goals.{then-below-lt0+then-below+in_ok-add_combined, else-below-lt0}

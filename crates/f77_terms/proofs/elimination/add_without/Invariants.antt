@@ -1,5 +1,4 @@
-use Rattle.f77_terms.specs.Terms.{Valuation}
-use Rattle.f77_terms.specs.Bounds.{IsBelow, AreBelow}
+use Rattle.f77_terms.proofs.Common.{Valuation, IsBelow, AreBelow}
 use Rattle.f77_terms.proofs.elimination.add_without.Given as goal
 
 abbrev pub invariant-loop-other : goal.invariant-loop-other

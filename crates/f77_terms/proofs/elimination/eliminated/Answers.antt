@@ -1,5 +1,4 @@
-use Rattle.std.proofs.Common.{arith}
-use Rattle.f77_terms.specs.Bounds.{IsBelow}
+use Rattle.f77_terms.proofs.Common.{arith, IsBelow}
 use Rattle.f77_terms.proofs.There.{at_item}
 use Rattle.f77_terms.proofs.elimination.eliminated.Goals as goal
 

@@ -1,5 +1,4 @@
-use Rattle.std.proofs.Common.{arith}
-use Rattle.std.proofs.lemmas.Int.{ints}
+use Rattle.f77_terms.proofs.Common.{arith, ints}
 use Rattle.f77_terms.proofs.Values.{ok_then}
 use Rattle.f77_terms.proofs.facts.add_whole.Goals as goal
 

@@ -1,7 +1,4 @@
-use Rattle.std.proofs.Common.{SFits, w64}
-use Rattle.std.proofs.lemmas.Int.{to_z-of_z}
-use Rattle.std.proofs.lemmas.List.Elements.{All-nil}
-use Rattle.f77_terms.specs.Bounds.{IsBelow}
+use Rattle.f77_terms.proofs.Common.{SFits, w64, to_z-of_z, All-nil, IsBelow}
 use Rattle.f77_terms.proofs.facts.divisor_case.Goals as goal
 
 pub returns : goal.returns

@@ -1,7 +1,4 @@
-use Rattle.std.proofs.Common.{ℤ, inl, inr, sym, subst, ◌<◌}
-use Rattle.std.specs.Prelude.{unsigned_abs}
-use Rattle.std.proofs.lemmas.Int.{rem_below}
-use Rattle.f77_terms.specs.Terms.{sum_value}
+use Rattle.f77_terms.proofs.Common.{ℤ, inl, inr, sym, subst, ◌<◌, unsigned_abs, rem_below, sum_value}
 use Rattle.f77_terms.proofs.Values.{ok_then}
 use Rattle.f77_terms.proofs.Division.{sized}
 use Rattle.f77_terms.proofs.facts.divisor_cases.Goals as goal

@@ -1,6 +1,4 @@
-use Rattle.std.proofs.Common.{arith, inl, inr}
-use Rattle.std.proofs.lemmas.Int.{ints}
-use Rattle.f77_terms.specs.Terms.{sum_value}
+use Rattle.f77_terms.proofs.Common.{arith, inl, inr, ints, sum_value}
 use Rattle.f77_terms.proofs.Values.{ok_then}
 use Rattle.f77_terms.proofs.Division.{signed_alike}
 use Rattle.f77_terms.proofs.facts.sign_cases.Goals as goal

@@ -1,9 +1,11 @@
-use Rattle.std.proofs.Common.{inl, inr}
+use Rattle.f77_terms.proofs.Common.{arith, inl, inr, refl}
+use Rattle.f77_terms.proofs.Values.{ok_then}
 use Rattle.f77_terms.proofs.facts.two_cases.Goals as goal
 
 pub returns : goal.returns
-returns c v either =
-    elim either [
-      | inl first ↦ c.in_ok-add_case-2.ensures.kept v (c.in_ok-add_case.ensures.added v first)
-      | inr second ↦ c.in_ok-add_case-2.ensures.added v second
-    ]
+returns c =
+    ok_then c.new.result c.new.ensures
+    (λ choice is v either. rw (is, c.in_ok-cases.ensures.items) (elim either [
+      | inl first ↦ (0, c.args.first, omega arith, refl, first)
+      | inr second ↦ (1, c.args.second, omega arith, refl, second)
+    ]))

@@ -1,7 +1,4 @@
-use Rattle.std.proofs.Common.{ap, ◌∙◌}
-use Rattle.std.specs.Prelude.{◌+ℤ◌, ◌*ℤ◌, int_div}
-use Rattle.std.proofs.lemmas.Int.{quot-rem}
-use Rattle.f77_terms.specs.Terms.{sum_value}
+use Rattle.f77_terms.proofs.Common.{ap, ◌∙◌, ◌+ℤ◌, ◌*ℤ◌, int_div, quot-rem, sum_value}
 use Rattle.f77_terms.proofs.Values.{ok_then}
 use Rattle.f77_terms.proofs.knowing.know_division.Goals as goal
 

@@ -1,5 +1,4 @@
-use Rattle.std.proofs.Common.{◌∙◌}
-use Rattle.f77_terms.specs.Terms.{sum_value}
+use Rattle.f77_terms.proofs.Common.{◌∙◌, sum_value}
 use Rattle.f77_terms.proofs.Values.{ok_then}
 use Rattle.f77_terms.proofs.Division.{least_is, either_way}
 use Rattle.f77_terms.proofs.knowing.know_minimum.Goals as goal

@@ -1,5 +1,4 @@
-use Rattle.std.proofs.Common.{arith, w64}
-use Rattle.std.proofs.lemmas.Int.{ints, to_z-of_z}
+use Rattle.f77_terms.proofs.Common.{arith, w64, ints, to_z-of_z}
 use Rattle.f77_terms.proofs.Values.{ok_then, some_then}
 use Rattle.f77_terms.proofs.knowing.plus_constant.Goals as goal
 use mir.Val.{SFits}

@@ -1,6 +1,4 @@
-use Rattle.std.proofs.Common.{sym, ap, ◌∙◌}
-use Rattle.std.specs.Prelude.{◌*ℤ◌}
-use Rattle.f77_terms.specs.Terms.{monomial_value}
+use Rattle.f77_terms.proofs.Common.{sym, ap, ◌∙◌, ◌*ℤ◌, monomial_value}
 use Rattle.f77_terms.proofs.Products.{times_product, three_times}
 use Rattle.f77_terms.proofs.Values.{some_then}
 use Rattle.f77_terms.proofs.monomials.monomial_product.Goals as goal

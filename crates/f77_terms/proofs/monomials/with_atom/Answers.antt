@@ -1,6 +1,4 @@
-use Rattle.std.proofs.Common.{sym, ap, ◌∙◌}
-use Rattle.std.specs.Prelude.{◌*ℤ◌}
-use Rattle.f77_terms.specs.Terms.{monomial_value}
+use Rattle.f77_terms.proofs.Common.{sym, ap, ◌∙◌, ◌*ℤ◌, monomial_value}
 use Rattle.f77_terms.proofs.Products.{moved}
 use Rattle.f77_terms.proofs.monomials.with_atom.Goals as goal
 

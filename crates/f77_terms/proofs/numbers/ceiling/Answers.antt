@@ -1,6 +1,4 @@
-use Rattle.std.proofs.Common.{arith, SFits, w64, pos}
-use Rattle.std.specs.Prelude.{◌+ℤ◌, ◌<ℤ◌, int_div, int_rem}
-use Rattle.std.proofs.lemmas.Int.{ints, quot-rem, rem_below, quot_is, rem_is, quot_fits, to_z-of_z}
+use Rattle.f77_terms.proofs.Common.{arith, SFits, w64, pos, ◌+ℤ◌, ◌<ℤ◌, int_div, int_rem, ints, quot-rem, rem_below, quot_is, rem_is, quot_fits, to_z-of_z}
 use Rattle.f77_terms.proofs.Orders.{rounded_up, rounded, rest_above, abs_above, more_fits}
 use Rattle.f77_terms.proofs.numbers.ceiling.Goals as goal
 

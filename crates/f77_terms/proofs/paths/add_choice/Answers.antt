@@ -1,7 +1,4 @@
-use Rattle.std.proofs.Common.{sym, subst}
-use Rattle.std.specs.Prelude.{All}
-use Rattle.std.proofs.lemmas.List.Elements.{All-push}
-use Rattle.f77_terms.specs.Paths.{HasCase}
+use Rattle.f77_terms.proofs.Common.{sym, subst, All, All-push, HasCase}
 use Rattle.f77_terms.proofs.paths.add_choice.Goals as goal
 
 pub returns : goal.returns

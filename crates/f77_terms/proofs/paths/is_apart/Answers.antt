@@ -1,7 +1,4 @@
-use Rattle.std.proofs.Common.{arith}
-use Rattle.std.proofs.lemmas.Int.{ints}
-use Rattle.std.proofs.lemmas.List.Elements.{All-nil}
-use Rattle.f77_terms.specs.Bounds.{IsBelow}
+use Rattle.f77_terms.proofs.Common.{arith, ints, All-nil, IsBelow}
 use Rattle.f77_terms.proofs.Values.{ok_then}
 use Rattle.f77_terms.proofs.paths.is_apart.Goals as goal
 

@@ -1,5 +1,4 @@
-use Rattle.f77_terms.specs.Terms.{Valuation}
-use Rattle.f77_terms.specs.Ranges.{AreKnown}
+use Rattle.f77_terms.proofs.Common.{Valuation, AreKnown}
 use Rattle.f77_terms.proofs.paths.make_room.Given as goal
 
 abbrev pub invariant-loop : goal.invariant-loop

@@ -1,9 +1,4 @@
-use Rattle.std.proofs.Common.{arith}
-use Rattle.std.proofs.lemmas.Int.{ints}
 use Rattle.f77_terms.proofs.ranges.is_void.Goals as goal
 
-pub returns-then-range : goal.returns-then-range
-returns-then-range c e v known =
-    let between = c.in-Some.ensures.within v known in
-    let void = c.if-range.true in
-    absurd (omega (arith, ints, between.above, between.below, void))
+pub returns-then-is_empty : goal.returns-then-is_empty
+returns-then-is_empty c e v known = c.is_empty.ensures c.if-is_empty.true _ (c.in-Some.ensures.within v known)

@@ -1,5 +1,4 @@
-use Rattle.std.proofs.Common.{arith, rules, SFits, w64}
-use Rattle.std.proofs.lemmas.Int.{ints}
+use Rattle.f77_terms.proofs.Common.{arith, rules, SFits, w64, ints}
 use Rattle.f77_terms.proofs.ranges.leave_out.Goals as goal
 
 pub returns-then-number-lt9223372036854775807 : goal.returns-then-number-lt9223372036854775807

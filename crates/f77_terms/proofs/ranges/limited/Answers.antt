@@ -1,6 +1,4 @@
-use Rattle.std.proofs.Common.{arith, rules, SFits, w64, pos}
-use Rattle.std.specs.Prelude.{◌-ℤ◌}
-use Rattle.std.proofs.lemmas.Int.{ints, clamps, to_z-of_z}
+use Rattle.f77_terms.proofs.Common.{arith, rules, SFits, w64, pos, ◌-ℤ◌, ints, clamps, to_z-of_z}
 use Rattle.f77_terms.proofs.Orders.{both_turned}
 use Rattle.f77_terms.proofs.ranges.limited.Goals as goal
 

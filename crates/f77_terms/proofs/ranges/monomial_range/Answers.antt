@@ -1,7 +1,4 @@
-use Rattle.std.proofs.Common.{sym, subst, ap, ◌∙◌, ℤ}
-use Rattle.std.specs.Prelude.{◌*ℤ◌}
-use Rattle.f77_terms.specs.Terms.{monomial_value}
-use Rattle.f77_terms.specs.Ranges.{IsIn}
+use Rattle.f77_terms.proofs.Common.{sym, subst, ap, ◌∙◌, ℤ, ◌*ℤ◌, monomial_value, IsIn}
 use Rattle.f77_terms.proofs.Products.{times_product}
 use Rattle.f77_terms.proofs.Values.{some_then}
 use Rattle.f77_terms.proofs.ranges.monomial_range.Goals as goal

@@ -1,5 +1,4 @@
-use Rattle.std.proofs.Common.{arith, rules, SFits, w64}
-use Rattle.std.proofs.lemmas.Int.{ints, to_z-of_z}
+use Rattle.f77_terms.proofs.Common.{arith, rules, SFits, w64, ints, to_z-of_z}
 use Rattle.f77_terms.proofs.Orders.{risen, fallen}
 use Rattle.f77_terms.proofs.ranges.multiple_range.Goals as goal
 

@@ -1,6 +1,4 @@
-use Rattle.f77_terms.specs.Terms.{Valuation}
-use Rattle.f77_terms.specs.Bounds.{IsBelow}
-use Rattle.f77_terms.specs.Ranges.{AreKnown}
+use Rattle.f77_terms.proofs.Common.{Valuation, IsBelow, AreKnown}
 use Rattle.f77_terms.proofs.ranges.narrow.Given as goal
 
 abbrev pub invariant-loop-place : goal.invariant-loop-place

@@ -1,6 +1,4 @@
-use Rattle.f77_terms.specs.Terms.{Valuation}
-use Rattle.f77_terms.specs.Bounds.{AreBelow}
-use Rattle.f77_terms.specs.Ranges.{AreKnown}
+use Rattle.f77_terms.proofs.Common.{Valuation, AreBelow, AreKnown}
 use Rattle.f77_terms.proofs.ranges.narrow_all.Given as goal
 
 abbrev pub invariant-loop-bound : goal.invariant-loop-bound

@@ -1,7 +1,4 @@
-use Rattle.std.proofs.Common.{All}
-use Rattle.f77_terms.specs.Terms.{Valuation}
-use Rattle.f77_terms.specs.Ranges.{AreKnown}
-use Rattle.f77_terms.specs.Paths.{IsUnequal}
+use Rattle.f77_terms.proofs.Common.{All, Valuation, AreKnown, IsUnequal}
 use Rattle.f77_terms.proofs.ranges.narrow_all_apart.Given as goal
 
 abbrev pub invariant-loop-term : goal.invariant-loop-term

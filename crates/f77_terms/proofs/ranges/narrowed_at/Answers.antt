@@ -1,7 +1,4 @@
-use Rattle.std.proofs.Common.{arith, rules, SFits, w64, ap}
-use Rattle.std.specs.Prelude.{◌*ℤ◌}
-use Rattle.std.proofs.lemmas.Int.{ints, to_z-of_z}
-use Rattle.f77_terms.specs.Terms.{monomial_value}
+use Rattle.f77_terms.proofs.Common.{arith, rules, SFits, w64, ap, ◌*ℤ◌, ints, to_z-of_z, monomial_value}
 use Rattle.f77_terms.proofs.ranges.narrowed_at.Goals as goal
 
 pub returns : goal.returns

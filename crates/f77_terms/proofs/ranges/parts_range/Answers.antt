@@ -1,7 +1,4 @@
-use Rattle.std.proofs.Common.{rules, sym, subst, take, SFits, w64, ℤ}
-use Rattle.std.proofs.lemmas.Int.{to_z-of_z}
-use Rattle.f77_terms.specs.Terms.{monomial_value, part_value, parts_value}
-use Rattle.f77_terms.specs.Ranges.{IsIn}
+use Rattle.f77_terms.proofs.Common.{rules, sym, subst, take, SFits, w64, ℤ, to_z-of_z, monomial_value, part_value, parts_value, IsIn}
 use Rattle.f77_terms.proofs.Values.{parts_more}
 use Rattle.f77_terms.proofs.ranges.parts_range.Goals as goal
 

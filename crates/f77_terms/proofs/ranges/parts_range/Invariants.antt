@@ -1,6 +1,4 @@
-use Rattle.std.proofs.Common.{take}
-use Rattle.f77_terms.specs.Terms.{Valuation, parts_value}
-use Rattle.f77_terms.specs.Ranges.{IsIn, AreKnown}
+use Rattle.f77_terms.proofs.Common.{take, Valuation, parts_value, IsIn, AreKnown}
 use Rattle.f77_terms.proofs.ranges.parts_range.Given as goal
 
 abbrev pub invariant-loop-place : goal.invariant-loop-place

@@ -1,6 +1,4 @@
-use Rattle.std.proofs.Common.{rules, SFits, w64}
-use Rattle.std.specs.Prelude.{◌*ℤ◌}
-use Rattle.std.proofs.lemmas.Int.{to_z-of_z}
+use Rattle.f77_terms.proofs.Common.{rules, SFits, w64, ◌*ℤ◌, to_z-of_z}
 use Rattle.f77_terms.proofs.Orders.{between_products}
 use Rattle.f77_terms.proofs.ranges.product_range.Goals as goal
 

@@ -1,5 +1,4 @@
-use Rattle.std.proofs.Common.{arith, rules, SFits, w64}
-use Rattle.std.proofs.lemmas.Int.{ints}
+use Rattle.f77_terms.proofs.Common.{arith, rules, SFits, w64, ints}
 use Rattle.f77_terms.proofs.Values.{parts_round}
 use Rattle.f77_terms.proofs.ranges.rest_low.Goals as goal
 

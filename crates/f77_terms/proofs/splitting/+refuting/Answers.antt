@@ -1,5 +1,4 @@
-use Rattle.std.proofs.Common.{arith, inl, inr}
-use Rattle.f77_terms.specs.Bounds.{AreBelow}
+use Rattle.f77_terms.proofs.Common.{arith, inl, inr, AreBelow}
 use Rattle.f77_terms.proofs.There.{any_more, any_of_all}
 use Rattle.f77_terms.proofs.Values.{ok_then}
 use Rattle.f77_terms.proofs.splitting.+refuting.Goals as goal
@@ -21,4 +20,4 @@ are_refuted_with-returns t c e v holds below there =
 pub is_refuted_with-returns : goal.is_refuted_with-returns
 is_refuted_with-returns t c =
     ok_then c.are_refuted_with.result c.are_refuted_with.ensures
-    (λ yes claim e v holds below. (rw c.deref-3.ensures.value at claim) e v holds below ((rw c.in-Some-2.is at c.in_ok-choice.ensures) v holds))
+    (λ yes claim e v holds below. (rw c.deref-3.ensures at (rw c.deref-4.ensures.value at claim)) e v holds below ((rw c.in-Some-2.is at c.in_ok-choice.ensures) v holds))

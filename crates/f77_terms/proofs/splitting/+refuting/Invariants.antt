@@ -1,7 +1,4 @@
-use Rattle.std.proofs.Common.{◌+◌, suc, take}
-use Rattle.f77_terms.specs.Terms.{Valuation}
-use Rattle.f77_terms.specs.Bounds.{AreBelow}
-use Rattle.f77_terms.specs.Paths.{IsOneOf, Holds}
+use Rattle.f77_terms.proofs.Common.{◌+◌, suc, take, Valuation, AreBelow, IsOneOf, Holds}
 use Rattle.f77_terms.proofs.splitting.+refuting.Given as goal
 
 abbrev pub decreases-are_refuted_with : goal.decreases-are_refuted_with

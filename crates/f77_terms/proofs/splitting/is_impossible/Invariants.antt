@@ -1,6 +1,4 @@
-use Rattle.f77_terms.specs.Terms.{Valuation}
-use Rattle.f77_terms.specs.Bounds.{AreBelow}
-use Rattle.f77_terms.specs.Ranges.{AreKnown}
+use Rattle.f77_terms.proofs.Common.{Valuation, AreBelow, AreKnown}
 use Rattle.f77_terms.proofs.splitting.is_impossible.Given as goal
 
 abbrev pub invariant-loop : goal.invariant-loop

@@ -1,5 +1,4 @@
-use Rattle.std.proofs.Common.{inl, inr}
-use Rattle.f77_terms.specs.Terms.{sum_value}
+use Rattle.f77_terms.proofs.Common.{inl, inr, sum_value}
 use Rattle.f77_terms.proofs.Choices.{apart}
 use Rattle.f77_terms.proofs.Values.{ok_then}
 use Rattle.f77_terms.proofs.splitting.sides.Goals as goal

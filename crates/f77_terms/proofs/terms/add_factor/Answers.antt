@@ -1,10 +1,5 @@
-use Rattle.std.proofs.Common.{arith, rules, ◌≡◌, SFits, w64, List, Some, ℕ, ℤ, pos, ap, ◌∙◌}
-use Rattle.std.specs.Prelude.{◌+ℤ◌, ◌*ℤ◌, slice_get, slice_set}
-use Rattle.std.specs.List.{remove}
-use Rattle.std.proofs.Math.IntN.{zero-*ℤ}
-use Rattle.std.proofs.lemmas.Int.{ints, to_z-of_z}
-use Rattle.f77_terms.specs.declared.terms.Part.{Part}
-use Rattle.f77_terms.specs.Terms.{Valuation, monomial_value, parts_value}
+use Rattle.f77_terms.proofs.Common.{arith, rules, ◌≡◌, SFits, w64, List, Some, ℕ, ℤ, pos, ap, ◌∙◌, ◌+ℤ◌, ◌*ℤ◌, slice_get, slice_set, remove, zero-*ℤ, ints}
+use Rattle.f77_terms.proofs.Common.{to_z-of_z, Part, Valuation, monomial_value, parts_value}
 use Rattle.f77_terms.proofs.Values.{parts_set, parts_removed, factor_more}
 use Rattle.f77_terms.proofs.terms.add_factor.Goals as goal
 

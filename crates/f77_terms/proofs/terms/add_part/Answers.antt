@@ -1,7 +1,4 @@
-use Rattle.std.proofs.Common.{arith, rules, ◌≡◌, SFits, w64, ap, ◌∙◌}
-use Rattle.std.specs.Prelude.{◌*ℤ◌}
-use Rattle.std.proofs.lemmas.Int.{ints, to_z-of_z}
-use Rattle.f77_terms.specs.Terms.{monomial_value, parts_value}
+use Rattle.f77_terms.proofs.Common.{arith, rules, ◌≡◌, SFits, w64, ap, ◌∙◌, ◌*ℤ◌, ints, to_z-of_z, monomial_value, parts_value}
 use Rattle.f77_terms.proofs.Values.{parts_put}
 use Rattle.f77_terms.proofs.terms.add_part.Goals as goal
 

@@ -1,8 +1,4 @@
-use Rattle.std.proofs.Common.{arith, rules, SFits, w64, ap}
-use Rattle.std.specs.Prelude.{◌*ℤ◌}
-use Rattle.std.proofs.lemmas.Int.{ints, to_z-of_z}
-use Rattle.std.proofs.Math.IntN.{*ℤ-zero}
-use Rattle.f77_terms.specs.Terms.{monomial_value, part_value, parts_value}
+use Rattle.f77_terms.proofs.Common.{arith, rules, SFits, w64, ap, ◌*ℤ◌, ints, to_z-of_z, *ℤ-zero, monomial_value, part_value, parts_value}
 use Rattle.f77_terms.proofs.Products.{sum_times}
 use Rattle.f77_terms.proofs.Values.{times_more, part_times, all_parts}
 use Rattle.f77_terms.proofs.terms.add_part_times.Goals as goal

@@ -1,6 +1,4 @@
-use Rattle.std.proofs.Common.{arith, rules, SFits, w64}
-use Rattle.std.proofs.lemmas.Int.{ints, to_z-of_z}
-use Rattle.f77_terms.specs.Terms.{monomial_value}
+use Rattle.f77_terms.proofs.Common.{arith, rules, SFits, w64, ints, to_z-of_z, monomial_value}
 use Rattle.f77_terms.proofs.Values.{times_more, factor_times}
 use Rattle.f77_terms.proofs.terms.add_parts.Goals as goal
 

@@ -1,6 +1,4 @@
-use Rattle.std.proofs.Common.{◌≡◌, take}
-use Rattle.std.specs.Prelude.{◌+ℤ◌, ◌*ℤ◌}
-use Rattle.f77_terms.specs.Terms.{Valuation, parts_value, sum_value}
+use Rattle.f77_terms.proofs.Common.{◌≡◌, take, ◌+ℤ◌, ◌*ℤ◌, Valuation, parts_value, sum_value}
 use Rattle.f77_terms.proofs.terms.add_parts.Given as goal
 
 abbrev pub invariant-loop-place : goal.invariant-loop-place

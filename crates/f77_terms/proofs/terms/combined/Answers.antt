@@ -1,5 +1,4 @@
-use Rattle.std.proofs.Common.{arith, SFits, w64}
-use Rattle.std.proofs.lemmas.Int.{ints, to_z-of_z}
+use Rattle.f77_terms.proofs.Common.{arith, SFits, w64, ints, to_z-of_z}
 use Rattle.f77_terms.proofs.Values.{some_then}
 use Rattle.f77_terms.proofs.terms.combined.Goals as goal
 

@@ -1,6 +1,4 @@
-use Rattle.std.proofs.Common.{rules, SFits, w64}
-use Rattle.std.proofs.lemmas.Int.{to_z-of_z}
-use Rattle.f77_terms.specs.Terms.{monomial_value}
+use Rattle.f77_terms.proofs.Common.{rules, SFits, w64, to_z-of_z, monomial_value}
 use Rattle.f77_terms.proofs.Values.{both_factors}
 use Rattle.f77_terms.proofs.terms.part_product.Goals as goal
 

@@ -1,8 +1,4 @@
-use Rattle.std.proofs.Common.{arith, rules, SFits, w64, ap}
-use Rattle.std.specs.Prelude.{◌*ℤ◌}
-use Rattle.std.proofs.lemmas.Int.{ints, to_z-of_z}
-use Rattle.std.proofs.Math.IntN.{zero-*ℤ}
-use Rattle.f77_terms.specs.Terms.{parts_value, sum_value}
+use Rattle.f77_terms.proofs.Common.{arith, rules, SFits, w64, ap, ◌*ℤ◌, ints, to_z-of_z, zero-*ℤ, parts_value, sum_value}
 use Rattle.f77_terms.proofs.Products.{times_sum}
 use Rattle.f77_terms.proofs.Values.{some_then, more_times, all_parts}
 use Rattle.f77_terms.proofs.terms.product.Goals as goal

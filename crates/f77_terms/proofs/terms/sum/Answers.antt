@@ -1,5 +1,4 @@
-use Rattle.std.proofs.Common.{arith}
-use Rattle.std.proofs.lemmas.Int.{ints}
+use Rattle.f77_terms.proofs.Common.{arith, ints}
 use Rattle.f77_terms.proofs.Values.{ok_then, some_then}
 use Rattle.f77_terms.proofs.terms.sum.Goals as goal
 

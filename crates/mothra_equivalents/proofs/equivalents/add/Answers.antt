@@ -1,8 +1,4 @@
-use Rattle.std.proofs.Common.{◌+◌, refl, subst, sym}
-use Rattle.std.specs.Prelude.{IfSome}
-use Rattle.mothra_codes.specs.Ticket.{ticket}
-use Rattle.mothra_equivalents.specs.code.Equivalents.{IsUpTo}
-use Rattle.mothra_equivalents.specs.Equivalents.{IsProvedMutant}
+use Rattle.mothra_equivalents.proofs.Common.{◌+◌, refl, subst, sym, IfSome, ticket, IsUpTo, IsProvedMutant}
 use Rattle.mothra_equivalents.proofs.Adding.{front_grows}
 use Rattle.mothra_equivalents.proofs.equivalents.add.Goals as goal
 
@@ -12,4 +8,4 @@ returns-in-Some-clause-front c front =
     let own = ticket c.args.op c.args.number in
     let known = subst (λ found. IfSome found (λ spare. IsProvedMutant plan own spare)) c.in-Some.is c.in_ok-spare.ensures.equivalent in
     subst (IsUpTo plan c.args.op (c.args.number + 1)) (sym c.in_ok-push.ensures.items)
-    (front_grows plan c.args.op c.args.number c.args.list.now.items (record { ticket = own; spare = c.in-Some.spare }) refl known front)
+    (front_grows plan c.args.op c.args.number c.args.found.now.list.items (record { ticket = own; spare = c.in-Some.spare }) refl known front)

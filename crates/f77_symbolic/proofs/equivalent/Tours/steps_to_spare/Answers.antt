@@ -1,16 +1,8 @@
-use Rattle.std.proofs.Common.{◌≡◌, ◌∙◌, ◌-◌, ℕ, ap, arith, pos, subst, sym, to_z, of_z, w64}
-use Rattle.std.specs.Prelude.{All, IfSome, map, slice_set, ◌≤ℤ◌}
-use Rattle.std.proofs.Math.IntN.{nat_abs}
-use Rattle.std.proofs.lemmas.Int.{ints}
-use Rattle.std.proofs.lemmas.Option.{IfSome_then}
-use Rattle.f77_check.specs.Checked.{CheckedFields}
+use Rattle.f77_symbolic.proofs.Common.{◌≡◌, ◌∙◌, ◌-◌, ap, arith, pos, subst, sym, to_z, of_z, w64, All, IfSome, map, slice_set, ◌≤ℤ◌, nat_abs, ints}
+use Rattle.f77_symbolic.proofs.Common.{IfSome_then, CheckedFields, line_of, IsReady, FollowsThere, IsBehindOn, IsTourOf}
 use Rattle.f77_equivalence.specs.Equivalent.{IsEquivalentWithin}
 use Rattle.f77_program.specs.Patching.{patched}
-use Rattle.f77_program.specs.Program.{line_of}
 use Rattle.f77_tree.specs.Statement.{statement_of}
-use Rattle.f77_symbolic.specs.code.Pairs.{IsReady}
-use Rattle.f77_symbolic.specs.Visits.{IsTourOf}
-use Rattle.f77_symbolic.specs.code.Visits.{FollowsThere}
 use Rattle.f77_symbolic.proofs.Chained.{equivalent_by, equivalent_exactly}
 use Rattle.f77_symbolic.proofs.Entered.{abs_above, tried_so}
 use Rattle.f77_symbolic.proofs.equivalent.Tours.steps_to_spare.Goals as goal
@@ -23,10 +15,9 @@ found c =
     let checked = c.self.inside.checked.now in
     let own : checked ≡ c.args.self.now = c.self.view_is in
     let spare = nat_abs (to_z w64 (of_z w64 c.in-Some.behind)) in
-    let follows : (spare : ℕ) (checked : CheckedFields) → c.in-Some.behind ≤ℤ pos spare → All (IsTourOf checked) c.deref.result.now
-    → FollowsThere checked c.in-Ok.change spare
-    = subst (λ o. IfSome o (λ behind. (spare : ℕ) (checked : CheckedFields) → behind ≤ℤ pos spare → All (IsTourOf checked) c.deref.result.now
-    → FollowsThere checked c.in-Ok.change spare)) c.in-Some.is c.in_ok-behind.ensures.follows in
+    let follows : IsBehindOn c.in-Ok.change c.in-Some.behind (λ checked. All (IsTourOf checked) c.deref.result.now)
+    = subst (λ o. IfSome o (λ behind. IsBehindOn c.in-Ok.change behind (λ checked. All (IsTourOf checked) c.deref.result.now))) c.in-Some.is
+    c.in_ok-behind.ensures.follows in
     let same : to_z w64 (of_z w64 c.in-Some.behind) ≡ c.in-Some.behind = omega (arith, ints) in
     let within : c.in-Some.behind ≤ℤ pos spare = subst (λ z. z ≤ℤ pos spare) same (abs_above (to_z w64 (of_z w64 c.in-Some.behind))) in
     let tours : All (IsTourOf checked) c.deref.result.now = subst (All (IsTourOf checked)) (sym c.deref.ensures.value) c.self.invariant in

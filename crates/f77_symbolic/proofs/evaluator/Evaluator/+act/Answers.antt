@@ -1,10 +1,4 @@
-use Rattle.std.proofs.Common.{ap, Bool}
-use Rattle.f77_code.specs.Evaluation.{truth_in}
-use Rattle.f77_code.specs.Moves.{Goes, Move, acted, go_on, jump_chosen, state}
-use Rattle.f77_code.specs.declared.control.Place.TheVariants.{Execute}
-use Rattle.f77_terms.proofs.Values.{ok_then}
-use Rattle.f77_symbolic.specs.Memory.{cells_of}
-use Rattle.f77_symbolic.specs.Sides.{turns_of}
+use Rattle.f77_symbolic.proofs.Common.{ap, Bool, truth_in, Goes, Move, acted, go_on, jump_chosen, state, Execute, ok_then, cells_of, turns_of}
 use Rattle.f77_symbolic.proofs.Answering.{known_steps}
 use Rattle.f77_symbolic.proofs.Steps.{goes_stepped, stepped_as}
 use Rattle.f77_symbolic.proofs.evaluator.Evaluator.+act.Goals as goal
@@ -23,13 +17,9 @@ returns-then-branch-clause-steps t c =
     (ap (λ action. acted c.args.statements.now c.args.i r action cells turns) c.in-LogicalIf.is)
     (known_steps start.cells v c.args.self.now mid new c.args.side.now c.act.new.side step (truth_in cells c.in-LogicalIf.condition) cells then
     c.in_ok-truth_of-in-LogicalIf.field-0
-    ((rw (c.deref-in-LogicalIf.ensures.value, c.deref.ensures) at c.in_ok-truth_of-in-LogicalIf.ensures.yields) start v (c.act.ensures.extends start v there) holds inside)
+    ((rw (c.deref-in-LogicalIf.ensures.value, c.deref.ensures) at c.in_ok-truth_of-in-LogicalIf.ensures.yields) start v (c.act.ensures.extends.back start v there) holds inside)
     (λ holds. stepped_as start.cells v mid.own new.path c.args.side.now c.act.new.side step _ _ (ap then c.if-branch.true)
     (claim start v there holds inside))))
-
-pub returns-then-branch-clause-extends : goal.returns-then-branch-clause-extends
-returns-then-branch-clause-extends t c start v there =
-    c.in_ok-truth_of-in-LogicalIf.ensures.extends start v (c.act.ensures.extends start v there)
 
 pub returns-then-branch-2-clause-steps : goal.returns-then-branch-2-clause-steps
 returns-then-branch-2-clause-steps t c start v there holds inside =

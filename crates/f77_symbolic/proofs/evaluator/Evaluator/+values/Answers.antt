@@ -1,18 +1,8 @@
-use Rattle.std.proofs.Common.{◌≡◌, ◌+◌, ◌∷◌, []}
-use Rattle.std.specs.Prelude.{Ok}
-use Rattle.f77_actions.specs.Number.{in_range, negated, without_sign}
-use Rattle.f77_actions.specs.Value.{element, given, pushed, whole}
-use Rattle.f77_code.specs.Evaluation.{calculated, number_in, slot_in}
-use Rattle.f77_terms.proofs.Values.{ok_then}
-use Rattle.f77_terms.specs.Terms.{sum_value}
-use Rattle.f77_symbolic.specs.Memory.{IsInside, cells_of, slot_of}
+use Rattle.f77_symbolic.proofs.Common.{◌≡◌, ◌+◌, ◌∷◌, [], Ok, in_range, negated, without_sign, element, given, pushed, whole, calculated, number_in, slot_in}
+use Rattle.f77_symbolic.proofs.Common.{ok_then, sum_value, IsInside, cells_of, slot_of}
 use Rattle.f77_symbolic.proofs.Answering.{known_answers, both_answers}
-use Rattle.f77_symbolic.proofs.Evaluating.{lacks_whole, read_answers}
+use Rattle.f77_symbolic.proofs.Evaluating.{read_answers}
 use Rattle.f77_symbolic.proofs.evaluator.Evaluator.+values.Goals as goal
-
-pub location_of-returns-in_err-column-in-Matrix-clause-extends : goal.location_of-returns-in_err-column-in-Matrix-clause-extends
-location_of-returns-in_err-column-in-Matrix-clause-extends t c start v is =
-    c.in_ok-row-in-Matrix.ensures.extends start v (c.number_of-in-Matrix-2.ensures.extends start v is)
 
 pub location_of-returns-in_ok-index-in-Vector-clause-yields : goal.location_of-returns-in_ok-index-in-Vector-clause-yields
 location_of-returns-in_ok-index-in-Vector-clause-yields t c =
@@ -22,11 +12,7 @@ location_of-returns-in_ok-index-in-Vector-clause-yields t c =
     rw c.in-Vector.is
     (known_answers v c.args.self.now c.number_of.new.self c.vector.new.self (number_in (cells_of start.cells v c.args.writes.now) c.in-Vector.subscript.value)
     (λ z. given (element (c.in-Vector.bound ∷ []) (z ∷ [])) (λ k. Ok (c.in-Vector.first + k))) (sum_value v c.in_ok-index-in-Vector.index)
-    (λ k. IsInside v location × (slot_of v location ≡ k)) (index start v (c.vector.ensures.extends start v is) holds inside) (claim start v is)))
-
-pub location_of-returns-in_ok-index-in-Vector-clause-extends : goal.location_of-returns-in_ok-index-in-Vector-clause-extends
-location_of-returns-in_ok-index-in-Vector-clause-extends t c start v is =
-    c.in_ok-index-in-Vector.ensures.extends start v (c.vector.ensures.extends start v is)
+    (λ k. IsInside v location × (slot_of v location ≡ k)) (index start v (c.vector.ensures.extends.back start v is) holds inside) (claim start v is)))
 
 pub location_of-returns-in_ok-column-in-Matrix-clause-yields : goal.location_of-returns-in_ok-column-in-Matrix-clause-yields
 location_of-returns-in_ok-column-in-Matrix-clause-yields t c =
@@ -34,8 +20,8 @@ location_of-returns-in_ok-column-in-Matrix-clause-yields t c =
     let column = rw c.deref-in-Matrix-2.ensures at c.in_ok-column-in-Matrix.ensures.yields in
     ok_then c.matrix.result c.matrix.ensures.locates
     (λ location claim start v is holds inside.
-    let late = c.matrix.ensures.extends start v is in
-    let mid = c.in_ok-column-in-Matrix.ensures.extends start v late in
+    let late = c.matrix.ensures.extends.back start v is in
+    let mid = c.in_ok-column-in-Matrix.ensures.extends.back start v late in
     let cells = cells_of start.cells v c.args.writes.now in
     rw c.in-Matrix.is
     (known_answers v c.args.self.now c.number_of-in-Matrix.new.self c.matrix.new.self (number_in cells c.in-Matrix.row.value)
@@ -47,18 +33,6 @@ location_of-returns-in_ok-column-in-Matrix-clause-yields t c =
     (λ w. given (element (c.in-Matrix.rows ∷ (c.in-Matrix.columns ∷ [])) (sum_value v c.in_ok-row-in-Matrix.row ∷ (w ∷ []))) (λ k. Ok (c.in-Matrix.first + k)))
     (sum_value v c.in_ok-column-in-Matrix.column) (λ k. IsInside v location × (slot_of v location ≡ k)) (column start v late held inside) (claim start v is))))
 
-pub location_of-returns-in_ok-column-in-Matrix-clause-extends : goal.location_of-returns-in_ok-column-in-Matrix-clause-extends
-location_of-returns-in_ok-column-in-Matrix-clause-extends t c start v is =
-    c.in_ok-row-in-Matrix.ensures.extends start v (c.in_ok-column-in-Matrix.ensures.extends start v (c.matrix.ensures.extends start v is))
-
-pub number_of-returns-in_err-value-in-Element-clause-extends : goal.number_of-returns-in_err-value-in-Element-clause-extends
-number_of-returns-in_err-value-in-Element-clause-extends t c start v is =
-    c.in_ok-location-in-Element.ensures.extends start v (c.read.ensures.extends start v is)
-
-pub number_of-returns-in_err-b-in-Binary-clause-extends : goal.number_of-returns-in_err-b-in-Binary-clause-extends
-number_of-returns-in_err-b-in-Binary-clause-extends t c start v is =
-    c.in_ok-a-in-Binary.ensures.extends start v (c.number_of-in-Binary-2.ensures.extends start v is)
-
 pub number_of-returns-in_ok-value-in-Element-clause-yields : goal.number_of-returns-in_ok-value-in-Element-clause-yields
 number_of-returns-in_ok-value-in-Element-clause-yields t c =
     ok_then c.whole.result c.whole.ensures
@@ -67,13 +41,9 @@ number_of-returns-in_ok-value-in-Element-clause-yields t c =
     rw c.in-Element.is
     (read_answers v c.args.self.now c.location_of.new.self c.read.new.self (slot_in cells c.in-Element.e) cells c.in_ok-location-in-Element.location
     c.in_ok-value-in-Element.value whole (λ z. sum_value v term ≡ z)
-    (c.in_ok-location-in-Element.ensures.yields start v (c.in_ok-value-in-Element.ensures.extends start v is) holds inside)
+    (c.in_ok-location-in-Element.ensures.yields start v (c.in_ok-value-in-Element.ensures.extends.back start v is) holds inside)
     (λ held at. c.in_ok-value-in-Element.ensures.reads start v is held inside at)
-    (lacks_whole (λ z. sum_value v term ≡ z) v c.location_of.new.self c.read.new.self c.in_ok-value-in-Element.value) (claim start v is)))
-
-pub number_of-returns-in_ok-value-in-Element-clause-extends : goal.number_of-returns-in_ok-value-in-Element-clause-extends
-number_of-returns-in_ok-value-in-Element-clause-extends t c start v is =
-    c.in_ok-location-in-Element.ensures.extends start v (c.in_ok-value-in-Element.ensures.extends start v is)
+    (λ own. own) (claim start v is)))
 
 pub number_of-returns-in_ok-a-in-Negated-clause-yields : goal.number_of-returns-in_ok-a-in-Negated-clause-yields
 number_of-returns-in_ok-a-in-Negated-clause-yields t c =
@@ -83,11 +53,7 @@ number_of-returns-in_ok-a-in-Negated-clause-yields t c =
     rw c.in-Negated.is
     (known_answers v c.args.self.now c.number_of.new.self c.negated.new.self (number_in (cells_of start.cells v c.args.writes.now) c.in-Negated.operand.value)
     (λ z. in_range (negated z)) (sum_value v c.in_ok-a-in-Negated.a) (λ z. sum_value v term ≡ z)
-    (operand start v (c.negated.ensures.extends start v is) holds inside) (claim start v is)))
-
-pub number_of-returns-in_ok-a-in-Negated-clause-extends : goal.number_of-returns-in_ok-a-in-Negated-clause-extends
-number_of-returns-in_ok-a-in-Negated-clause-extends t c start v is =
-    c.in_ok-a-in-Negated.ensures.extends start v (c.negated.ensures.extends start v is)
+    (operand start v (c.negated.ensures.extends.back start v is) holds inside) (claim start v is)))
 
 pub number_of-returns-in_ok-a-in-Absolute-clause-yields : goal.number_of-returns-in_ok-a-in-Absolute-clause-yields
 number_of-returns-in_ok-a-in-Absolute-clause-yields t c =
@@ -97,11 +63,7 @@ number_of-returns-in_ok-a-in-Absolute-clause-yields t c =
     rw c.in-Absolute.is
     (known_answers v c.args.self.now c.number_of-in-Absolute.new.self c.absolute.new.self (number_in (cells_of start.cells v c.args.writes.now) c.in-Absolute.operand.value)
     (λ z. in_range (without_sign z)) (sum_value v c.in_ok-a-in-Absolute.a) (λ z. sum_value v term ≡ z)
-    (operand start v (c.absolute.ensures.extends start v is) holds inside) (claim start v is)))
-
-pub number_of-returns-in_ok-a-in-Absolute-clause-extends : goal.number_of-returns-in_ok-a-in-Absolute-clause-extends
-number_of-returns-in_ok-a-in-Absolute-clause-extends t c start v is =
-    c.in_ok-a-in-Absolute.ensures.extends start v (c.absolute.ensures.extends start v is)
+    (operand start v (c.absolute.ensures.extends.back start v is) holds inside) (claim start v is)))
 
 pub number_of-returns-in_ok-a-in-ZeroPush-clause-yields : goal.number_of-returns-in_ok-a-in-ZeroPush-clause-yields
 number_of-returns-in_ok-a-in-ZeroPush-clause-yields t c =
@@ -111,11 +73,7 @@ number_of-returns-in_ok-a-in-ZeroPush-clause-yields t c =
     rw c.in-ZeroPush.is
     (known_answers v c.args.self.now c.number_of-in-ZeroPush.new.self c.pushed.new.self (number_in (cells_of start.cells v c.args.writes.now) c.in-ZeroPush.operand.value)
     pushed (sum_value v c.in_ok-a-in-ZeroPush.a) (λ z. sum_value v term ≡ z)
-    (operand start v (c.pushed.ensures.extends start v is) holds inside) (claim start v is)))
-
-pub number_of-returns-in_ok-a-in-ZeroPush-clause-extends : goal.number_of-returns-in_ok-a-in-ZeroPush-clause-extends
-number_of-returns-in_ok-a-in-ZeroPush-clause-extends t c start v is =
-    c.in_ok-a-in-ZeroPush.ensures.extends start v (c.pushed.ensures.extends start v is)
+    (operand start v (c.pushed.ensures.extends.back start v is) holds inside) (claim start v is)))
 
 pub number_of-returns-in_ok-b-in-Binary-clause-yields : goal.number_of-returns-in_ok-b-in-Binary-clause-yields
 number_of-returns-in_ok-b-in-Binary-clause-yields t c =
@@ -123,14 +81,10 @@ number_of-returns-in_ok-b-in-Binary-clause-yields t c =
     let right = rw c.deref-in-Binary-2.ensures at c.in_ok-b-in-Binary.ensures.yields in
     ok_then c.calculate.result c.calculate.ensures.calculates
     (λ term claim start v is holds inside.
-    let late = c.calculate.ensures.extends start v is in
-    let mid = c.in_ok-b-in-Binary.ensures.extends start v late in
+    let late = c.calculate.ensures.extends.back start v is in
+    let mid = c.in_ok-b-in-Binary.ensures.extends.back start v late in
     let cells = cells_of start.cells v c.args.writes.now in
     rw c.in-Binary.is
     (both_answers v c.args.self.now c.number_of-in-Binary.new.self c.number_of-in-Binary-2.new.self c.calculate.new.self (calculated c.in-Binary.operation)
     (number_in cells c.in-Binary.left.value) (number_in cells c.in-Binary.right.value) (sum_value v c.in_ok-a-in-Binary.a) (sum_value v c.in_ok-b-in-Binary.b)
     (λ z. sum_value v term ≡ z) (left start v mid holds inside) (λ held. right start v late held inside) (claim start v is)))
-
-pub number_of-returns-in_ok-b-in-Binary-clause-extends : goal.number_of-returns-in_ok-b-in-Binary-clause-extends
-number_of-returns-in_ok-b-in-Binary-clause-extends t c start v is =
-    c.in_ok-a-in-Binary.ensures.extends start v (c.in_ok-b-in-Binary.ensures.extends start v (c.calculate.ensures.extends start v is))

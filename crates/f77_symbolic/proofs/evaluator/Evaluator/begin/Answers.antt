@@ -1,21 +1,7 @@
-use Rattle.std.proofs.Common.{ap, ℤ}
-use Rattle.f77_code.specs.Evaluation.{number_in}
-use Rattle.f77_code.specs.Moves.{Move, acted, begun, used}
-use Rattle.f77_terms.proofs.Values.{ok_then}
-use Rattle.f77_terms.specs.Terms.{sum_value}
-use Rattle.f77_symbolic.specs.Memory.{cells_of}
-use Rattle.f77_symbolic.specs.Sides.{turns_of}
+use Rattle.f77_symbolic.proofs.Common.{ap, ℤ, number_in, Move, acted, begun, used, ok_then, sum_value, cells_of, turns_of}
 use Rattle.f77_symbolic.proofs.Answering.{known_steps}
 use Rattle.f77_symbolic.proofs.Steps.{stepped_as}
 use Rattle.f77_symbolic.proofs.evaluator.Evaluator.begin.Goals as goal
-
-pub returns-in_err-last-clause-extends : goal.returns-in_err-last-clause-extends
-returns-in_err-last-clause-extends c start v there =
-    c.in_ok-first.ensures.extends start v (c.number_of-2.ensures.extends start v there)
-
-pub returns-in_err-step-clause-extends : goal.returns-in_err-step-clause-extends
-returns-in_err-step-clause-extends c start v there =
-    c.in_ok-first.ensures.extends start v (c.in_ok-last.ensures.extends start v (c.number_of-3.ensures.extends start v there))
 
 pub returns-clause-steps : goal.returns-clause-steps
 returns-clause-steps c =
@@ -29,9 +15,9 @@ returns-clause-steps c =
     let after = c.enter.new.side in
     let cells = cells_of start.cells v before.writes.items in
     let turns = turns_of v before.turns.items in
-    let there-3 = c.enter.ensures.extends start v there in
-    let there-2 = c.in_ok-step.ensures.extends start v there-3 in
-    let there-1 = c.in_ok-last.ensures.extends start v there-2 in
+    let there-3 = c.enter.ensures.extends.back start v there in
+    let there-2 = c.in_ok-step.ensures.extends.back start v there-3 in
+    let there-1 = c.in_ok-last.ensures.extends.back start v there-2 in
     let a = sum_value v c.in_ok-first.first in
     let b = sum_value v c.in_ok-last.last in
     let from : ℤ → ℤ → ℤ → Move = λ a b z. begun c.args.statements.now c.args.d c.in-Loop.variable c.in-Loop.terminal a b z cells turns in
@@ -47,8 +33,3 @@ returns-clause-steps c =
     (λ z. from a b z) (sum_value v c.in_ok-step.step)
     ((rw (c.deref-6.ensures.value, c.deref-5.ensures) at c.in_ok-step.ensures.yields) start v there-3 holds inside)
     (λ holds. claim start v there holds inside)))))
-
-pub returns-clause-extends : goal.returns-clause-extends
-returns-clause-extends c start v there =
-    c.in_ok-first.ensures.extends start v
-    (c.in_ok-last.ensures.extends start v (c.in_ok-step.ensures.extends start v (c.enter.ensures.extends start v there)))

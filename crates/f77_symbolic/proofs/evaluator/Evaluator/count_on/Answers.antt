@@ -1,15 +1,10 @@
-use Rattle.std.proofs.Common.{ap, sym, ◌∙◌, subst}
-use Rattle.std.specs.Prelude.{option_map}
-use Rattle.f77_terms.proofs.Values.{ok_then}
-use Rattle.f77_symbolic.specs.Memory.{cells_of}
-use Rattle.f77_symbolic.specs.Sides.{turn_of, turns_of}
-use Rattle.f77_symbolic.specs.code.Sides.{Stepped}
+use Rattle.f77_symbolic.proofs.Common.{ap, sym, ◌∙◌, subst, option_map, ok_then, cells_of, turn_of, turns_of, Stepped}
 use Rattle.f77_symbolic.proofs.Steps.{both_told, moved_increment}
 use Rattle.f77_symbolic.proofs.evaluator.Evaluator.count_on.Goals as goal
 
 pub returns-clause-steps : goal.returns-clause-steps
 returns-clause-steps c =
-    ok_then c.increment.result (both_told _ _ c.increment.result c.increment.ensures.steps c.increment.ensures.counts)
+    ok_then c.increment.result (both_told _ _ c.increment.result (rw c.deref-3.ensures at c.increment.ensures.steps) c.increment.ensures.counts)
     (λ step told start v there holds inside.
     let cells = cells_of start.cells v c.args.side.now.writes.items in
     let turns = turns_of v c.args.side.now.turns.items in

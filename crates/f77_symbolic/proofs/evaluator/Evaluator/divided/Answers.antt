@@ -1,34 +1,13 @@
-use Rattle.std.proofs.Common.{◌≡◌, ◌∙◌, ap, subst}
-use Rattle.std.specs.Prelude.{int_div, int_rem}
-use Rattle.f77_terms.specs.Terms.{sum_value}
-use Rattle.f77_symbolic.specs.Atoms.{Interprets}
+use Rattle.f77_symbolic.proofs.Common.{◌≡◌, ◌∙◌, ap, subst, int_div, int_rem, sum_value, Interprets}
 use Rattle.f77_symbolic.proofs.Answering.{stays_then}
 use Rattle.f77_symbolic.proofs.evaluator.Evaluator.divided.Goals as goal
-
-pub returns-in_err-remainder-clause-extends : goal.returns-in_err-remainder-clause-extends
-returns-in_err-remainder-clause-extends c start v interprets = c.in_ok-quotient.ensures.extends start v (c.atom_of-2.ensures.extends start v interprets)
-
-pub returns-in_err-know_division-clause-extends : goal.returns-in_err-know_division-clause-extends
-returns-in_err-know_division-clause-extends c start v interprets = c.in_ok-quotient.ensures.extends start v (c.in_ok-remainder.ensures.extends start v interprets)
-
-pub returns-in_err-span_division-clause-extends : goal.returns-in_err-span_division-clause-extends
-returns-in_err-span_division-clause-extends c start v interprets =
-    c.in_ok-quotient.ensures.extends start v (c.in_ok-remainder.ensures.extends start v (subst (λ a. Interprets a start v) c.span_division.ensures.atoms interprets))
-
-pub returns-in_err-atom_term-clause-extends : goal.returns-in_err-atom_term-clause-extends
-returns-in_err-atom_term-clause-extends c start v interprets =
-    c.in_ok-quotient.ensures.extends start v (c.in_ok-remainder.ensures.extends start v (subst (λ a. Interprets a start v) c.span_division.ensures.atoms interprets))
-
-pub returns-in_err-atom_term-2-clause-extends : goal.returns-in_err-atom_term-2-clause-extends
-returns-in_err-atom_term-2-clause-extends c start v interprets =
-    c.in_ok-quotient.ensures.extends start v (c.in_ok-remainder.ensures.extends start v (subst (λ a. Interprets a start v) c.span_division.ensures.atoms interprets))
 
 pub returns-clause-divides : goal.returns-clause-divides
 returns-clause-divides c start v interprets holds apart =
     let a = sum_value v c.args.a.now in
     let b = sum_value v c.args.b.now in
     let means = subst (λ a. Interprets a start v) c.span_division.ensures.atoms interprets in
-    let first = c.in_ok-quotient.ensures.made start v (c.in_ok-remainder.ensures.extends start v means) holds in
+    let first = c.in_ok-quotient.ensures.made start v (c.in_ok-remainder.ensures.extends.back start v means) holds in
     let second = c.in_ok-remainder.ensures.made start v means first.0.holds in
     let q : v c.in_ok-quotient.quotient ≡ int_div a b =
     first.1 ∙ ap (λ z. int_div z (sum_value v c.in_ok-copy-2.field-0)) (c.in_ok-copy.ensures.value v) ∙ ap (λ z. int_div a z) (c.in_ok-copy-2.ensures.value v) in
@@ -39,7 +18,3 @@ returns-clause-divides c start v interprets holds apart =
       record { holds = spans.holds; own = spans.own ∙ stays.own },
       record { quotient = c.in_ok-atom_term.ensures v ∙ q; remainder = c.in_ok-atom_term-2.ensures v ∙ r },
     )
-
-pub returns-clause-extends : goal.returns-clause-extends
-returns-clause-extends c start v interprets =
-    c.in_ok-quotient.ensures.extends start v (c.in_ok-remainder.ensures.extends start v (subst (λ a. Interprets a start v) c.span_division.ensures.atoms interprets))

@@ -1,6 +1,4 @@
-use Rattle.std.proofs.Common.{◌∙◌}
-use Rattle.f77_terms.proofs.Values.{ok_then}
-use Rattle.f77_terms.specs.Terms.{sum_value}
+use Rattle.f77_symbolic.proofs.Common.{◌∙◌, ok_then, sum_value}
 use Rattle.f77_symbolic.proofs.Sized.{neg_sized}
 use Rattle.f77_symbolic.proofs.evaluator.Evaluator.divisor_of.Goals as goal
 

@@ -1,15 +1,8 @@
-use Rattle.std.proofs.Common.{Some, ap, sym, ◌≢◌, ◌∙◌, subst, pos}
-use Rattle.std.specs.Prelude.{slice_set}
+use Rattle.f77_symbolic.proofs.Common.{Some, ap, sym, ◌≢◌, ◌∙◌, subst, pos, slice_set, begun, passing, ok_then, sum_value, cells_of, passes_left, turns_of}
+use Rattle.f77_symbolic.proofs.Common.{Stepped}
 use Rattle.f77_actions.specs.declared.value.Value.TheVariants as held
-use Rattle.f77_code.specs.Moves.{begun, passing}
-use Rattle.f77_facts.proofs.Comparisons.{not_same_apart}
-use Rattle.f77_terms.proofs.Values.{ok_then}
-use Rattle.f77_terms.specs.Terms.{sum_value}
-use Rattle.f77_symbolic.specs.Memory.{cells_of}
-use Rattle.f77_symbolic.specs.Sides.{passes_left, turns_of}
-use Rattle.f77_symbolic.specs.code.Sides.{Stepped}
+use Rattle.f77_symbolic.proofs.Numbers.{not_same_apart, sign_equal}
 use Rattle.f77_symbolic.specs.declared.sides.Step.TheVariants as step
-use Rattle.f77_symbolic.proofs.Numbers.{sign_equal}
 use Rattle.f77_symbolic.proofs.Steps.{begun_some, moved_to, passing_there, trips_left}
 use Rattle.f77_symbolic.proofs.evaluator.Evaluator.enter.Goals as goal
 

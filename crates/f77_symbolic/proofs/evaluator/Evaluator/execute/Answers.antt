@@ -1,8 +1,4 @@
-use Rattle.std.proofs.Common.{sym, ◌∙◌, subst}
-use Rattle.f77_terms.proofs.Values.{ok_then}
-use Rattle.f77_symbolic.specs.Memory.{cells_of}
-use Rattle.f77_symbolic.specs.Sides.{turns_of}
-use Rattle.f77_symbolic.specs.code.Sides.{Stepped}
+use Rattle.f77_symbolic.proofs.Common.{sym, ◌∙◌, subst, ok_then, cells_of, turns_of, Stepped}
 use Rattle.f77_symbolic.proofs.Steps.{moved_execute}
 use Rattle.f77_symbolic.proofs.evaluator.Evaluator.execute.Goals as goal
 

@@ -1,5 +1,4 @@
-use Rattle.std.proofs.Common.{◌≢◌, ◌∙◌, inl, refl, sym, ap, pos, w64, of_z}
-use Rattle.f77_terms.specs.Terms.{sum_value}
+use Rattle.f77_symbolic.proofs.Common.{◌≢◌, ◌∙◌, inl, refl, sym, ap, pos, w64, of_z, sum_value}
 use Rattle.f77_symbolic.proofs.Expecting.{expected_so}
 use Rattle.f77_symbolic.proofs.evaluator.Evaluator.expect_apart.Goals as goal
 

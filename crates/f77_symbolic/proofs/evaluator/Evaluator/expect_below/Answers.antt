@@ -1,9 +1,5 @@
-use Rattle.std.proofs.Common.{inl, inr, refl, subst, sym, w64}
-use Rattle.std.proofs.lemmas.Int.{to_z-of_z}
-use Rattle.f77_terms.proofs.Values.{ok_then}
-use Rattle.f77_terms.specs.Paths.{Holds}
+use Rattle.f77_symbolic.proofs.Common.{inl, inr, refl, subst, sym, w64, to_z-of_z, ok_then, Holds, SFits}
 use Rattle.f77_symbolic.proofs.evaluator.Evaluator.expect_below.Goals as goal
-use mir.Val.{SFits}
 
 pub returns-then-not-self-clause-expects : goal.returns-then-not-self-clause-expects
 returns-then-not-self-clause-expects c =

@@ -1,16 +1,25 @@
-use Rattle.std.proofs.Common.{arith, ◌≡◌, ◌∙◌, inl, sym, pos}
-use Rattle.std.proofs.lemmas.Int.{ints}
+use Rattle.f77_symbolic.proofs.Common.{arith, ◌∙◌, subst, sym, not-true, ints, ok_then, AreKnown}
+use Rattle.f77_symbolic.proofs.Read.{goes_on, goes_on_always}
 use Rattle.f77_symbolic.proofs.evaluator.Evaluator.expect_present.Goals as goal
 
-pub returns-clause-present : goal.returns-clause-present
-returns-clause-present c start v there holds =
+pub returns-then-not-fact-clause-present : goal.returns-then-not-fact-clause-present
+returns-then-not-fact-clause-present c start v there holds cell suits is =
+    goes_on_always v c.args.self.now c.args.fact cell holds (not-true _ c.if-not-fact.true) suits
+
+pub returns-then-not-self-clause-present : goal.returns-then-not-self-clause-present
+returns-then-not-self-clause-present c =
+    ok_then c.unless_unknown.result c.unless_unknown.ensures
+    (λ _ shown start v there holds cell suits is.
     let made = c.in_ok-atom.ensures.made start v there holds in
-    let own = c.if-not-self.false in (
-      (λ is.
-          let one : v c.in_ok-atom.atom ≡ pos 1 = made.1 ∙ is in
-          record {
-            holds = c.in_ok-add_range.ensures v made.0.holds (record { above = omega (arith, ints, one); below = omega (arith, ints, one) });
-            own = made.0.own;
-          }),
-      inl (sym made.0.own ∙ own),
-    )
+    let above = c.is_above.ensures shown v (subst (AreKnown v) (sym c.deref.ensures.value) made.0.holds.known) in
+    goes_on v c.args.self.now c.atom_of.new.self (v c.in_ok-atom.atom) cell (made.1 ∙ is) (λ one. made.0) (λ none. absurd (omega (arith, ints, above, none))))
+
+pub returns-clause-present : goal.returns-clause-present
+returns-clause-present c start v there holds cell suits is =
+    let made = c.in_ok-atom.ensures.made start v there holds in
+    goes_on v c.args.self.now _ (v c.in_ok-atom.atom) cell (made.1 ∙ is)
+    (λ one. record {
+      holds = c.in_ok-add_range.ensures v made.0.holds (record { above = omega (arith, ints, one); below = omega (arith, ints, one) });
+      own = made.0.own;
+    })
+    (λ none. sym made.0.own ∙ c.if-not-self.false)

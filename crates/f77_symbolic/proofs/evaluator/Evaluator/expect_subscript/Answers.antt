@@ -1,7 +1,4 @@
-use Rattle.std.proofs.Common.{arith, ◌≤ℤ◌, ◌+ℤ◌, ◌*ℤ◌, pos, negsuc}
-use Rattle.std.proofs.lemmas.Int.{ints}
-use Rattle.f77_terms.proofs.Values.{ok_then}
-use Rattle.f77_terms.specs.Terms.{sum_value}
+use Rattle.f77_symbolic.proofs.Common.{arith, ◌≤ℤ◌, ◌+ℤ◌, ◌*ℤ◌, pos, negsuc, ints, ok_then, sum_value}
 use Rattle.f77_symbolic.proofs.Expecting.{both_expected, expected_as}
 use Rattle.f77_symbolic.proofs.evaluator.Evaluator.expect_subscript.Goals as goal
 
@@ -17,6 +14,3 @@ returns-clause-expects c =
     (λ on.
     let it = second v on in
     expected_as v c.expect_below.new.self c.expect_below-2.new.self _ (s ≤ℤ pos c.args.bound) (λ q. omega (arith, ints, q, bound)) (λ p. omega (arith, ints, p, bound)) it))
-
-pub returns-clause-extends : goal.returns-clause-extends
-returns-clause-extends c start v interprets = c.in_ok-expect_below.ensures.extends start v (c.expect_below-2.ensures.extends start v interprets)

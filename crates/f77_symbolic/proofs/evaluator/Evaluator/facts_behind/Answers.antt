@@ -1,8 +1,4 @@
-use Rattle.std.proofs.Common.{arith, ◌≡◌, length, List, subst, sym, take}
-use Rattle.f77_facts.specs.declared.facts.Fact.{Fact}
-use Rattle.f77_facts.specs.Facts.{AreIn}
-use Rattle.f77_symbolic.specs.declared.memory.Write.{Write}
-use Rattle.f77_symbolic.specs.Memory.{IsInside, cells_of}
+use Rattle.f77_symbolic.proofs.Common.{arith, ◌≡◌, length, List, subst, sym, take, Fact, AreIn, Write, IsInside, cells_of}
 use Rattle.f77_symbolic.proofs.Bounded.{cells_next, written_back}
 use Rattle.f77_symbolic.proofs.evaluator.Evaluator.facts_behind.Goals as goal
 
@@ -15,4 +11,4 @@ loop-write-preserved c start v is holds are =
     let long : length c.take_in.new.facts ≡ c.loop-write.facts.len =
     omega (arith, c.take_in.auto.facts, c.deref_mut.ensures.len, c.loop-write.facts.ok) in
     let next = cells_next v start.cells c.args.writes.now c.loop-write.write-index c.write-item.result (omega arith) c.write-item.is in
-    rw (next, written_back c.take_in.new.facts _ c.loop-write.facts.len long) (c.in_ok-take_in.ensures cells v holds inside before)
+    rw (next, written_back c.take_in.new.facts _ c.loop-write.facts.len long) ((rw c.deref.ensures at c.in_ok-take_in.ensures) cells v holds inside before)

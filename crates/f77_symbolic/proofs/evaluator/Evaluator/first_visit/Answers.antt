@@ -1,25 +1,13 @@
-use Rattle.std.proofs.Common.{◌≤◌, ◌<◌, ◌∙◌, ap, length, arith, sym, subst}
-use Rattle.std.proofs.lemmas.List.{take_all}
-use Rattle.f77_terms.specs.Paths.{Holds}
-use Rattle.f77_symbolic.specs.Sides.{turns_of}
-use Rattle.f77_symbolic.specs.Visits.{AreTurnNumbers}
+use Rattle.f77_symbolic.proofs.Common.{◌≤◌, ◌<◌, ◌∙◌, ap, length, arith, sym, subst, take_all, Holds, turns_of, AreTurnNumbers}
 use Rattle.f77_symbolic.proofs.Entered.{turns_next, visit_first}
+use Rattle.f77_symbolic.proofs.Extending.{extends_then}
 use Rattle.f77_symbolic.proofs.evaluator.Evaluator.first_visit.Goals as goal
-
-pub returns-in_err-turn-clause-extends : goal.returns-in_err-turn-clause-extends
-returns-in_err-turn-clause-extends c start v is = c.loop-d.invariant.extends start v (c.turn_known.ensures.extends start v is)
-
-pub returns-in_err-push-clause-extends : goal.returns-in_err-push-clause-extends
-returns-in_err-push-clause-extends c start v is = c.loop-d.invariant.extends start v (c.in_ok-turn.ensures.extends start v is)
-
-pub returns-clause-extends : goal.returns-clause-extends
-returns-clause-extends c start v is = c.loop-d.invariant.extends start v (c.taken_path-path.ensures.extends start v is)
 
 pub loop-d-preserved : goal.loop-d-preserved
 loop-d-preserved c = record {
   stands = λ start v is holds turns numbers left.
-      let old = c.in_ok-turn.ensures.extends start v is in
-      let first = c.loop-d.invariant.extends start v old in
+      let old = c.in_ok-turn.ensures.extends.back start v is in
+      let first = c.loop-d.invariant.extends.back start v old in
       let before = c.loop-d.invariant.stands start v old holds turns numbers left in
       let same = sym first.known.count ∙ old.known.count in
       let long = left.count in
@@ -30,12 +18,12 @@ loop-d-preserved c = record {
         it.0.holds,
         turns_next v c.loop-d.turns.items c.push.new.self.items c.in_ok-turn.turn turns c.loop-d.d within c.in_ok-push.ensures.items it.1 before.1,
       );
-  extends = λ start v is. c.loop-d.invariant.extends start v (c.in_ok-turn.ensures.extends start v is);
+  extends = extends_then c.loop-d.invariant.extends c.in_ok-turn.ensures.extends;
 }
 
 pub returns-clause-first : goal.returns-clause-first
 returns-clause-first c start v is holds s cells numbers place left =
-    let at = c.loop-d.invariant.stands start v (c.taken_path-path.ensures.extends start v is) holds s.turns numbers left in
+    let at = c.loop-d.invariant.stands start v (c.taken_path-path.ensures.extends.back start v is) holds s.turns numbers left in
     let long = left.count in
     let all : length s.turns ≤ c.loop-d.d = omega arith in
     visit_first start v s (record { path = c.taken_path-path.result; side = c.in_ok-side.side })

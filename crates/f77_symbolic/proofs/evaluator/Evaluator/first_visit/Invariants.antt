@@ -1,13 +1,4 @@
-use Rattle.std.proofs.Common.{◌≡◌, length, take}
-use Rattle.f77_code.specs.Moves.{TurnList}
-use Rattle.f77_facts.specs.Loops.{AreLeft}
-use Rattle.f77_terms.specs.Paths.{Holds}
-use Rattle.f77_terms.specs.Terms.{Valuation}
-use Rattle.f77_symbolic.specs.Atoms.{Interprets}
-use Rattle.f77_symbolic.specs.code.Atoms.{Extends}
-use Rattle.f77_symbolic.specs.Memory.{Start}
-use Rattle.f77_symbolic.specs.Sides.{turns_of}
-use Rattle.f77_symbolic.specs.Visits.{AreTurnNumbers}
+use Rattle.f77_symbolic.proofs.Common.{◌≡◌, length, take, TurnList, AreLeft, Holds, Valuation, Interprets, Start, turns_of, AreTurnNumbers, Extends}
 use Rattle.f77_symbolic.proofs.evaluator.Evaluator.first_visit.Given as goal
 
 abbrev pub invariant-loop-d : goal.invariant-loop-d

@@ -1,9 +1,6 @@
-use Rattle.std.proofs.Common.{arith, rules, SFits, w64}
-use Rattle.std.specs.Prelude.{All}
-use Rattle.std.proofs.lemmas.Int.{ints}
-use Rattle.std.proofs.lemmas.List.Elements.{All-push}
-use Rattle.f77_symbolic.specs.code.Pairs.{IsSettled, IsWithin}
+use Rattle.f77_symbolic.proofs.Common.{arith, rules, SFits, w64, All, ints, All-push, IsSettled, IsWithin}
 use Rattle.f77_symbolic.proofs.Comparisons.{some_so}
+use Rattle.f77_symbolic.proofs.Extending.{extends_then}
 use Rattle.f77_symbolic.proofs.evaluator.Evaluator.follow.Goals as goal
 
 pub returns-in_default-clause-settled : goal.returns-in_default-clause-settled
@@ -12,9 +9,6 @@ returns-in_default-clause-settled c spare checked start v ready there within =
     let count = c.loop-work.todo.ok.0 in
     let all : All (IsSettled spare checked c.args.change.now start v) c.loop-work.todo.items = λ k d less. absurd (omega (arith, less, none, count)) in
     c.loop-work.invariant.leads spare checked start v ready there (omega (arith, ints, within)) all
-
-pub returns-in_err-give_way-clause-extends : goal.returns-in_err-give_way-clause-extends
-returns-in_err-give_way-clause-extends c start v is = c.loop-work.invariant.extends start v (c.give_way.ensures.extends start v is)
 
 pub loop-work-preserved : goal.loop-work-preserved
 loop-work-preserved c =
@@ -25,12 +19,12 @@ loop-work-preserved c =
     let first = c.max-behind.ensures.self_bound in
     let second = c.max-behind.ensures.other_bound in
     record {
-      extends = λ start v is. c.loop-work.invariant.extends start v (c.give_way.ensures.extends start v is);
+      extends = extends_then c.loop-work.invariant.extends c.give_way.ensures.extends;
       positive = omega (arith, ints, c.loop-work.invariant.positive, first);
       leads = λ spare checked start v ready there within all.
           let on : IsWithin spare c.in-Some.pair = omega (arith, ints, within, least, second) in
           let it = c.in_ok-give_way.ensures.gives spare checked start v ready there on all in
-          c.loop-work.invariant.leads spare checked start v ready (c.give_way.ensures.extends start v there) (omega (arith, ints, within, first))
+          c.loop-work.invariant.leads spare checked start v ready (c.give_way.ensures.extends.back start v there) (omega (arith, ints, within, first))
           (rw c.in-Some.ensures.items
           (All-push (IsSettled spare checked c.args.change.now start v) c.pop.new.self.items c.in-Some.pair it.0 (record { within = on; follows = it.1 })));
     }

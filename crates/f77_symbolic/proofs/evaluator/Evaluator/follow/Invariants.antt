@@ -1,11 +1,4 @@
-use Rattle.std.proofs.Common.{◌≤ℤ◌, ℕ, pos}
-use Rattle.std.specs.Prelude.{All}
-use Rattle.f77_check.specs.Checked.{CheckedFields}
-use Rattle.f77_terms.specs.Terms.{Valuation}
-use Rattle.f77_symbolic.specs.Atoms.{Interprets}
-use Rattle.f77_symbolic.specs.code.Atoms.{Extends}
-use Rattle.f77_symbolic.specs.Memory.{Start}
-use Rattle.f77_symbolic.specs.code.Pairs.{IsReady, IsSettled}
+use Rattle.f77_symbolic.proofs.Common.{◌≤ℤ◌, ℕ, pos, All, CheckedFields, Valuation, Interprets, Start, Extends, IsReady, IsSettled}
 use Rattle.f77_symbolic.proofs.evaluator.Evaluator.follow.Given as goal
 
 -- where the pairs that are left are settled, so are those at the start

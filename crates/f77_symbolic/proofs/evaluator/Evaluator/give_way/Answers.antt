@@ -1,11 +1,4 @@
-use Rattle.std.proofs.Common.{Option, Some, subst}
-use Rattle.std.specs.Prelude.{IfNone}
-use Rattle.std.proofs.lemmas.List.Elements.{All-pop}
-use Rattle.f77_terms.specs.Paths.{Holds}
-use Rattle.f77_terms.specs.Terms.{Valuation}
-use Rattle.f77_symbolic.specs.declared.halt.Split.{Split}
-use Rattle.f77_symbolic.specs.declared.walking.Pair.{Pair}
-use Rattle.f77_symbolic.specs.code.Pairs.{IsSettled, RestsOn}
+use Rattle.f77_symbolic.proofs.Common.{Option, Some, subst, IfNone, All-pop, Holds, Valuation, Split, Pair, IsSettled, RestsOn}
 use Rattle.f77_symbolic.proofs.evaluator.Evaluator.give_way.Goals as goal
 
 pub returns-in-Ok-Some-clause-gives : goal.returns-in-Ok-Some-clause-gives
@@ -16,21 +9,8 @@ returns-in-Ok-Some-clause-gives c spare checked start v ready there within all =
     c.in_ok-push-in-Ok-Some.ensures.items all in
     (last.0, rests spare checked start v ready there within last.1)
 
-pub returns-in_err-split-in-Err-clause-extends : goal.returns-in_err-split-in-Err-clause-extends
-returns-in_err-split-in-Err-clause-extends c start v is = c.next_pair.ensures.extends start v (c.split_of.ensures.extends start v is)
-
-pub returns-in_err-split_pair-in-Some-clause-extends :
-    goal.returns-in_err-split_pair-in-Some-clause-extends
-returns-in_err-split_pair-in-Some-clause-extends c start v is = c.next_pair.ensures.extends start v (c.split_of.ensures.extends start v is)
-
-pub returns-in-Some-clause-extends : goal.returns-in-Some-clause-extends
-returns-in-Some-clause-extends c start v is = c.next_pair.ensures.extends start v (c.split_of.ensures.extends start v is)
-
 pub returns-clause-gives : goal.returns-clause-gives
 returns-clause-gives c spare checked start v ready there within all =
     let refuted : (v : Valuation) → Holds v c.args.pair.path → ⊥ =
     subst (λ (o : Option Split). IfNone o ((v : Valuation) → Holds v c.args.pair.path → ⊥)) c.in-None.is c.in_ok-split-in-Err.ensures.refuted in
     (all, λ room has here. absurd (refuted v here.holds))
-
-pub returns-clause-extends : goal.returns-clause-extends
-returns-clause-extends c start v is = c.next_pair.ensures.extends start v (c.split_of.ensures.extends start v is)

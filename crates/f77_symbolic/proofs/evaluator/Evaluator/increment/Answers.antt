@@ -1,15 +1,6 @@
-use Rattle.std.proofs.Common.{Some, ap, sym, subst, ◌≡◌, ◌∙◌, ◌-◌, refl, ℤ}
-use Rattle.std.specs.Prelude.{slice_set, ◌+ℤ◌}
-use Rattle.f77_actions.specs.Number.{in_range}
-use Rattle.f77_actions.specs.Value.{whole}
+use Rattle.f77_symbolic.proofs.Common.{Some, ap, sym, subst, ◌≡◌, ◌∙◌, ◌-◌, refl, ℤ, slice_set, ◌+ℤ◌, in_range, whole, held_in, Move, incremented, passing}
+use Rattle.f77_symbolic.proofs.Common.{passing_at, used, ok_then, sum_value, Answers, cells_of, passes_left, turn_of, turns_of}
 use Rattle.f77_actions.specs.declared.value.Value.TheVariants as held
-use Rattle.f77_code.specs.Evaluation.{held_in}
-use Rattle.f77_code.specs.Moves.{Move, incremented, passing, passing_at, used}
-use Rattle.f77_terms.proofs.Values.{ok_then}
-use Rattle.f77_terms.specs.Terms.{sum_value}
-use Rattle.f77_symbolic.specs.code.Evaluation.{Answers}
-use Rattle.f77_symbolic.specs.Memory.{cells_of}
-use Rattle.f77_symbolic.specs.Sides.{passes_left, turn_of, turns_of}
 use Rattle.f77_symbolic.proofs.Answering.{known_steps}
 use Rattle.f77_symbolic.proofs.Steps.{moved_to, passing_there, stepped_as, whole_read}
 use Rattle.f77_symbolic.proofs.Turned.{one_less}
@@ -26,11 +17,11 @@ returns-clause-steps c =
     let after = c.advance.new.side in
     let cells = cells_of start.cells v before.writes.items in
     let turns = turns_of v before.turns.items in
-    let turn = turn_of v c.args.turn in
+    let turn = turn_of v c.args.turn.now in
     let slot = c.in-Loop.variable in
     let value = sum_value v c.in_ok-before.before in
     let number = sum_value v c.in_ok-number.number in
-    let here = c.ranged.ensures.extends start v there in
+    let here = c.ranged.ensures.extends.back start v there in
     let reads = rw (c.deref-2.ensures.value, c.deref.ensures) at c.in_ok-value.ensures.reads in
     let it = rw (c.fixed.ensures.slot v) at (reads start v here holds inside (c.fixed.ensures.inside v)) in
     let read = whole_read v old mid (held_in cells slot) c.in_ok-value.value (λ z. value ≡ z) it
@@ -38,7 +29,7 @@ returns-clause-steps c =
     let sum = (rw c.in_ok-next.ensures.ok_part at c.in_ok-sum.ensures) v in
     let end = c.statement_at.result.now in
     let statements = c.args.statements.now in
-    let passes = one_less (sum_value v c.args.turn.passes) (sum_value v c.in_ok-passes.passes) (c.in_ok-passes.ensures v) in
+    let passes = one_less (sum_value v c.args.turn.now.passes) (sum_value v c.in_ok-passes.passes) (c.in_ok-passes.ensures v) in
     let next : ℤ → Move = λ next.
     passing_at statements c.in-Loop.terminal c.args.d (turn.passes - 1) turn.step (slice_set cells slot (Some (held.Number next))) turns in
     let set = slice_set cells slot (Some (held.Number number)) in
@@ -48,7 +39,7 @@ returns-clause-steps c =
     (λ holds. known_steps start.cells v mid new new before after found (in_range (value +ℤ turn.step)) cells next number
     (subst (λ z. Answers v mid new (in_range z) (λ x. number ≡ x)) sum (c.in_ok-number.ensures.calculates start v there holds))
     (λ holds.
-    let made = claim start.cells v (passes_left (sum_value v c.in_ok-passes.passes)) turn.step inside (c.in_ok-left.ensures v holds) in
+    let made = claim start.cells v (passes_left (sum_value v c.in_ok-passes.passes)) turn.step inside (rw (c.in_ok-copy.ensures.value v) at (c.in_ok-left.ensures v holds)) in
     moved_to start.cells v new.own new.path before after found _ made.0 holds made.1
     (passing_there statements c.in-Loop.terminal c.args.d (turn.passes - 1) turn.step set turns end c.statement_at.ensures
     ∙ ap (λ n. passing end c.args.d n turn.step set turns) (sym passes)
@@ -57,19 +48,3 @@ returns-clause-steps c =
 pub returns-clause-counts : goal.returns-clause-counts
 returns-clause-counts c =
     ok_then c.advance.result c.advance.ensures (λ found claim. rw c.in-Loop.is refl)
-
-pub returns-in_err-number-clause-extends : goal.returns-in_err-number-clause-extends
-returns-in_err-number-clause-extends c start v there =
-    c.in_ok-value.ensures.extends start v (c.ranged.ensures.extends start v there)
-
-pub returns-in_err-passes-clause-extends : goal.returns-in_err-passes-clause-extends
-returns-in_err-passes-clause-extends c start v there =
-    c.in_ok-value.ensures.extends start v (c.in_ok-number.ensures.extends start v there)
-
-pub returns-in_err-left-clause-extends : goal.returns-in_err-left-clause-extends
-returns-in_err-left-clause-extends c start v there =
-    c.in_ok-value.ensures.extends start v (c.in_ok-number.ensures.extends start v there)
-
-pub returns-clause-extends : goal.returns-clause-extends
-returns-clause-extends c start v there =
-    c.in_ok-value.ensures.extends start v (c.in_ok-number.ensures.extends start v there)

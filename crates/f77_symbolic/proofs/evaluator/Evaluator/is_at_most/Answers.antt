@@ -1,5 +1,4 @@
-use Rattle.std.proofs.Common.{arith}
-use Rattle.std.proofs.lemmas.Int.{ints}
+use Rattle.f77_symbolic.proofs.Common.{arith, ints}
 use Rattle.f77_symbolic.proofs.evaluator.Evaluator.is_at_most.Goals as goal
 
 pub returns : goal.returns

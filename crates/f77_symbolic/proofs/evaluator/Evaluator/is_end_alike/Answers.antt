@@ -1,26 +1,8 @@
-use Rattle.std.proofs.Common.{◌≡◌, false, refl, subst, sym, ◌∙◌}
-use Rattle.f77_code.specs.Moves.{moved}
-use Rattle.f77_terms.specs.Paths.{Holds}
-use Rattle.f77_symbolic.specs.Memory.{cells_of}
-use Rattle.f77_symbolic.specs.Sides.{state_of}
+use Rattle.f77_symbolic.proofs.Common.{◌≡◌, false, refl, subst, sym, ◌∙◌, moved, Holds, cells_of, state_of}
 use Rattle.f77_symbolic.proofs.HeldAlike.{hold_alike}
 use Rattle.f77_symbolic.proofs.Settling.{ended, stepped_so}
 use Rattle.f77_symbolic.proofs.Comparisons.{same_step}
 use Rattle.f77_symbolic.proofs.evaluator.Evaluator.is_end_alike.Goals as goal
-
-pub returns-in_err-other-clause-extends : goal.returns-in_err-other-clause-extends
-returns-in_err-other-clause-extends c start v is = c.taken_path-path.ensures.extends start v (c.step_from.ensures.extends start v is)
-
-pub returns-then-eq-clause-extends : goal.returns-then-eq-clause-extends
-returns-then-eq-clause-extends c start v is = c.taken_path-path.ensures.extends start v (c.step_from.ensures.extends start v is)
-
-pub returns-in_err-unless_unknown-clause-extends :
-    goal.returns-in_err-unless_unknown-clause-extends
-returns-in_err-unless_unknown-clause-extends c start v is = c.taken_path-path.ensures.extends start v (c.step_from.ensures.extends start v is)
-
-pub returns-in_err-show_same-clause-extends : goal.returns-in_err-show_same-clause-extends
-returns-in_err-show_same-clause-extends c start v is =
-    c.taken_path-path.ensures.extends start v (c.step_from.ensures.extends start v (c.show_same.ensures.extends start v is))
 
 pub returns-clause-ends : goal.returns-clause-ends
 returns-clause-ends c told checked finish ready end start v there holds left right =
@@ -28,7 +10,7 @@ returns-clause-ends c told checked finish ready end start v there holds left rig
     let is : c.in_ok-other.other ≡ c.args.step = same_step c.in_ok-other.other c.args.step (sym c.eq-2.ensures ∙ c.in_ok-unless_unknown.ensures) in
     let it = stepped_so start.cells v false c.step_from.new.self.path c.step_from.new.self.path c.args.right.now c.in_ok-other._after c.in_ok-other.other
     c.args.step c.deref.result.now c.args.change.now.statements.items (state_of start.cells v c.args.right.now) refl is statements
-    (c.in_ok-other.ensures.steps start v (c.show_same.ensures.extends start v there) (subst (λ p. Holds v p) (sym c.taken_path-path.ensures.path) holds) right) in
+    (c.in_ok-other.ensures.steps start v (c.show_same.ensures.extends.back start v there) (subst (λ p. Holds v p) (sym c.taken_path-path.ensures.path) holds) right) in
     let at = ended start.cells v c.step_from.new.self.path c.args.right.now c.in_ok-other._after c.args.step finish
     (moved c.args.change.now.statements.items (state_of start.cells v c.args.right.now)) end it in
     let same = rw (c.deref-3.ensures.value, c.deref-2.ensures, c.deref-5.ensures.value, c.deref-4.ensures, c.deref-6.ensures.value) at c.in_ok-show_same.ensures.same start v there at.0 in (
@@ -37,7 +19,3 @@ returns-clause-ends c told checked finish ready end start v there holds left rig
       hold_alike checked c.args.change.now.dummies.items (cells_of start.cells v c.args.left.now.writes.items)
           (cells_of start.cells v c.args.right.now.writes.items) ready.formed ready.dummies (same left right),
     )
-
-pub returns-clause-extends : goal.returns-clause-extends
-returns-clause-extends c start v is =
-    c.taken_path-path.ensures.extends start v (c.step_from.ensures.extends start v (c.show_same.ensures.extends start v is))

@@ -1,5 +1,4 @@
-use Rattle.f77_terms.proofs.Values.{ok_then}
-use Rattle.f77_terms.specs.Terms.{sum_value}
+use Rattle.f77_symbolic.proofs.Common.{ok_then, sum_value}
 use Rattle.f77_symbolic.proofs.Numbers.{below_by}
 use Rattle.f77_symbolic.proofs.evaluator.Evaluator.is_less.Goals as goal
 

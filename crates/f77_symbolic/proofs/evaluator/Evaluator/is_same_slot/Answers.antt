@@ -1,6 +1,4 @@
-use Rattle.std.proofs.Common.{arith, rules, SFits, w64}
-use Rattle.std.proofs.lemmas.Int.{ints}
-use Rattle.f77_terms.proofs.Values.{ok_then}
+use Rattle.f77_symbolic.proofs.Common.{arith, rules, SFits, w64, ints, ok_then}
 use Rattle.f77_symbolic.proofs.Located.{one_found}
 use Rattle.f77_symbolic.proofs.evaluator.Evaluator.is_same_slot.Goals as goal
 

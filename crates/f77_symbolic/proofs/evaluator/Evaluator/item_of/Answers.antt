@@ -1,9 +1,6 @@
-use Rattle.std.proofs.Common.{arith, rules, ◌≡◌, ◌∙◌, ◌+ℤ◌, ◌-ℤ◌, ◌*ℤ◌, pos, negsuc, w64}
-use Rattle.std.proofs.lemmas.Int.{ints}
-use Rattle.f77_terms.specs.Terms.{sum_value}
+use Rattle.f77_symbolic.proofs.Common.{arith, rules, ◌≡◌, ◌∙◌, ◌+ℤ◌, ◌-ℤ◌, ◌*ℤ◌, pos, negsuc, w64, ints, sum_value, SFits}
 use Rattle.f77_symbolic.proofs.Numbers.{item_here}
 use Rattle.f77_symbolic.proofs.evaluator.Evaluator.item_of.Goals as goal
-use mir.Val.{SFits}
 
 pub returns-then-branch-3 : goal.returns-then-branch-3
 returns-then-branch-3 c v holds =

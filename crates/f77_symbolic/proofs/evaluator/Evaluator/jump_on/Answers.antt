@@ -1,13 +1,6 @@
-use Rattle.std.proofs.Common.{arith, ap, subst, ℤ}
-use Rattle.std.specs.Option.{option_map_or}
+use Rattle.f77_symbolic.proofs.Common.{arith, ap, subst, ℤ, option_map_or, number_in, Move, acted, go_on, jump_to, sum_value, HasItem, cells_of, turns_of}
 use Rattle.f77_actions.specs.declared.action.Jump.{Jump}
 use Rattle.f77_code.specs.Choice.{by_sign, item_chosen}
-use Rattle.f77_code.specs.Evaluation.{number_in}
-use Rattle.f77_code.specs.Moves.{Move, acted, go_on, jump_to}
-use Rattle.f77_terms.specs.Terms.{sum_value}
-use Rattle.f77_symbolic.specs.code.Evaluation.{HasItem}
-use Rattle.f77_symbolic.specs.Memory.{cells_of}
-use Rattle.f77_symbolic.specs.Sides.{turns_of}
 use Rattle.f77_symbolic.proofs.Answering.{known_steps}
 use Rattle.f77_symbolic.proofs.Steps.{goes_stepped, item_none, item_there, stepped_as}
 use Rattle.f77_symbolic.proofs.evaluator.Evaluator.jump_on.Goals as goal

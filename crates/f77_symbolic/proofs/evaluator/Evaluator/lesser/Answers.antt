@@ -1,7 +1,4 @@
-use Rattle.std.proofs.Common.{◌≡◌, ◌∙◌, ap, subst}
-use Rattle.std.specs.Int.{int_min}
-use Rattle.f77_terms.specs.Terms.{sum_value}
-use Rattle.f77_symbolic.specs.Atoms.{Interprets}
+use Rattle.f77_symbolic.proofs.Common.{◌≡◌, ◌∙◌, ap, subst, int_min, sum_value, Interprets}
 use Rattle.f77_symbolic.proofs.Numbers.{least_min}
 use Rattle.f77_symbolic.proofs.evaluator.Evaluator.lesser.Goals as goal
 
@@ -17,15 +14,3 @@ returns-clause-calculates c start v interprets holds =
       record { holds = spans.holds; own = spans.own ∙ made.0.own },
       c.in_ok-atom_term.ensures v ∙ least_min a b (v c.in_ok-minimum.minimum) is,
     )
-
-pub returns-in_err-span_minimum-clause-extends : goal.returns-in_err-span_minimum-clause-extends
-returns-in_err-span_minimum-clause-extends c start v interprets =
-    c.in_ok-minimum.ensures.extends start v (subst (λ a. Interprets a start v) c.span_minimum.ensures.atoms interprets)
-
-pub returns-in_err-atom_term-clause-extends : goal.returns-in_err-atom_term-clause-extends
-returns-in_err-atom_term-clause-extends c start v interprets =
-    c.in_ok-minimum.ensures.extends start v (subst (λ a. Interprets a start v) c.span_minimum.ensures.atoms interprets)
-
-pub returns-clause-extends : goal.returns-clause-extends
-returns-clause-extends c start v interprets =
-    c.in_ok-minimum.ensures.extends start v (subst (λ a. Interprets a start v) c.span_minimum.ensures.atoms interprets)

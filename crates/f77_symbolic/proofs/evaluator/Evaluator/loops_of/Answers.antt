@@ -1,4 +1,4 @@
-use Rattle.std.proofs.Common.{arith}
+use Rattle.f77_symbolic.proofs.Common.{arith}
 use Rattle.f77_symbolic.proofs.Bounded.{left_more}
 use Rattle.f77_symbolic.proofs.evaluator.Evaluator.loops_of.Goals as goal
 

@@ -1,16 +1,7 @@
-use Rattle.f77_terms.proofs.Values.{ok_then}
-use Rattle.f77_terms.specs.Terms.{sum_value}
+use Rattle.f77_symbolic.proofs.Common.{ok_then, sum_value}
 use Rattle.f77_symbolic.proofs.Elements.{IsSubscript, matrix_answers}
 use Rattle.f77_symbolic.proofs.Expecting.{both_expected}
 use Rattle.f77_symbolic.proofs.evaluator.Evaluator.matrix.Goals as goal
-
-pub returns-in_err-expect_subscript-2-clause-extends : goal.returns-in_err-expect_subscript-2-clause-extends
-returns-in_err-expect_subscript-2-clause-extends c start v is =
-    c.in_ok-expect_subscript.ensures.extends start v (c.expect_subscript-2.ensures.extends start v is)
-
-pub returns-in_err-index-clause-extends : goal.returns-in_err-index-clause-extends
-returns-in_err-index-clause-extends c start v is =
-    c.in_ok-expect_subscript.ensures.extends start v (c.in_ok-expect_subscript-2.ensures.extends start v is)
 
 pub returns-clause-locates : goal.returns-clause-locates
 returns-clause-locates c =
@@ -23,7 +14,3 @@ returns-clause-locates c =
     (both_expected v c.args.self.now c.expect_subscript.new.self c.expect_subscript-2.new.self (IsSubscript c.args.rows row) (IsSubscript c.args.columns column)
     (c.in_ok-expect_subscript.ensures.expects v holds) (c.in_ok-expect_subscript-2.ensures.expects v))
     (there v))
-
-pub returns-clause-extends : goal.returns-clause-extends
-returns-clause-extends c start v is =
-    c.in_ok-expect_subscript.ensures.extends start v (c.in_ok-expect_subscript-2.ensures.extends start v is)

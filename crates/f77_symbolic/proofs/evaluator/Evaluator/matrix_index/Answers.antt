@@ -1,10 +1,6 @@
-use Rattle.std.proofs.Common.{arith, rules, ap, ◌∙◌, ◌+ℤ◌, ◌*ℤ◌, pos, w64}
-use Rattle.std.proofs.lemmas.Int.{ints, to_z-of_z}
-use Rattle.f77_terms.proofs.Values.{ok_then}
-use Rattle.f77_terms.specs.Terms.{sum_value}
+use Rattle.f77_symbolic.proofs.Common.{arith, rules, ap, ◌∙◌, ◌+ℤ◌, ◌*ℤ◌, pos, w64, ints, to_z-of_z, ok_then, sum_value, SFits}
 use Rattle.f77_symbolic.proofs.Elements.{index_made}
 use Rattle.f77_symbolic.proofs.evaluator.Evaluator.matrix_index.Goals as goal
-use mir.Val.{SFits}
 
 pub returns : goal.returns
 returns c =

@@ -1,6 +1,4 @@
-use Rattle.std.proofs.Common.{◌≡◌, Some, subst, sym}
-use Rattle.std.specs.Prelude.{slice_get}
-use Rattle.f77_terms.specs.Ranges.{AreKnown, IsIn}
+use Rattle.f77_symbolic.proofs.Common.{◌≡◌, Some, subst, sym, slice_get, AreKnown, IsIn}
 use Rattle.f77_symbolic.proofs.evaluator.Evaluator.narrow_by.Goals as goal
 
 pub returns : goal.returns

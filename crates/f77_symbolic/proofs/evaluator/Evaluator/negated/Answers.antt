@@ -1,10 +1,4 @@
-use Rattle.std.proofs.Common.{arith, ◌≡◌, pos, subst}
-use Rattle.std.specs.Prelude.{◌-ℤ◌}
-use Rattle.std.proofs.lemmas.Int.{ints}
-use Rattle.f77_actions.specs.Number.{in_range}
-use Rattle.f77_terms.proofs.Values.{ok_then}
-use Rattle.f77_terms.specs.Terms.{sum_value}
-use Rattle.f77_symbolic.specs.code.Evaluation.{Answers}
+use Rattle.f77_symbolic.proofs.Common.{arith, ◌≡◌, pos, subst, ◌-ℤ◌, ints, in_range, ok_then, sum_value, Answers}
 use Rattle.f77_symbolic.proofs.evaluator.Evaluator.negated.Goals as goal
 
 pub returns-clause-calculates : goal.returns-clause-calculates

@@ -1,10 +1,7 @@
-use Rattle.std.proofs.Common.{arith, rules, ◌≡◌, ◌⊎◌, inl, inr, pos, negsuc, w64}
-use Rattle.std.proofs.lemmas.Int.{ints, to_z-of_z}
-use Rattle.f77_terms.specs.Terms.{sum_value}
+use Rattle.f77_symbolic.proofs.Common.{arith, rules, ◌≡◌, ◌⊎◌, inl, inr, pos, negsuc, w64, ints, to_z-of_z, sum_value, SFits}
 use Rattle.f77_symbolic.proofs.Divisions.{unit_division}
 use Rattle.f77_symbolic.proofs.evaluator.Evaluator.plain_division.Goals as goal
 use Rattle.f77_symbolic.proofs.evaluator.Evaluator.plain_division.Goals.{else-divisor-ne1-via-then-divisor-ne1+else-divisor, else-divisor-ne1-via-else-divisor-ne1}
-use mir.Val.{SFits}
 
 pub returns : goal.returns
 returns c v =

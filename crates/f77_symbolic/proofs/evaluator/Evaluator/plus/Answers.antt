@@ -1,9 +1,6 @@
-use Rattle.std.proofs.Common.{◌≡◌, ◌+ℤ◌, ◌*ℤ◌, w64}
-use Rattle.std.proofs.lemmas.Int.{to_z-of_z}
-use Rattle.f77_terms.specs.Terms.{Valuation, sum_value}
+use Rattle.f77_symbolic.proofs.Common.{◌≡◌, ◌+ℤ◌, ◌*ℤ◌, w64, to_z-of_z, Valuation, sum_value, SFits}
 use Rattle.f77_symbolic.proofs.Expecting.{some_told}
 use Rattle.f77_symbolic.proofs.evaluator.Evaluator.plus.Goals as goal
-use mir.Val.{SFits}
 
 pub returns : goal.returns
 returns c =

@@ -1,14 +1,8 @@
-use Rattle.std.proofs.Common.{arith, rules, ◌≡◌, ℤ, pos, subst, w64}
-use Rattle.std.specs.Prelude.{◌≤ℤ◌, Ok}
-use Rattle.std.proofs.lemmas.Int.{ints, to_z-of_z}
-use Rattle.f77_terms.proofs.Values.{ok_then}
-use Rattle.f77_terms.specs.Terms.{Valuation, sum_value}
+use Rattle.f77_symbolic.proofs.Common.{arith, rules, ◌≡◌, ℤ, pos, subst, w64, ◌≤ℤ◌, Ok, ints, to_z-of_z, ok_then, Valuation, sum_value, Answers, SFits}
 use Rattle.f77_symbolic.specs.declared.halt.Halt.{Halt}
-use Rattle.f77_symbolic.specs.code.Evaluation.{Answers}
 use Rattle.f77_symbolic.proofs.Expecting.{some_told}
 use Rattle.f77_symbolic.proofs.Factors.{power_as}
 use Rattle.f77_symbolic.proofs.evaluator.Evaluator.power_of.Goals as goal
-use mir.Val.{SFits}
 
 pub returns-clause-calculates : goal.returns-clause-calculates
 returns-clause-calculates c =

@@ -1,4 +1,4 @@
-use Rattle.f77_terms.specs.Terms.{sum_value}
+use Rattle.f77_symbolic.proofs.Common.{sum_value}
 use Rattle.f77_symbolic.proofs.Expecting.{pushed_answers}
 use Rattle.f77_symbolic.proofs.evaluator.Evaluator.pushed.Goals as goal
 

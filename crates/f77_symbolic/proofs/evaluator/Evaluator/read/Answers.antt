@@ -1,12 +1,7 @@
-use Rattle.std.proofs.Common.{arith, ◌<◌, ◌-◌, ap, inl, length, subst, sym, ◌∙◌}
-use Rattle.std.proofs.lemmas.List.{take_all}
-use Rattle.std.proofs.lemmas.List.Elements.{All-nil}
-use Rattle.f77_code.specs.Evaluation.{held_in}
-use Rattle.f77_terms.proofs.Values.{ok_then}
-use Rattle.f77_symbolic.specs.Memory.{cells_of, slot_of}
+use Rattle.f77_symbolic.proofs.Common.{arith, ◌<◌, ◌-◌, ap, inl, length, subst, sym, ◌∙◌, take_all, All-nil, held_in, ok_then, cells_of, slot_of, ReadsCell}
 use Rattle.f77_symbolic.proofs.Answering.{stays_same}
 use Rattle.f77_symbolic.proofs.Located.{slot_within}
-use Rattle.f77_symbolic.proofs.Read.{Reads, past_all, past_from_last, there_from_last}
+use Rattle.f77_symbolic.proofs.Read.{past_all, past_from_last, there_from_last}
 use Rattle.f77_symbolic.proofs.Written.{inside_at}
 use Rattle.f77_symbolic.proofs.evaluator.Evaluator.read.Goals as goal
 
@@ -45,4 +40,4 @@ returns-clause-reads c =
     let it = claim start v there holds (All-nil _) is in
     let same = c.loop-behind.invariant start.cells v holds are is
     ∙ past_all v start.cells c.args.writes.now (slot_of v c.args.location.now) (length c.args.writes.now - c.loop-behind.behind) (omega arith) in
-    subst (λ cell. Reads v c.args.self.now c.at_start.new.self cell value) (sym same) it)
+    subst (λ cell. ReadsCell v c.args.self.now c.at_start.new.self cell value) (sym same) it)

@@ -1,9 +1,4 @@
-use Rattle.std.proofs.Common.{◌≡◌, ◌-◌, length, take}
-use Rattle.f77_code.specs.Evaluation.{held_in}
-use Rattle.f77_code.specs.Moves.{Cells}
-use Rattle.f77_terms.specs.Paths.{Holds}
-use Rattle.f77_terms.specs.Terms.{Valuation}
-use Rattle.f77_symbolic.specs.Memory.{AreInside, IsInside, cells_of, slot_of}
+use Rattle.f77_symbolic.proofs.Common.{◌≡◌, ◌-◌, length, take, held_in, Cells, Holds, Valuation, AreInside, IsInside, cells_of, slot_of}
 use Rattle.f77_symbolic.proofs.evaluator.Evaluator.read.Given as goal
 
 abbrev pub invariant-loop-behind : goal.invariant-loop-behind

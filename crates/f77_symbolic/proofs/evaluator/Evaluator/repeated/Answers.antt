@@ -1,7 +1,4 @@
-use Rattle.std.proofs.Common.{arith, ◌≡◌, pos, w64, to_z, of_z}
-use Rattle.std.specs.Prelude.{◌*ℤ◌, ◌+ℤ◌, Ok}
-use Rattle.std.proofs.lemmas.Int.{ints}
-use Rattle.f77_terms.specs.Terms.{Valuation, sum_value}
+use Rattle.f77_symbolic.proofs.Common.{arith, ◌≡◌, pos, w64, to_z, of_z, ◌*ℤ◌, ◌+ℤ◌, Ok, ints, Valuation, sum_value}
 use Rattle.f77_terms.specs.declared.terms.Term.{Term}
 use Rattle.f77_symbolic.specs.declared.halt.Halt.{Halt}
 use Rattle.f77_symbolic.proofs.Expecting.{some_told}

@@ -1,6 +1,4 @@
-use Rattle.std.proofs.Common.{◌≡◌, ℕ, pos, ◌≤ℤ◌}
-use Rattle.f77_actions.specs.Number.{exact_power}
-use Rattle.f77_terms.specs.Terms.{Valuation, sum_value}
+use Rattle.f77_symbolic.proofs.Common.{◌≡◌, ℕ, pos, ◌≤ℤ◌, exact_power, Valuation, sum_value}
 use Rattle.f77_symbolic.proofs.evaluator.Evaluator.repeated.Given as goal
 
 -- the term is the product of as many factors as were counted

@@ -1,21 +1,7 @@
-use Rattle.std.proofs.Common.{subst, sym, ◌∙◌}
-use Rattle.f77_code.specs.Evaluation.{held_in}
-use Rattle.f77_terms.proofs.Values.{ok_then}
-use Rattle.f77_terms.specs.Paths.{Holds}
-use Rattle.f77_symbolic.specs.Atoms.{Interprets}
-use Rattle.f77_symbolic.specs.Memory.{cells_of, slot_of}
-use Rattle.f77_symbolic.specs.code.Evaluation.{StaysOn}
+use Rattle.f77_symbolic.proofs.Common.{subst, sym, ◌∙◌, held_in, ok_then, Holds, Interprets, cells_of, slot_of, StaysOn}
 use Rattle.f77_symbolic.proofs.Answering.{stays_then}
 use Rattle.f77_symbolic.proofs.Matching.{read_so}
 use Rattle.f77_symbolic.proofs.evaluator.Evaluator.show_same_at.Goals as goal
-
-pub returns-in_err-other-clause-extends : goal.returns-in_err-other-clause-extends
-returns-in_err-other-clause-extends c start v is = c.in_ok-own.ensures.extends start v (c.read-2.ensures.extends start v is)
-
-pub returns-in_err-seek_apart-clause-extends : goal.returns-in_err-seek_apart-clause-extends
-returns-in_err-seek_apart-clause-extends c start v is =
-    let there = subst (λ atoms. Interprets atoms start v) c.seek_apart.ensures.atoms is in
-    c.in_ok-own.ensures.extends start v (c.read-2.ensures.extends start v there)
 
 pub returns-clause-same : goal.returns-clause-same
 returns-clause-same c =
@@ -24,14 +10,9 @@ returns-clause-same c =
     let there = subst (λ atoms. Interprets atoms start v) c.seek_apart.ensures.atoms is in
     let slot = slot_of v c.args.location.now in
     let one = read_so v c.args.self.now c.read.new.self (held_in (cells_of start.cells v c.args.left.now) slot) c.in_ok-own.own off
-    (c.in_ok-own.ensures.reads start v (c.read-2.ensures.extends start v there) holds left inside) in
+    (c.in_ok-own.ensures.reads start v (c.read-2.ensures.extends.back start v there) holds left inside) in
     let two = read_so v c.read.new.self c.read-2.new.self (held_in (cells_of start.cells v c.args.right.now) slot) c.in_ok-other.other (one.0.own ∙ off)
     (c.in_ok-other.ensures.reads start v there one.0.holds right inside) in
     let sought : StaysOn v c.read-2.new.self c.seek_apart.new.self = record { holds = subst (λ path. Holds v path) (sym c.seek_apart.ensures.path) two.0.holds; own = c.seek_apart.ensures.own } in
     let both = stays_then v c.args.self.now c.read.new.self c.read-2.new.self one.0 two.0 in
     (stays_then v c.args.self.now c.read-2.new.self c.seek_apart.new.self both sought, λ asked. two.1 ∙ alike v sought.holds ∙ sym one.1))
-
-pub returns-clause-extends : goal.returns-clause-extends
-returns-clause-extends c start v is =
-    let there = subst (λ atoms. Interprets atoms start v) c.seek_apart.ensures.atoms is in
-    c.in_ok-own.ensures.extends start v (c.read-2.ensures.extends start v there)

@@ -1,21 +1,15 @@
-use Rattle.std.proofs.Common.{arith, ◌∙◌}
-use Rattle.std.specs.Prelude.{option_map}
-use Rattle.f77_symbolic.specs.declared.memory.Write.{Write}
-use Rattle.f77_symbolic.specs.Memory.{cells_of, slot_of}
-use Rattle.f77_symbolic.specs.code.Memory.{HoldSameIn}
+use Rattle.f77_symbolic.proofs.Common.{arith, ◌∙◌, option_map, Write, cells_of, slot_of, HoldSameIn}
 use Rattle.f77_symbolic.proofs.Answering.{stays_then}
 use Rattle.f77_symbolic.proofs.Matching.{all_more}
 use Rattle.f77_symbolic.proofs.Written.{inside_at}
+use Rattle.f77_symbolic.proofs.Extending.{extends_then}
 use Rattle.f77_symbolic.proofs.evaluator.Evaluator.show_same_in.Goals as goal
-
-pub returns-in_err-show_same_at-clause-extends : goal.returns-in_err-show_same_at-clause-extends
-returns-in_err-show_same_at-clause-extends c start v is = c.loop-k.invariant.extends start v (c.show_same_at.ensures.extends start v is)
 
 pub loop-k-preserved : goal.loop-k-preserved
 loop-k-preserved c = record {
-  extends = λ start v is. c.loop-k.invariant.extends start v (c.show_same_at.ensures.extends start v is);
+  extends = extends_then c.loop-k.invariant.extends c.show_same_at.ensures.extends;
   same = λ start v there holds off left right inside.
-      let before = c.loop-k.invariant.same start v (c.show_same_at.ensures.extends start v there) holds off left right inside in
+      let before = c.loop-k.invariant.same start v (c.show_same_at.ensures.extends.back start v there) holds off left right inside in
       let here = inside_at v c.args.writes.now c.loop-k.k c.write_at.result.now c.write_at.ensures inside in
       let made = c.in_ok-show_same_at.ensures.same start v there before.0.holds (before.0.own ∙ off) left right here in (
         stays_then v c.args.self.now c.loop-k.self c.show_same_at.new.self before.0 made.0,

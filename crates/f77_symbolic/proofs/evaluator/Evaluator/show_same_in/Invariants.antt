@@ -1,13 +1,5 @@
-use Rattle.std.proofs.Common.{◌≡◌, ◌<◌, ℕ, false, get_or}
-use Rattle.std.specs.Prelude.{option_map}
-use Rattle.f77_terms.specs.Paths.{Holds}
-use Rattle.f77_terms.specs.Terms.{Valuation}
-use Rattle.f77_symbolic.specs.declared.memory.Write.{Write}
-use Rattle.f77_symbolic.specs.Atoms.{Interprets}
-use Rattle.f77_symbolic.specs.code.Atoms.{Extends}
-use Rattle.f77_symbolic.specs.code.Evaluation.{StaysOn}
-use Rattle.f77_symbolic.specs.Memory.{AreInside, Start, cells_of, slot_of}
-use Rattle.f77_symbolic.specs.code.Memory.{HoldSameIn}
+use Rattle.f77_symbolic.proofs.Common.{◌≡◌, ◌<◌, ℕ, false, get_or, option_map, Holds, Valuation, Write, Interprets, AreInside, Start, cells_of, slot_of}
+use Rattle.f77_symbolic.proofs.Common.{Extends, StaysOn, HoldSameIn}
 use Rattle.f77_symbolic.proofs.evaluator.Evaluator.show_same_in.Given as goal
 
 abbrev pub invariant-loop-k : goal.invariant-loop-k

@@ -1,7 +1,4 @@
-use Rattle.std.proofs.Common.{◌≡◌, sym, ◌∙◌}
-use Rattle.f77_code.specs.Moves.{state}
-use Rattle.f77_terms.proofs.Values.{ok_then}
-use Rattle.f77_symbolic.specs.Sides.{turns_of}
+use Rattle.f77_symbolic.proofs.Common.{◌≡◌, sym, ◌∙◌, state, ok_then, turns_of}
 use Rattle.f77_symbolic.proofs.Matching.{same_cells_of}
 use Rattle.f77_symbolic.proofs.Comparisons.{same_place}
 use Rattle.f77_symbolic.proofs.evaluator.Evaluator.show_same_state.Goals as goal
@@ -18,6 +15,3 @@ returns-clause-same c =
     let place : c.args.right.now.place ≡ c.args.left.now.place =
     same_place c.args.left.now.place c.args.right.now.place (sym c.eq.ensures ∙ c.in_ok-unless_unknown.ensures) in
     λ i. state (place i) (cells i) (turns i))
-
-pub returns-clause-extends : goal.returns-clause-extends
-returns-clause-extends c start v is = c.in_ok-come_on.ensures.extends start v (c.show_same.ensures.extends start v is)

@@ -1,6 +1,4 @@
-use Rattle.std.proofs.Common.{arith, below_more, ◌≡◌, Some, ap, length, sym, ◌∙◌}
-use Rattle.std.specs.Prelude.{option_map, slice_get}
-use Rattle.f77_symbolic.specs.Sides.{turn_of}
+use Rattle.f77_symbolic.proofs.Common.{arith, below_more, ◌≡◌, Some, ap, length, sym, ◌∙◌, option_map, slice_get, turn_of}
 use Rattle.f77_symbolic.proofs.Matching.{same_turns}
 use Rattle.f77_symbolic.proofs.evaluator.Evaluator.show_same_turns.Goals as goal
 

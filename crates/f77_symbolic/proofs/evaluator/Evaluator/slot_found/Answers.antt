@@ -1,11 +1,6 @@
-use Rattle.std.proofs.Common.{arith, rules, ◌≡◌, ℕ, Option, SFits, w64, subst, sym, ◌∙◌, pos}
-use Rattle.std.specs.Prelude.{Result, Ok, Err, IfOk}
-use Rattle.std.specs.Option.{SomeIff}
-use Rattle.std.specs.Result.{result_ok}
-use Rattle.std.proofs.lemmas.Int.{ints}
-use Rattle.f77_facts.proofs.Comparisons.{same_equal}
-use Rattle.f77_terms.proofs.Values.{ok_then}
-use Rattle.f77_terms.specs.Terms.{sum_value}
+use Rattle.f77_symbolic.proofs.Common.{arith, rules, ◌≡◌, ℕ, Option, SFits, w64, subst, sym, ◌∙◌, pos, Result, Ok, Err, IfOk, SomeIff, result_ok, ints, ok_then}
+use Rattle.f77_symbolic.proofs.Common.{sum_value}
+use Rattle.f77_symbolic.proofs.Numbers.{same_equal}
 use Rattle.f77_symbolic.proofs.Located.{slot_at}
 use Rattle.f77_symbolic.proofs.evaluator.Evaluator.slot_found.Goals as goal
 

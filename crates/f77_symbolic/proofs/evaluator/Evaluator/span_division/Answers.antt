@@ -1,7 +1,4 @@
-use Rattle.std.proofs.Common.{refl, sym, subst}
-use Rattle.f77_terms.specs.Ranges.{IsIn}
-use Rattle.f77_terms.specs.Terms.{sum_value}
-use Rattle.f77_symbolic.specs.code.Evaluation.{StaysOn}
+use Rattle.f77_symbolic.proofs.Common.{refl, sym, subst, IsIn, sum_value, StaysOn}
 use Rattle.f77_symbolic.proofs.Answering.{stays_same}
 use Rattle.f77_symbolic.proofs.evaluator.Evaluator.span_division.Goals as goal
 use Rattle.f77_symbolic.proofs.evaluator.Evaluator.span_division.Goals.{in-Some+in_ok-add_range+in_ok-add_range-2, in_default}

@@ -1,6 +1,4 @@
-use Rattle.std.proofs.Common.{ap, sym, refl, ◌∙◌, pos}
-use Rattle.f77_actions.specs.Number.{is_below}
-use Rattle.f77_terms.specs.Terms.{sum_value}
+use Rattle.f77_symbolic.proofs.Common.{ap, sym, ◌∙◌, pos, is_below, sum_value, turn_of}
 use Rattle.f77_symbolic.proofs.Turned.{none_left, some_left}
 use Rattle.f77_symbolic.proofs.evaluator.Evaluator.turn_with.Goals as goal
 
@@ -13,5 +11,5 @@ pub returns : goal.returns
 returns c v holds = (
   some_left (sum_value v c.args.passes)
       (ap (λ z. is_below z (pos 0)) (sym (c.in_ok-plus.ensures v)) ∙ c.in_ok-is_negative.ensures v holds ∙ c.if-branch.false),
-  refl,
+  ap (turn_of v) c.in_ok-new.ensures,
 )

@@ -1,8 +1,5 @@
-use Rattle.std.proofs.Common.{◌≡◌, ◌≤◌, length, get_or, arith, subst, to_z, of_z, w64}
-use Rattle.std.specs.Prelude.{All}
-use Rattle.std.proofs.lemmas.Int.{ints}
-use Rattle.std.proofs.lemmas.List.{take_all}
-use Rattle.f77_symbolic.proofs.Chained.{IsFollowed, followed_next, tour_followed}
+use Rattle.f77_symbolic.proofs.Common.{◌≡◌, ◌≤◌, length, get_or, arith, subst, to_z, of_z, w64, All, ints, take_all, IsBehindBy}
+use Rattle.f77_symbolic.proofs.Chained.{followed_next, tour_followed}
 use Rattle.f77_symbolic.proofs.visiting.Tour.steps_behind.Goals as goal
 
 pub loop-visits-preserved : goal.loop-visits-preserved
@@ -24,5 +21,5 @@ pub returns-clause-follows : goal.returns-clause-follows
 returns-clause-follows c spare checked within of =
     let all : length c.args.self.now.each.items ≤ c.loop-visits.visits-index = omega arith in
     tour_followed checked c.args.change.now spare c.args.self.now (to_z w64 c.loop-visits.most-bits) within of
-    (subst (All (IsFollowed c.args.change.now (to_z w64 c.loop-visits.most-bits))) (take_all c.loop-visits.visits-index c.args.self.now.each.items all)
+    (subst (All (IsBehindBy c.args.change.now (to_z w64 c.loop-visits.most-bits))) (take_all c.loop-visits.visits-index c.args.self.now.each.items all)
     c.loop-visits.invariant.follows)

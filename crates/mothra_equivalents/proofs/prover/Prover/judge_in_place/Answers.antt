@@ -1,6 +1,4 @@
-use Rattle.std.proofs.Common.{◌∙◌, ap}
-use Rattle.f77_tree.specs.Statement.{statement_of}
-use Rattle.mothra_ops.specs.Plan.{PlanFields}
+use Rattle.mothra_equivalents.proofs.Common.{◌∙◌, ap, statement_of, PlanFields}
 use Rattle.mothra_equivalents.proofs.Proved.{of_tours}
 use Rattle.mothra_equivalents.proofs.prover.Prover.judge_in_place.Goals as goal
 

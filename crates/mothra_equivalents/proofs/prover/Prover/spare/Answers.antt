@@ -1,6 +1,4 @@
-use Rattle.std.proofs.Common.{ap, ◌∙◌}
-use Rattle.mothra_ops.specs.Mutants.{mutant_of}
-use Rattle.mothra_ops.specs.Plan.{PlanFields}
+use Rattle.mothra_equivalents.proofs.Common.{ap, ◌∙◌, mutant_of, PlanFields}
 use Rattle.mothra_equivalents.proofs.Proved.{of_ticket}
 use Rattle.mothra_equivalents.proofs.prover.Prover.spare.Goals as goal
 

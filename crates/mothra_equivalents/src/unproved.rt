@@ -1,0 +1,198 @@
+//! What is told of a mutant that is not proved equivalent: where its proof was given up, and tests that kill it. What
+//! the proof leaves is run.
+
+ghost use Rattle.mothra_ops.specs.Made.{IsMadeMutant};
+
+use f77_check::{Checked, Shape};
+use f77_legal::names::{Names, product};
+use f77_meaning::{Arg, Outcome, Values};
+use f77_run::{Runner, run};
+use f77_symbolic::gap::Gap;
+use f77_symbolic::rows::Rows;
+use f77_tree::{Kind, Name};
+use mothra_codes::Ticket;
+use mothra_ops::{Mutant, Plan};
+use std::alloc::{AllocError, Global};
+
+/// So many rows are tried for a mutant at most.
+const ROWS: usize = 240;
+
+/// How tests are looked for.
+#[derive(Clone, Copy, PartialEq, Eq, Debug, Drop)]
+pub struct Search {
+    /// So many for a mutant at most; nothing is told of it where it is 0.
+    pub most: u32,
+    /// The limit on steps of a run.
+    pub steps: u32,
+}
+
+/// What is told of a mutant that is not proved equivalent. Nothing is claimed of it.
+#[derive(Drop)]
+pub struct Unproved {
+    /// The mutant; the number is that in the plan's list of the operator, which may be thinned.
+    pub ticket: Ticket,
+    /// Tests on which the mutant did something else than the program: the values of the dummy arguments, in order.
+    pub rows: Vec<Values<Arg>>,
+    /// Where its proof was given up.
+    pub left: Option<Left>,
+}
+
+/// Where the walk of the program and of the mutant was given up.
+#[derive(Clone, Copy, PartialEq, Eq, Debug, Drop)]
+pub struct Left {
+    /// The line of the program's statement at which the program is then.
+    pub own: u32,
+    /// The one at which the mutant is.
+    pub other: u32,
+    /// The variable or array of which values were compared there last, if any were.
+    pub name: Option<Name>,
+}
+
+/// How many rows are to be kept for a mutant.
+pub(crate) fn rows_for(search: Search) -> usize {
+    if search.most == 0 { 0 } else { ROWS }
+}
+
+/// The value of a dummy argument of this shape, whose slots hold these numbers.
+fn argument(alloc: Global, shape: Shape, held: Vec<i32>) -> Result<Arg, AllocError> {
+    let first = held.first().copied().unwrap_or(0);
+    match (shape.kind, shape.elements) {
+        (Kind::Integer, None) => Ok(Arg::Int(first)),
+        (Kind::Logical, None) => Ok(Arg::Truth(first != 0)),
+        (Kind::Integer, Some(_)) => Ok(Arg::Ints(Values::new(held))),
+        (Kind::Logical, Some(_)) => {
+            let mut truths = Vec::with_capacity(alloc, held.len())?;
+            for number in held {
+                truths.push(number != 0)?;
+            }
+            Ok(Arg::Truths(Values::new(truths)))
+        }
+    }
+}
+
+/// The values of dummy arguments of these shapes, whose slots hold the numbers of the row in order; 0 behind its end,
+/// and for one that 32 bits do not hold.
+fn arguments(alloc: Global, shapes: &[Shape], row: &[i64]) -> Result<Values<Arg>, AllocError> {
+    let mut list = Vec::with_capacity(alloc, shapes.len())?;
+    let mut slot: usize = 0;
+    for shape in shapes {
+        let mut held = Vec::new(alloc);
+        for _ in 0..shape.elements.unwrap_or(1) {
+            let number = row.get(slot).copied().unwrap_or(0);
+            held.push(i32::try_from(number).unwrap_or(0))?;
+            slot = slot.saturating_add(1);
+        }
+        list.push(argument(alloc, *shape, held)?)?;
+    }
+    Ok(Values::new(list))
+}
+
+/// Whether the program returns or stops on a test that fits, and the mutant, whose runner this is, does something else.
+fn is_killed(
+    alloc: Global,
+    checked: &Checked,
+    mutant: &mut Runner<'_>,
+    test: &[Arg],
+    steps: u32,
+) -> Result<bool, AllocError> {
+    // A test that fits is refused for want of memory alone.
+    let Ok(outcome) = run(alloc, checked, test, steps) else {
+        return Err(AllocError);
+    };
+    if !matches!(outcome, Outcome::Returned(_) | Outcome::Stopped(_)) {
+        return Ok(false);
+    }
+    match mutant.comes_to(test, steps, &outcome) {
+        Ok(same) => Ok(!same),
+        Err(_) => Err(AllocError),
+    }
+}
+
+/// The mutant as a program.
+fn program_of(checked: &Checked, mutant: &Mutant) -> Result<Checked, AllocError>
+    requires { IsMadeMutant checked.now mutant.now }
+{
+    let stmt = mutant.statement(checked)?;
+    checked.with_statement(mutant.number(), &stmt, mutant.is_alone)
+}
+
+/// Tests that kill the ticket's mutant, those of these rows that do, as many as are asked for.
+fn rows_of(
+    alloc: Global,
+    plan: &Plan,
+    ticket: Ticket,
+    rows: &[Vec<i64>],
+    search: Search,
+) -> Result<Vec<Values<Arg>>, AllocError> {
+    let mut killing = Vec::new(alloc);
+    if rows.is_empty() {
+        return Ok(killing);
+    }
+    let Some(mutant) = plan.mutant(ticket.op, ticket.number) else {
+        return Ok(killing);
+    };
+    let checked = plan.program();
+    let changed = program_of(checked, mutant)?;
+    let mut runner = Runner::of(alloc, &changed)?;
+    for row in rows {
+        if killing.len() >= search.most as usize {
+            return Ok(killing);
+        }
+        let test = arguments(alloc, checked.arguments(), row)?;
+        if is_killed(alloc, checked, &mut runner, test.as_slice(), search.steps)? {
+            killing.push(test)?;
+        }
+    }
+    Ok(killing)
+}
+
+/// The line of the statement of this number, from 0.
+fn line_at(checked: &Checked, statement: usize) -> Option<u32> {
+    let line = checked.program().line(statement.checked_add(1)?)?;
+    Some(line.line)
+}
+
+/// The name of the variable or array of which a slot is. Slots are given out name by name.
+fn name_at(alloc: Global, checked: &Checked, slot: usize) -> Result<Option<Name>, AllocError> {
+    let names = Names::of(alloc, checked.program().lines())?;
+    let mut end: u64 = 0;
+    for name in names.facts.keys() {
+        end = end.saturating_add(product(names.bounds(name)));
+        if (slot as u64) < end {
+            return Ok(Some(*name));
+        }
+    }
+    Ok(None)
+}
+
+/// Where the walk was given up, if it came to statements of the program.
+fn left_at(alloc: Global, checked: &Checked, gap: Gap) -> Result<Option<Left>, AllocError> {
+    let (Some(own), Some(other)) = (line_at(checked, gap.own), line_at(checked, gap.other)) else {
+        return Ok(None);
+    };
+    let name = match gap.slot {
+        Some(slot) => name_at(alloc, checked, slot)?,
+        None => None,
+    };
+    Ok(Some(Left { own, other, name }))
+}
+
+/// Adds what is told of the ticket's mutant, if anything is; `found` is what its proof left.
+pub(crate) fn add_unproved(
+    alloc: Global,
+    plan: &Plan,
+    ticket: Ticket,
+    found: &Rows,
+    search: Search,
+    others: &mut Vec<Unproved>,
+) -> Result<(), AllocError> {
+    let rows = rows_of(alloc, plan, ticket, &found.list, search)?;
+    let left = match found.gap {
+        Some(gap) => left_at(alloc, plan.program(), gap)?,
+        None => None,
+    };
+    if !rows.is_empty() || left.is_some() {
+        others.push(Unproved { ticket, rows, left })?;
+    }
+    Ok(())
+}
