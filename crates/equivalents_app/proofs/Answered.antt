@@ -1,6 +1,6 @@
 -- What was read and answered is what is written.
 use Rattle.equivalents_app.proofs.Common.{arith, ◌≡◌, ℕ, ◌⊎◌, sym, refl, subst, inl, inr, List, Option, Some, None, Result, Ok, Err, MatchResult, String}
-use Rattle.equivalents_app.proofs.Common.{string_bytes, Contains, fault_of, Job, JobFields, JobRead, job_of, IsFound, IsInquiryAnswer, IsInquiryAnswered}
+use Rattle.equivalents_app.proofs.Common.{string_bytes, Contains, fault_of, Job, JobFields, JobRead, job_of, IsFound, IsInquiryAnswer}
 use Rattle.equivalents_app.proofs.Common.{IsInquiryOutcome, MayBeWrittenByInquiry, memory_faults, HasBadInquiryOperators, IsInquiryBounded, equivalents}
 use Rattle.equivalents_app.proofs.Common.{inquiry_of, Inquiry}
 use Rattle.std.specs.declared.alloc.Global.{Global}
@@ -9,11 +9,11 @@ use Rattle.clap.specs.Words as clap
 use Rattle.clap.specs.Kinds.{HasKind}
 use Rattle.clap.specs.Values.{kind_of}
 use Rattle.clap.specs.declared.error.Error.{Error}
-use Rattle.mothra_app.proofs.Answered.{any_bytes, job_same, never_memory, unread_for}
+use Rattle.mothra_app.proofs.Answered.{job_same, never_memory, unread, unread_for}
 use Rattle.mothra_app.specs.Answer.{IsRefusal}
 use Rattle.mothra_app.specs.Fault.{of_mutants}
 use Rattle.mothra_app.specs.Line.{fault_line}
-use Rattle.mothra_app.specs.Serving.{IsReadFor, bad_operators}
+use Rattle.mothra_app.specs.Serving.{IsAnswered, IsReadFor, bad_operators}
 use Rattle.mothra_app.specs.declared.fault.Fault.{Fault}
 use Rattle.mothra_app.specs.declared.status.Status.{Status}
 use Rattle.mothra_app.specs.declared.status.Status.TheVariants as status
@@ -70,7 +70,7 @@ read_for i read left now s t (IsInquiryAnswer.broken_off f is) reads = reads
 
 -- the answer for what was read is one for all the bytes
 pub answered : (words : List clap.Text) (old new : Option (List ℕ)) (v : List ℕ) (i : Inquiry) (s : Status) (t : List ℕ) → inquiry_of words ≡ Some i
-    → IsInquiryBounded i → ReadsUpTo limit old new v → IsInquiryAnswer i (job_of v) s t → IsInquiryAnswered words old new s t
+    → IsInquiryBounded i → ReadsUpTo limit old new v → IsInquiryAnswer i (job_of v) s t → IsAnswered (MayBeWrittenByInquiry words) old new s t
 answered words None new v i s t asks bounded reads is = record {
   bytes = v;
   all = tt;
@@ -93,23 +93,11 @@ refused_so words bytes e s t (inl full) refusal = never_memory s (subst (λ k. I
 refused_so words bytes e s t (inr among) refusal = MayBeWrittenByInquiry.refusal (kind_of e) refusal among
 
 pub refused : (words : List clap.Text) (left : Option (List ℕ)) (e : Error) (s : Status) (t : List ℕ) → HasKind (fault_of equivalents words) e
-    → IsRefusal (kind_of e) s → IsInquiryAnswered words left left s t
+    → IsRefusal (kind_of e) s → IsAnswered (MayBeWrittenByInquiry words) left left s t
 refused words left e s t kinds refusal =
-    let some = any_bytes left in
-    record {
-      bytes = some.0;
-      all = some.1;
-      may = refused_so words some.0 e s t kinds refusal;
-      read = unread_for e left s refusal;
-    }
+    unread (MayBeWrittenByInquiry words) left s t (unread_for e left s refusal) (λ bytes. refused_so words bytes e s t kinds refusal)
 
 pub bad_list : (words : List clap.Text) (left : Option (List ℕ)) (s : Status) (t : List ℕ) → HasBadInquiryOperators words → s ≡ status.Words → t ≡ bad_operators
-    → IsInquiryAnswered words left left s t
+    → IsAnswered (MayBeWrittenByInquiry words) left left s t
 bad_list words left s t bad is text =
-    let some = any_bytes left in
-    record {
-      bytes = some.0;
-      all = some.1;
-      may = rw (is, text) (MayBeWrittenByInquiry.bad_list bad);
-      read = rw is (Keeps-refl left);
-    }
+    unread (MayBeWrittenByInquiry words) left s t (rw is (Keeps-refl left)) (λ bytes. rw (is, text) (MayBeWrittenByInquiry.bad_list bad))

@@ -1,6 +1,6 @@
 -- INTEGER holds the numbers of the tests of a job.
-use Rattle.equivalents_app.proofs.Common.{arith, ◌≡◌, ◌^◌, ◌≤ℤ◌, ◌&&◌, ℕ, ℤ, pos, negsuc, Bool, true, false, refl, sym, subst, List, [], ◌∷◌, Option, Some}
-use Rattle.equivalents_app.proofs.Common.{None, Ok, map, unwrap_or, All, IfSome, filter_map, int_le, if◌then◌else◌, option_and_then, option_map, cons_option}
+use Rattle.equivalents_app.proofs.Common.{arith, ◌≡◌, ◌^◌, ◌≤ℤ◌, ◌&&◌, ℕ, ℤ, pos, negsuc, Bool, true, false, refl, subst, List, [], ◌∷◌, Option, Some}
+use Rattle.equivalents_app.proofs.Common.{None, Ok, map, unwrap_or, All, IfSome, int_le, if◌then◌else◌, option_and_then, option_map, cons_option}
 use Rattle.equivalents_app.proofs.Common.{list_all, option_or, lt-ltb, All-cons, All-nil, values_in, Arg, JobFields, JobRead, job_faults, job_fields, job_of}
 use Rattle.equivalents_app.proofs.Common.{json_of, suite_in}
 use Rattle.std.specs.Int.Signed.{le_z_yes}

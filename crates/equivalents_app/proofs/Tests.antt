@@ -1,35 +1,20 @@
 -- No test of a bench kills an equivalent mutant.
 use Rattle.equivalents_app.proofs.Common.{arith, ◌≡◌, ◌∙◌, ◌+◌, ◌==◌, ℕ, zero, suc, get_or, Bool, true, false, cond, not, refl, sym, subst, List, [], ◌∷◌}
-use Rattle.equivalents_app.proofs.Common.{length, Option, Some, None, All, option_map, zip, eqb-true, All-cons, All-head, All-nil, All-tail, shapes}
-use Rattle.equivalents_app.proofs.Common.{IsEquivalentWithin, KeepsEndsWithin, LineFields, AreFitting, IsOutcomeOf, OneAnswer, first_misfit, has_shape, refusal}
+use Rattle.equivalents_app.proofs.Common.{length, Option, Some, None, All, option_map, eqb-true, All-cons, All-head, All-nil, All-tail, shapes}
+use Rattle.equivalents_app.proofs.Common.{All-weaker, IsEnd, IsEquivalentWithin, KeepsEndsWithin, LineFields, AreFitting, IsOutcomeOf, OneAnswer, first_misfit, refusal}
 use Rattle.equivalents_app.proofs.Common.{Arg, Outcome, MutantFields, program_of, NoTestKills, HasRoom, LeavesRoom, LeavesRoomOn}
 use Rattle.f77_check.specs.declared.checked.Shape.{Shape}
-use Rattle.f77_equivalence.specs.Equivalent as equivalence
 use Rattle.f77_equivalence.specs.Storable.{AreStorable}
-use Rattle.f77_meaning.specs.declared.outcome.Outcome.TheVariants as outcome
 use Rattle.f77_meaning.specs.declared.outcome.RunFault.{RunFault}
 use Rattle.f77_meaning.specs.declared.outcome.RunFault.TheVariants as fault
-use Rattle.f77_meaning.proofs.Typing.{first_place}
-use Rattle.mothra_verdicts.specs.Bench.{AreOutcomes, BenchFields, FitsProgram, IsBench, IsProgramEnd}
-use Rattle.mothra_verdicts.specs.Verdict.{IsAlone, IsKill, IsVerdict, mutated}
+use Rattle.f77_run.proofs.Misfits.{all_fit}
+use Rattle.mothra_verdicts.proofs.BenchTests.{ends_all}
+use Rattle.mothra_verdicts.specs.Bench.{AreOutcomes, BenchFields, EndsOn, FitsProgram, IsBench}
+use Rattle.mothra_verdicts.specs.Verdict.{IsAlone, IsKill, mutated}
 use Rattle.equivalents_app.proofs.Longer.{longer}
 use Rattle.equivalents_app.proofs.Storable.{storable_suite}
 
 -- ---- arguments that are not refused fit
-
-neither : (b : Bool) (o : Option ℕ) → cond (not b) (Some 0) (option_map suc o) ≡ None → (b ≡ true) × (o ≡ None)
-neither true None e = (refl, refl)
-neither true (Some i) e = absurd (cc (e))
-neither false o e = absurd (cc (e))
-
-all_fit : (list : List Shape) (arguments : List Arg) → length arguments ≡ length list → first_misfit list arguments ≡ None → AreFitting list arguments
-all_fit [] [] count none = tt
-all_fit [] (argument ∷ arguments) count none = absurd (omega (arith, count))
-all_fit (shape ∷ list) [] count none = absurd (omega (arith, count))
-all_fit (shape ∷ list) (argument ∷ arguments) count none =
-    let first = first_place (λ pair. not (has_shape pair.0 pair.1)) (shape, argument) (zip list arguments) in
-    let parts = neither (has_shape shape argument) (first_misfit list arguments) (sym first ∙ none) in
-    (parts.0, all_fit list arguments (omega (arith, count)) parts.1)
 
 no_place : {X : Type 0} (f : ℕ → X) (o : Option ℕ) → option_map f o ≡ None → o ≡ None
 no_place f None e = refl
@@ -47,18 +32,6 @@ fitting list arguments e = go (length arguments == length list) refl e
     go false is f = absurd (cc (f))
 
 -- ---- one test
-
-ended : (o : Outcome) → IsProgramEnd o → equivalence.IsEnd o
-ended (outcome.Returned arguments) end = tt
-ended (outcome.Stopped arguments) end = tt
-ended outcome.Overflow end = absurd end
-ended outcome.DivideByZero end = absurd end
-ended outcome.ZeroPower end = absurd end
-ended outcome.BadSubscript end = absurd end
-ended outcome.ZeroStep end = absurd end
-ended outcome.Undefined end = absurd end
-ended outcome.Trapped end = absurd end
-ended outcome.StepLimit end = absurd end
 
 module _ (one : OneAnswer) (p q : List LineFields) (steps spare : ℕ) where
   -- no test kills the mutant where the program ends at least `spare` steps before the limit
@@ -86,13 +59,10 @@ module _ (one : OneAnswer) (p q : List LineFields) (steps spare : ℕ) where
 
 -- the program ends on each test, so the tests leave room for 0 steps
 ends_leave : (p : List LineFields) (steps : ℕ) (tests : List (List Arg)) (outcomes : List Outcome) → AreOutcomes p steps tests outcomes
-    → All IsProgramEnd outcomes → LeavesRoom p tests steps 0
-ends_leave p steps [] [] are end = All-nil (LeavesRoomOn p steps 0)
-ends_leave p steps [] (own ∷ outcomes) are end = absurd are
-ends_leave p steps (test ∷ tests) [] are end = absurd are
-ends_leave p steps (test ∷ tests) (own ∷ outcomes) are end =
-    All-cons (LeavesRoomOn p steps 0) test tests (steps, own, omega arith, are.0, ended own (All-head IsProgramEnd own outcomes end))
-    (ends_leave p steps tests outcomes are.1 (All-tail IsProgramEnd own outcomes end))
+    → All IsEnd outcomes → LeavesRoom p tests steps 0
+ends_leave p steps tests outcomes are end =
+    All-weaker (EndsOn p steps) (LeavesRoomOn p steps 0) (λ test ends. (steps, ends.0, omega arith, ends.1, ends.2)) tests
+    (ends_all p steps tests outcomes are end)
 
 leaves : (bench : BenchFields) → IsBench bench → (spare : ℕ) → HasRoom (program_of bench.plan) bench.tests bench.steps spare
     → LeavesRoom (program_of bench.plan) bench.tests bench.steps spare

@@ -1,8 +1,7 @@
 -- Whether the tests leave room for mutants that may take more steps than the program.
 use Rattle.std.specs.Prelude.{◌≤◌, ◌+◌, ⊤, ℕ, zero, suc, All, List}
-use Rattle.f77_equivalence.specs.Equivalent.{IsEnd}
 use Rattle.f77_program.specs.Program.{LineFields}
-use Rattle.f77_meaning.specs.Interpreter.{IsOutcomeOf}
+use Rattle.f77_meaning.specs.Interpreter.{IsEnd, IsOutcomeOf}
 use Rattle.f77_meaning.specs.declared.argument.Arg.{Arg}
 use Rattle.f77_meaning.specs.declared.outcome.Outcome.{Outcome}
 use Rattle.mothra_equivalents.specs.Equivalents.{AreEquivalents}

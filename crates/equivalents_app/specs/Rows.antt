@@ -1,9 +1,9 @@
 -- Rows: tests that may kill mutants which are not named, as the key `suite` of a job has them.
-use Rattle.std.specs.Prelude.{◌++◌, ℕ, Bool, true, false, List, [], codes, flat_map}
+use Rattle.std.specs.Prelude.{◌++◌, ℕ, Bool, true, false, List, codes, flat_map}
 use Rattle.std.specs.Fmt.{signed_decimal}
 use Rattle.f77_meaning.specs.declared.argument.Arg.{Arg}
 use Rattle.f77_meaning.specs.declared.argument.Arg.TheVariants.{Int, Truth, Ints, Truths}
-use Rattle.f77_tree.specs.Joined.{separated}
+use Rattle.f77_program.specs.Joined.{enclosed_text}
 use Rattle.mothra_codes.specs.declared.ticket.Ticket.{Ticket}
 use Rattle.mothra_equivalents.specs.declared.unproved.Unproved.{Unproved}
 use Rattle.mothra_ops.specs.Mutants.{mutant_name}
@@ -14,7 +14,7 @@ truth_text false = codes "false"
 
 -- values in brackets, with commas between them
 abbrev pub json_list : {A : Type 0} → (A → List ℕ) → List A → List ℕ
-json_list text items = codes "[" ++ (separated text [] items ++ codes "]")
+json_list text items = enclosed_text (codes "[") text items (codes "]")
 
 abbrev pub json_value : Arg → List ℕ
 json_value (Int z) = signed_decimal z

@@ -1,19 +1,16 @@
 -- What is written for words and all the bytes of the reader: a status and a text.
-use Rattle.std.specs.Prelude.{◌≡◌, ℕ, List, ◌∷◌, Contains, Option, Some, Ok, Err}
-use Rattle.std.specs.Io.KnownBytes.{Appends}
+use Rattle.std.specs.Prelude.{◌≡◌, ℕ, List, ◌∷◌, Contains, Some, Ok, Err}
 use Rattle.clap.specs.Words.{Text, fault_of}
 use Rattle.clap.specs.Kinds.{IsAmong}
 use Rattle.clap.specs.declared.error.kind.ErrorKind.{ErrorKind}
 use Rattle.mothra_app.specs.Answer.{IsRefusal, Outcome}
 use Rattle.mothra_app.specs.Fault.{of_mutants}
 use Rattle.mothra_app.specs.Line.{fault_line}
-use Rattle.mothra_app.specs.Serving.{IsReadFor, bad_operators}
+use Rattle.mothra_app.specs.Serving.{bad_operators}
 use Rattle.mothra_app.specs.declared.fault.Fault.{Fault}
 use Rattle.mothra_app.specs.declared.fault.Fault.TheVariants.{Job}
 use Rattle.mothra_app.specs.declared.status.Status.{Status}
 use Rattle.mothra_app.specs.declared.status.Status.TheVariants as status
-use Rattle.mothra_cli.specs.Input.{AreAll}
-use Rattle.mothra_cli.specs.Output.{AppendsFront}
 use Rattle.mothra_job.specs.Job.{JobRead, job_of}
 use Rattle.mothra_job.specs.declared.job.JobFault.TheVariants as job
 use Rattle.equivalents_app.specs.Finding.{IsFound}
@@ -54,28 +51,3 @@ pub data MayBeWrittenByInquiry (words : List Text) (bytes : List ℕ) : Status �
   refusal : {status : Status} {text : List ℕ} (cause : ErrorKind)
       → IsRefusal cause status → IsAmong cause (fault_of equivalents words)
       → MayBeWrittenByInquiry words bytes status text
-
--- the text with this status may be written for the words, where
--- the reader had the bytes `left` before and has `now` after that
-pub record IsInquiryAnswered (words : List Text) (left now : Option (List ℕ)) (status : Status)
-    (text : List ℕ) : Type 0 where
-  pub bytes : List ℕ
-  pub all : AreAll left bytes
-  pub may : MayBeWrittenByInquiry words bytes status text
-  pub read : IsReadFor status left now
-
--- such a text was written whole, and nothing else, to a writer
--- that held the bytes `old` before and holds `new` after that
-pub record WritesInquiryWhole (words : List Text) (left now old new : Option (List ℕ))
-    (status : Status) : Type 0 where
-  pub text : List ℕ
-  pub answered : IsInquiryAnswered words left now status text
-  pub written : Appends old new text
-
--- only a front of such a text was written
-pub record WritesInquiryFront (words : List Text)
-    (left now old new : Option (List ℕ)) : Type 0 where
-  pub status : Status
-  pub text : List ℕ
-  pub answered : IsInquiryAnswered words left now status text
-  pub written : AppendsFront old new text

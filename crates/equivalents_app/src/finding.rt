@@ -1,6 +1,6 @@
 //! Which mutants of the program of a job are named as equivalent.
 
-ghost use Rattle.std.specs.Prelude.{◌≡◌, ◌≤◌, ◌⊎◌, ℕ, List, Ok, Err, Contains, IfOk, IfSome, MatchResult};
+ghost use Rattle.std.specs.Prelude.{◌≤◌, ◌⊎◌, ℕ, List, Ok, Err, Contains, IfOk, IfSome, MatchResult};
 ghost use Rattle.std.specs.Prelude.{length, string_bytes};
 ghost use Rattle.mothra_app.specs.Fault.{of_mutants};
 ghost use Rattle.equivalents_app.specs.{IsFound, IsNamedIn, AreNamedMutants, LeavesRoom};

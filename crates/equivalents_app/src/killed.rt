@@ -1,6 +1,6 @@
 //! The mutants that the tests of a job kill: of these nothing is asked, since a run costs less than a proof.
 
-ghost use Rattle.std.specs.Prelude.{◌≡◌, ◌≤◌, IfOk, OnOk, length};
+ghost use Rattle.std.specs.Prelude.{◌≡◌, ◌≤◌, IfOk, length};
 ghost use Rattle.mothra_verdicts.specs.Bench.{most_tests};
 
 use f77_meaning::{Arg, Values};

@@ -9,7 +9,8 @@ ghost use Rattle.equivalents_app.specs.{lines_text, promise_line};
 ghost use Rattle.equivalents_app.specs.Rendering as definition;
 
 use crate::left::push_left;
-use crate::rows::{push_list, push_rows};
+use crate::rows::push_rows;
+use f77_program::print_enclosed;
 use mothra_app::listing::total_of;
 use mothra_codes::Ticket;
 use mothra_equivalents::{Equivalent, Unproved};
@@ -159,7 +160,8 @@ fn json_of(alloc: Global, every: u32, list: &[Equivalent]) -> Result<String, All
     ensures { IfOk result (λ text. string_bytes text ≡ json_line every list.now) }
 {
     let mut text = String::new(alloc);
-    push_list(&mut text, &declarable(alloc, every, list)?, push_entry)?;
+    let entries = declarable(alloc, every, list)?;
+    print_enclosed(&mut text, "[", &entries, "]", push_entry)?;
     text.push_str("\n")?;
     Ok(text)
 }

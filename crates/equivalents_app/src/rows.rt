@@ -1,35 +1,15 @@
 //! The text of rows: tests that may kill mutants which are not named, as the key `suite` of a job has them.
 
-ghost use Rattle.std.specs.Prelude.{◌≡◌, ◌++◌, List, ℕ, OnOk, flat_map, string_bytes};
+ghost use Rattle.std.specs.Prelude.{◌≡◌, ◌++◌, OnOk, flat_map, string_bytes};
 ghost use Rattle.std.specs.Fmt.{signed_decimal};
-ghost use Rattle.f77_program.specs.code.Joined.{Writes};
-ghost use Rattle.equivalents_app.specs.{json_value, json_list, row_line, row_lines, truth_text};
+ghost use Rattle.equivalents_app.specs.{json_value, row_line, row_lines, truth_text};
 
 use f77_meaning::Arg;
+use f77_program::print_enclosed;
 use mothra_codes::Ticket;
 use mothra_equivalents::Unproved;
 use mothra_ops::push_name;
 use std::alloc::AllocError;
-
-/// Adds items in brackets, with commas between them, by a function for one item.
-pub(crate) fn push_list<T, F: Fn(&mut String, &T) -> Result<(), AllocError>>(
-    text: &mut String,
-    items: &[T],
-    push: F,
-) -> Result<(), AllocError>
-    requires { F.IsAlwaysCallable push }
-    ensures { (item_text : T → List ℕ) → Writes (F.post push) item_text
-        → OnOk result (string_bytes text.new ≡ string_bytes text.old ++ json_list item_text items.now) }
-{
-    text.push_str("[")?;
-    let mut before = "";
-    for item in items {
-        text.push_str(before)?;
-        push(text, item)?;
-        before = ",";
-    }
-    text.push_str("]")
-}
 
 fn push_number(text: &mut String, number: &i32) -> Result<(), AllocError>
     ensures { OnOk result (string_bytes text.new ≡ string_bytes text.old ++ signed_decimal number.now) }
@@ -50,8 +30,8 @@ fn push_argument(text: &mut String, argument: &Arg) -> Result<(), AllocError>
     match argument {
         Arg::Int(number) => push_number(text, number),
         Arg::Truth(truth) => push_truth(text, truth),
-        Arg::Ints(numbers) => push_list(text, numbers.as_slice(), push_number),
-        Arg::Truths(truths) => push_list(text, truths.as_slice(), push_truth),
+        Arg::Ints(numbers) => print_enclosed(text, "[", numbers.as_slice(), "]", push_number),
+        Arg::Truths(truths) => print_enclosed(text, "[", truths.as_slice(), "]", push_truth),
     }
 }
 
@@ -62,7 +42,7 @@ fn push_row(text: &mut String, every: u32, ticket: Ticket, row: &[Arg]) -> Resul
     text.push_str("ROW ")?;
     push_name(text, every, ticket.op, ticket.number)?;
     text.push_str(" ")?;
-    push_list(text, row, push_argument)?;
+    print_enclosed(text, "[", row, "]", push_argument)?;
     text.push_str("\n")
 }
 

@@ -3,13 +3,13 @@
 ghost use Rattle.std.specs.Prelude.{◌≡◌, ◌≢◌, ◌⊎◌, List, Some, false, Ok, Err, Contains, IfOk, MatchResult, map};
 ghost use Rattle.std.specs.Prelude.{string_bytes};
 ghost use Rattle.clap.specs.Words.{Text};
+ghost use Rattle.mothra_app.specs.Serving.{IsAnswered, WritesFront, WritesWhole};
 ghost use Rattle.mothra_app.specs.Status.{is_read_fault, is_write_fault};
 ghost use Rattle.mothra_cli.specs.Input.{limit, TakesAtMost};
 ghost use Rattle.mothra_cli.specs.Watched.{inside, has_failed};
 ghost use Rattle.mothra_job.specs.Job.{job_of};
-ghost use Rattle.equivalents_app.specs.{IsInquiryAnswer, IsInquiryAnswered, IsInquiryOutcome};
-ghost use Rattle.equivalents_app.specs.{WritesInquiryFront, WritesInquiryWhole, memory_faults};
-ghost use Rattle.equivalents_app.specs.{IsInquiryBounded};
+ghost use Rattle.equivalents_app.specs.{IsInquiryAnswer, IsInquiryBounded, IsInquiryOutcome};
+ghost use Rattle.equivalents_app.specs.{MayBeWrittenByInquiry, memory_faults};
 ghost use Rattle.equivalents_app.specs.Words as asked;
 
 use crate::finding::find;
@@ -58,8 +58,8 @@ fn read_and_answer<R: Read>(
     requires bounded { IsInquiryBounded inquiry.now }
     requires works { has_failed reader.old ≡ false }
     ensures answered { IfOk result (λ a. (words : List Text) → asked.inquiry_of words ≡ Some inquiry.now
-        → IsInquiryAnswered words (R.remaining (inside reader.old)) (R.remaining (inside reader.new))
-        a.status (string_bytes a.text)) }
+        → IsAnswered (MayBeWrittenByInquiry words) (R.remaining (inside reader.old))
+        (R.remaining (inside reader.new)) a.status (string_bytes a.text)) }
     ensures told { IfOk result (λ a. (a.status ≡ Status.Report) ⊎ (a.status ≡ Status.Fault)) }
     ensures taken { TakesAtMost limit (R.remaining (inside reader.old)) (R.remaining (inside reader.new)) }
     ensures failed { has_failed reader.new ≡ is_read_fault result }
@@ -76,7 +76,7 @@ fn answer_for<S: AsStr, R: Read>(
     reader: &mut Watched<R>,
 ) -> Result<Answer, AppFault>
     requires { has_failed reader.old ≡ false }
-    ensures answered { IfOk result (λ a. IsInquiryAnswered (map S.text words.now)
+    ensures answered { IfOk result (λ a. IsAnswered (MayBeWrittenByInquiry (map S.text words.now))
         (R.remaining (inside reader.old)) (R.remaining (inside reader.new)) a.status (string_bytes a.text)) }
     ensures words { IfOk result (λ a. a.status ≡ Status.Words → reader.new ≡ reader.old) }
     ensures help { IfOk result (λ a. a.status ≡ Status.Help → reader.new ≡ reader.old) }
@@ -107,10 +107,10 @@ pub fn answer_inquiry<S: AsStr, R: Read, W: Write>(
     // What is written: it follows from the words, the bytes, and which mutants are named.
     // Each mutant that is named is an equivalent mutant of the plan, as its rule promises,
     // and where it may take more steps than the program, each test leaves room for them.
-    ensures written { IfOk result (WritesInquiryWhole (map S.text words.now)
+    ensures written { IfOk result (WritesWhole (MayBeWrittenByInquiry (map S.text words.now))
         (R.remaining (inside reader.old)) (R.remaining (inside reader.new))
         (W.contents (inside writer.old)) (W.contents (inside writer.new))) }
-    ensures front { result ≡ Err AppFault.Write → WritesInquiryFront (map S.text words.now)
+    ensures front { result ≡ Err AppFault.Write → WritesFront (MayBeWrittenByInquiry (map S.text words.now))
         (R.remaining (inside reader.old)) (R.remaining (inside reader.new))
         (W.contents (inside writer.old)) (W.contents (inside writer.new)) }
     ensures no_memory { result ≡ Err AppFault.Memory → writer.new ≡ writer.old }

@@ -1,13 +1,8 @@
 -- Values within the range, and beyond it the numbers that stand for faults.
-use Rattle.std.proofs.Common.{arith, ◌≡◌, ◌<◌, ◌≤◌, ◌^◌, Bool, true, false, ℤ, pos, negsuc, refl, ap, w64, FitsSigned, to_z, of_z}
+use Rattle.f77_actions.proofs.Common.{FitsSigned, w64, Ok, arith, ◌≡◌, pos, ℤ, false, negsuc, true, Bool, Err, refl, ◌<ℤ◌, ◌^◌, ◌≤ℤ◌, ap, ltb-true, ◌<◌, ◌≤◌}
+use Rattle.f77_actions.proofs.Common.{of_z, to_z, ints, fits, Encodes, IsValueOrFault, code, fault_number, truth_number, Fault, Overflow, BadSubscript}
+use Rattle.f77_actions.proofs.Common.{DivideByZero, Trapped, Undefined, ZeroPower, ZeroStep}
 use lib.Signed.{le_z, lt_z}
-use Rattle.std.specs.Prelude.{Ok, Err, ◌≤ℤ◌, ◌<ℤ◌}
-use Rattle.std.proofs.lemmas.Bool.{ltb-true}
-use Rattle.std.proofs.lemmas.Int.{ints}
-use Rattle.f77_actions.specs.declared.finish.Fault.{Fault}
-use Rattle.f77_actions.specs.declared.finish.Fault.TheVariants.{Overflow, DivideByZero, ZeroPower, BadSubscript, ZeroStep, Undefined, Trapped}
-use Rattle.f77_actions.specs.Number.{fits}
-use Rattle.f77_actions.specs.Encoded.{Encodes, IsValueOrFault, fault_number, code, truth_number}
 
 -- the range, as bounds
 pub record Within (z : ℤ) : Type 0 where

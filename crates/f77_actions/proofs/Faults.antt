@@ -1,11 +1,5 @@
 -- The fault of an operation: that of its left operand, or of its right one, or its own.
-use Rattle.std.proofs.Common.{arith, ◌≡◌, ℤ, pos, subst}
-use Rattle.std.specs.Prelude.{Result, Ok, Err, ◌≤ℤ◌, ◌<ℤ◌}
-use Rattle.std.proofs.lemmas.Int.{ints}
-use Rattle.f77_actions.specs.declared.finish.Fault.{Fault}
-use Rattle.f77_actions.specs.declared.finish.Fault.TheVariants.{Overflow}
-use Rattle.f77_actions.specs.Encoded.{Encodes, code, operation_fault}
-use Rattle.f77_actions.specs.Value.{both}
+use Rattle.f77_actions.proofs.Common.{Ok, arith, ◌≡◌, pos, ℤ, Err, ◌<ℤ◌, ◌≤ℤ◌, Result, subst, ints, Encodes, code, both, operation_fault, Fault, Overflow}
 use Rattle.f77_actions.proofs.Bounds.{Within, within, encodes_fault}
 
 pub unfit_left : (x y : ℤ) → pos 1099511627776 ≤ℤ x → (r q : Result ℤ Fault) → Encodes x r → Encodes y q → Encodes x (operation_fault r q)

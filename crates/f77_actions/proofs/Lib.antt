@@ -1,3 +1,4 @@
+pub mod Common
 mod Powers
 mod Ranges
 pub mod Bounds

@@ -1,11 +1,6 @@
 -- Operations whose operands are values: those on numbers of 32 bits, and the choices of one of two.
-use Rattle.std.proofs.Common.{arith, ◌≡◌, ◌^◌, Bool, true, false, ℤ, pos, negsuc, sym, subst, ◌∙◌}
-use Rattle.std.specs.Prelude.{Result, Ok, if◌then◌else◌, ◌≤ℤ◌}
-use Rattle.std.proofs.lemmas.Bool.{lt-ltb}
-use Rattle.std.proofs.lemmas.Int.{ints}
-use Rattle.f77_actions.specs.declared.finish.Fault.{Fault}
-use Rattle.f77_actions.specs.Number.{fits}
-use Rattle.f77_actions.specs.Encoded.{Encodes, IsValueOrFault, HasValue}
+use Rattle.f77_actions.proofs.Common.{Ok, arith, ◌≡◌, pos, sym, ℤ, false, negsuc, true, ◌∙◌, Bool, ◌^◌, ◌≤ℤ◌, Result, if◌then◌else◌, lt-ltb, subst, ints, fits}
+use Rattle.f77_actions.proofs.Common.{Encodes, IsValueOrFault, HasValue, Fault}
 use Rattle.f77_actions.proofs.Bounds.{encodes_value}
 
 pub narrowed : (f : ℤ → ℤ → Result ℤ Fault) (u x y v w : ℤ) (o : Result ℤ Fault) → Encodes u o → o ≡ f v w → (HasValue x → v ≡ x) → (HasValue y → w ≡ y)

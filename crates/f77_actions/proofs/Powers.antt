@@ -1,13 +1,9 @@
 -- Powers: a power that is beyond the range stays beyond it, and the powers of 1 and of -1.
-use Rattle.std.proofs.Common.{arith, ◌≡◌, ◌≤◌, ◌<◌, ◌≢◌, ℕ, zero, suc, ◌+◌, ◌-◌, ◌*◌, ◌/◌, ◌%◌, ◌^◌, ℤ, pos, negsuc, ◌*ℤ◌}
-use Rattle.std.proofs.Common.{◌<ℤ◌, int_div, int_rem, unsigned_abs, Bool, true, false, refl, sym, ◌∙◌, ap, zero-add}
-use Rattle.std.specs.Prelude.{Ok, Err}
+use Rattle.f77_actions.proofs.Common.{Ok, arith, ◌≡◌, pos, sym, ℤ, false, negsuc, true, ◌∙◌, Bool, Err, refl, ◌<ℤ◌, ◌^◌, ap, lt-ltb, ltb-true, ◌*ℤ◌, ◌<◌, ◌≤◌}
+use Rattle.f77_actions.proofs.Common.{int_div, suc, unsigned_abs, zero, ◌≢◌, int_rem, zero-add, ℕ, ◌%◌, ◌*◌, ◌+◌, ◌-◌, ◌/◌, ints, unsigned_abs-mul, fits}
+use Rattle.f77_actions.proofs.Common.{in_range, exact_power, power, power_of, Fault, Overflow}
 use Rattle.std.proofs.Math.Nat.{div-eq_of_lt, mul-le-mul}
-use Rattle.std.proofs.lemmas.Bool.{lt-ltb, ltb-true, false≢true}
-use Rattle.std.proofs.lemmas.Int.{ints, unsigned_abs-mul}
-use Rattle.f77_actions.specs.declared.finish.Fault.{Fault}
-use Rattle.f77_actions.specs.declared.finish.Fault.TheVariants.{Overflow}
-use Rattle.f77_actions.specs.Number.{fits, in_range, exact_power, power_of, power}
+use Rattle.std.proofs.lemmas.Bool.{false≢true}
 
 fits_small : (z : ℤ) → unsigned_abs z < 2 ^ 31 → fits z ≡ true
 fits_small (pos n) h = lt-ltb n (2 ^ 31) h

@@ -1,11 +1,8 @@
 -- A checked operation on numbers of 32 bits gives the exact number where the range of INTEGER holds it.
-use Rattle.std.proofs.Common.{arith, ◌≡◌, ◌≢◌, ◌<◌, zero, suc, ◌^◌, ℤ, pos, negsuc, int_div, of_z, w32, Bool, true, false, Option, Some, None, refl, ap}
-use Rattle.std.specs.Prelude.{Ok, FitsSigned}
+use Rattle.f77_actions.proofs.Common.{FitsSigned, Ok, arith, ◌≡◌, pos, ℤ, false, negsuc, true, Bool, refl, w32, ◌^◌, ap, lt-ltb, ltb-true, ◌<◌, int_div, of_z}
+use Rattle.f77_actions.proofs.Common.{suc, zero, ◌≢◌, None, Option, Some, fits, in_range, quotient, Overflow}
 use Rattle.std.specs.Option.{SomeIff, ok_or}
 use Rattle.std.specs.Int.{CanDivide}
-use Rattle.std.proofs.lemmas.Bool.{lt-ltb, ltb-true}
-use Rattle.f77_actions.specs.declared.finish.Fault.TheVariants.{Overflow}
-use Rattle.f77_actions.specs.Number.{fits, in_range, quotient}
 
 fits_where : (z : ℤ) → FitsSigned w32 z → fits z ≡ true
 fits_where (pos n) f = lt-ltb n (2 ^ 31) f.sfits

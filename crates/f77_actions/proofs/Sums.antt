@@ -1,12 +1,7 @@
 -- Sums, differences and products of numbers that stand for values or faults.
-use Rattle.std.proofs.Common.{arith, ◌≡◌, ◌≤◌, true, false, ℤ, pos, negsuc, refl, sym, subst, w64, FitsSigned}
-use Rattle.std.specs.Prelude.{◌+ℤ◌, ◌-ℤ◌, ◌*ℤ◌, Result, Ok, Err, unsigned_abs, ◌≤ℤ◌, ◌<ℤ◌}
-use Rattle.std.proofs.lemmas.Int.{ints, fits_signed_mul}
-use Rattle.f77_actions.specs.declared.finish.Fault.{Fault}
-use Rattle.f77_actions.specs.declared.finish.Fault.TheVariants.{Overflow}
-use Rattle.f77_actions.specs.Number.{fits, in_range}
-use Rattle.f77_actions.specs.Encoded.{Encodes, IsValueOrFault, code, operation_fault}
-use Rattle.f77_actions.specs.Value.{both}
+use Rattle.f77_actions.proofs.Common.{FitsSigned, w64, Ok, arith, ◌≡◌, pos, sym, ℤ, false, negsuc, true, Err, refl, ◌<ℤ◌, ◌≤ℤ◌, Result, subst, ◌*ℤ◌, ◌≤◌}
+use Rattle.f77_actions.proofs.Common.{unsigned_abs, ◌+ℤ◌, ◌-ℤ◌, ints, fits_signed_mul, fits, Encodes, IsValueOrFault, code, in_range, both, operation_fault}
+use Rattle.f77_actions.proofs.Common.{Fault, Overflow}
 use Rattle.f77_actions.proofs.Bounds.{Within, within, encodes_value}
 
 valued : (z : ℤ) → fits z ≡ true → Encodes z (in_range z)

@@ -4,14 +4,14 @@
 //! A sum with a fault is outside of the range, so one test of the range is all that a sum needs. Of two faults the left
 //! one counts. Other operations can bring a fault back into the range, so they test their operands.
 
-ghost use Rattle.std.specs.Prelude.{◌≡◌, ◌+ℤ◌, ◌-ℤ◌, ◌*ℤ◌, if◌then◌else◌, ℤ, Result, Ok, Err};
+ghost use Rattle.std.specs.Prelude.{◌≡◌, ◌+ℤ◌, ◌-ℤ◌, ◌*ℤ◌, if◌then◌else◌, ℤ, Result};
+ghost use Rattle.std.specs.Prelude.{Ok, Err};
 ghost use Rattle.f77_actions.specs.declared.finish.Fault.{Fault};
 ghost use Rattle.f77_actions.specs.Number as exact;
-ghost use Rattle.f77_actions.specs.Number.{fits, in_range, is_below};
 ghost use Rattle.f77_actions.specs.Encoded as meaning;
-ghost use Rattle.f77_actions.specs.Encoded.{Encodes, IsValueOrFault, HasValue, operation_fault};
 ghost use Rattle.f77_actions.specs.Value as values;
-ghost use Rattle.f77_actions.specs.Value.{given, both};
+ghost use Rattle.f77_actions.specs.{fits, in_range, is_below, Encodes, IsValueOrFault, HasValue, operation_fault};
+ghost use Rattle.f77_actions.specs.{given, both};
 
 use crate::finish::Fault;
 use crate::number;

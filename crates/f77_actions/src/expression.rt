@@ -4,7 +4,7 @@
 //! has settled. A sign `+` leaves no trace.
 
 ghost use Rattle.std.specs.Prelude.{◌≡◌};
-ghost use Rattle.f77_actions.specs.Operators.{arithmetic_of, relation_of, connective_of};
+ghost use Rattle.f77_actions.specs.{arithmetic_of, relation_of, connective_of};
 
 use f77_tree::Operator;
 

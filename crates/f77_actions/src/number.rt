@@ -1,7 +1,8 @@
 //! INTEGER arithmetic: the exact number if it is in the range, and else Overflow (ANSI X3.9-1978, 4.3, 6.1.5 and
 //! 15.10).
 
-ghost use Rattle.std.specs.Prelude.{◌≡◌, ◌≢◌, ◌+ℤ◌, ◌-ℤ◌, ◌*ℤ◌, ◌^◌, ◌<◌, ◌≤◌, pos};
+ghost use Rattle.std.specs.Prelude.{◌≡◌, ◌≢◌, ◌+ℤ◌, ◌-ℤ◌, ◌*ℤ◌, ◌^◌, ◌<◌};
+ghost use Rattle.std.specs.Prelude.{◌≤◌, pos};
 ghost use Rattle.std.specs.Prelude.{negsuc, int_div, unsigned_abs, if◌then◌else◌};
 ghost use Rattle.f77_actions.specs.Number as exact;
 ghost use Rattle.f77_actions.specs.Value as meaning;

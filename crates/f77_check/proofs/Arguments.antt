@@ -1,23 +1,13 @@
 -- The dummy arguments of a legal program are no larger than the limit, so their shapes are exact.
-use Rattle.std.proofs.Common.{◌≡◌, ◌≤◌, ℕ, List, [], ◌∷◌, ◌++◌, ◌||◌, Bool, true, false, length, Some, None, refl, ap, sym, ◌∙◌, arith}
-use Rattle.std.specs.Prelude.{map, filter, is_some, nat_lt, if◌then◌else◌}
-use Rattle.std.specs.List.{list_any, sum}
-use Rattle.std.specs.Str.{bytes_eq}
-use Rattle.std.proofs.lemmas.Bool.Decides.{nat_tests}
-use Rattle.f77_program.specs.Program.{LineFields}
-use Rattle.f77_tree.specs.Statement.{Statement}
-use Rattle.f77_legal.specs.declared.names.Names.{Names}
-use Rattle.f77_check.specs.Checked.{shape_of, shapes}
-use Rattle.f77_legal.specs.Legal.{IsLegal, is_array, is_too_large, name_faults, clause_faults, expression_clauses, control_clauses, label_faults, data_faults, too_large_faults}
+use Rattle.f77_check.proofs.Common.{◌≡◌, ap, ◌∙◌, sym, map, List, refl, ℕ, [], arith, length, ◌∷◌, Some, ◌++◌, true, None, ◌≤◌, Bool, false, is_some, filter}
+use Rattle.f77_check.proofs.Common.{if◌then◌else◌, ◌||◌, nat_lt, nat_tests, list_any, sum, bytes_eq, shapes, shape_of, shape_at, elements_in, or_false}
+use Rattle.f77_check.proofs.Common.{same_symbol, symbol_refl, any_once, product, element_count, IsLegal, clause_faults, control_clauses, data_faults}
+use Rattle.f77_check.proofs.Common.{expression_clauses, is_array, is_too_large, label_faults, name_faults, too_large_faults, IsNameTable, Symbol, bounds_of}
+use Rattle.f77_check.proofs.Common.{name_in, symbols, uses, uses_of, NameUse, some_items, Names, LineFields, Statement}
 use Rattle.f77_legal.specs.declared.fault.CheckFault.TheVariants.{TooMany}
-use Rattle.f77_legal.specs.Names.{Symbol, NameUse, name_in, uses, uses_of, symbols, some_items, bounds_of}
-use Rattle.f77_legal.specs.NameTable.{IsNameTable}
-use Rattle.f77_legal.specs.InitialValues.{product, element_count}
-use Rattle.f77_check.specs.code.Shapes.{elements_in, shape_at}
 use Rattle.f77_legal.specs.Heading.{dummies, dummies_of}
 use Rattle.f77_legal.proofs.Lookups.{same_kind_at, same_bounds_at}
 use Rattle.f77_legal.proofs.Sizes.{sum_more}
-use Rattle.f77_legal.proofs.Symbols.{or_false, same_symbol, symbol_refl, any_once}
 
 none_behind : {X : Type 0} (xs ys : List X) → xs ++ ys ≡ [] → ys ≡ []
 none_behind [] ys e = e

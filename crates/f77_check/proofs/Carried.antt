@@ -1,39 +1,16 @@
 -- What programs of one frame share: the actions, resolved statements, slots, shapes and starts of the one are those of the other.
-use Rattle.std.proofs.Common.{arith, ◌≡◌, ◌≢◌, ◌∙◌, ◌+◌, ◌==◌, ℕ, zero, suc, Bool, true, false, true≢false, cond, not, List, [], ◌∷◌, ◌++◌, map, Some, None, set, length-set, refl, sym, ap, subst}
-use Rattle.std.specs.Prelude.{nat_lt, position, replicate, if◌then◌else◌}
-use Rattle.std.specs.List.{flat_map, find, zip, prefix_len, slice_get}
-use Rattle.std.specs.Option.{option_and_then}
-use Rattle.std.proofs.lemmas.Bool.Decides.{nat_tests}
-use Rattle.std.proofs.lemmas.List.{length-map}
-use Rattle.std.proofs.lemmas.Option.{same_Some}
-use Rattle.indexmap.specs.IndexMap.{keys}
-use Rattle.f77_program.specs.Program.{LineFields, IsProgram}
-use Rattle.f77_tree.specs.Tree.{GroupFields}
-use Rattle.f77_tree.specs.Statement.{Statement, is_executable_statement}
-use Rattle.f77_tree.specs.declared.data.Constant.{Constant}
-use Rattle.f77_tree.specs.declared.tree.Kind.{Kind}
-use Rattle.f77_legal.specs.Blocks.{first_numbers}
-use Rattle.f77_legal.specs.Frames.{framed, framed_line, frame, HaveOneFrame}
-use Rattle.f77_legal.specs.Labels.{nth_statement}
-use Rattle.f77_legal.specs.Legal.{IsLegal}
-use Rattle.f77_legal.specs.Names.{Symbol, kind_of, bounds_of}
-use Rattle.f77_legal.specs.Patches.{IsStock}
-use Rattle.f77_legal.specs.InitialValues.{groups_of}
+use Rattle.f77_check.proofs.Common.{◌≡◌, ap, ◌∙◌, sym, map, subst, List, refl, ℕ, [], arith, ◌∷◌, Some, ◌++◌, ◌+◌, true, None, Bool, false, suc, zero, ◌==◌}
+use Rattle.f77_check.proofs.Common.{replicate, cond, if◌then◌else◌, nat_lt, position, set, true≢false, ◌≢◌, length-set, not, nat_tests, length-map, same_Some}
+use Rattle.f77_check.proofs.Common.{flat_map, find, slice_get, zip, prefix_len, option_and_then, Resolved, CanResolve, IsResolved, first_slot, shapes, AreJumps}
+use Rattle.f77_check.proofs.Common.{AreResolved, Cell, is_cell, IsStartOf, cells, slot_kinds, IsAction, IsJump, initial_value, initial_values, Resolver, Start}
+use Rattle.f77_check.proofs.Common.{first_numbers, framed, HaveOneFrame, frame, framed_line, groups_of, nth_statement, IsLegal, Symbol, bounds_of, kind_of}
+use Rattle.f77_check.proofs.Common.{IsStock, LineFields, IsProgram, Statement, is_executable_statement, GroupFields, Constant, Kind, keys}
 use Rattle.f77_legal.proofs.Frames.{groups_of-framed}
 use Rattle.f77_legal.proofs.FrameNames.{by_frame, kind_of_same, bounds_of_same, is_array_same, elements_same, dummies_same}
 use Rattle.f77_legal.proofs.SameFrame.{length_same, place_of_same, left_by_same, branch_end_same, terminal_same, behind_same, loops_ending_same}
 use Rattle.f77_legal.proofs.Served.{tables_serve}
-use Rattle.f77_check.specs.Action.{IsJump, AreJumps, IsAction}
-use Rattle.f77_check.specs.Checked.{shapes}
-use Rattle.f77_check.specs.Ready.{CanResolve}
-use Rattle.f77_check.specs.Resolved.{IsResolved, AreResolved}
-use Rattle.f77_check.specs.Slots.{first_slot, slot_kinds}
-use Rattle.f77_check.specs.Start.{Cell, cells, is_cell, initial_values, initial_value, IsStartOf}
 use Rattle.f77_actions.specs.declared.action.Action.{Action, Goto, ComputedGoto, ArithmeticIf, LogicalIf', Branch, Loop}
 use Rattle.f77_actions.specs.declared.action.Jump.{Jump}
-use Rattle.f77_check.specs.declared.resolve.Resolver.{Resolver}
-use Rattle.f77_actions.specs.declared.resolved.Resolved.{Resolved}
-use Rattle.f77_check.specs.declared.start.Start.{Start}
 
 is_executable-framed : (s : Statement) → is_executable_statement (framed s) ≡ is_executable_statement s
 is_executable-framed (Statement.BlockIf tree) = refl

@@ -1,22 +1,12 @@
 -- Values laid out by the slots of names, and one of them given to its slot.
-use Rattle.std.proofs.Common.{arith, ◌≡◌, ℕ, zero, suc, ◌+◌, ◌-◌, ◌<◌, ◌≤◌, ◌==◌, ◌&&◌, ◌||◌, Bool, true, false, List}
-use Rattle.std.proofs.Common.{[], ◌∷◌, ◌++◌, map, length, take, replicate, get_or, Some, refl, sym, ap, subst, ◌∙◌}
-use Rattle.std.specs.Prelude.{slice_get, slice_set, option_map, if◌then◌else◌}
-use Rattle.std.specs.List.{flat_map, list_any, position_or_len}
-use Rattle.std.specs.Str.{bytes_eq}
-use Rattle.std.proofs.lemmas.Bool.{eqb-true}
-use Rattle.std.proofs.lemmas.Bool.Decides.{nat_tests}
-use Rattle.std.proofs.lemmas.List.{length-set, get_or-set_same, get_or-set_other, set-append_left, set-append_right, replicate-append-replicate}
-use Rattle.std.proofs.lemmas.Option.{same_Some, slice_get-get_or}
-use Rattle.f77_legal.specs.Blocks.{first_numbers}
-use Rattle.f77_legal.specs.Names.{Symbol}
-use Rattle.f77_legal.specs.InitialValues.{product}
-use Rattle.f77_check.specs.Slots.{slot_count, first_slot}
-use Rattle.f77_check.specs.Start.{Cell, is_cell}
-use Rattle.f77_legal.proofs.FirstNumbers.{length-table, get_or-table, table_from_each, table_more}
-use Rattle.f77_legal.proofs.Positions.{found_there}
+use Rattle.f77_check.proofs.Common.{◌≡◌, ap, ◌∙◌, sym, map, subst, List, refl, ℕ, [], arith, length, ◌∷◌, Some, ◌++◌, take, ◌+◌, true, ◌<◌, get_or, ◌≤◌, Bool}
+use Rattle.f77_check.proofs.Common.{◌-◌, false, suc, zero, ◌==◌, option_map, replicate, if◌then◌else◌, ◌&&◌, ◌||◌, eqb-true, length-set, slice_set}
+use Rattle.f77_check.proofs.Common.{get_or-set_other, get_or-set_same, nat_tests, replicate-append-replicate, set-append_left, set-append_right, same_Some}
+use Rattle.f77_check.proofs.Common.{slice_get-get_or, list_any, flat_map, position_or_len, bytes_eq, slot_count, first_slot, Cell, is_cell, table_more}
+use Rattle.f77_check.proofs.Common.{get_or-table, length-table, table_from_each, found_there, Apart, or_false, same_symbol, symbol_symm, first_numbers, product}
+use Rattle.f77_check.proofs.Common.{Symbol}
+use Rattle.std.proofs.Common.{slice_get}
 use Rattle.f77_check.proofs.SlotCounts.{count_more}
-use Rattle.f77_legal.proofs.Symbols.{Apart, same_symbol, symbol_symm, or_false}
 
 module _ {X : Type 0} where
   -- one element has another value

@@ -1,50 +1,24 @@
 -- When a program can be judged by its changed statement alone, and what follows then.
-use Rattle.std.proofs.Common.{arith, ◌≡◌, ◌<◌, ◌==◌, ◌∙◌, inl, inr, ℕ, Bool, true, false, true≢false, cond, List, []}
-use Rattle.std.proofs.Common.{◌∷◌, length, get_or, set, map, filter, reverse, Option, Some, None, refl, sym, ap, subst}
-use Rattle.std.specs.Prelude.{◌-◌, is_some, option_map}
-use Rattle.std.specs.List.{AllZip, find, slice_get}
-use Rattle.std.specs.Option.{option_and_then, option_map_or}
-use Rattle.std.proofs.lemmas.Bool.{cases_lt}
-use Rattle.std.proofs.lemmas.Bool.Decides.{nat_tests}
-use Rattle.std.proofs.lemmas.List.{length-map, length-reverse}
-use Rattle.std.proofs.lemmas.Option.{same_Some, slice_get-map, slice_get_past, slice_get_read, slice_get_within}
-use Rattle.indexmap.specs.IndexMap.{keys}
-use Rattle.f77_program.specs.Patching.{patched, replaced}
-use Rattle.f77_program.specs.Program.{LineFields, IsProgram, line_of}
+use Rattle.f77_check.proofs.Common.{◌≡◌, ap, ◌∙◌, sym, map, subst, List, refl, ℕ, [], arith, length, ◌∷◌, Some, true, ◌<◌, None, get_or, Bool, ◌-◌, false}
+use Rattle.f77_check.proofs.Common.{Option, is_some, ◌==◌, option_map, cond, filter, set, true≢false, inl, inr, reverse, cases_lt, nat_tests, length-map}
+use Rattle.f77_check.proofs.Common.{length-reverse, same_Some, slice_get-map, slice_get_read, slice_get_past, slice_get_within, find, slice_get, AllZip}
+use Rattle.f77_check.proofs.Common.{option_and_then, option_map_or, Resolved, CanResolve, IsChecked, CheckedFields, IsResolved, shapes, AreResolved}
+use Rattle.f77_check.proofs.Common.{checked_fields, IsStartOf, IsInPlace, IsChangedAlone, FrameStays, Resolver, Start, symbols_pass, among_kept, executed}
+use Rattle.f77_check.proofs.Common.{is_executed, statement_behind, statement_numbers, framed, HaveOneFrame, nth_statement, label_place, terminal_label, IsLegal}
+use Rattle.f77_check.proofs.Common.{first_clause, faults, first_fault, has_name, Symbol, name_in, IsStock, is_name_among, names_pass, Serve, Names, patched}
+use Rattle.f77_check.proofs.Common.{replaced, LineFields, line_of, IsProgram, Line, Statement, keys}
 use Rattle.f77_tree.specs.StatementGrammar.{IsFormed}
-use Rattle.f77_tree.specs.Statement.{Statement}
-use Rattle.f77_program.specs.declared.program.Line.{Line}
-use Rattle.f77_check.specs.Checked.{CheckedFields, IsChecked, shapes}
-use Rattle.f77_check.specs.CheckedView.{checked_fields}
-use Rattle.f77_check.specs.code.Patching.{FrameStays, IsChangedAlone}
-use Rattle.f77_check.specs.Patching.{IsInPlace}
-use Rattle.f77_check.specs.Ready.{CanResolve}
-use Rattle.f77_check.specs.Resolved.{IsResolved, AreResolved}
-use Rattle.f77_check.specs.Start.{IsStartOf}
-use Rattle.f77_check.specs.declared.checked.Shape.{Shape}
-use Rattle.f77_check.specs.declared.resolve.Resolver.{Resolver}
-use Rattle.f77_check.specs.declared.start.Start.{Start}
-use Rattle.f77_actions.specs.declared.resolved.Resolved.{Resolved}
-use Rattle.f77_legal.specs.Blocks.{statement_numbers, statement_behind}
 use Rattle.f77_legal.specs.Broken.{clause_found, has_known_names}
 use Rattle.f77_legal.specs.Clause.{clause_fault}
-use Rattle.f77_legal.specs.Frames.{framed, HaveOneFrame}
-use Rattle.f77_legal.specs.Labels.{label_place, nth_statement, terminal_label}
-use Rattle.f77_legal.specs.Legal.{IsLegal, faults, first_clause, first_fault}
 use Rattle.f77_legal.specs.Loops.{terminal, ends_at, loops_ending}
-use Rattle.f77_legal.specs.NameTable.{has_name}
-use Rattle.f77_legal.specs.Names.{Symbol, name_in}
-use Rattle.f77_legal.specs.Patches.{is_name_among, names_pass, IsStock}
-use Rattle.f77_legal.specs.Tables.{Serve}
 use Rattle.f77_legal.specs.Alone.{MayStandAt, NamesAmong, StandsAlone}
 use Rattle.f77_legal.specs.declared.broken.Broken.{Broken}
 use Rattle.f77_legal.specs.declared.fault.CheckFault.{CheckFault}
-use Rattle.f77_legal.specs.declared.names.Names.{Names}
 use Rattle.f77_legal.proofs.Alone.{alone_fault, alone_frame, alone_stock}
 use Rattle.f77_legal.proofs.Branches.{found_some}
-use Rattle.f77_legal.proofs.PatchNames.{is_executed, executed, among_kept, symbols_pass}
 use Rattle.f77_legal.proofs.Replaced.{other_line, changed_line}
 use Rattle.f77_legal.proofs.SameFrame.{behind_same}
+use Rattle.f77_check.specs.declared.checked.Shape.{Shape}
 use Rattle.f77_check.proofs.Carried.{all_resolved_same, can_resolve_same, shapes_same, start_same}
 use Rattle.f77_check.proofs.CheckedParts.{checked_of}
 use Rattle.f77_check.proofs.KeptNames.{uses_at}

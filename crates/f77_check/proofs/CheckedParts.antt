@@ -1,23 +1,9 @@
 -- What the parts of a checked program are together.
-use Rattle.std.proofs.Common.{arith, ◌≡◌, ◌≤◌, List, map, sym, subst, ap, ◌∙◌}
-use Rattle.std.specs.Prelude.{None}
-use Rattle.indexmap.specs.IndexMap.{keys}
-use Rattle.f77_program.specs.Program.{LineFields, IsProgram, line_of}
-use Rattle.f77_program.specs.declared.program.Line.{Line}
-use Rattle.f77_check.specs.Checked.{CheckedFields, IsChecked, shapes}
-use Rattle.f77_check.specs.CheckedView.{checked_fields}
-use Rattle.f77_check.specs.Ready.{CanResolve}
-use Rattle.f77_check.specs.Resolved.{AreResolved}
-use Rattle.f77_check.specs.Slots.{slot_count, most_slots}
-use Rattle.f77_check.specs.SlotTable.{IsSlotTable}
-use Rattle.f77_check.specs.Start.{IsStartOf}
-use Rattle.f77_check.specs.declared.checked.Shape.{Shape}
-use Rattle.f77_check.specs.declared.resolve.Resolver.{Resolver}
-use Rattle.f77_actions.specs.declared.resolved.Resolved.{Resolved}
-use Rattle.f77_check.specs.declared.start.Start.{Start}
-use Rattle.f77_legal.specs.Legal.{IsLegal}
-use Rattle.f77_legal.specs.Tables.{AreTables}
+use Rattle.f77_check.proofs.Common.{◌≡◌, ap, ◌∙◌, sym, map, subst, List, arith, None, ◌≤◌, Resolved, CanResolve, IsChecked, slot_count, CheckedFields, shapes}
+use Rattle.f77_check.proofs.Common.{AreResolved, checked_fields, IsStartOf, most_slots, IsSlotTable, Resolver, Start, IsLegal, AreTables, LineFields, line_of}
+use Rattle.f77_check.proofs.Common.{IsProgram, Line, keys}
 use Rattle.f77_legal.proofs.Served.{own_tables_serve}
+use Rattle.f77_check.specs.declared.checked.Shape.{Shape}
 use Rattle.f77_check.proofs.SlotCounts.{stock_slots}
 use Rattle.f77_check.proofs.SlotTables.{keys_stock}
 

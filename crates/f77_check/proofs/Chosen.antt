@@ -1,15 +1,7 @@
 -- The least or the greatest of numbers, from the last of them to the first.
-use Rattle.std.proofs.Common.{arith, suc, ◌≡◌, ◌<◌, ◌≤◌, ◌+◌, ◌-◌, List, [], length, refl, get_or, drop}
-use Rattle.std.specs.Prelude.{ℕ, map}
-use Rattle.std.proofs.lemmas.List.{drop_all}
+use Rattle.f77_check.proofs.Common.{◌≡◌, map, List, refl, ℕ, [], arith, length, ◌+◌, ◌<◌, get_or, ◌≤◌, ◌-◌, suc, drop, drop_all, Arithmetic, IsChosen, IsNumber}
+use Rattle.f77_check.proofs.Common.{tree_count, Symbol, Tree, Trees, tree_of, trees, Expr}
 use Rattle.std.proofs.Math.Seq.{drop-cons}
-use Rattle.f77_tree.specs.Tree.{Tree, Trees}
-use Rattle.f77_tree.specs.View.{tree_of, trees}
-use Rattle.f77_tree.specs.declared.tree.Expr.{Expr}
-use Rattle.f77_legal.specs.Dimensions.{tree_count}
-use Rattle.f77_check.specs.Expression.{IsNumber, IsChosen}
-use Rattle.f77_legal.specs.Names.{Symbol}
-use Rattle.f77_actions.specs.declared.expression.Arithmetic.{Arithmetic}
 use Rattle.f77_actions.specs.declared.expression.Number.{Number, Binary'}
 
 pub chosen_first : (bounds : Symbol → List ℕ) (names : List Symbol) (op : Arithmetic) (t : Tree) (ts : Trees) (p : _) (x : Number) (q : _) (y : Number)

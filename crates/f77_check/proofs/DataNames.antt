@@ -1,33 +1,16 @@
 -- A table keeps the names of DATA and the dummy arguments of its program.
-use Rattle.std.proofs.Common.{arith, ◌≡◌, ℕ, zero, suc, ◌<◌, ◌&&◌, Bool, true, List, [], ◌∷◌, length, map, get_or, Some, refl, sym, ap, ◌∙◌}
-use Rattle.std.specs.List.{All, flat_map, list_all, list_any}
-use Rattle.std.specs.Str.{bytes_eq}
-use Rattle.std.proofs.lemmas.Bool.{and_parts}
-use Rattle.std.proofs.lemmas.List.Folds.{list_all-map}
+use Rattle.f77_check.proofs.Common.{◌≡◌, ap, ◌∙◌, sym, map, List, refl, ℕ, [], arith, length, ◌∷◌, Some, true, ◌<◌, get_or, Bool, suc, zero, ◌&&◌, and_parts}
+use Rattle.f77_check.proofs.Common.{list_all-map, list_any, flat_map, list_all, All, bytes_eq, CanResolve, is_kept, groups_kept, HasFewSlots, Resolver}
+use Rattle.f77_check.proofs.Common.{among_keys, groups_of, nth_statement, Symbol, name_in, symbols, uses_of, is_name_among, Names, LineFields, NodeOf, names_of}
+use Rattle.f77_check.proofs.Common.{group_nodes, Statement, GroupFields, Value, keys}
 use Rattle.std.proofs.lemmas.Map.Made.{is_some-lookup}
-use Rattle.indexmap.specs.IndexMap.{keys}
 use Rattle.f77_tree.specs.Data.{data_group_of}
-use Rattle.f77_tree.specs.Node.{NodeOf, group_nodes, names_of}
-use Rattle.f77_program.specs.Program.{LineFields}
-use Rattle.f77_tree.specs.Tree.{GroupFields}
-use Rattle.f77_tree.specs.Statement.{Statement}
 use Rattle.f77_tree.specs.declared.data.DataGroup.{DataGroup}
-use Rattle.f77_tree.specs.declared.data.Value.{Value}
-use Rattle.f77_legal.specs.declared.names.Names.{Names}
-use Rattle.f77_check.specs.declared.resolve.Resolver.{Resolver}
-use Rattle.f77_check.specs.code.Initial.{HasFewSlots, groups_kept}
-use Rattle.f77_check.specs.code.Kept.{is_kept}
-use Rattle.f77_legal.specs.Labels.{nth_statement}
-use Rattle.f77_legal.specs.Names.{Symbol, name_in, uses_of, symbols}
-use Rattle.f77_legal.specs.Patches.{is_name_among}
-use Rattle.f77_legal.specs.InitialValues.{groups_of}
-use Rattle.f77_check.specs.Ready.{CanResolve}
 use Rattle.f77_legal.specs.Heading.{dummies}
+use Rattle.f77_legal.proofs.Among.{among_holds}
 use Rattle.f77_check.proofs.Arguments.{dummy_known}
 use Rattle.f77_check.proofs.KeptNames.{and_end, all_among, nodes_kept, kept_append, uses_at, all_uses_kept, plain_kept}
 use Rattle.f77_check.proofs.SlotTables.{stock_few}
-use Rattle.f77_legal.proofs.Among.{among_holds}
-use Rattle.f77_legal.proofs.PatchNames.{among_keys}
 
 pub has_slots : (r : Resolver) (program : List LineFields) → CanResolve r program → HasFewSlots r
 has_slots r program can = record { table = can.slots; few = stock_few r.tables.names program can.tables.bounds can.names }

@@ -1,6 +1,6 @@
 -- The size of an item of a list.
+use Rattle.f77_check.proofs.Common.{List, ℕ, [], arith, length, ◌∷◌, ◌<◌, get_or, ◌≤◌, suc, zero}
 use denote.Param.Weighed.{most}
-use Rattle.std.proofs.Common.{arith, zero, suc, ◌<◌, ◌≤◌, ◌∷◌, List, [], ℕ, length, get_or}
 
 pub most_at : {X : Type 0} (size : X → ℕ) (xs : List X) (i : ℕ) (d : X) → i < length xs → size (get_or xs i d) ≤ most size xs
 most_at size [] i d below = absurd (omega (arith, below))

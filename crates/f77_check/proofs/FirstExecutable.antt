@@ -1,13 +1,9 @@
 -- A program has an executable statement: END is one.
-use Rattle.std.proofs.Common.{◌≡◌, ◌≢◌, ℕ, Bool, true, false, List, ◌∷◌, Option, Some, None, refl}
-use Rattle.std.specs.Prelude.{position}
-use Rattle.std.specs.List.{list_any, position_or_len}
+use Rattle.f77_check.proofs.Common.{◌≡◌, List, refl, ℕ, ◌∷◌, Some, true, None, Bool, false, Option, position, ◌≢◌, list_any, position_or_len, found_there}
+use Rattle.f77_check.proofs.Common.{LineFields, IsProgram, Statement, is_executable_statement}
 use Rattle.f77_program.specs.Group.{group_of}
-use Rattle.f77_program.specs.Program.{LineFields, IsProgram}
-use Rattle.f77_tree.specs.Statement.{Statement, is_executable_statement}
 use Rattle.f77_program.specs.declared.group.Group.{Group}
 use Rattle.f77_program.specs.declared.group.Group.TheVariants.{End}
-use Rattle.f77_legal.proofs.Positions.{found_there}
 
 end_group : (s : Statement) → group_of s ≡ End → is_executable_statement s ≡ true
 end_group Statement.End e = refl

@@ -1,25 +1,12 @@
 -- DATA gives each slot the initial value of its element: the first constant that a group gives it.
-use Rattle.std.proofs.Common.{arith, ◌≡◌, ℕ, zero, suc, ◌+◌, ◌<◌, ◌≤◌, ◌==◌, Bool, true, false, cond, List, [], ◌∷◌, ◌++◌, map}
-use Rattle.std.proofs.Common.{take, drop, replicate, append_assoc, append-nil, Option, Some, None, refl, sym, ap, subst, ◌∙◌}
-use Rattle.std.specs.Prelude.{fold, is_some, not, slice_set, if◌then◌else◌}
-use Rattle.std.specs.List.{find, flat_map, list_all, list_any, zip}
-use Rattle.std.specs.Option.{option_and_then, option_map_or, option_or}
-use Rattle.std.specs.Str.{bytes_eq}
-use Rattle.std.proofs.lemmas.Bool.{and_parts, eqb-true}
-use Rattle.std.proofs.lemmas.List.{drop-map, map-append}
-use Rattle.std.proofs.lemmas.List.Folds.{find-append}
+use Rattle.f77_check.proofs.Common.{◌≡◌, ap, ◌∙◌, sym, map, subst, List, refl, ℕ, [], arith, ◌∷◌, Some, ◌++◌, take, ◌+◌, true, ◌<◌, None, ◌≤◌, Bool, false, suc}
+use Rattle.f77_check.proofs.Common.{zero, Option, drop, is_some, ◌==◌, append-nil, replicate, cond, if◌then◌else◌, append_assoc, eqb-true, not, slice_set, fold}
+use Rattle.f77_check.proofs.Common.{and_parts, map-append, drop-map, find-append, list_any, flat_map, list_all, find, zip, option_and_then, option_map_or}
+use Rattle.f77_check.proofs.Common.{option_or, bytes_eq, Cell, is_cell, cells, initial_values_of, give_groups, slots_of, give_run, give_values, give}
+use Rattle.f77_check.proofs.Common.{give_group, is_free, Apart, same_symbol, first_numbers, product, groups_of, Symbol, bounds_of, LineFields, GroupFields}
+use Rattle.f77_check.proofs.Common.{Constant, Value}
 use Rattle.std.proofs.lemmas.Simd.{map-map}
-use Rattle.f77_tree.specs.declared.data.Constant.{Constant}
-use Rattle.f77_tree.specs.declared.data.Value.{Value}
-use Rattle.f77_program.specs.Program.{LineFields}
-use Rattle.f77_tree.specs.Tree.{GroupFields}
-use Rattle.f77_legal.specs.Blocks.{first_numbers}
-use Rattle.f77_check.specs.code.Initial.{slots_of, is_free, give, give_run, give_values, give_group, give_groups}
-use Rattle.f77_legal.specs.Names.{Symbol, bounds_of}
-use Rattle.f77_legal.specs.InitialValues.{product, groups_of}
-use Rattle.f77_check.specs.Start.{Cell, cells, initial_values_of, is_cell}
 use Rattle.f77_check.proofs.Cells.{slot_from, first_is, laid_out, with_cell, get_laid, set_laid}
-use Rattle.f77_legal.proofs.Symbols.{Apart, same_symbol}
 
 abbrev pub Given : Type 0
 Given = List (Cell × Constant)

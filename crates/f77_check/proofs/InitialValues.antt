@@ -1,30 +1,12 @@
 -- DATA line by line: what each slot has been given.
-use Rattle.std.proofs.Common.{◌≡◌, ℕ, ◌+◌, ◌<◌, List, [], ◌∷◌, ◌++◌, length, map, take, replicate, get_or, append-nil, Option, Some, None, true, refl, sym, ap, ◌∙◌}
-use Rattle.std.specs.Prelude.{option_map}
-use Rattle.std.specs.List.{flat_map, list_all}
-use Rattle.std.proofs.lemmas.Grind.{flat_map-append}
-use Rattle.std.proofs.lemmas.List.{map-append}
-use Rattle.std.proofs.lemmas.Option.{slice_get_read, slice_get-map}
-use Rattle.indexmap.specs.IndexMap.{keys}
-use Rattle.f77_tree.specs.declared.data.Constant.{Constant}
-use Rattle.f77_program.specs.declared.program.Line.{Line}
-use Rattle.f77_program.specs.Program.{LineFields, line_of}
-use Rattle.f77_tree.specs.Statement.{statement_of}
-use Rattle.f77_check.specs.declared.resolve.Resolver.{Resolver}
-use Rattle.f77_check.specs.code.Initial.{give_groups, groups_kept}
-use Rattle.f77_legal.specs.Labels.{nth_statement}
-use Rattle.f77_legal.specs.Names.{bounds_of}
-use Rattle.f77_legal.specs.NameTable.{array_bounds}
-use Rattle.f77_legal.specs.InitialValues.{groups_of}
-use Rattle.f77_check.specs.Ready.{CanResolve}
-use Rattle.f77_check.specs.Slots.{slot_count}
-use Rattle.f77_check.specs.Start.{initial_values_of}
+use Rattle.f77_check.proofs.Common.{◌≡◌, ap, ◌∙◌, sym, map, List, refl, ℕ, [], length, ◌∷◌, Some, ◌++◌, take, ◌+◌, true, ◌<◌, None, get_or, Option, append-nil}
+use Rattle.f77_check.proofs.Common.{option_map, replicate, flat_map-append, map-append, slice_get-map, slice_get_read, flat_map, list_all, CanResolve}
+use Rattle.f77_check.proofs.Common.{slot_count, initial_values_of, give_groups, groups_kept, Resolver, one_more, Apart, groups_of, nth_statement, array_bounds}
+use Rattle.f77_check.proofs.Common.{bounds_of, LineFields, line_of, Line, statement_of, Constant, keys}
 use Rattle.f77_check.proofs.Cells.{laid_out, laid_constant}
 use Rattle.f77_check.proofs.DataNames.{kept_among, groups_at}
 use Rattle.f77_check.proofs.Giving.{found_in, initial_values_in, are_named, groups_given}
-use Rattle.f77_legal.proofs.Listing.{one_more}
 use Rattle.f77_check.proofs.SlotTables.{stock_apart}
-use Rattle.f77_legal.proofs.Symbols.{Apart}
 
 module _ (lines : List Line) (i : ℕ) (line : Line) (below : i < length lines) (is : line ≡ get_or lines i line) where
   line_at : nth_statement (map line_of lines) i ≡ Some (statement_of line.stmt)

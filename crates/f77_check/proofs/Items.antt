@@ -1,20 +1,8 @@
 -- The items of short lists of expressions, and what holds of each item.
-use Rattle.std.proofs.Common.{arith, ◌≡◌, ◌<◌, ◌≤◌, ◌∷◌, List, [], true, false, length, refl, get_or, ap, sym, subst, ◌∙◌}
-use Rattle.std.specs.Prelude.{ℕ, map}
-use Rattle.std.specs.List.{All}
-use Rattle.std.proofs.lemmas.Bool.{and_parts}
-use Rattle.std.proofs.lemmas.List.Elements.{All-nil, All-cons, All-get_or}
-use Rattle.f77_tree.specs.Tree.{Tree, Trees}
-use Rattle.f77_tree.specs.View.{tree_of, trees}
+use Rattle.f77_check.proofs.Common.{◌≡◌, ap, ◌∙◌, sym, map, subst, List, refl, ℕ, [], arith, length, ◌∷◌, true, ◌<◌, get_or, ◌≤◌, false, and_parts, All-cons}
+use Rattle.f77_check.proofs.Common.{All-get_or, All-nil, All, IsReadyTree, items_kept, tree_kept, ServesNames, Resolver, tree_count, all_fit, fits_bounds}
+use Rattle.f77_check.proofs.Common.{takes, are_integer, is_of_kind, array_bounds, kind_at, Tree, Trees, tree_of, trees, Expr, Integer}
 use Rattle.f77_tree.specs.declared.intrinsic.Intrinsic.{Intrinsic}
-use Rattle.f77_tree.specs.declared.tree.Expr.{Expr}
-use Rattle.f77_tree.specs.declared.tree.Kind.TheVariants.{Integer}
-use Rattle.f77_legal.specs.Dimensions.{tree_count, takes, fits_bounds, all_fit}
-use Rattle.f77_check.specs.code.Kept.{tree_kept, items_kept}
-use Rattle.f77_legal.specs.Kinds.{is_of_kind, are_integer}
-use Rattle.f77_check.specs.code.Lookup.{ServesNames, IsReadyTree}
-use Rattle.f77_legal.specs.NameTable.{kind_at, array_bounds}
-use Rattle.f77_check.specs.declared.resolve.Resolver.{Resolver}
 
 -- a list of one item, and of two
 pub only_one : {X : Type 0} (d : X) (xs : List X) → 1 ≤ length xs → length xs < 2 → xs ≡ get_or xs 0 d ∷ []

@@ -1,12 +1,7 @@
 -- The jumps to several labels, one after another.
-use Rattle.std.proofs.Common.{arith, ◌+◌, ◌<◌, ℕ, zero, suc, List, [], ◌∷◌, ◌++◌, length, take, get_or, sym, subst}
-use Rattle.std.specs.Prelude.{IsSome}
-use Rattle.std.proofs.lemmas.List.{take_more}
+use Rattle.f77_check.proofs.Common.{sym, subst, List, ℕ, [], arith, length, ◌∷◌, ◌++◌, take, ◌+◌, ◌<◌, get_or, suc, zero, IsSome, take_more, AreJumps, IsJump}
+use Rattle.f77_check.proofs.Common.{AreFound, label_place, LineFields}
 use Rattle.indexmap.proofs.SetLemmas.{AllZip-push}
-use Rattle.f77_program.specs.Program.{LineFields}
-use Rattle.f77_legal.specs.Labels.{label_place}
-use Rattle.f77_check.specs.Action.{IsJump, AreJumps}
-use Rattle.f77_check.specs.code.Ready.{AreFound}
 use Rattle.f77_actions.specs.declared.action.Jump.{Jump}
 
 pub jumps_more : (p : List LineFields) (i : ℕ) (labels : List ℕ) (jumps : List Jump) (k otherwise : ℕ) (jump : Jump) → k < length labels

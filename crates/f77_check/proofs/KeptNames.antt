@@ -1,30 +1,12 @@
 -- A table keeps each name of the statements of its program, and no name of a legal program has more than two dimensions.
-use Rattle.std.proofs.Common.{arith, ◌≡◌, ◌≤◌, ℕ, zero, suc, List, [], ◌∷◌, ◌++◌, Bool, true, false, ◌&&◌, ◌||◌, refl, sym, ap, subst, ◌∙◌, map, length, Option, Some, None}
-use Rattle.std.specs.Prelude.{nat_le}
-use Rattle.std.specs.List.{All, cons_option, filter_map, list_all, list_any}
-use Rattle.std.specs.Str.{bytes_eq}
-use Rattle.std.proofs.lemmas.Bool.Decides.{nat_tests}
-use Rattle.std.proofs.lemmas.List.{map-append}
+use Rattle.f77_check.proofs.Common.{◌≡◌, ap, ◌∙◌, sym, map, subst, List, refl, ℕ, [], arith, length, ◌∷◌, Some, ◌++◌, true, None, ◌≤◌, Bool, false, suc, zero}
+use Rattle.f77_check.proofs.Common.{Option, ◌&&◌, ◌||◌, nat_le, nat_tests, map-append, filter_map-append, list_all-map, list_all-append, list_any, list_all}
+use Rattle.f77_check.proofs.Common.{All, cons_option, filter_map, bytes_eq, is_kept, items_kept, tree_kept, AreFlat, names_kept, step_kept, among_keys}
+use Rattle.f77_check.proofs.Common.{symbols_pass, symbol_refl, dimensions_fit, is_shape, nth_statement, IsLegal, array_bounds, Symbol, bounds_of, name_in}
+use Rattle.f77_check.proofs.Common.{symbols, uses, uses_of, NameUse, some_items, bounds_given, bounds_in, first_item_or, is_name_among, Names, LineFields}
+use Rattle.f77_check.proofs.Common.{NodeOf, names_of, node_name, all_parts, nodes_of, parts, tree_nodes, value_nodes, Statement, Tree, Trees, DeclFields, keys}
 use Rattle.std.proofs.lemmas.List.Concat.{flat_map-cons}
-use Rattle.std.proofs.lemmas.List.Elements.{filter_map-append}
-use Rattle.std.proofs.lemmas.List.Folds.{list_all-append, list_all-map}
-use Rattle.indexmap.specs.IndexMap.{keys}
-use Rattle.f77_tree.specs.Node.{NodeOf, parts, all_parts, tree_nodes, value_nodes, nodes_of, node_name, names_of}
-use Rattle.f77_program.specs.Program.{LineFields}
-use Rattle.f77_tree.specs.Tree.{Tree, Trees, DeclFields}
-use Rattle.f77_tree.specs.Statement.{Statement}
-use Rattle.f77_legal.specs.declared.names.Names.{Names}
-use Rattle.f77_legal.specs.Dimensions.{is_shape, dimensions_fit}
-use Rattle.f77_check.specs.code.Kept.{is_kept, tree_kept, items_kept, step_kept, names_kept}
-use Rattle.f77_legal.specs.Labels.{nth_statement}
-use Rattle.f77_legal.specs.Legal.{IsLegal}
-use Rattle.f77_check.specs.code.Lookup.{AreFlat}
-use Rattle.f77_legal.specs.Names.{Symbol, NameUse, name_in, uses_of, uses, symbols, bounds_given, bounds_in, some_items, first_item_or, bounds_of}
-use Rattle.f77_legal.specs.NameTable.{array_bounds}
-use Rattle.f77_legal.specs.Patches.{is_name_among}
 use Rattle.f77_legal.proofs.NoFaults.{dimensions_kept}
-use Rattle.f77_legal.proofs.PatchNames.{among_keys, symbols_pass}
-use Rattle.f77_legal.proofs.Symbols.{symbol_refl}
 
 pub and_true : (a b : Bool) → (a && b) ≡ true → (a ≡ true) × (b ≡ true)
 and_true true b h = (refl, h)

@@ -1,3 +1,4 @@
+pub mod Common
 mod Arguments
 mod StatementLabels
 mod Readiness

@@ -1,23 +1,10 @@
 -- DATA gives nothing to a name that no statement of its program has.
-use Rattle.std.proofs.Common.{◌≡◌, ℕ, List, [], ◌∷◌, ◌++◌, Bool, false, ◌||◌, refl, sym, ap, ◌∙◌, map, Some, None}
-use Rattle.std.specs.List.{filter_map, find, flat_map, list_any, zip}
-use Rattle.std.specs.Option.{option_and_then}
-use Rattle.std.specs.Str.{bytes_eq}
-use Rattle.std.proofs.lemmas.List.{append-nil, map-append}
+use Rattle.f77_check.proofs.Common.{◌≡◌, ap, ◌∙◌, sym, map, List, refl, ℕ, [], ◌∷◌, Some, ◌++◌, None, Bool, false, append-nil, ◌||◌, map-append}
+use Rattle.f77_check.proofs.Common.{filter_map-append, list_any-append, list_any, flat_map, find, zip, filter_map, option_and_then, bytes_eq, Cell, is_cell}
+use Rattle.f77_check.proofs.Common.{cells, initial_values_of, initial_value, initial_values, or_false, any_once, first_numbers, groups_of, element_count}
+use Rattle.f77_check.proofs.Common.{Symbol, name_in, symbols, uses, uses_of, NameUse, LineFields, NodeOf, names_of, group_nodes, node_name, Statement}
+use Rattle.f77_check.proofs.Common.{GroupFields, Constant, Value}
 use Rattle.std.proofs.lemmas.List.Concat.{flat_map-cons}
-use Rattle.std.proofs.lemmas.List.Elements.{filter_map-append}
-use Rattle.std.proofs.lemmas.List.Folds.{list_any-append}
-use Rattle.f77_tree.specs.Node.{NodeOf, group_nodes, node_name, names_of}
-use Rattle.f77_program.specs.Program.{LineFields}
-use Rattle.f77_tree.specs.Tree.{GroupFields}
-use Rattle.f77_tree.specs.Statement.{Statement}
-use Rattle.f77_tree.specs.declared.data.Constant.{Constant}
-use Rattle.f77_tree.specs.declared.data.Value.{Value}
-use Rattle.f77_legal.specs.Blocks.{first_numbers}
-use Rattle.f77_legal.specs.Names.{Symbol, NameUse, name_in, uses_of, uses, symbols}
-use Rattle.f77_legal.specs.InitialValues.{element_count, groups_of}
-use Rattle.f77_check.specs.Start.{Cell, cells, initial_values_of, initial_values, is_cell, initial_value}
-use Rattle.f77_legal.proofs.Symbols.{or_false, any_once}
 
 -- The names of the nodes of DATA are the names of its groups.
 named_are : (names : List Symbol) → filter_map node_name (map NodeOf.Named names) ≡ names

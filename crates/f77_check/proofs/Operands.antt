@@ -1,11 +1,7 @@
 -- The kinds of operands, by the operator between them.
-use Rattle.std.proofs.Common.{◌≡◌, Some, refl}
-use Rattle.f77_tree.specs.declared.operator.Operator.{Operator}
-use Rattle.f77_tree.specs.declared.operator.Operator.TheVariants.{Equivalent, NotEquivalent, Or, And, Less, LessOrEqual, Equal, NotEqual, GreaterOrEqual, Greater}
-use Rattle.f77_tree.specs.declared.tree.Kind.TheVariants.{Integer, Logical}
-use Rattle.f77_actions.specs.Operators.{arithmetic_of, relation_of, connective_of}
-use Rattle.f77_legal.specs.Kinds.{operand_kind}
-use Rattle.f77_actions.specs.declared.expression.Arithmetic.{Arithmetic}
+use Rattle.f77_check.proofs.Common.{◌≡◌, refl, Some, relation_of, arithmetic_of, connective_of, Arithmetic, operand_kind, Operator, Integer, Logical}
+use Rattle.f77_tree.specs.declared.operator.Operator.TheVariants.{Equivalent, NotEquivalent, Or, And, Less, LessOrEqual, Equal, NotEqual, GreaterOrEqual}
+use Rattle.f77_tree.specs.declared.operator.Operator.TheVariants.{Greater}
 use Rattle.f77_actions.specs.declared.expression.Relation.{Relation}
 use Rattle.f77_actions.specs.declared.expression.Connective.{Connective}
 

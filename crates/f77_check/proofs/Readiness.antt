@@ -1,35 +1,19 @@
 -- What a statement, or a relation, whose names can be looked up gives its parts.
-use Rattle.std.proofs.Common.{rules, ◌≡◌, ◌≢◌, ◌∙◌, true≢false, ◌&&◌, ℕ, Bool, List, true, length, Option, Some, None, refl, ap, sym, subst}
-use Rattle.std.specs.Prelude.{◌==◌, Box, Vec, IfSome, option_map}
+use Rattle.f77_check.proofs.Common.{◌≡◌, ap, ◌∙◌, sym, subst, List, refl, ℕ, length, Some, true, None, Bool, Option, ◌==◌, option_map, rules, ◌&&◌, true≢false}
+use Rattle.f77_check.proofs.Common.{◌≢◌, Box, IfSome, Vec, and_parts, relation_of, is_kept, IsReadyTree, AreFound, CanBeResolved, items_kept, tree_kept, HasEnd}
+use Rattle.f77_check.proofs.Common.{Resolver, tree_count, all_fit, fits_bounds, are_integer, is_of_kind, result_kind, array_bounds, kind_at, Symbol, LineFields}
+use Rattle.f77_check.proofs.Common.{computed_view, logical_view, Statement, statement_of, jumps_of, stmt_step, Tree, Trees, tree_of, Operator, Expr, Kind}
+use Rattle.f77_check.proofs.Common.{Integer, Logical}
 use Rattle.std.specs.declared.alloc.Global.{Global}
-use Rattle.std.proofs.lemmas.Bool.{and_parts}
 use Rattle.f77_program.specs.Formed.{is_action}
-use Rattle.f77_program.specs.Program.{LineFields}
-use Rattle.f77_tree.specs.Statement.{statement_of, stmt_step, Statement, jumps_of}
-use Rattle.f77_tree.specs.Tree.{Tree, Trees}
-use Rattle.f77_tree.specs.View.{tree_of}
-use Rattle.f77_tree.specs.declared.tree.Expr.{Expr}
 use Rattle.f77_tree.specs.declared.statement.Stmt.{Stmt, Assign, Goto, ComputedGoto, ArithIf, Continue, Return, Stop, Trap}
 use Rattle.f77_tree.specs.declared.statement.Stmt.TheFolds.{fold_out-Stmt}
 use Rattle.f77_tree.specs.declared.tree.Ref.{Ref}
+use Rattle.f77_tree.specs.Comparing.{same_kind}
+use Rattle.f77_actions.specs.declared.expression.Relation.{Relation}
 use Rattle.f77_tree.specs.declared.statement.Stmt.TheVariants as forms
 use Rattle.f77_tree.specs.declared.statement.Stmt.TheViews as boxed
-use Rattle.f77_tree.proofs.Views.{computed_view, logical_view}
-use Rattle.f77_actions.specs.Operators.{relation_of}
-use Rattle.f77_legal.specs.Dimensions.{tree_count, fits_bounds, all_fit}
-use Rattle.f77_check.specs.code.Kept.{is_kept, tree_kept, items_kept}
-use Rattle.f77_tree.specs.Comparing.{same_kind}
-use Rattle.f77_legal.specs.Kinds.{result_kind, is_of_kind, are_integer}
-use Rattle.f77_check.specs.code.Lookup.{IsReadyTree}
-use Rattle.f77_legal.specs.NameTable.{kind_at, array_bounds}
-use Rattle.f77_tree.specs.declared.operator.Operator.{Operator}
-use Rattle.f77_tree.specs.declared.tree.Kind.{Kind}
-use Rattle.f77_tree.specs.declared.tree.Kind.TheVariants.{Integer, Logical}
-use Rattle.f77_actions.specs.declared.expression.Relation.{Relation}
 use Rattle.f77_check.proofs.Operands.{relation_takes}
-use Rattle.f77_legal.specs.Names.{Symbol}
-use Rattle.f77_check.specs.code.Ready.{CanBeResolved, AreFound, HasEnd}
-use Rattle.f77_check.specs.declared.resolve.Resolver.{Resolver}
 
 kind_itself : (kind : Kind) → same_kind kind kind ≡ true
 kind_itself Integer = refl

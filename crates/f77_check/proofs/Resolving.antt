@@ -1,30 +1,19 @@
 -- Expressions with their names looked up, from their operands.
-use Rattle.std.proofs.Common.{◌≡◌, ◌<◌, ◌≤◌, List, ℕ, Some, length, get_or, refl, ap, sym, ◌∙◌}
-use Rattle.std.specs.Prelude.{Box, map}
+use Rattle.f77_check.proofs.Common.{◌≡◌, ap, ◌∙◌, sym, map, List, refl, ℕ, length, Some, ◌<◌, get_or, ◌≤◌, Box, arithmetic_of, Arithmetic, first_slot, IsNumber}
+use Rattle.f77_check.proofs.Common.{IsElement, HoldsNumber, Symbol, binary_view, signed_view, Tree, tree_of, trees, expr_step, ref_step, Operator, Expr}
 use Rattle.std.specs.declared.alloc.Global.{Global}
 use Rattle.f77_tree.specs.declared.intrinsic.Intrinsic.{Intrinsic}
 use Rattle.f77_tree.specs.declared.intrinsic.Intrinsic.TheVariants.{Mod, Iabs}
-use Rattle.f77_tree.specs.declared.operator.Operator.{Operator}
 use Rattle.f77_tree.specs.declared.operator.Sign.{Sign}
 use Rattle.f77_tree.specs.declared.operator.Sign.TheVariants.{Minus}
-use Rattle.f77_tree.specs.declared.tree.Expr.{Expr}
 use Rattle.f77_tree.specs.declared.tree.Expr.TheVariants.{rolls-ZeroPush}
-use Rattle.f77_tree.specs.declared.tree.Expr.TheViews as views
 use Rattle.f77_tree.specs.declared.tree.Expr.TheOpen.{Expr-F}
 use Rattle.f77_tree.specs.declared.tree.Expr.TheFolds.{fold-roll-Expr}
-use Rattle.f77_tree.proofs.Views.{signed_view, binary_view}
-use Rattle.f77_tree.specs.Tree.{Tree}
-use Rattle.f77_tree.specs.View.{tree_of, trees, expr_step, ref_step}
-use Rattle.f77_check.specs.code.Boxed.{HoldsNumber}
-use Rattle.f77_check.specs.Expression.{IsElement, IsNumber}
-use Rattle.f77_check.specs.Slots.{first_slot}
-use Rattle.f77_check.proofs.Items.{only_one, only_two, one_item, two_items}
-use Rattle.f77_actions.specs.Operators.{arithmetic_of}
-use Rattle.f77_legal.specs.Names.{Symbol}
-use Rattle.f77_actions.specs.declared.expression.Arithmetic.{Arithmetic}
 use Rattle.f77_actions.specs.declared.expression.Arithmetic.TheVariants.{Modulus}
-use Rattle.f77_actions.specs.declared.expression.Element.TheViews as resolved
 use Rattle.f77_actions.specs.declared.expression.Number.{Number}
+use Rattle.f77_tree.specs.declared.tree.Expr.TheViews as views
+use Rattle.f77_actions.specs.declared.expression.Element.TheViews as resolved
+use Rattle.f77_check.proofs.Items.{only_one, only_two, one_item, two_items}
 
 push_view : (a : Box Expr Global) → tree_of (views.ZeroPush a) ≡ Tree.ZeroPush (tree_of a.value)
 push_view a = ap tree_of (sym (rolls-ZeroPush a)) ∙ fold-roll-Expr Tree (List ℕ × List Tree) expr_step ref_step (Expr-F.ZeroPush a)

@@ -1,32 +1,13 @@
 -- The statements of a legal program can be resolved by its tables.
-use Rattle.std.proofs.Common.{◌≡◌, inl, inr, ℕ, zero, suc, ◌+◌, ◌==◌, true, List, [], ◌∷◌, ◌++◌, length, Some, refl, ap, sym, subst, ◌∙◌, arith}
-use Rattle.std.specs.Prelude.{IsSome}
-use Rattle.std.specs.List.{list_any, slice_get}
-use Rattle.std.proofs.lemmas.List.{length-append}
-use Rattle.std.proofs.lemmas.Bool.{or_right}
-use Rattle.std.proofs.lemmas.Option.{same_Some}
-use Rattle.std.proofs.lemmas.Bool.Decides.{nat_tests}
-use Rattle.indexmap.specs.IndexMap.{keys}
-use Rattle.f77_program.specs.Program.{LineFields}
-use Rattle.f77_tree.specs.Statement.{Statement, jumps_of}
-use Rattle.f77_check.specs.Action.{IsAction}
-use Rattle.f77_legal.specs.Blocks.{statement_behind}
-use Rattle.f77_legal.specs.Dimensions.{dimensions_fit}
+use Rattle.f77_check.proofs.Common.{◌≡◌, ap, ◌∙◌, sym, subst, List, refl, ℕ, [], arith, length, ◌∷◌, Some, ◌++◌, ◌+◌, true, suc, zero, ◌==◌, length-append}
+use Rattle.f77_check.proofs.Common.{IsSome, inl, inr, or_right, nat_tests, same_Some, list_any, slice_get, Resolved, CanResolve, IsResolved, IsAction, AreFound}
+use Rattle.f77_check.proofs.Common.{CanBeResolved, HasEnd, Does, Resolver, some_branch, some_place, some_terminal, statement_behind, dimensions_fit}
+use Rattle.f77_check.proofs.Common.{kinds_agree, nth_statement, label_place, array_bounds, Symbol, bounds_of, kind_of, LineFields, Statement, jumps_of, keys}
 use Rattle.f77_legal.specs.declared.clause.Clause.TheVariants.{Kinds, Bounds}
-use Rattle.f77_legal.specs.Kinds.{kinds_agree}
-use Rattle.f77_legal.specs.Labels.{label_place, nth_statement}
 use Rattle.f77_legal.specs.Loops.{loops_ending}
-use Rattle.f77_legal.specs.Names.{Symbol, kind_of, bounds_of}
-use Rattle.f77_legal.specs.NameTable.{array_bounds}
-use Rattle.f77_check.specs.Ready.{CanResolve}
-use Rattle.f77_check.specs.code.Ready.{CanBeResolved, AreFound, HasEnd, Does}
-use Rattle.f77_check.specs.Resolved.{IsResolved}
-use Rattle.f77_check.specs.declared.resolve.Resolver.{Resolver}
-use Rattle.f77_actions.specs.declared.resolved.Resolved.{Resolved}
 use Rattle.f77_legal.proofs.Actions.{inner_acts}
-use Rattle.f77_legal.proofs.Flow.{some_branch, some_terminal, some_place}
-use Rattle.f77_check.proofs.KeptNames.{all_kept, dimensions_two}
 use Rattle.f77_legal.proofs.LegalGives.{kept_by, clause_kept, not_false}
+use Rattle.f77_check.proofs.KeptNames.{all_kept, dimensions_two}
 
 module _ (r : Resolver) (p : List LineFields) (can : CanResolve r p) (i : ℕ) where
   pub ready_at : (s : Statement) → nth_statement p i ≡ Some s → CanBeResolved r s

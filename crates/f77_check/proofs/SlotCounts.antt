@@ -1,16 +1,8 @@
 -- The slots of a list of names, counted name by name.
-use Rattle.std.proofs.Common.{arith, ◌≡◌, ◌<◌, ◌≤◌, ℕ, zero, suc, ◌+◌, ◌-◌, Bool, true, false, cond, List, [], ◌∷◌, ◌++◌, length, map, filter, take, drop, get_or, add-one, refl, sym, ap, ◌∙◌}
-use Rattle.std.specs.Prelude.{Some, None, is_some, position, option_map, nat_lt}
-use Rattle.std.specs.List.{position_or_len, sum}
-use Rattle.std.proofs.lemmas.Bool.Decides.{nat_tests}
-use Rattle.std.proofs.lemmas.List.{take-append-drop, length-append, length-drop, take_all}
-use Rattle.f77_program.specs.Program.{LineFields}
-use Rattle.f77_legal.specs.Blocks.{first_numbers}
-use Rattle.f77_legal.specs.Names.{Symbol, bounds_of, some_items}
-use Rattle.f77_legal.specs.Patches.{IsStock}
-use Rattle.f77_legal.specs.InitialValues.{product}
-use Rattle.f77_check.specs.Slots.{slot_count, most_slots}
-use Rattle.f77_legal.proofs.FirstNumbers.{table_more, get_or-table, length-table}
+use Rattle.f77_check.proofs.Common.{◌≡◌, ap, ◌∙◌, sym, map, List, refl, ℕ, [], arith, length, ◌∷◌, Some, ◌++◌, take, ◌+◌, true, ◌<◌, None, get_or, ◌≤◌, Bool}
+use Rattle.f77_check.proofs.Common.{◌-◌, false, suc, zero, drop, is_some, option_map, cond, filter, length-append, nat_lt, position, take_all, add-one}
+use Rattle.f77_check.proofs.Common.{length-drop, take-append-drop, nat_tests, position_or_len, sum, slot_count, most_slots, table_more, get_or-table}
+use Rattle.f77_check.proofs.Common.{length-table, first_numbers, product, Symbol, bounds_of, some_items, IsStock, LineFields}
 use Rattle.f77_legal.proofs.Sizes.{sum_more}
 
 -- the next name of a list from the place k on

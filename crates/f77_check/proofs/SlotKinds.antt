@@ -1,16 +1,7 @@
 -- The kinds of the slots of a table of names, listed name by name.
-use Rattle.std.proofs.Common.{arith, ◌≡◌, ◌∙◌, ℕ, ◌+◌, ◌-◌, ◌≤◌, take, true, List, [], ◌∷◌, ◌++◌, length, replicate, append_assoc, append-nil, refl, sym, ap}
-use Rattle.std.proofs.lemmas.List.{length-append, length-replicate, take_all}
-use Rattle.std.specs.List.{list_all}
-use Rattle.std.proofs.lemmas.Bool.{and_parts}
-use Rattle.indexmap.specs.IndexMap.{keys}
-use Rattle.f77_tree.specs.declared.tree.Kind.{Kind}
-use Rattle.f77_legal.specs.declared.names.Names.{Names}
-use Rattle.f77_legal.specs.Names.{Symbol}
-use Rattle.f77_legal.specs.NameTable.{kind_at, array_bounds}
-use Rattle.f77_legal.specs.InitialValues.{product}
-use Rattle.f77_check.specs.code.Kept.{is_kept}
-use Rattle.f77_check.specs.Slots.{slot_count, slot_kinds}
+use Rattle.f77_check.proofs.Common.{◌≡◌, ap, ◌∙◌, sym, List, refl, ℕ, [], arith, length, ◌∷◌, ◌++◌, take, ◌+◌, true, ◌≤◌, ◌-◌, append-nil, replicate}
+use Rattle.f77_check.proofs.Common.{append_assoc, length-append, take_all, and_parts, length-replicate, list_all, slot_count, slot_kinds, is_kept, product}
+use Rattle.f77_check.proofs.Common.{array_bounds, kind_at, Symbol, Names, Kind, keys}
 use Rattle.f77_check.proofs.DataNames.{kept_among}
 use Rattle.f77_check.proofs.SlotCounts.{count_more}
 use Rattle.f77_check.proofs.KeptNames.{all_among}

@@ -1,22 +1,12 @@
 -- The names of a table are those of the program if the table is its own, and in any case a stock of it. They stand once each, and have few slots.
-use Rattle.std.proofs.Common.{arith, ◌≡◌, ◌≤◌, ◌<◌, ◌^◌, ◌+◌, List, [], ◌∷◌, Bool, true, false, refl, sym, ap, subst, ◌∙◌, length, filter}
-use Rattle.std.specs.List.{All, list_any}
+use Rattle.f77_check.proofs.Common.{◌≡◌, ap, ◌∙◌, sym, subst, List, refl, [], arith, length, ◌∷◌, ◌+◌, true, ◌<◌, ◌≤◌, Bool, false, filter, ◌^◌, All-head}
+use Rattle.f77_check.proofs.Common.{All-tail, All-weaker, list_any, All, bytes_eq, slot_count, Apart, symbol_refl, IsLegal, array_bounds, IsNameTable}
+use Rattle.f77_check.proofs.Common.{FactsFields, facts_fields, facts_of, Symbol, bounds_of, symbols, uses, IsStock, Names, LineFields, keys}
 use Rattle.std.specs.Map.{keys_of}
-use Rattle.std.specs.Str.{bytes_eq}
-use Rattle.std.proofs.lemmas.List.Elements.{All-head, All-tail, All-weaker}
 use Rattle.std.proofs.lemmas.Map.Made.{keys_of-map_values}
-use Rattle.indexmap.specs.IndexMap.{keys}
-use Rattle.f77_program.specs.Program.{LineFields}
-use Rattle.f77_legal.specs.declared.names.Names.{Names}
-use Rattle.f77_legal.specs.Legal.{IsLegal}
-use Rattle.f77_legal.specs.Names.{Symbol, uses, symbols, bounds_of}
-use Rattle.f77_legal.specs.NameTable.{FactsFields, IsNameTable, facts_fields, facts_of, array_bounds}
-use Rattle.f77_legal.specs.Patches.{IsStock}
-use Rattle.f77_check.specs.Slots.{slot_count}
 use Rattle.f77_legal.proofs.Lookups.{same_bounds}
 use Rattle.f77_legal.proofs.NameTables.{rows}
 use Rattle.f77_legal.proofs.Stocks.{stock_of_legal}
-use Rattle.f77_legal.proofs.Symbols.{Apart, symbol_refl}
 use Rattle.f77_check.proofs.SlotCounts.{stock_slots}
 
 keys_rows : (f : Symbol → FactsFields) (names : List Symbol) → keys_of (rows f names) ≡ names

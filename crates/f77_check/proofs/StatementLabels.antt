@@ -1,13 +1,6 @@
 -- The labels of statements, line by line.
-use Rattle.std.proofs.Common.{◌≡◌, ◌<◌, ◌+◌, ℕ, List, [], ◌∷◌, ◌++◌, Some, None, take, get_or, ap, ◌∙◌}
-use Rattle.std.specs.Prelude.{map, length}
-use Rattle.std.specs.List.{cons_option}
-use Rattle.std.proofs.lemmas.List.{append-nil, map-append}
-use Rattle.std.proofs.lemmas.List.Elements.{filter_map-append}
-use Rattle.f77_program.specs.Program.{LineFields, line_of}
-use Rattle.f77_program.specs.declared.program.Line.{Line}
-use Rattle.f77_legal.specs.Labels.{labels}
-use Rattle.f77_legal.proofs.Listing.{one_more}
+use Rattle.f77_check.proofs.Common.{◌≡◌, ap, ◌∙◌, map, List, ℕ, [], length, ◌∷◌, Some, ◌++◌, take, ◌+◌, ◌<◌, None, get_or, append-nil, map-append}
+use Rattle.f77_check.proofs.Common.{filter_map-append, cons_option, one_more, labels, LineFields, line_of, Line}
 
 -- the labels of the statements before one, and of it
 module _ (lines : List Line) (i : ℕ) (line : Line) (lt : i < length lines) (at : line ≡ get_or lines i line) where

@@ -9,3 +9,13 @@ pub mod Checked
 pub mod CheckedView
 pub mod Patching
 pub mod code
+pub use Slots.*
+pub use SlotTable.*
+pub use Expression.*
+pub use Action.*
+pub use Ready.*
+pub use Resolved.*
+pub use Start.*
+pub use Checked.*
+pub use CheckedView.*
+pub use Patching.*

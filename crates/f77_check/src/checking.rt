@@ -2,11 +2,11 @@
 
 ghost use Rattle.std.specs.Prelude.{◌≡◌, ◌⊎◌, map, IfOk, IfErr, Some};
 ghost use Rattle.f77_program.specs.Program.{line_of};
-ghost use Rattle.f77_check.specs.Checked.{shapes};
-ghost use Rattle.f77_check.specs.code.Shapes.{shape_at};
 ghost use Rattle.f77_legal.specs.Legal.{IsLegal, first_fault};
 ghost use Rattle.f77_legal.specs.Tables.{AreTables};
 ghost use Rattle.f77_legal.specs.declared.fault.CheckFault.TheVariants.{Memory};
+ghost use Rattle.f77_check.specs.{shapes};
+ghost use Rattle.f77_check.specs.code.{shape_at};
 
 use crate::checked::{Checked, Shape};
 use crate::resolve::Resolver;

@@ -6,10 +6,8 @@ ghost use Rattle.f77_tree.specs.Tree.{Tree};
 ghost use Rattle.f77_tree.specs.View.{tree_of, trees};
 ghost use Rattle.f77_tree.specs.declared.tree.Kind.{Kind};
 ghost use Rattle.f77_tree.specs.declared.tree.Kind.TheVariants.{Integer, Logical};
-ghost use Rattle.f77_check.specs.Action.{IsIncrementation};
-ghost use Rattle.f77_check.specs.code.Boxed.{HoldsNumber};
-ghost use Rattle.f77_check.specs.Expression.{IsElement, IsNumber, IsChosen, IsCondition};
-ghost use Rattle.f77_check.specs.code.Lookup.{IsReadyTree, by_tables};
+ghost use Rattle.f77_check.specs.{IsIncrementation, IsElement, IsNumber, IsChosen, IsCondition};
+ghost use Rattle.f77_check.specs.code.{HoldsNumber, IsReadyTree, by_tables};
 
 use crate::resolve::Resolver;
 use f77_actions::{Arithmetic, Condition, Connective, Element, Number, Relation};

@@ -2,10 +2,9 @@
 
 ghost use Rattle.std.specs.Prelude.{◌≡◌, ◌<◌, ◌^◌, true, Some, IfOk};
 ghost use Rattle.indexmap.specs.IndexMap.{keys};
-ghost use Rattle.f77_check.specs.code.Kept.{is_kept};
 ghost use Rattle.f77_legal.specs.NameTable.{array_bounds};
-ghost use Rattle.f77_check.specs.Slots.{slot_count, first_slot};
-ghost use Rattle.f77_check.specs.SlotTable.{IsSlotTable};
+ghost use Rattle.f77_check.specs.{slot_count, first_slot, IsSlotTable};
+ghost use Rattle.f77_check.specs.code.{is_kept};
 
 use f77_legal::names::{Names, product};
 use f77_tree::Name;

@@ -8,15 +8,11 @@ ghost use Rattle.f77_program.specs.Program.{line_of};
 ghost use Rattle.f77_tree.specs.Statement.{is_executable_statement, statement_of};
 ghost use Rattle.f77_legal.specs.Blocks.{first_numbers};
 ghost use Rattle.f77_check.specs.code.Initial as given;
-ghost use Rattle.f77_check.specs.code.Initial.{HasFewSlots, slots_of, groups_kept};
-ghost use Rattle.f77_check.specs.code.Kept.{is_kept};
-ghost use Rattle.f77_check.specs.code.Lookup.{by_tables};
 ghost use Rattle.f77_legal.specs.NameTable.{kind_at};
 ghost use Rattle.f77_legal.specs.InitialValues as initial_values;
 ghost use Rattle.f77_legal.specs.InitialValues.{element_count};
-ghost use Rattle.f77_check.specs.Ready.{CanResolve};
-ghost use Rattle.f77_check.specs.Slots.{first_slot, slot_kinds};
-ghost use Rattle.f77_check.specs.Start.{IsStartOf, initial_value};
+ghost use Rattle.f77_check.specs.{CanResolve, first_slot, slot_kinds, IsStartOf, initial_value};
+ghost use Rattle.f77_check.specs.code.{HasFewSlots, slots_of, groups_kept, is_kept, by_tables};
 
 use crate::resolve::Resolver;
 use f77_legal::heading::arguments;

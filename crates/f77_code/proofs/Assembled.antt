@@ -1,20 +1,8 @@
 -- The instructions of a program, one after another.
-use Rattle.std.proofs.Common.{◌≡◌, ◌<◌, ◌⊎◌, inl, inr, ℕ, ◌+◌, true, false, List, [], ◌∷◌, ◌++◌, length, take, Some, refl, sym, ap, ◌∙◌, subst, arith}
-use Rattle.std.specs.Prelude.{slice_get, if◌then◌else◌}
-use Rattle.std.proofs.lemmas.List.{length-append}
-use Rattle.std.proofs.lemmas.Option.{same_Some, slice_get_within}
-use Rattle.f77_actions.specs.declared.action.Action.{Action, Loop}
-use Rattle.f77_actions.specs.declared.resolved.Resolved.{Resolved}
-use Rattle.f77_code.specs.declared.constants.Constants.{Constants}
-use Rattle.f77_code.specs.declared.instruction.Instruction.{Instruction}
-use Rattle.f77_code.specs.declared.instruction.Operation.{Operation}
-use Rattle.f77_code.specs.Instructions.{StandsForIncrement, AreCode}
-use Rattle.f77_code.specs.Compiled.{IsInstruction, IsIncrement, AreCompiled}
-use Rattle.f77_code.specs.code.Compiled.{AreExecuted, AreFollowed, HaveActions}
-use Rattle.f77_code.specs.Constants.{BeginsPlan}
-use Rattle.f77_code.specs.code.Constants.{GrowsPlan}
-use Rattle.f77_code.specs.Holds.{Plan, loop_count, do_rank, is_loop_at}
-use Rattle.f77_code.specs.Moves.{is_loop}
+use Rattle.f77_code.proofs.Common.{◌≡◌, ◌∙◌, ap, sym, arith, ℕ, refl, subst, length, true, ◌+◌, List, Some, ◌<◌, slice_get, false, [], ◌∷◌, inl, inr}
+use Rattle.f77_code.proofs.Common.{if◌then◌else◌, take, ◌++◌, ◌⊎◌, length-append, same_Some, slice_get_within, Action, Loop, Resolved, Plan, do_rank, is_loop}
+use Rattle.f77_code.proofs.Common.{StandsForIncrement, is_loop_at, AreCode, loop_count, AreCompiled, IsIncrement, IsInstruction, BeginsPlan, GrowsPlan}
+use Rattle.f77_code.proofs.Common.{AreExecuted, AreFollowed, HaveActions, Constants, Instruction, Operation}
 use Rattle.f77_code.proofs.Instructed.{instruction_later}
 use Rattle.f77_code.proofs.Counters.{rank_rises}
 use Rattle.f77_code.proofs.Listed.{pushed, get_left, get_behind, rank_more, count_le, loop_is, last_or_below}

@@ -1,31 +1,13 @@
 -- Assignments by the code and by the machine over slots.
-use Rattle.std.proofs.Common.{arith, ◌≡◌, ◌<◌, ℕ, zero, suc, ◌+◌, ◌*◌, Bool, true, false, List, [], ◌∷◌, Option, Some, None, ℤ, pos, negsuc, refl, sym, ap, ◌∙◌, subst}
-use Rattle.std.specs.Prelude.{Result, Ok, Err, nat_lt, slice_set, MatchOption}
-use Rattle.std.proofs.lemmas.Bool.{ltb-true}
+use Rattle.f77_code.proofs.Common.{◌≡◌, ◌∙◌, ap, sym, arith, ℕ, refl, subst, true, ◌+◌, List, Some, ◌<◌, false, [], suc, ◌∷◌, zero, Bool, ℤ, pos, None, Ok}
+use Rattle.f77_code.proofs.Common.{Option, Result, Err, slice_set, ◌*◌, negsuc, nat_lt, MatchOption, ltb-true, truth_number, given, element, Condition}
+use Rattle.f77_code.proofs.Common.{Variable, Number, Fault, Resolved, point, Plan, onward, ran, term_value, Cells, HoldsRegisters, IsSlot, IsTerm, IsMove}
+use Rattle.f77_code.proofs.Common.{IsTest, TurnList, matrix_place, HoldsCounters, Move, giving, vector_place, StandsForAssignment, are_active, put_in_register}
+use Rattle.f77_code.proofs.Common.{Giving, go_on, number_in, put_at, truth_in, slot_in, Turn, Operation, SetElement, SetMatrix, Term, Kind, Integer, Logical}
 use Rattle.std.proofs.lemmas.Nat.{mul-add-lt}
-use Rattle.f77_tree.specs.declared.tree.Kind.{Kind}
-use Rattle.f77_tree.specs.declared.tree.Kind.TheVariants.{Integer, Logical}
-use Rattle.f77_actions.specs.declared.expression.Condition.{Condition}
-use Rattle.f77_actions.specs.declared.expression.Element.{Element, Variable, Vector', Matrix'}
-use Rattle.f77_actions.specs.declared.expression.Number.{Number}
-use Rattle.f77_actions.specs.declared.resolved.Resolved.{Resolved}
-use Rattle.f77_actions.specs.declared.finish.Fault.{Fault}
+use Rattle.f77_actions.specs.declared.expression.Element.{Element, Vector', Matrix'}
 use Rattle.f77_actions.specs.declared.value.Value.TheVariants as held
-use Rattle.f77_code.specs.declared.control.Turn.{Turn}
-use Rattle.f77_code.specs.declared.instruction.Operation.{Operation, SetElement, SetMatrix}
-use Rattle.f77_code.specs.declared.term.Term.{Term}
-use Rattle.f77_code.specs.Instructions.{Giving, giving, StandsForAssignment, onward}
-use Rattle.f77_code.specs.Evaluation.{slot_in, number_in, truth_in}
-use Rattle.f77_code.specs.Holds.{Plan, HoldsRegisters, HoldsCounters, IsSlot}
 use Rattle.f77_code.specs.Moves as moves
-use Rattle.f77_code.specs.Moves.{Cells, TurnList, Move, go_on}
-use Rattle.f77_code.specs.Operation.{point, put_in_register, put_at, ran}
-use Rattle.f77_code.specs.Registers.{vector_place, matrix_place}
-use Rattle.f77_code.specs.Simulation.{IsMove, are_active}
-use Rattle.f77_code.specs.Standing.{IsTerm, IsTest}
-use Rattle.f77_code.specs.Term.{term_value}
-use Rattle.f77_actions.specs.Encoded.{truth_number}
-use Rattle.f77_actions.specs.Value.{given, element}
 use Rattle.f77_code.proofs.Simulated.{fits_of, go_on_simulated, used_simulated, truth_simulated}
 use Rattle.f77_code.proofs.Fitting.{term_fits}
 use Rattle.f77_code.proofs.SameValue.{same_term, same_test}

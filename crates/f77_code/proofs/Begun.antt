@@ -1,11 +1,6 @@
 -- What the begin of a DO answers: its parameters are evaluated one after another, and the first fault ends the run.
-use Rattle.std.proofs.Common.{◌≡◌, ℕ, List, ℤ, pos, ◌∙◌}
-use Rattle.std.specs.Prelude.{Result, Err, ◌≤ℤ◌, ◌<ℤ◌}
-use Rattle.f77_actions.specs.declared.finish.Fault.{Fault}
-use Rattle.f77_actions.specs.declared.finish.Finish.TheVariants.{Failed}
-use Rattle.f77_actions.specs.Encoded.{Encodes}
-use Rattle.f77_code.specs.declared.control.Turn.{Turn}
-use Rattle.f77_code.specs.Operation.{Point, point, used_in_code, ended_point, begun_in_code}
+use Rattle.f77_code.proofs.Common.{◌≡◌, ◌∙◌, ℕ, List, ℤ, pos, Result, Err, ◌<ℤ◌, ◌≤ℤ◌, Encodes, Fault, Failed, point, Point, ended_point, begun_in_code}
+use Rattle.f77_code.proofs.Common.{used_in_code, Turn}
 use Rattle.f77_code.proofs.Points.{fails, goes}
 
 module _ (variable counter body next : ℕ) (registers : List ℤ) (turns : List Turn) (first last step : Result ℤ Fault) where

@@ -1,14 +1,8 @@
 -- Relations and logical operators of values, as numbers.
-use Rattle.std.proofs.Common.{◌≡◌, Bool, true, false, ℤ, pos, sym, subst, ◌∙◌, ap}
-use Rattle.std.specs.Prelude.{Result, Ok, not, cond}
-use Rattle.f77_actions.specs.declared.expression.Connective.{Connective}
-use Rattle.f77_actions.specs.declared.expression.Connective.TheVariants as connective
-use Rattle.f77_actions.specs.declared.finish.Fault.{Fault}
-use Rattle.f77_actions.specs.Number.{fits, is_same}
-use Rattle.f77_actions.specs.Encoded.{Encodes, IsValueOrFault, HasValue, truth_number}
-use Rattle.f77_actions.proofs.Bounds.{encodes_value, fits_truth}
+use Rattle.f77_code.proofs.Common.{◌≡◌, ◌∙◌, ap, sym, subst, true, false, Bool, ℤ, pos, Ok, Result, not, cond, encodes_value, fits_truth, Encodes, truth_number}
+use Rattle.f77_code.proofs.Common.{IsValueOrFault, HasValue, is_same, fits, Connective, Fault, connected_number}
 use Rattle.f77_actions.proofs.Operations.{value_fits}
-use Rattle.f77_code.specs.Term.{connected_number}
+use Rattle.f77_actions.specs.declared.expression.Connective.TheVariants as connective
 
 pub truth_encodes : (b c : Bool) (z : ℤ) → z ≡ truth_number c → c ≡ b → Encodes z (Ok (truth_number b))
 truth_encodes b c z is same = subst (λ w. Encodes w (Ok (truth_number b))) (sym (is ∙ ap truth_number same)) (encodes_value (truth_number b) (fits_truth b))

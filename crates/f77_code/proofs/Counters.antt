@@ -1,13 +1,7 @@
 -- The counters of DOs, by their ranks.
-use Rattle.std.proofs.Common.{arith, ◌≡◌, ◌≢◌, ◌<◌, ◌⊎◌, inl, inr, ℕ, zero, suc, Bool, true, false, List, [], ◌∷◌, length, Option, Some, None, refl, sym, ap, ◌∙◌, subst, ◌+◌}
-use Rattle.std.specs.Prelude.{cond, slice_get, slice_set, nat_lt, take}
-use Rattle.std.proofs.lemmas.Bool.{ltb-true, ltb-false, cases_eq}
-use Rattle.std.proofs.lemmas.List.{length-set}
-use Rattle.std.proofs.lemmas.List.Sums.{sum_by-cons}
-use Rattle.f77_actions.specs.declared.resolved.Resolved.{Resolved}
-use Rattle.f77_code.specs.declared.control.Turn.{Turn}
-use Rattle.f77_code.specs.Holds.{HoldsCounters, IsCounted, loop_count, do_rank, is_loop_at}
-use Rattle.f77_code.specs.Moves.{TurnList, turn_at, without, is_loop}
+use Rattle.f77_code.proofs.Common.{◌≡◌, ◌∙◌, ap, sym, arith, ℕ, refl, subst, length, true, ◌+◌, List, Some, ◌<◌, slice_get, false, [], suc, ◌∷◌, zero, Bool}
+use Rattle.f77_code.proofs.Common.{None, Option, inl, inr, slice_set, take, nat_lt, ◌⊎◌, ltb-true, ◌≢◌, ltb-false, length-set, cond, cases_eq, sum_by-cons}
+use Rattle.f77_code.proofs.Common.{Resolved, do_rank, is_loop, TurnList, is_loop_at, HoldsCounters, loop_count, turn_at, IsCounted, without, Turn}
 use Rattle.f77_code.proofs.Written.{at_same, at_other}
 
 -- a statement is one DO more, or none

@@ -1,7 +1,5 @@
 -- How deep logical IFs stand in one another.
-use Rattle.std.proofs.Common.{ℕ, suc}
-use Rattle.f77_actions.specs.declared.action.Action.{Action, LogicalIf'}
-use Rattle.f77_code.specs.declared.instruction.Operation.{Operation, When'}
+use Rattle.f77_code.proofs.Common.{ℕ, suc, Action, LogicalIf', Operation, When'}
 
 abbrev pub depth : Operation → ℕ
 depth (When' term p inner) = suc (depth inner)

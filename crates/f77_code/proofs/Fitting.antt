@@ -1,22 +1,13 @@
 -- The value of a term is in the range of INTEGER.
-use Rattle.std.proofs.Common.{◌≡◌, ℕ, ◌+◌, zero, suc, Bool, true, false, List, [], ◌∷◌, ℤ, pos, negsuc, int_div, int_rem, refl}
-use Rattle.std.specs.Prelude.{◌+ℤ◌, ◌-ℤ◌, ◌*ℤ◌, Result, Ok, Err, cond, not}
-use Rattle.std.proofs.lemmas.Bool.{and_parts}
+use Rattle.f77_code.proofs.Common.{◌≡◌, ℕ, refl, true, ◌+◌, List, false, [], suc, ◌∷◌, zero, Bool, ℤ, pos, Ok, Result, Err, negsuc, not, ◌+ℤ◌, cond, ◌-ℤ◌}
+use Rattle.f77_code.proofs.Common.{int_div, int_rem, ◌*ℤ◌, and_parts, fits_truth, negation, is_fitting, is_same, fits, in_range, negated, without_sign}
+use Rattle.f77_code.proofs.Common.{exact_power, is_below, given, both, pushed, Connective, Relation, Fault, term_value, register, are_held, matrix_place}
+use Rattle.f77_code.proofs.Common.{is_held, related_number, vector_place, connected_number, element_at, calculated, compared, Term, Compared, Related'}
+use Rattle.f77_code.proofs.Common.{Register, Absolute', Add', Calculated', Connected', Difference, Element, Matrix', MatrixAt, Multiply', Negated', Not'}
+use Rattle.f77_code.proofs.Common.{Product, Subtract', Sum, TooLarge, Vector', ZeroPush'}
 use Rattle.f77_actions.specs.declared.expression.Arithmetic.{Arithmetic}
 use Rattle.f77_actions.specs.declared.expression.Arithmetic.TheVariants as arithmetic
-use Rattle.f77_actions.specs.declared.expression.Connective.{Connective}
 use Rattle.f77_actions.specs.declared.expression.Connective.TheVariants as connective
-use Rattle.f77_actions.specs.declared.expression.Relation.{Relation}
-use Rattle.f77_actions.specs.declared.finish.Fault.{Fault}
-use Rattle.f77_actions.specs.Number.{fits, in_range, exact_power, negated, without_sign, is_below, is_same}
-use Rattle.f77_actions.specs.Encoded.{is_fitting, negation}
-use Rattle.f77_actions.specs.Value.{given, both, pushed}
-use Rattle.f77_actions.proofs.Bounds.{fits_truth}
-use Rattle.f77_code.specs.declared.term.Term.{Term, Register, Element, MatrixAt, Sum, Difference, Product, Compared, TooLarge, Vector', Matrix'}
-use Rattle.f77_code.specs.declared.term.Term.{Add', Subtract', Multiply', Calculated', Negated', Absolute', ZeroPush', Related', Connected', Not'}
-use Rattle.f77_code.specs.Evaluation.{calculated, compared}
-use Rattle.f77_code.specs.Registers.{is_held, are_held, register, vector_place, matrix_place, element_at}
-use Rattle.f77_code.specs.Term.{related_number, connected_number, term_value}
 use Rattle.f77_code.proofs.Reading.{held_encodes}
 
 range_fits : (z : ℤ) → is_fitting (in_range z) ≡ true

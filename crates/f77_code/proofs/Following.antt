@@ -1,22 +1,12 @@
 -- The first times at which control was at each instruction, noted while code runs.
-use Rattle.std.proofs.Common.{arith, ◌≡◌, ◌≢◌, ◌≤◌, ◌+◌, ℕ, zero, suc, inl, inr, true, false, ◌&&◌, List, [], ◌∷◌, ◌++◌, length, drop, take, map, ℤ, refl, sym, ap, ◌∙◌, subst}
-use Rattle.std.specs.Prelude.{Option, None, Some, IfSome, is_some, slice_get, slice_set}
-use Rattle.std.proofs.lemmas.Bool.{and_parts, cases_eq}
-use Rattle.std.proofs.lemmas.List.{length-set, length-take, take-append-drop}
+use Rattle.f77_code.proofs.Common.{◌≡◌, ◌∙◌, ap, sym, arith, ℕ, refl, subst, length, true, ◌+◌, List, Some, slice_get, false, [], suc, ◌∷◌, zero, ℤ, ◌≤◌, None}
+use Rattle.f77_code.proofs.Common.{Option, inl, inr, slice_set, take, drop, ◌++◌, ◌≢◌, length-set, map, ◌&&◌, IfSome, is_some, length-take, take-append-drop}
+use Rattle.f77_code.proofs.Common.{and_parts, cases_eq, sum_by-cons, sum-map, sum_by-set, slice_get_within, slice_get_past, get_or_from_slice_get, point, Point}
+use Rattle.f77_code.proofs.Common.{code_after, are_held, one, is_held, AreTimes, IsTime, time_of, AllWriteBelow, ArePassed, HaveSizes, kept_time, numbers_kept}
+use Rattle.f77_code.proofs.Common.{numbers_of, AreNone, HasSizes, IsPassed, first_time, NotesList, NotesStep, IsStepKept, Instruction}
 use Rattle.std.proofs.lemmas.List.Elements.{All-set}
-use Rattle.std.proofs.lemmas.List.Sums.{sum-map, sum_by-cons, sum_by-set}
-use Rattle.std.proofs.lemmas.Option.{get_or_from_slice_get, slice_get_past, slice_get_within}
 use Rattle.f77_code.specs.declared.noting.Passed.{Passed}
-use Rattle.f77_code.specs.declared.instruction.Instruction.{Instruction}
 use Rattle.f77_code.specs.declared.kept_step.KeptStep.{KeptStep}
-use Rattle.f77_code.specs.Block.{one, code_after}
-use Rattle.f77_code.specs.Follow.{AreNone, ArePassed, HasSizes, HaveSizes, IsPassed, first_time, numbers_kept, numbers_of}
-use Rattle.f77_code.specs.code.Follow.{IsStepKept, NotesList, NotesStep}
-use Rattle.f77_code.specs.Frame.{AllWriteBelow}
-use Rattle.f77_code.specs.KeptStep.{kept_time}
-use Rattle.f77_code.specs.Operation.{Point, point}
-use Rattle.f77_code.specs.Registers.{are_held, is_held}
-use Rattle.f77_code.specs.Together.{AreTimes, IsTime, time_of}
 use Rattle.f77_code.proofs.Frame.{leaves_behind}
 use Rattle.f77_code.proofs.Listed.{set_here, set_there}
 use Rattle.f77_code.proofs.Sequences.{after_last}

@@ -1,28 +1,17 @@
 -- Registers behind those that instructions name make no difference to the others, and stay.
-use Rattle.std.proofs.Common.{arith, ◌≡◌, ◌<◌, ◌+◌, ◌*◌, ℕ, zero, suc, Bool, true, false, List, [], ◌∷◌, ◌++◌, length, drop, ℤ, pos, negsuc, refl, sym, ap, ◌∙◌, subst}
-use Rattle.std.specs.Prelude.{Option, Some, None, Result, Ok, Err, ◌+ℤ◌, if◌then◌else◌, nat_lt, slice_get, slice_set, unwrap_or}
-use Rattle.std.specs.Option.{option_map_or}
-use Rattle.std.proofs.lemmas.Bool.{and_parts, lt-ltb, ltb-true}
-use Rattle.std.proofs.lemmas.List.{drop-set-lt, length-set, set-append_left}
+use Rattle.f77_code.proofs.Common.{◌≡◌, ◌∙◌, ap, sym, arith, ℕ, refl, subst, length, true, ◌+◌, List, Some, ◌<◌, slice_get, false, [], suc, ◌∷◌, zero, Bool, ℤ}
+use Rattle.f77_code.proofs.Common.{pos, None, Ok, Option, Result, Err, slice_set, ◌*◌, if◌then◌else◌, negsuc, drop, nat_lt, ◌++◌, ltb-true, length-set, lt-ltb}
+use Rattle.f77_code.proofs.Common.{unwrap_or, ◌+ℤ◌, drop-set-lt, and_parts, set-append_left, option_map_or, negation, is_same, in_range, trip_count, negated}
+use Rattle.f77_code.proofs.Common.{without_sign, given, both, element, pushed, Fault, point, Point, code_after, ran, term_value, register, one, matrix_place}
+use Rattle.f77_code.proofs.Common.{passed, related_number, vector_place, branch, by_sign, connected_number, item_chosen, one_less, put_in_register}
+use Rattle.f77_code.proofs.Common.{begun_in_code, code_within, element_at, operation_within, put_at, used_in_code, with_more, AllWriteBelow, calculated}
+use Rattle.f77_code.proofs.Common.{incremented_in_code, term_within, IsInArray, IsWritten, begun_with, decoded_at, LeavesBehind, MoreRegisters, WritesBelow}
+use Rattle.f77_code.proofs.Common.{array_within, Turn, Instruction, Operation, Next, When', Count, Do, IfTrue, SetElement, SetMatrix, Add, Continue, Goto}
+use Rattle.f77_code.proofs.Common.{IfCompared, IfRelated, Load, Multiply, Return, Select, Set, Sign, Stop, Subtract, Trap, Term, Compared, Related', Register}
+use Rattle.f77_code.proofs.Common.{Absolute', Add', Calculated', Connected', Difference, Element, Matrix', MatrixAt, Multiply', Negated', Not', Product}
+use Rattle.f77_code.proofs.Common.{Subtract', Sum, TooLarge, Vector', ZeroPush'}
 use Rattle.f77_actions.specs.declared.expression.Arithmetic.TheVariants as arithmetic
-use Rattle.f77_actions.specs.declared.finish.Fault.{Fault}
-use Rattle.f77_actions.specs.Number.{in_range, is_same, negated, trip_count, without_sign}
-use Rattle.f77_actions.specs.Encoded.{negation}
-use Rattle.f77_actions.specs.Value.{given, both, element, pushed}
-use Rattle.f77_code.specs.declared.control.Turn.{Turn}
-use Rattle.f77_code.specs.declared.instruction.Instruction.{Instruction}
-use Rattle.f77_code.specs.declared.instruction.Operation.{Operation, Set, SetElement, SetMatrix, IfTrue, IfRelated, IfCompared, Do, Count, Next, Sign, Select, When'}
-use Rattle.f77_code.specs.declared.instruction.Operation.{Continue, Goto, Return, Stop, Trap, Move, Add, Subtract, Multiply, Load}
-use Rattle.f77_code.specs.declared.term.Term.{Term, Register, Element, MatrixAt, Sum, Difference, Product, Compared, TooLarge, Vector', Matrix'}
-use Rattle.f77_code.specs.declared.term.Term.{Add', Subtract', Multiply', Calculated', Negated', Absolute', ZeroPush', Related', Connected', Not'}
-use Rattle.f77_code.specs.Block.{one, code_after, code_within}
-use Rattle.f77_code.specs.Choice.{by_sign, item_chosen}
-use Rattle.f77_code.specs.Evaluation.{calculated}
-use Rattle.f77_code.specs.Frame.{IsInArray, IsWritten, WritesBelow, AllWriteBelow, LeavesBehind, MoreRegisters, with_more}
-use Rattle.f77_code.specs.Operation.{Point, point, used_in_code, put_in_register, put_at, branch, passed, begun_in_code, begun_with, one_less, incremented_in_code, ran}
-use Rattle.f77_code.specs.Operation.{array_within, operation_within}
-use Rattle.f77_code.specs.Registers.{register, decoded_at, vector_place, matrix_place, element_at}
-use Rattle.f77_code.specs.Term.{related_number, connected_number, term_value, term_within}
+use Rattle.f77_code.specs.declared.instruction.Operation.{Move}
 use Rattle.f77_code.proofs.Listed.{get_left}
 use Rattle.f77_code.proofs.Reached.{at_most}
 use Rattle.f77_code.proofs.SameValue.{place_below, matrix_place_below}

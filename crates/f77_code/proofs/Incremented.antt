@@ -1,16 +1,7 @@
 -- What the incrementation of a DO answers.
-use Rattle.std.proofs.Common.{arith, ◌≡◌, ◌<◌, ℕ, zero, suc, List, [], ◌∷◌, length, get_or, Some, ℤ, pos, refl, sym, ap, ◌∙◌, subst, w32, FitsSigned}
-use Rattle.std.specs.Prelude.{Result, Ok, Err, slice_get, slice_set, ◌+ℤ◌, ◌≤ℤ◌, ◌<ℤ◌}
-use Rattle.std.specs.Option.{option_map_or}
-use Rattle.f77_actions.specs.declared.finish.Fault.{Fault}
-use Rattle.f77_actions.specs.declared.finish.Finish.TheVariants.{Failed}
-use Rattle.f77_actions.specs.Number.{in_range}
-use Rattle.f77_actions.specs.Encoded.{Encodes}
-use Rattle.f77_actions.specs.Value.{given, both}
-use Rattle.f77_code.specs.declared.control.Turn.{Turn}
-use Rattle.f77_code.specs.declared.instruction.Operation.{Next}
-use Rattle.f77_code.specs.Operation.{point, ended_point, passed, one_less, incremented_in_code, ran}
-use Rattle.f77_code.specs.Registers.{register}
+use Rattle.f77_code.proofs.Common.{◌≡◌, ◌∙◌, ap, sym, arith, ℕ, refl, subst, length, List, Some, ◌<◌, slice_get, [], suc, ◌∷◌, zero, ℤ, pos, FitsSigned, Ok}
+use Rattle.f77_code.proofs.Common.{Result, Err, slice_set, get_or, ◌+ℤ◌, ◌<ℤ◌, w32, ◌≤ℤ◌, option_map_or, Encodes, in_range, given, both, Fault, Failed, point}
+use Rattle.f77_code.proofs.Common.{ran, register, passed, ended_point, one_less, incremented_in_code, Turn, Next}
 use Rattle.f77_code.proofs.Points.{fails, goes, narrow_encodes}
 
 -- what is read within a list is there

@@ -1,24 +1,8 @@
 -- Instructions stand for statements when their operations do.
-use Rattle.std.proofs.Common.{◌≡◌, ℕ, ◌+◌, false, List, refl, sym, ap, ◌∙◌, subst}
-use Rattle.std.specs.Prelude.{Some, slice_get}
-use Rattle.std.proofs.lemmas.Option.{same_Some}
-use Rattle.f77_actions.specs.declared.action.Action.{Action, Branch, Loop}
-use Rattle.f77_actions.specs.declared.expression.Condition.{Condition}
-use Rattle.f77_actions.specs.declared.expression.Number.{Number}
-use Rattle.f77_actions.specs.declared.resolved.Resolved.{Resolved}
-use Rattle.f77_code.specs.declared.constants.Constants.{Constants}
-use Rattle.f77_code.specs.declared.instruction.Instruction.{Instruction}
-use Rattle.f77_code.specs.declared.instruction.Operation.{Operation, Next}
-use Rattle.f77_code.specs.declared.term.Term.{Term}
-use Rattle.f77_code.specs.Instructions.{Beginning, beginning, onward, IsLeftDone, IsOperation, StandsForStatement, StandsForIncrement}
-use Rattle.f77_code.specs.code.Compile.{IsNumberTerm, IsTestTerm}
-use Rattle.f77_code.specs.Compiled.{IsInstruction, IsIncrement}
-use Rattle.f77_code.specs.code.Compiling.{IsTesting, IsCompiled}
-use Rattle.f77_code.specs.Constants.{BeginsPlan}
-use Rattle.f77_code.specs.code.Constants.{GrowsPlan}
-use Rattle.f77_code.specs.Holds.{Plan, do_rank}
-use Rattle.f77_code.specs.Moves.{is_loop}
-use Rattle.f77_code.specs.Typing.{HasAction}
+use Rattle.f77_code.proofs.Common.{◌≡◌, ◌∙◌, ap, sym, ℕ, refl, subst, ◌+◌, List, Some, slice_get, false, same_Some, Action, Loop, Branch, Condition, Number}
+use Rattle.f77_code.proofs.Common.{Resolved, Plan, do_rank, is_loop, onward, StandsForIncrement, IsOperation, StandsForStatement, Beginning, IsIncrement}
+use Rattle.f77_code.proofs.Common.{IsInstruction, IsLeftDone, BeginsPlan, HasAction, beginning, GrowsPlan, IsNumberTerm, IsTestTerm, IsCompiled, IsTesting}
+use Rattle.f77_code.proofs.Common.{Constants, Instruction, Operation, Next, Term}
 use Rattle.f77_code.proofs.Operations.{term_tests}
 use Rattle.f77_code.proofs.Terms.{begins_before}
 

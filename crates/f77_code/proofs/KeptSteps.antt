@@ -1,25 +1,16 @@
 -- The run of changed code, begun where it may diverge from that of the program.
-use Rattle.std.proofs.Common.{arith, ◌≡◌, ◌+◌, ℕ, zero, suc, Bool, true, false, List, [], ◌∷◌, ◌++◌, length, drop, take, ℤ, refl, sym, ap, ◌∙◌, subst, append_assoc}
-use Rattle.std.specs.Prelude.{not}
+use Rattle.f77_code.proofs.Common.{◌≡◌, ◌∙◌, ap, sym, arith, ℕ, refl, subst, length, true, ◌+◌, List, false, [], suc, ◌∷◌, zero, Bool, ℤ, take, drop, ◌++◌, not}
+use Rattle.f77_code.proofs.Common.{append_assoc, and_parts, same_Some, point, Point, code_after, are_held, one, is_held, AreTimes, time_of, with_more, Time}
+use Rattle.f77_code.proofs.Common.{MakesSteps, kept_time, DivergingRuns, IsKept, Turn, Instruction}
 use Rattle.std.specs.Bool.{Decides}
 use Rattle.std.specs.Cmp.Lexicographic.{pointwise}
 use Rattle.std.specs.Ordering.{int_eq}
 use Rattle.std.specs.Cmp.{unsigned_Decides, first_so, second_so}
 use Rattle.std.specs.Cmp.Derive.{both_true}
-use Rattle.std.proofs.lemmas.Bool.{and_parts}
 use Rattle.std.proofs.lemmas.Bool.Decides.{Decides-int_eq}
-use Rattle.std.proofs.lemmas.Option.{same_Some}
 use Rattle.std.proofs.lemmas.Slice.Eq.{slice_eq-Decides}
-use Rattle.f77_code.specs.contracts.control.TurnPartialEq.TheImpl as turn
-use Rattle.f77_code.specs.declared.control.Turn.{Turn}
-use Rattle.f77_code.specs.declared.instruction.Instruction.{Instruction}
 use Rattle.f77_code.specs.declared.kept_step.KeptStep.{KeptStep}
-use Rattle.f77_code.specs.Block.{one, code_after}
-use Rattle.f77_code.specs.Frame.{with_more}
-use Rattle.f77_code.specs.KeptStep.{IsKept, DivergingRuns, kept_time}
-use Rattle.f77_code.specs.Operation.{Point, point}
-use Rattle.f77_code.specs.Registers.{are_held, is_held}
-use Rattle.f77_code.specs.Together.{AreTimes, MakesSteps, Time, time_of}
+use Rattle.f77_code.specs.contracts.control.TurnPartialEq.TheImpl as turn
 use Rattle.f77_code.proofs.Together.{makes_step, never_diverge, diverge_at}
 
 -- what a DO has left is compared

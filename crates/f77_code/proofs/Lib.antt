@@ -1,3 +1,4 @@
+pub mod Common
 pub mod Assembled
 pub mod Assigned
 pub mod Begun

@@ -1,16 +1,10 @@
 -- Items of lists by their numbers, and how many DOs stand before a statement.
-use Rattle.std.proofs.Common.{◌≡◌, ◌≢◌, ◌<◌, ◌≤◌, ◌⊎◌, inl, inr, ℕ, zero, suc, ◌+◌, Bool, true, false, cond, List, [], ◌∷◌, ◌++◌, length, get_or, drop, Some, refl, sym, ap, ◌∙◌, subst, arith}
-use Rattle.std.specs.Prelude.{slice_get, nat_eq, nat_lt, ◌==◌, if◌then◌else◌}
+use Rattle.f77_code.proofs.Common.{◌≡◌, ◌∙◌, ap, sym, arith, ℕ, refl, subst, length, true, ◌+◌, List, Some, ◌<◌, slice_get, false, [], suc, ◌∷◌, zero, Bool}
+use Rattle.f77_code.proofs.Common.{◌≤◌, inl, inr, if◌then◌else◌, drop, nat_lt, ◌++◌, ◌⊎◌, ltb-true, ◌≢◌, ltb-false, get_or, ◌==◌, cond, nat_eq, and_parts}
+use Rattle.f77_code.proofs.Common.{at_drop_more, count_by-le-length, count_by_more_no, count_by_more_yes, same_Some, slice_get_within, get_or_from_slice_get}
+use Rattle.f77_code.proofs.Common.{Resolved, do_rank, is_loop, is_loop_at, round, loop_count, are_below}
 use Rattle.std.specs.List.{list_all}
-use Rattle.std.proofs.lemmas.Bool.{and_parts, ltb-true, ltb-false}
-use Rattle.std.proofs.lemmas.List.{at_drop_more}
-use Rattle.std.proofs.lemmas.List.Sums.{count_by-le-length, count_by_more_yes, count_by_more_no}
-use Rattle.std.proofs.lemmas.Option.{same_Some, slice_get_within, get_or_from_slice_get}
 use Rattle.std.proofs.Math.ListN.{set}
-use Rattle.f77_actions.specs.declared.resolved.Resolved.{Resolved}
-use Rattle.f77_code.specs.Instructions.{round}
-use Rattle.f77_code.specs.Holds.{loop_count, do_rank, is_loop_at}
-use Rattle.f77_code.specs.Moves.{is_loop, are_below}
 
 abbrev pub one_if : Bool → ℕ
 one_if b = cond b 1 0

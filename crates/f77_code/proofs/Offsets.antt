@@ -1,12 +1,6 @@
 -- How far elements are from the first one of their array, by their subscripts.
-use Rattle.std.proofs.Common.{arith, ◌≡◌, ◌<◌, ◌≤◌, ℕ, zero, suc, true, false, refl, sym, ap, subst, ℤ, pos, negsuc, ◌+◌, ◌*◌}
-use Rattle.std.specs.Prelude.{Result, Ok, Err, nat_lt}
-use Rattle.std.proofs.lemmas.Bool.{lt-ltb, le-ltb}
-use Rattle.f77_actions.specs.declared.finish.Fault.{Fault}
-use Rattle.f77_actions.specs.declared.finish.Fault.TheVariants.{BadSubscript}
-use Rattle.f77_code.specs.code.Registers.{IsOffset}
-use Rattle.f77_code.specs.Registers.{vector_place, matrix_place}
-use Rattle.f77_actions.specs.Encoded.{Encodes, code}
+use Rattle.f77_code.proofs.Common.{◌≡◌, ap, sym, arith, ℕ, refl, subst, true, ◌+◌, ◌<◌, false, suc, zero, ℤ, ◌≤◌, pos, Ok, Result, Err, ◌*◌, negsuc, nat_lt}
+use Rattle.f77_code.proofs.Common.{lt-ltb, le-ltb, Encodes, code, Fault, BadSubscript, matrix_place, vector_place, IsOffset}
 
 far : (s z : ℤ) (k : ℕ) → s ≡ z → IsOffset s k → IsOffset z k
 far s z k e o = subst (λ z. IsOffset z k) e o

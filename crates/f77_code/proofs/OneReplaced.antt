@@ -1,22 +1,10 @@
 -- The code of a program where one statement is replaced by another of the same frame.
-use Rattle.std.proofs.Common.{◌≡◌, ◌≢◌, ◌<◌, ◌≤◌, ◌⊎◌, inl, inr, ℕ, zero, suc, ◌+◌, true, List, [], ◌∷◌, length, take, Some, refl, sym, ap, ◌∙◌, subst, arith}
-use Rattle.std.specs.Prelude.{slice_get}
-use Rattle.std.proofs.lemmas.Option.{same_Some, slice_get_within}
-use Rattle.f77_actions.specs.declared.action.Action.{Action, Branch, Loop}
-use Rattle.f77_actions.specs.declared.expression.Number.{Number}
-use Rattle.f77_actions.specs.declared.resolved.Resolved.{Resolved}
-use Rattle.f77_code.specs.declared.constants.Constants.{Constants}
-use Rattle.f77_code.specs.declared.instruction.Instruction.{Instruction}
-use Rattle.f77_code.specs.declared.instruction.Operation.{Operation, Do, Count, Next}
+use Rattle.f77_code.proofs.Common.{◌≡◌, ◌∙◌, ap, sym, arith, ℕ, refl, subst, length, true, ◌+◌, List, Some, ◌<◌, slice_get, [], suc, ◌∷◌, zero, ◌≤◌, inl, inr}
+use Rattle.f77_code.proofs.Common.{take, ◌⊎◌, ◌≢◌, same_Some, slice_get_within, Action, Loop, Branch, Number, Resolved, Plan, do_rank, is_loop, onward}
+use Rattle.f77_code.proofs.Common.{StandsForIncrement, is_loop_at, StandsForStatement, Tests, round, Beginning, loop_count, AreCompiled, BeginsDo, IsIncrement}
+use Rattle.f77_code.proofs.Common.{IsInstruction, IsLeftDone, ArePlaces, HasOneFrame, GrowsPlan, HaveSameFrames, IsReplaced, Constants, Instruction, Operation}
+use Rattle.f77_code.proofs.Common.{Next, Count, Do}
 use Rattle.f77_code.specs.declared.places.Places.{Places}
-use Rattle.f77_code.specs.Instructions.{Beginning, BeginsDo, onward, round, IsLeftDone, Tests, StandsForStatement, StandsForIncrement}
-use Rattle.f77_code.specs.Compiled.{IsInstruction, IsIncrement, AreCompiled, HasOneFrame}
-use Rattle.f77_code.specs.code.Compiled.{IsReplaced}
-use Rattle.f77_code.specs.code.Compiled.{HaveSameFrames}
-use Rattle.f77_code.specs.code.Constants.{GrowsPlan}
-use Rattle.f77_code.specs.Holds.{Plan, loop_count, do_rank, is_loop_at}
-use Rattle.f77_code.specs.Moves.{is_loop}
-use Rattle.f77_code.specs.Places.{ArePlaces}
 use Rattle.f77_code.proofs.Assembled.{all_ranked}
 use Rattle.f77_code.proofs.Instructed.{instruction_later}
 use Rattle.f77_code.proofs.Counters.{weight, more, rank_rises}

@@ -1,13 +1,6 @@
 -- Where control goes on from terminal statements.
-use Rattle.std.proofs.Common.{◌≡◌, ℕ, Bool, true, false, List, [], ◌∷◌, None, refl, sym, ap, ◌∙◌}
-use Rattle.std.specs.Prelude.{◌==◌, ◌&&◌, not, is_some}
-use Rattle.std.specs.Option.{option_map_or}
-use Rattle.std.proofs.lemmas.Bool.{and_parts, eqb-true}
-use Rattle.f77_actions.specs.declared.resolved.Resolved.{Resolved}
-use Rattle.f77_code.specs.declared.control.Place.TheVariants.{Execute, Increment}
-use Rattle.f77_code.specs.Instructions.{place_at, onward, round}
-use Rattle.f77_code.specs.Moves.{TurnList, turn_at, innermost}
-use Rattle.f77_code.specs.Simulation.{are_active, only_round}
+use Rattle.f77_code.proofs.Common.{◌≡◌, ◌∙◌, ap, sym, ℕ, refl, true, List, false, [], ◌∷◌, Bool, None, not, ◌==◌, eqb-true, ◌&&◌, is_some, and_parts}
+use Rattle.f77_code.proofs.Common.{option_map_or, Resolved, onward, TurnList, round, are_active, turn_at, only_round, place_at, innermost, Execute, Increment}
 
 -- from a statement whose DOs are all active
 pub onward_active : (statements : List Resolved) (next : ℕ) (turns : TurnList) (ds : List ℕ) → are_active turns ds ≡ true

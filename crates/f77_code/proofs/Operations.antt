@@ -1,29 +1,15 @@
 -- Operations stand for actions when the terms in them stand for expressions.
-use Rattle.std.proofs.Common.{◌≡◌, ℕ, refl, sym, ◌∙◌, subst}
-use Rattle.std.specs.Prelude.{Box, Option, Some, None, MatchOption}
+use Rattle.f77_code.proofs.Common.{◌≡◌, ◌∙◌, sym, ℕ, refl, subst, Some, None, Option, MatchOption, Box, Action, LogicalIf', AssignNumber, AssignTruth, Jump}
+use Rattle.f77_code.proofs.Common.{Condition, Related, Variable, Number, Relation, Plan, IsSlot, IsTerm, IsTest, Comparing, IsOperation, Tests, comparing}
+use Rattle.f77_code.proofs.Common.{giving, StandsForAssignment, HasNumbers, GrowsPlan, IsNumberTerm, IsTestTerm, IsCompiled, IsRelationOf, IsTesting, ArePair}
+use Rattle.f77_code.proofs.Common.{IsAssigning, IsConditional, IsLogicalIf, Constants, Operation, When', IfTrue, SetElement, SetMatrix, Term, Compared}
+use Rattle.f77_code.proofs.Common.{Related', Register, Kind, Integer, Logical}
 use Rattle.std.specs.declared.alloc.Global.{Global}
-use Rattle.f77_tree.specs.declared.tree.Kind.{Kind}
-use Rattle.f77_tree.specs.declared.tree.Kind.TheVariants.{Integer, Logical}
-use Rattle.f77_actions.specs.declared.action.Action.{Action, AssignNumber, AssignTruth, LogicalIf'}
+use Rattle.f77_actions.specs.declared.expression.Element.{Element, Vector', Matrix'}
 use Rattle.f77_actions.specs.declared.action.Action as action
-use Rattle.f77_actions.specs.declared.action.Jump.{Jump}
-use Rattle.f77_actions.specs.declared.expression.Condition.{Condition, Related}
 use Rattle.f77_actions.specs.declared.expression.Condition as condition
-use Rattle.f77_actions.specs.declared.expression.Element.{Element, Variable, Vector', Matrix'}
 use Rattle.f77_actions.specs.declared.expression.Element.TheViews as views
-use Rattle.f77_actions.specs.declared.expression.Number.{Number}
-use Rattle.f77_actions.specs.declared.expression.Relation.{Relation}
-use Rattle.f77_code.specs.declared.constants.Constants.{Constants}
-use Rattle.f77_code.specs.declared.instruction.Operation.{Operation, SetElement, SetMatrix, IfTrue, When'}
 use Rattle.f77_code.specs.declared.term.Pair.{Pair}
-use Rattle.f77_code.specs.declared.term.Term.{Term, Register, Compared, Related'}
-use Rattle.f77_code.specs.Instructions.{Comparing, giving, comparing, StandsForAssignment, Tests, IsOperation}
-use Rattle.f77_code.specs.code.Compile.{IsNumberTerm, IsTestTerm, ArePair, IsRelationOf}
-use Rattle.f77_code.specs.code.Compiling.{IsTesting, IsAssigning, IsConditional, IsCompiled, IsLogicalIf}
-use Rattle.f77_code.specs.code.Constants.{GrowsPlan}
-use Rattle.f77_code.specs.Holds.{Plan, IsSlot}
-use Rattle.f77_code.specs.Standing.{IsTerm, IsTest}
-use Rattle.f77_code.specs.Typing.{HasNumbers}
 use Rattle.f77_code.proofs.Terms.{begins_before}
 
 of_all : {A : Type 0} (P Q : A → Type 0) (o : Option A) → ((x : A) → P x → Q x) → MatchOption o ⊥ P → MatchOption o ⊥ Q

@@ -1,28 +1,12 @@
 -- DOs begin and go on in the code as in the machine over slots.
-use Rattle.std.proofs.Common.{arith, ◌≡◌, ◌<◌, ℕ, zero, suc, ◌+◌, ◌-◌, Bool, true, false, List, Option, Some, None, ℤ, pos, negsuc, refl, sym, ap, ◌∙◌, subst}
-use Rattle.std.specs.Prelude.{Result, Ok, Err, slice_get, slice_set, MatchOption, ◌+ℤ◌}
-use Rattle.std.specs.Option.{option_map_or}
-use Rattle.f77_tree.specs.declared.tree.Kind.TheVariants.{Integer}
-use Rattle.f77_actions.specs.declared.action.Action.{Loop}
-use Rattle.f77_actions.specs.declared.expression.Number.{Number}
-use Rattle.f77_actions.specs.declared.resolved.Resolved.{Resolved}
-use Rattle.f77_actions.specs.declared.finish.Fault.{Fault}
-use Rattle.f77_actions.specs.declared.finish.Finish.TheVariants.{Failed}
+use Rattle.f77_code.proofs.Common.{◌≡◌, ◌∙◌, ap, sym, arith, ℕ, refl, subst, true, ◌+◌, List, Some, ◌<◌, slice_get, false, suc, zero, Bool, ℤ, pos, None, Ok}
+use Rattle.f77_code.proofs.Common.{Option, Result, Err, slice_set, negsuc, MatchOption, ◌-◌, ◌+ℤ◌, option_map_or, fits, in_range, trip_count, given, whole}
+use Rattle.f77_code.proofs.Common.{Loop, Number, Fault, Failed, Resolved, point, Plan, do_rank, ran, register, Cells, HoldsRegisters, IsSlot, IsMove, TurnList}
+use Rattle.f77_code.proofs.Common.{is_loop_at, passed, HoldsCounters, ended_point, held_in, one_less, read_as, Goes, IsLeftDone, turn_at, only_round, state}
+use Rattle.f77_code.proofs.Common.{passing, passing_at, Execute, Turn, Next, Integer}
 use Rattle.f77_actions.specs.declared.value.Value.TheVariants as held
-use Rattle.f77_code.specs.declared.control.Place.TheVariants.{Execute}
-use Rattle.f77_code.specs.declared.control.Turn.{Turn}
-use Rattle.f77_code.specs.declared.instruction.Operation.{Next}
-use Rattle.f77_code.specs.Instructions.{IsLeftDone}
-use Rattle.f77_code.specs.Evaluation.{held_in}
-use Rattle.f77_code.specs.Holds.{Plan, HoldsRegisters, HoldsCounters, IsSlot, do_rank, is_loop_at, read_as}
 use Rattle.f77_code.specs.Moves as moves
-use Rattle.f77_code.specs.Moves.{Cells, TurnList, Goes, state, turn_at, passing, passing_at}
 use Rattle.f77_code.specs.Operation as code
-use Rattle.f77_code.specs.Operation.{point, ended_point, passed, one_less, ran}
-use Rattle.f77_code.specs.Registers.{register}
-use Rattle.f77_code.specs.Simulation.{IsMove, only_round}
-use Rattle.f77_actions.specs.Number.{fits, in_range, trip_count}
-use Rattle.f77_actions.specs.Value.{given, whole}
 use Rattle.f77_code.proofs.Simulated.{used_simulated}
 use Rattle.f77_code.proofs.Counters.{counted, turn_none}
 use Rattle.f77_code.proofs.Onward.{onward_round}

@@ -1,30 +1,13 @@
 -- Operations that stand for actions do what the machine over slots does.
-use Rattle.std.proofs.Common.{◌≡◌, ℕ, zero, suc, Bool, true, false, List, [], ◌∷◌, Option, Some, None, ℤ, pos, negsuc, refl, sym, ap, ◌∙◌, subst}
-use Rattle.std.specs.Prelude.{Result, Ok, Err, map, slice_get, unwrap_or, MatchOption, if◌then◌else◌}
-use Rattle.std.specs.Option.{option_map_or}
-use Rattle.f77_actions.specs.declared.action.Action.{Action, Declaration, AssignNumber, AssignTruth, ComputedGoto, ArithmeticIf, LogicalIf'}
+use Rattle.f77_code.proofs.Common.{◌≡◌, ◌∙◌, ap, sym, ℕ, refl, subst, true, List, Some, slice_get, false, [], suc, ◌∷◌, zero, Bool, ℤ, pos, None, Ok, Option}
+use Rattle.f77_code.proofs.Common.{Result, Err, if◌then◌else◌, negsuc, MatchOption, map, unwrap_or, option_map_or, truth_number, of_truth, is_same, both}
+use Rattle.f77_code.proofs.Common.{Action, LogicalIf', AssignNumber, AssignTruth, ArithmeticIf, ComputedGoto, Declaration, Jump, Condition, Related, Number}
+use Rattle.f77_code.proofs.Common.{Relation, Fault, Resolved, point, Plan, onward, ran, term_value, Cells, HoldsRegisters, IsTerm, IsMove, TurnList, Comparing}
+use Rattle.f77_code.proofs.Common.{HoldsCounters, IsOperation, Move, Tests, comparing, related_number, are_active, by_sign, item_chosen, go_on, number_in}
+use Rattle.f77_code.proofs.Common.{compared, truth_in, acted, is_executed, jump_chosen, jump_to, Turn, Operation, When', IfTrue, Continue, Goto, Return, Select}
+use Rattle.f77_code.proofs.Common.{Sign, Stop, Trap}
 use Rattle.f77_actions.specs.declared.action.Action as action
-use Rattle.f77_actions.specs.declared.action.Jump.{Jump}
-use Rattle.f77_actions.specs.declared.expression.Condition.{Condition, Related}
-use Rattle.f77_actions.specs.declared.expression.Number.{Number}
-use Rattle.f77_actions.specs.declared.expression.Relation.{Relation}
-use Rattle.f77_actions.specs.declared.resolved.Resolved.{Resolved}
-use Rattle.f77_actions.specs.declared.finish.Fault.{Fault}
-use Rattle.f77_code.specs.declared.control.Turn.{Turn}
-use Rattle.f77_code.specs.declared.instruction.Operation.{Operation, IfTrue, Sign, Select, When', Continue, Goto, Return, Stop, Trap}
-use Rattle.f77_code.specs.Choice.{by_sign, item_chosen}
-use Rattle.f77_code.specs.Instructions.{Comparing, comparing, Tests, IsOperation, onward}
-use Rattle.f77_code.specs.Evaluation.{number_in, truth_in, compared}
-use Rattle.f77_code.specs.Holds.{Plan, HoldsRegisters, HoldsCounters}
 use Rattle.f77_code.specs.Moves as moves
-use Rattle.f77_code.specs.Moves.{Cells, TurnList, Move, acted, jump_chosen, go_on, jump_to, is_executed}
-use Rattle.f77_code.specs.Operation.{point, ran}
-use Rattle.f77_code.specs.Simulation.{IsMove, are_active}
-use Rattle.f77_code.specs.Standing.{IsTerm}
-use Rattle.f77_code.specs.Term.{related_number, term_value}
-use Rattle.f77_actions.specs.Number.{is_same}
-use Rattle.f77_actions.specs.Encoded.{of_truth, truth_number}
-use Rattle.f77_actions.specs.Value.{both}
 use Rattle.f77_code.proofs.Simulated.{go_on_simulated, used_simulated, truth_simulated, branched, jumped}
 use Rattle.f77_code.proofs.Assigned.{number_assigned, truth_assigned}
 use Rattle.f77_code.proofs.SameValue.{same_term, same_test}

@@ -1,14 +1,7 @@
 -- The numbers of places.
-use Rattle.std.proofs.Common.{arith, ◌≡◌, ◌<◌, ℕ, ◌+◌, Bool, true, false, List, [], ◌∷◌, ◌++◌, length, get_or, Some, refl, sym, ◌∙◌, subst}
-use Rattle.std.specs.Prelude.{slice_get, if◌then◌else◌}
-use Rattle.std.proofs.lemmas.Bool.{and_parts}
-use Rattle.std.proofs.lemmas.Option.{same_Some, slice_get_read}
-use Rattle.f77_actions.specs.declared.resolved.Resolved.{Resolved}
-use Rattle.f77_code.specs.Instructions.{round, onward}
-use Rattle.f77_code.specs.Compiling.{is_of_32_bits}
-use Rattle.f77_code.specs.Holds.{do_rank}
-use Rattle.f77_code.specs.Moves.{is_loop, are_below}
-use Rattle.f77_code.specs.Places.{has_places, have_places}
+use Rattle.f77_code.proofs.Common.{◌≡◌, ◌∙◌, sym, arith, ℕ, refl, subst, length, true, ◌+◌, List, Some, ◌<◌, slice_get, false, [], ◌∷◌, Bool, if◌then◌else◌}
+use Rattle.f77_code.proofs.Common.{◌++◌, get_or, and_parts, same_Some, slice_get_read, Resolved, do_rank, is_loop, onward, round, are_below, has_places}
+use Rattle.f77_code.proofs.Common.{have_places, is_of_32_bits}
 use Rattle.f77_code.proofs.Listed.{pushed, all_at, rank_more, round_below}
 
 -- the statement that was read

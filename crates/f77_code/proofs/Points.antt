@@ -1,23 +1,12 @@
 -- What functions that perform operations answer: points.
-use Rattle.std.proofs.Common.{arith, ◌≡◌, ◌<◌, ◌≤◌, ℕ, zero, suc, Bool, true, false, List, [], ◌∷◌, ℤ, pos, negsuc, refl, sym}
-use Rattle.std.proofs.Common.{ap, ◌∙◌, subst, ◌+◌, ◌-◌, ◌*◌, ◌%◌, ◌^◌, add-one, Some, None, w32, w64, FitsSigned, to_z, of_z}
-use lib.Signed.{le_z, lt_z}
-use Rattle.std.specs.Prelude.{Result, Ok, Err, nat_lt, slice_get, slice_set, unwrap_or, if◌then◌else◌, ◌<ℤ◌, ◌≤ℤ◌}
+use Rattle.f77_code.proofs.Common.{◌≡◌, ◌∙◌, ap, sym, arith, ℕ, refl, subst, true, ◌+◌, List, Some, ◌<◌, slice_get, false, [], suc, ◌∷◌, zero, Bool, ℤ, ◌≤◌}
+use Rattle.f77_code.proofs.Common.{pos, None, FitsSigned, Ok, Result, w64, Err, slice_set, ◌*◌, if◌then◌else◌, negsuc, nat_lt, ◌-◌, lt-ltb, unwrap_or, ◌<ℤ◌}
+use Rattle.f77_code.proofs.Common.{w32, ◌≤ℤ◌, of_z, ◌^◌, add-one, to_z, ◌%◌, ints, at_least, encodes_value, Within, within, valid_code, valid_value, Encodes}
+use Rattle.f77_code.proofs.Common.{IsValueOrFault, code, is_same, fits, trip_count, given, element, Fault, BadSubscript, ZeroStep, Failed, point, Point}
+use Rattle.f77_code.proofs.Common.{matrix_place, passed, ended_point, vector_place, branch, by_sign, item_chosen, one_less, put_in_register, begun_in_code}
+use Rattle.f77_code.proofs.Common.{put_at, used_in_code, IsOffset, misplaced_in_matrix, Turn}
 use Rattle.std.proofs.Math.Dec.{eqb-suc-zero}
-use Rattle.std.proofs.lemmas.Bool.{lt-ltb}
-use Rattle.std.proofs.lemmas.Int.{ints}
-use Rattle.f77_actions.specs.declared.finish.Fault.{Fault}
-use Rattle.f77_actions.specs.declared.finish.Fault.TheVariants.{BadSubscript, ZeroStep}
-use Rattle.f77_actions.specs.declared.finish.Finish.TheVariants.{Failed}
-use Rattle.f77_code.specs.declared.control.Turn.{Turn}
-use Rattle.f77_code.specs.Choice.{by_sign, item_chosen}
-use Rattle.f77_code.specs.Operation.{Point, point, used_in_code, ended_point, put_in_register, put_at, branch, passed, begun_in_code, one_less}
-use Rattle.f77_code.specs.code.Registers.{IsOffset, misplaced_in_matrix}
-use Rattle.f77_code.specs.Registers.{vector_place, matrix_place}
-use Rattle.f77_actions.specs.Number.{fits, is_same, trip_count}
-use Rattle.f77_actions.specs.Encoded.{Encodes, IsValueOrFault, code}
-use Rattle.f77_actions.specs.Value.{given, element}
-use Rattle.f77_actions.proofs.Bounds.{Within, within, at_least, valid_value, encodes_value, valid_code}
+use lib.Signed.{le_z, lt_z}
 use Rattle.f77_code.proofs.Offsets.{vector_within, vector_beyond, matrix_within, row_beyond, column_beyond}
 
 -- the result that a number stands for where it is a value

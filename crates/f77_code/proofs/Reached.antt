@@ -1,37 +1,20 @@
 -- The registers and the counters that code names are there.
-use Rattle.std.proofs.Common.{◌&&◌, ◌≡◌, ◌<◌, ◌≤◌, ◌⊎◌, inl, inr, ℕ, ℤ, zero, suc, ◌+◌, ◌*◌, ◌-◌, Bool, true, false, List, [], ◌∷◌, length, take, refl, sym, ap, ◌∙◌, subst, arith}
-use Rattle.std.specs.Prelude.{Option, Some, None, MatchOption, not, nat_lt, slice_get}
+use Rattle.f77_code.proofs.Common.{◌≡◌, ◌∙◌, ap, sym, arith, ℕ, refl, subst, length, true, ◌+◌, List, Some, ◌<◌, slice_get, false, [], suc, ◌∷◌, zero, Bool, ℤ}
+use Rattle.f77_code.proofs.Common.{◌≤◌, None, Option, inl, inr, ◌*◌, take, nat_lt, ◌⊎◌, MatchOption, not, ◌-◌, ltb-false, lt-ltb, le-ltb, ◌&&◌, and_parts}
+use Rattle.f77_code.proofs.Common.{and_from, same_Some, slice_get_within, Action, Condition, Variable, Number, Binary', Constant, Relation, Resolved, Plan}
+use Rattle.f77_code.proofs.Common.{do_rank, is_loop, onward, IsSlot, IsTerm, StandsForIncrement, IsTest, Comparing, IsOperation, StandsForStatement, Tests}
+use Rattle.f77_code.proofs.Common.{comparing, giving, AreCode, Beginning, StandsForAssignment, loop_count, BeginsDo, Giving, code_within, operation_within}
+use Rattle.f77_code.proofs.Common.{are_ready, registers_for, term_within, IsConstant, ReadsElement, can_compile, condition_within, element_within, is_ready}
+use Rattle.f77_code.proofs.Common.{number_within, Instruction, Operation, Next, When', Count, Do, IfTrue, SetElement, SetMatrix, Add, Continue, Goto}
+use Rattle.f77_code.proofs.Common.{IfCompared, IfRelated, Load, Multiply, Return, Select, Set, Sign, Stop, Subtract, Trap, Term, Compared, Related', Register}
+use Rattle.f77_code.proofs.Common.{Absolute', Add', Calculated', Connected', Difference, Element, Matrix', MatrixAt, Multiply', Negated', Not', Product}
+use Rattle.f77_code.proofs.Common.{Subtract', Sum, TooLarge, Vector', ZeroPush', Kind, Integer, Logical}
 use Rattle.std.specs.List.{list_all}
-use Rattle.std.proofs.lemmas.Bool.{and_from, and_parts, lt-ltb, ltb-false, le-ltb}
-use Rattle.std.proofs.lemmas.Option.{same_Some, slice_get_within}
-use Rattle.f77_tree.specs.declared.tree.Kind.{Kind}
-use Rattle.f77_tree.specs.declared.tree.Kind.TheVariants.{Integer, Logical}
-use Rattle.f77_actions.specs.declared.expression.Condition.{Condition}
 use Rattle.f77_actions.specs.declared.expression.Condition as condition
-use Rattle.f77_actions.specs.declared.expression.Element.{Variable}
 use Rattle.f77_actions.specs.declared.expression.Element as slots
-use Rattle.f77_actions.specs.declared.expression.Number.{Number, Constant, Binary'}
 use Rattle.f77_actions.specs.declared.expression.Number as number
-use Rattle.f77_actions.specs.declared.action.Action.{Action}
 use Rattle.f77_actions.specs.declared.action.Action as action
-use Rattle.f77_actions.specs.declared.expression.Relation.{Relation}
-use Rattle.f77_actions.specs.declared.resolved.Resolved.{Resolved}
-use Rattle.f77_code.specs.declared.instruction.Instruction.{Instruction}
-use Rattle.f77_code.specs.declared.instruction.Operation.{Operation, Set, SetElement, SetMatrix, IfTrue, IfRelated, IfCompared, Do, Count, Next, Sign, Select, When'}
-use Rattle.f77_code.specs.declared.instruction.Operation.{Continue, Goto, Return, Stop, Trap, Move, Add, Subtract, Multiply, Load}
-use Rattle.f77_code.specs.declared.term.Term.{Term, Register, Element, MatrixAt, Sum, Difference, Product, Compared, TooLarge, Vector', Matrix'}
-use Rattle.f77_code.specs.declared.term.Term.{Add', Subtract', Multiply', Calculated', Negated', Absolute', ZeroPush', Related', Connected', Not'}
-use Rattle.f77_code.specs.Block.{code_within}
-use Rattle.f77_code.specs.Instructions.{Beginning, BeginsDo, registers_for, Giving, Comparing, giving, comparing}
-use Rattle.f77_code.specs.Instructions.{StandsForAssignment, Tests, IsOperation, StandsForStatement, StandsForIncrement, AreCode, onward}
-use Rattle.f77_code.specs.Compiled.{is_ready, are_ready}
-use Rattle.f77_code.specs.Compiling.{can_compile}
-use Rattle.f77_code.specs.Evaluation.{element_within, number_within, condition_within}
-use Rattle.f77_code.specs.Holds.{Plan, IsSlot, IsConstant, loop_count, do_rank}
-use Rattle.f77_code.specs.Moves.{is_loop}
-use Rattle.f77_code.specs.Operation.{operation_within}
-use Rattle.f77_code.specs.Standing.{ReadsElement, IsTerm, IsTest}
-use Rattle.f77_code.specs.Term.{term_within}
+use Rattle.f77_code.specs.declared.instruction.Operation.{Move}
 use Rattle.f77_code.proofs.Assembled.{all_ranked}
 use Rattle.f77_code.proofs.Counters.{weight, more, rank_rises}
 use Rattle.f77_code.proofs.Listed.{all_at, item_at, loop_is, one_if, order}

@@ -1,16 +1,9 @@
 -- What registers stand for, and the elements of arrays.
-use Rattle.std.proofs.Common.{arith, add-zero, ◌≡◌, ◌<◌, ◌≤◌, ℕ, zero, suc, Bool, true, false, List, [], ◌∷◌, length, get_or, refl, sym, ap, ◌∙◌, subst, ℤ, pos, negsuc, ◌+◌, ◌*◌, of_z, w64}
-use Rattle.std.specs.Prelude.{Ok, Err, ◌==◌, ◌||◌, nat_lt, Result, ◌-ℤ◌, ◌<ℤ◌, ◌≤ℤ◌}
-use Rattle.std.proofs.lemmas.Bool.{and_parts, eqb-true, lt-ltb, le-ltb}
-use Rattle.std.proofs.lemmas.Int.{ints}
-use Rattle.f77_actions.specs.declared.finish.Fault.{Fault}
-use Rattle.f77_actions.specs.declared.finish.Fault.TheVariants.{Undefined, Overflow, BadSubscript}
-use Rattle.f77_actions.specs.Number.{fits}
-use Rattle.f77_actions.specs.Encoded.{Encodes, IsValueOrFault, code}
-use Rattle.f77_actions.proofs.Bounds.{Within, within, encodes_value, encodes_fault}
-use Rattle.f77_code.specs.Registers.{decoded, is_held, are_held, register, matrix_place, element_at}
-use Rattle.f77_code.specs.code.Registers.{IsOffset, misplaced_in_matrix}
-use Rattle.f77_actions.specs.Value.{given, element}
+use Rattle.f77_code.proofs.Common.{◌≡◌, ◌∙◌, ap, sym, arith, ℕ, refl, subst, length, true, ◌+◌, List, ◌<◌, false, [], suc, ◌∷◌, zero, Bool, ℤ, ◌≤◌, pos, Ok}
+use Rattle.f77_code.proofs.Common.{Result, w64, Err, ◌*◌, negsuc, nat_lt, get_or, lt-ltb, ◌<ℤ◌, ◌==◌, eqb-true, ◌≤ℤ◌, le-ltb, of_z, ◌-ℤ◌, ◌||◌, add-zero}
+use Rattle.f77_code.proofs.Common.{and_parts, ints, encodes_value, Within, encodes_fault, within, Encodes, IsValueOrFault, code, fits, given, element, Fault}
+use Rattle.f77_code.proofs.Common.{BadSubscript, Undefined, Overflow, register, are_held, matrix_place, is_held, element_at, decoded, IsOffset}
+use Rattle.f77_code.proofs.Common.{misplaced_in_matrix}
 
 either : (a b : Bool) → (a || b) ≡ true → b ≡ false → a ≡ true
 either true b h e = refl

@@ -1,34 +1,16 @@
 -- Code in which one instruction is replaced by that of another statement of the same frame.
-use Rattle.std.proofs.Common.{arith, ◌≡◌, ◌<◌, ◌≤◌, ℕ, zero, suc, ◌+◌, ◌*◌, true, List, [], ◌∷◌, length, take, Some, None, refl, sym, ap, ◌∙◌, subst}
-use Rattle.std.specs.Prelude.{Vec, IfSome, not, nat_lt, slice_get, slice_set}
+use Rattle.f77_code.proofs.Common.{◌≡◌, ◌∙◌, ap, sym, arith, ℕ, refl, subst, length, true, ◌+◌, List, Some, ◌<◌, slice_get, [], suc, ◌∷◌, zero, ◌≤◌, None}
+use Rattle.f77_code.proofs.Common.{slice_set, ◌*◌, take, nat_lt, ltb-true, not, length-set, IfSome, Vec, and_parts, same_Some, Action, Loop, Variable, Number}
+use Rattle.f77_code.proofs.Common.{Binary', Constant, Resolved, Plan, do_rank, is_loop, IsSlot, StandsForIncrement, is_loop_at, AreCompiled, IsIncrement}
+use Rattle.f77_code.proofs.Common.{IsInstruction, IsLeftDone, AreSlots, are_ready, AgreeButAt, ArePlaces, HasAction, HasNumbers, HasOneFrame, element_within}
+use Rattle.f77_code.proofs.Common.{is_ready, number_within, HasOwn, HasSlots, HaveOneDo, HaveOneOwn, IsAllOwn, IsChangedCode, IsCode, MayReplace}
+use Rattle.f77_code.proofs.Common.{own_instructions, put_back, GrowsPlan, HaveSameFrames, IsReplaced, Constants, Instruction, Operation, Next, Integer}
 use Rattle.std.specs.declared.alloc.Global.{Global}
-use Rattle.std.proofs.lemmas.Bool.{and_parts, ltb-true}
-use Rattle.std.proofs.lemmas.List.{length-set}
-use Rattle.std.proofs.lemmas.Option.{same_Some}
-use Rattle.f77_tree.specs.declared.tree.Kind.TheVariants.{Integer}
-use Rattle.f77_actions.specs.declared.action.Action.{Action, Loop}
-use Rattle.f77_actions.specs.declared.expression.Element.{Element, Variable, Vector', Matrix'}
-use Rattle.f77_actions.specs.declared.expression.Number.{Number, Constant, TooLarge, Negated', Absolute', ZeroPush', Binary'}
+use Rattle.f77_actions.specs.declared.expression.Element.{Element, Vector', Matrix'}
+use Rattle.f77_actions.specs.declared.expression.Number.{TooLarge, Negated', Absolute', ZeroPush'}
 use Rattle.f77_actions.specs.declared.expression.Number as number
-use Rattle.f77_actions.specs.declared.resolved.Resolved.{Resolved}
 use Rattle.f77_code.specs.declared.code.Code.{Code}
-use Rattle.f77_code.specs.declared.constants.Constants.{Constants}
 use Rattle.f77_code.specs.declared.replacing.ChangedCode.{ChangedCode}
-use Rattle.f77_code.specs.declared.instruction.Instruction.{Instruction}
-use Rattle.f77_code.specs.declared.instruction.Operation.{Operation, Next}
-use Rattle.f77_code.specs.Compiled.{is_ready, are_ready, AreCompiled, HasOneFrame, IsInstruction, IsIncrement}
-use Rattle.f77_code.specs.code.Compiled.{IsReplaced}
-use Rattle.f77_code.specs.code.Compiled.{HaveSameFrames}
-use Rattle.f77_code.specs.code.Constants.{GrowsPlan}
-use Rattle.f77_code.specs.Evaluation.{element_within, number_within}
-use Rattle.f77_code.specs.Replacing.{HasOwn, HaveOneDo, HaveOneOwn, IsChangedCode, IsAllOwn, MayReplace, own_instructions, put_back}
-use Rattle.f77_code.specs.Holds.{Plan, IsSlot, AreSlots, do_rank, is_loop_at}
-use Rattle.f77_code.specs.Instructions.{StandsForIncrement, IsLeftDone}
-use Rattle.f77_code.specs.Moves.{is_loop}
-use Rattle.f77_code.specs.Places.{ArePlaces}
-use Rattle.f77_code.specs.Program.{IsCode}
-use Rattle.f77_code.specs.Together.{AgreeButAt}
-use Rattle.f77_code.specs.Typing.{HasSlots, HasNumbers, HasAction}
 use Rattle.f77_code.proofs.OneReplaced.{replaced_code, left_same, loop_kept, one_frame, places_same, rank_same}
 use Rattle.f77_code.proofs.Instructed.{instruction_later}
 use Rattle.f77_code.proofs.Listed.{all_at, item_at, loop_is, set_here, set_there}

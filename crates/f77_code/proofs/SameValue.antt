@@ -1,33 +1,17 @@
 -- A term over registers has the value of the expression over slots that it stands for.
-use Rattle.std.proofs.Common.{arith, ◌≡◌, ◌<◌, ℕ, zero, suc, ◌+◌, ◌*◌, Bool, true, false, List, [], ◌∷◌, ℤ, pos, negsuc, refl, sym, ap, ◌∙◌, subst}
-use Rattle.std.specs.Prelude.{Result, Ok, Err, not, nat_lt}
-use Rattle.std.proofs.lemmas.Bool.{ltb-true}
-use Rattle.f77_tree.specs.declared.tree.Kind.{Kind}
-use Rattle.f77_tree.specs.declared.tree.Kind.TheVariants.{Integer, Logical}
+use Rattle.f77_code.proofs.Common.{◌≡◌, ◌∙◌, ap, sym, arith, ℕ, refl, subst, true, ◌+◌, List, ◌<◌, false, [], suc, ◌∷◌, zero, Bool, ℤ, pos, Ok, Result, Err}
+use Rattle.f77_code.proofs.Common.{◌*◌, negsuc, nat_lt, ltb-true, not, truth_number, negation, of_truth, in_range, negated, without_sign, given, both, element}
+use Rattle.f77_code.proofs.Common.{pushed, logic, Condition, Related, Connective, Variable, Number, Binary', Constant, Relation, Fault, Plan, term_value}
+use Rattle.f77_code.proofs.Common.{register, Cells, HoldsRegisters, IsSlot, IsTerm, IsTest, matrix_place, related_number, vector_place, connected_number}
+use Rattle.f77_code.proofs.Common.{held_in, read_as, element_at, number_in, AreSlots, calculated, compared, truth_in, IsConstant, ReadsElement, slot_in, joined}
+use Rattle.f77_code.proofs.Common.{Term, Compared, Related', Register, Absolute', Add', Calculated', Connected', Difference, Element, Matrix', MatrixAt}
+use Rattle.f77_code.proofs.Common.{Multiply', Negated', Not', Product, Subtract', Sum, TooLarge, Vector', ZeroPush', Kind, Integer, Logical}
 use Rattle.f77_actions.specs.declared.expression.Arithmetic.{Arithmetic}
 use Rattle.f77_actions.specs.declared.expression.Arithmetic.TheVariants as arithmetic
-use Rattle.f77_actions.specs.declared.expression.Connective.{Connective}
 use Rattle.f77_actions.specs.declared.expression.Connective.TheVariants as connective
-use Rattle.f77_actions.specs.declared.expression.Relation.{Relation}
-use Rattle.f77_actions.specs.declared.expression.Element.{Variable}
 use Rattle.f77_actions.specs.declared.expression.Element as slots
-use Rattle.f77_actions.specs.declared.expression.Number.{Number, Constant, Binary'}
 use Rattle.f77_actions.specs.declared.expression.Number as number
-use Rattle.f77_actions.specs.declared.expression.Condition.{Condition, Related}
 use Rattle.f77_actions.specs.declared.expression.Condition as condition
-use Rattle.f77_actions.specs.declared.finish.Fault.{Fault}
-use Rattle.f77_actions.specs.Number.{in_range, negated, without_sign}
-use Rattle.f77_actions.specs.Encoded.{truth_number, of_truth, negation}
-use Rattle.f77_actions.specs.Value.{given, both, logic, element, pushed}
-use Rattle.f77_code.specs.declared.term.Term.{Term, Register, Element, MatrixAt}
-use Rattle.f77_code.specs.declared.term.Term.{Sum, Difference, Product, Compared, TooLarge, Vector', Matrix'}
-use Rattle.f77_code.specs.declared.term.Term.{Add', Subtract', Multiply', Calculated', Negated', Absolute', ZeroPush', Related', Connected', Not'}
-use Rattle.f77_code.specs.Evaluation.{held_in, slot_in, number_in, truth_in, calculated, compared, joined}
-use Rattle.f77_code.specs.Holds.{Plan, HoldsRegisters, IsSlot, AreSlots, IsConstant, read_as}
-use Rattle.f77_code.specs.Moves.{Cells}
-use Rattle.f77_code.specs.Registers.{register, vector_place, matrix_place, element_at}
-use Rattle.f77_code.specs.Standing.{ReadsElement, IsTerm, IsTest}
-use Rattle.f77_code.specs.Term.{related_number, connected_number, term_value}
 use Rattle.f77_code.proofs.Reading.{in_matrix}
 
 -- the place of an element is among those of its array

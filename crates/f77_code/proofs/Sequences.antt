@@ -1,20 +1,10 @@
 -- Instructions one after another, and moves.
-use Rattle.std.proofs.Common.{arith, ◌≡◌, ◌<◌, ◌≤◌, ◌⊎◌, inl, inr, ◌^◌, ℕ, zero, suc, ◌+◌, ◌-◌, ◌*◌, true, List, [], ◌∷◌, Option, Some, None, zero-add, length, refl, sym, ap, ◌∙◌, subst}
-use Rattle.std.specs.Prelude.{slice_get}
-use Rattle.std.specs.Option.{option_and_then, option_map_or}
-use Rattle.std.proofs.lemmas.Bool.{and_parts}
-use Rattle.std.proofs.lemmas.Option.{slice_get_past}
-use Rattle.f77_actions.specs.declared.resolved.Resolved.{Resolved}
+use Rattle.f77_code.proofs.Common.{◌≡◌, ◌∙◌, ap, sym, arith, ℕ, refl, subst, length, true, ◌+◌, List, Some, ◌<◌, slice_get, [], suc, ◌∷◌, zero, ◌≤◌, None}
+use Rattle.f77_code.proofs.Common.{Option, inl, inr, ◌*◌, ◌⊎◌, ◌-◌, ◌^◌, zero-add, and_parts, slice_get_past, option_map_or, option_and_then, Failed, Returned}
+use Rattle.f77_code.proofs.Common.{StepLimit, Stopped, Resolved, Plan, Point, code_after, ran, one, IsMove, Move, ended_point, AreCode, Goes, code_within}
+use Rattle.f77_code.proofs.Common.{operation_within, Ends, moved, AreStatesNested, IsAt, State, moved_by, then_moved, BlocksSimulated, CodeComesBack}
+use Rattle.f77_code.proofs.Common.{Instruction}
 use Rattle.f77_actions.specs.declared.finish.Finish.{Finish}
-use Rattle.f77_actions.specs.declared.finish.Finish.TheVariants.{Returned, Stopped, Failed, StepLimit}
-use Rattle.f77_code.specs.declared.instruction.Instruction.{Instruction}
-use Rattle.f77_code.specs.Block.{one, code_after, code_within}
-use Rattle.f77_code.specs.Instructions.{AreCode}
-use Rattle.f77_code.specs.Holds.{Plan}
-use Rattle.f77_code.specs.Moves.{State, Move, Goes, Ends, moved}
-use Rattle.f77_code.specs.Operation.{Point, ended_point, ran, operation_within}
-use Rattle.f77_code.specs.Sequences.{AreStatesNested, BlocksSimulated, CodeComesBack, moved_by, then_moved}
-use Rattle.f77_code.specs.Simulation.{IsAt, IsMove}
 use Rattle.f77_code.proofs.Listed.{last_or_below}
 use Rattle.f77_code.proofs.Simulation.{moves_simulated, there_is}
 

@@ -1,12 +1,7 @@
 -- Short operations are general ones.
-use Rattle.std.proofs.Common.{◌≡◌, ℕ, List, Some, ℤ, ap}
-use Rattle.f77_code.specs.declared.control.Turn.{Turn}
-use Rattle.f77_code.specs.declared.instruction.Operation.{Operation, Set, IfRelated, IfCompared}
-use Rattle.f77_code.specs.declared.instruction.Operation.{Move, Add, Subtract, Multiply, Load}
-use Rattle.f77_code.specs.Instructions.{Giving, giving, Comparing, comparing}
-use Rattle.f77_code.specs.Operation.{Point, ran, put_in_register, branch}
-use Rattle.f77_code.specs.Term.{related_number, term_value}
-use Rattle.f77_actions.specs.Value.{both}
+use Rattle.f77_code.proofs.Common.{◌≡◌, ap, ℕ, List, Some, ℤ, both, Point, ran, term_value, Comparing, comparing, giving, related_number, branch}
+use Rattle.f77_code.proofs.Common.{put_in_register, Giving, Turn, Operation, Add, IfCompared, IfRelated, Load, Multiply, Set, Subtract}
+use Rattle.f77_code.specs.declared.instruction.Operation.{Move}
 
 held : {A : Type 0} (a b : A) → Some a ≡ Some b → a ≡ b
 held a b e = cc (e)

@@ -1,20 +1,9 @@
 -- What the code and the machine over slots do with results, and where both go on.
-use Rattle.std.proofs.Common.{◌≡◌, ℕ, Bool, true, false, List, ℤ, pos, refl, sym, ◌∙◌, subst}
-use Rattle.std.specs.Prelude.{Result, Ok, Err, if◌then◌else◌}
-use Rattle.f77_actions.specs.declared.action.Jump.{Jump}
-use Rattle.f77_actions.specs.declared.resolved.Resolved.{Resolved}
-use Rattle.f77_actions.specs.declared.finish.Fault.{Fault}
-use Rattle.f77_actions.specs.declared.finish.Finish.TheVariants.{Failed}
-use Rattle.f77_code.specs.declared.control.Turn.{Turn}
-use Rattle.f77_code.specs.Instructions.{onward}
-use Rattle.f77_code.specs.Holds.{Plan, HoldsRegisters, HoldsCounters}
+use Rattle.f77_code.proofs.Common.{◌≡◌, ◌∙◌, sym, ℕ, refl, subst, true, List, false, Bool, ℤ, pos, Ok, Result, Err, if◌then◌else◌, truth_number, of_truth}
+use Rattle.f77_code.proofs.Common.{is_fitting, is_same, fits, Jump, Fault, Failed, Resolved, point, Plan, Point, onward, Cells, HoldsRegisters, IsMove}
+use Rattle.f77_code.proofs.Common.{TurnList, HoldsCounters, Move, ended_point, are_active, branch, go_on, Ends, jump_chosen, jump_to, Turn}
 use Rattle.f77_code.specs.Moves as moves
-use Rattle.f77_code.specs.Moves.{Cells, TurnList, Move, Ends, jump_chosen, go_on, jump_to}
 use Rattle.f77_code.specs.Operation as code
-use Rattle.f77_code.specs.Operation.{Point, point, ended_point, branch}
-use Rattle.f77_code.specs.Simulation.{IsMove, are_active}
-use Rattle.f77_actions.specs.Number.{fits, is_same}
-use Rattle.f77_actions.specs.Encoded.{of_truth, truth_number, is_fitting}
 use Rattle.f77_code.proofs.Counters.{counts_without}
 use Rattle.f77_code.proofs.Onward.{onward_active}
 

@@ -1,26 +1,14 @@
 -- One instruction does what one move of the machine over slots does.
-use Rattle.std.proofs.Common.{arith, ◌≡◌, ◌<◌, ℕ, zero, suc, ◌+◌, Bool, true, false, List, [], ◌∷◌, length, Option, Some, None, ℤ, refl, sym, ap, ◌∙◌, subst}
-use Rattle.std.specs.Prelude.{slice_get, option_map, if◌then◌else◌}
-use Rattle.std.specs.Option.{option_and_then, option_map_or}
-use Rattle.std.proofs.lemmas.Option.{slice_get_within}
-use Rattle.f77_actions.specs.declared.action.Action.{Action, Branch, Loop}
-use Rattle.f77_actions.specs.declared.expression.Number.{Number}
-use Rattle.f77_actions.specs.declared.resolved.Resolved.{Resolved}
+use Rattle.f77_code.proofs.Common.{◌≡◌, ◌∙◌, ap, sym, arith, ℕ, refl, subst, length, true, ◌+◌, List, Some, ◌<◌, slice_get, false, [], suc, ◌∷◌, zero, Bool, ℤ}
+use Rattle.f77_code.proofs.Common.{None, Option, if◌then◌else◌, slice_get_within, option_map_or, option_and_then, Action, Loop, Branch, Number, Resolved, Plan}
+use Rattle.f77_code.proofs.Common.{Point, do_rank, is_loop, onward, ran, term_value, Cells, HoldsRegisters, one, StandsForIncrement, IsMove, TurnList}
+use Rattle.f77_code.proofs.Common.{is_loop_at, HoldsCounters, Move, StandsForStatement, AreCode, Beginning, are_active, BeginsDo, Goes, go_on, number_in}
+use Rattle.f77_code.proofs.Common.{turn_at, moved, registers_for, acted, is_executed, place_at, state, IsNested, MayLeave, MovesSimulated, incremented, Execute}
+use Rattle.f77_code.proofs.Common.{Increment, Turn, Instruction, Operation, Next, Count, Do}
+use Rattle.std.proofs.Common.{option_map}
 use Rattle.f77_code.specs.declared.control.Place.{Place}
-use Rattle.f77_code.specs.declared.control.Place.TheVariants.{Execute, Increment}
-use Rattle.f77_code.specs.declared.control.Turn.{Turn}
-use Rattle.f77_code.specs.declared.instruction.Instruction.{Instruction}
-use Rattle.f77_code.specs.declared.instruction.Operation.{Operation, Do, Count, Next}
-use Rattle.f77_code.specs.Block.{one}
-use Rattle.f77_code.specs.Instructions.{Beginning, BeginsDo, registers_for, place_at, onward, StandsForStatement, StandsForIncrement, AreCode}
-use Rattle.f77_code.specs.Evaluation.{number_in}
-use Rattle.f77_code.specs.Holds.{Plan, HoldsRegisters, HoldsCounters, do_rank, is_loop_at}
 use Rattle.f77_code.specs.Moves as moves
-use Rattle.f77_code.specs.Moves.{Cells, TurnList, Move, Goes, state, turn_at, acted, go_on, is_executed, is_loop, moved, incremented}
 use Rattle.f77_code.specs.Operation as code
-use Rattle.f77_code.specs.Operation.{Point, ran}
-use Rattle.f77_code.specs.Simulation.{IsMove, IsNested, MayLeave, MovesSimulated, are_active}
-use Rattle.f77_code.specs.Term.{term_value}
 use Rattle.f77_code.proofs.Simulated.{fits_of, go_on_simulated, used_simulated}
 use Rattle.f77_code.proofs.Counters.{rank_below}
 use Rattle.f77_code.proofs.Passes.{begun_simulated, incremented_simulated}

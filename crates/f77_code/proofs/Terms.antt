@@ -1,13 +1,6 @@
 -- Terms stand for expressions when their operands do.
-use Rattle.std.proofs.Common.{◌≡◌, sym, ◌∙◌, subst}
-use Rattle.f77_actions.specs.declared.expression.Number.{Number}
-use Rattle.f77_code.specs.declared.constants.Constants.{Constants}
+use Rattle.f77_code.proofs.Common.{◌≡◌, ◌∙◌, sym, subst, Number, Plan, BeginsPlan, GrowsPlan, IsNumberTerm, ArePair, Constants, Term}
 use Rattle.f77_code.specs.declared.term.Pair.{Pair}
-use Rattle.f77_code.specs.declared.term.Term.{Term}
-use Rattle.f77_code.specs.code.Compile.{IsNumberTerm, ArePair}
-use Rattle.f77_code.specs.Constants.{BeginsPlan}
-use Rattle.f77_code.specs.code.Constants.{GrowsPlan}
-use Rattle.f77_code.specs.Holds.{Plan}
 
 -- a plan that begins with the later table begins with the earlier one
 pub begins_before : (t u : Constants) (plan : Plan) → GrowsPlan t u → BeginsPlan plan u → BeginsPlan plan t

@@ -1,15 +1,7 @@
 -- Terms stand for LOGICAL expressions when their operands do.
-use Rattle.std.proofs.Common.{◌≡◌, subst}
-use Rattle.f77_actions.specs.declared.expression.Condition.{Condition}
+use Rattle.f77_code.proofs.Common.{◌≡◌, subst, Condition, Number, Relation, Plan, IsTerm, IsTest, GrowsPlan, IsNumberTerm, IsTestTerm, IsRelationOf, Constants}
+use Rattle.f77_code.proofs.Common.{Term, Compared, Related'}
 use Rattle.f77_actions.specs.declared.expression.Condition as condition
-use Rattle.f77_actions.specs.declared.expression.Number.{Number}
-use Rattle.f77_actions.specs.declared.expression.Relation.{Relation}
-use Rattle.f77_code.specs.declared.constants.Constants.{Constants}
-use Rattle.f77_code.specs.declared.term.Term.{Term, Compared, Related'}
-use Rattle.f77_code.specs.code.Compile.{IsNumberTerm, IsTestTerm, IsRelationOf}
-use Rattle.f77_code.specs.code.Constants.{GrowsPlan}
-use Rattle.f77_code.specs.Holds.{Plan}
-use Rattle.f77_code.specs.Standing.{IsTerm, IsTest}
 use Rattle.f77_code.proofs.Terms.{begins_before}
 
 relation_stands : (plan : Plan) (op : Relation) (x y : Number) (l r : Term) (t : Term) → IsRelationOf op l r t → IsTerm plan x l → IsTerm plan y r

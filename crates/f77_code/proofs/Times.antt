@@ -1,11 +1,6 @@
 -- The times at which control was at an instruction, one step more.
-use Rattle.std.proofs.Common.{arith, ◌≡◌, ◌≢◌, ◌<◌, ◌≤◌, inl, inr, ◌+◌, ◌-◌, ℕ, Bool, true, false, List, [], ◌∷◌, ◌++◌, length, sym, ap, ◌∙◌, subst}
-use Rattle.std.specs.Prelude.{None, slice_get}
-use Rattle.std.proofs.lemmas.Bool.{cases_lt}
-use Rattle.f77_code.specs.declared.instruction.Instruction.{Instruction}
-use Rattle.f77_code.specs.Block.{code_after}
-use Rattle.f77_code.specs.Operation.{Point}
-use Rattle.f77_code.specs.Together.{Time, IsTime, AreTimes}
+use Rattle.f77_code.proofs.Common.{◌≡◌, ◌∙◌, ap, sym, arith, ℕ, subst, length, true, ◌+◌, List, ◌<◌, slice_get, false, [], ◌∷◌, Bool, ◌≤◌, None, inl, inr, ◌++◌}
+use Rattle.f77_code.proofs.Common.{◌-◌, ◌≢◌, cases_lt, Point, code_after, AreTimes, IsTime, Time, Instruction}
 use Rattle.f77_code.proofs.Listed.{last_or_below}
 use Rattle.f77_code.proofs.Sequences.{after_more, stays}
 use Rattle.f77_code.proofs.Together.{none_there}

@@ -1,19 +1,10 @@
 -- Two codes that differ in one instruction come to the same while they make the same steps there.
-use Rattle.std.proofs.Common.{arith, ◌≡◌, ◌≢◌, ◌<◌, ◌≤◌, inl, inr, ◌+◌, ℕ, zero, suc, Bool, true}
-use Rattle.std.proofs.Common.{false, List, [], ◌∷◌, ◌++◌, length, drop, take, map, ℤ, refl, sym, ap, ◌∙◌, subst, append_assoc}
-use Rattle.std.specs.Prelude.{Option, Some, None, slice_get}
-use Rattle.std.specs.Option.{option_map, option_map_or}
-use Rattle.std.proofs.lemmas.Bool.{cases_eq, cases_lt}
-use Rattle.std.proofs.lemmas.List.{length-map, take-append-drop}
+use Rattle.f77_code.proofs.Common.{◌≡◌, ◌∙◌, ap, sym, arith, ℕ, refl, subst, length, true, ◌+◌, List, Some, ◌<◌, slice_get, false, [], suc, ◌∷◌, zero, Bool, ℤ}
+use Rattle.f77_code.proofs.Common.{◌≤◌, None, Option, inl, inr, take, drop, ◌++◌, ◌≢◌, map, append_assoc, take-append-drop, cases_eq, cases_lt, length-map}
+use Rattle.f77_code.proofs.Common.{same_Some, slice_get_within, slice_get-map, option_map_or, option_map, point, Point, code_after, ran, one, AreTimes, IsTime}
+use Rattle.f77_code.proofs.Common.{code_within, time_of, with_more, Time, AgreeButAt, MakesSteps, Alongside, DivergeAt, MakesStep, NeverDiverge, SameStep, Turn}
+use Rattle.f77_code.proofs.Common.{Instruction}
 use Rattle.std.proofs.Math.Seq.{drop-append_seam}
-use Rattle.std.proofs.lemmas.Option.{same_Some, slice_get-map, slice_get_within}
-use Rattle.f77_code.specs.declared.control.Turn.{Turn}
-use Rattle.f77_code.specs.declared.instruction.Instruction.{Instruction}
-use Rattle.f77_code.specs.Block.{one, code_after, code_within}
-use Rattle.f77_code.specs.Frame.{with_more}
-use Rattle.f77_code.specs.Operation.{Point, point, ran}
-use Rattle.f77_code.specs.Together.{AgreeButAt, SameStep, Alongside, Time, IsTime, AreTimes}
-use Rattle.f77_code.specs.Together.{MakesSteps, NeverDiverge, DivergeAt, time_of, MakesStep}
 use Rattle.f77_code.proofs.Frame.{more_registers, one_behind}
 use Rattle.f77_code.proofs.Sequences.{after_last, after_more}
 

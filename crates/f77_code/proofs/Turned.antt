@@ -1,41 +1,18 @@
 -- Two codes of one program do the same to counters and to the registers of slots.
-use Rattle.std.proofs.Common.{arith, ◌≡◌, ◌<◌, ◌≤◌, ◌⊎◌, inl, inr, ◌+◌, ◌-◌, ℕ, zero, suc, Bool, true, false}
-use Rattle.std.proofs.Common.{List, length, ℤ, pos, negsuc, refl, sym, ap, ◌∙◌}
-use Rattle.std.specs.Prelude.{⊤, Option, Some, None, MatchOption, Result, Ok, Err, ◌==◌, ◌+ℤ◌, if◌then◌else◌, slice_get, slice_set, unwrap_or}
-use Rattle.std.specs.Option.{option_map_or}
-use Rattle.std.proofs.lemmas.Bool.{eqb-true}
-use Rattle.std.proofs.lemmas.Option.{slice_get_within}
-use Rattle.f77_tree.specs.declared.tree.Kind.{Kind}
-use Rattle.f77_tree.specs.declared.tree.Kind.TheVariants.{Integer, Logical}
-use Rattle.f77_actions.specs.declared.action.Action.{Action}
+use Rattle.f77_code.proofs.Common.{◌≡◌, ◌∙◌, ap, sym, arith, ℕ, refl, length, true, ◌+◌, List, Some, ◌<◌, slice_get, false, suc, zero, Bool, ℤ, ◌≤◌, pos, None}
+use Rattle.f77_code.proofs.Common.{Ok, Option, Result, Err, inl, inr, slice_set, if◌then◌else◌, negsuc, ◌⊎◌, MatchOption, ◌-◌, unwrap_or, ◌+ℤ◌, ◌==◌, eqb-true}
+use Rattle.f77_code.proofs.Common.{slice_get_within, option_map_or, coded, is_same, in_range, trip_count, given, whole, Action, Condition, Variable, Number}
+use Rattle.f77_code.proofs.Common.{Fault, Undefined, Resolved, point, Plan, Point, do_rank, is_loop, onward, ran, term_value, register, Cells, HoldsRegisters}
+use Rattle.f77_code.proofs.Common.{IsSlot, one, IsTerm, StandsForIncrement, IsTest, passed, Comparing, IsOperation, StandsForStatement, Tests, comparing}
+use Rattle.f77_code.proofs.Common.{giving, AreCode, Beginning, StandsForAssignment, branch, by_sign, held_in, item_chosen, one_less, put_in_register, read_as}
+use Rattle.f77_code.proofs.Common.{BeginsDo, Giving, begun_in_code, put_at, used_in_code, decoded, incremented_in_code, registers_for, begun_with, decoded_at}
+use Rattle.f77_code.proofs.Common.{Turn, Instruction, Operation, Next, When', Count, Do, IfTrue, SetElement, SetMatrix, Add, Continue, Goto, IfCompared}
+use Rattle.f77_code.proofs.Common.{IfRelated, Load, Multiply, Return, Select, Set, Sign, Stop, Subtract, Trap, Term, Kind, Integer, Logical}
+use Rattle.std.specs.Prelude.{⊤}
 use Rattle.f77_actions.specs.declared.action.Action as action
-use Rattle.f77_actions.specs.declared.expression.Condition.{Condition}
 use Rattle.f77_actions.specs.declared.expression.Condition as condition
-use Rattle.f77_actions.specs.declared.expression.Element.{Variable}
 use Rattle.f77_actions.specs.declared.expression.Element as slots
-use Rattle.f77_actions.specs.declared.expression.Number.{Number}
-use Rattle.f77_actions.specs.declared.resolved.Resolved.{Resolved}
-use Rattle.f77_actions.specs.declared.finish.Fault.{Fault}
-use Rattle.f77_actions.specs.declared.finish.Fault.TheVariants.{Undefined}
-use Rattle.f77_actions.specs.Number.{in_range, is_same, trip_count}
-use Rattle.f77_actions.specs.Encoded.{coded}
-use Rattle.f77_actions.specs.Value.{given, whole}
-use Rattle.f77_code.specs.declared.control.Turn.{Turn}
-use Rattle.f77_code.specs.declared.instruction.Instruction.{Instruction}
-use Rattle.f77_code.specs.declared.instruction.Operation.{Operation, Set, SetElement, SetMatrix, IfTrue, IfRelated, IfCompared, Do, Count, Next, Sign, Select, When'}
-use Rattle.f77_code.specs.declared.instruction.Operation.{Continue, Goto, Return, Stop, Trap, Move, Add, Subtract, Multiply, Load}
-use Rattle.f77_code.specs.declared.term.Term.{Term}
-use Rattle.f77_code.specs.Block.{one}
-use Rattle.f77_code.specs.Choice.{by_sign, item_chosen}
-use Rattle.f77_code.specs.Evaluation.{held_in}
-use Rattle.f77_code.specs.Holds.{Plan, HoldsRegisters, IsSlot, do_rank, read_as}
-use Rattle.f77_code.specs.Instructions.{Beginning, BeginsDo, Giving, Comparing, giving, comparing, registers_for, StandsForAssignment, Tests, IsOperation}
-use Rattle.f77_code.specs.Instructions.{StandsForStatement, StandsForIncrement, AreCode, onward}
-use Rattle.f77_code.specs.Moves.{Cells, is_loop}
-use Rattle.f77_code.specs.Operation.{Point, point, used_in_code, put_in_register, put_at, branch, passed, begun_in_code, begun_with, one_less, incremented_in_code, ran}
-use Rattle.f77_code.specs.Registers.{register, decoded_at, decoded}
-use Rattle.f77_code.specs.Standing.{IsTerm, IsTest}
-use Rattle.f77_code.specs.Term.{term_value}
+use Rattle.f77_code.specs.declared.instruction.Operation.{Move}
 use Rattle.f77_code.proofs.Listed.{item_at, order}
 use Rattle.f77_code.proofs.Reached.{counted_at}
 use Rattle.f77_code.proofs.SameValue.{same_term}

@@ -1,18 +1,8 @@
 -- Two codes of one program do the same, so what is kept of the times of a run serves for either.
-use Rattle.std.proofs.Common.{arith, ◌≡◌, ◌<◌, ◌≤◌, ◌+◌, ℕ, zero, suc, Bool, true, false, List, [], ◌∷◌, ◌++◌, length, drop, take, map, ℤ, refl, sym, ap, ◌∙◌, subst}
-use Rattle.std.specs.Prelude.{Option, Some, None, slice_get}
-use Rattle.std.specs.Option.{option_and_then}
-use Rattle.std.proofs.lemmas.Option.{same_Some}
-use Rattle.f77_code.specs.declared.control.Turn.{Turn}
-use Rattle.f77_code.specs.Block.{one, code_after}
-use Rattle.f77_code.specs.Evaluation.{held_in}
-use Rattle.f77_code.specs.Frame.{AllWriteBelow}
-use Rattle.f77_code.specs.Holds.{HoldsRegisters, read_as}
-use Rattle.f77_code.specs.Moves.{Cells, Move, State, Goes, Ends, moved}
-use Rattle.f77_code.specs.Operation.{Point, point}
-use Rattle.f77_code.specs.Sequences.{AreStatesNested, moved_by, then_moved}
-use Rattle.f77_code.specs.Simulation.{IsAt, IsMove}
-use Rattle.f77_code.specs.Together.{AreTimes, IsTime, KeptTime, time_of}
+use Rattle.f77_code.proofs.Common.{◌≡◌, ◌∙◌, ap, sym, arith, ℕ, refl, subst, length, true, ◌+◌, List, Some, ◌<◌, slice_get, false, [], suc, ◌∷◌, zero, Bool, ℤ}
+use Rattle.f77_code.proofs.Common.{◌≤◌, None, Option, take, drop, ◌++◌, map, same_Some, option_and_then, point, Point, code_after, Cells, HoldsRegisters, one}
+use Rattle.f77_code.proofs.Common.{IsMove, Move, AreTimes, held_in, read_as, Goes, IsTime, time_of, AllWriteBelow, Ends, moved, AreStatesNested, IsAt, State}
+use Rattle.f77_code.proofs.Common.{moved_by, then_moved, KeptTime, Turn}
 use Rattle.f77_code.specs.Twins.{AreTwins, HaveSlots, SameSlots, TimesOfTwins, Twins, TwinsEqual}
 use Rattle.f77_code.proofs.Frame.{leaves_behind}
 use Rattle.f77_code.proofs.Sequences.{after_last, blocks_simulated, ends, nested_on}

@@ -1,24 +1,13 @@
 -- Code writes the registers of slots alone.
-use Rattle.std.proofs.Common.{arith, ◌≡◌, ◌<◌, ◌≤◌, ◌⊎◌, inl, inr, ◌+◌, ◌*◌, ◌-◌, ℕ, List, length, true, ap, ◌∙◌, subst}
-use Rattle.std.specs.Prelude.{MatchOption, slice_get}
-use Rattle.std.proofs.lemmas.Option.{slice_get_within}
-use Rattle.f77_tree.specs.declared.tree.Kind.{Kind}
-use Rattle.f77_tree.specs.declared.tree.Kind.TheVariants.{Integer, Logical}
-use Rattle.f77_actions.specs.declared.expression.Condition.{Condition}
+use Rattle.f77_code.proofs.Common.{◌≡◌, ◌∙◌, ap, arith, ℕ, subst, length, true, ◌+◌, List, ◌<◌, slice_get, ◌≤◌, inl, inr, ◌*◌, ◌⊎◌, MatchOption, ◌-◌}
+use Rattle.f77_code.proofs.Common.{slice_get_within, Action, Condition, Variable, Resolved, Plan, do_rank, is_loop, onward, IsSlot, IsTerm, StandsForIncrement}
+use Rattle.f77_code.proofs.Common.{IsTest, Comparing, IsOperation, StandsForStatement, Tests, comparing, giving, StandsForAssignment, AreSlots, IsInArray}
+use Rattle.f77_code.proofs.Common.{IsWritten, WritesSlots, Operation, Next, When', Count, Do, IfTrue, SetElement, SetMatrix, Add, Continue, Goto, IfCompared}
+use Rattle.f77_code.proofs.Common.{IfRelated, Load, Multiply, Return, Select, Set, Sign, Stop, Subtract, Trap, Term, Kind, Integer, Logical}
 use Rattle.f77_actions.specs.declared.expression.Condition as condition
-use Rattle.f77_actions.specs.declared.expression.Element.{Variable}
 use Rattle.f77_actions.specs.declared.expression.Element as slots
-use Rattle.f77_actions.specs.declared.action.Action.{Action}
 use Rattle.f77_actions.specs.declared.action.Action as action
-use Rattle.f77_actions.specs.declared.resolved.Resolved.{Resolved}
-use Rattle.f77_code.specs.declared.instruction.Operation.{Operation, Set, SetElement, SetMatrix, IfTrue, IfRelated, IfCompared, Do, Count, Next, Sign, Select, When'}
-use Rattle.f77_code.specs.declared.instruction.Operation.{Continue, Goto, Return, Stop, Trap, Move, Add, Subtract, Multiply, Load}
-use Rattle.f77_code.specs.declared.term.Term.{Term}
-use Rattle.f77_code.specs.Frame.{IsInArray, IsWritten, WritesSlots}
-use Rattle.f77_code.specs.Holds.{Plan, IsSlot, AreSlots, do_rank}
-use Rattle.f77_code.specs.Instructions.{Comparing, giving, comparing, StandsForAssignment, Tests, IsOperation, StandsForStatement, StandsForIncrement, onward}
-use Rattle.f77_code.specs.Moves.{is_loop}
-use Rattle.f77_code.specs.Standing.{IsTerm, IsTest}
+use Rattle.f77_code.specs.declared.instruction.Operation.{Move}
 use Rattle.f77_code.proofs.Listed.{item_at, order}
 use Rattle.f77_code.proofs.Reached.{counted_at}
 

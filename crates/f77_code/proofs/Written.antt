@@ -1,20 +1,11 @@
 -- A value put in a slot and in its register.
-use Rattle.std.proofs.Common.{arith, ◌≡◌, ◌≢◌, ◌<◌, ◌⊎◌, inl, inr, ℕ, zero, suc, Bool, true, false, List, [], ◌∷◌, length, Option, Some, ℤ, pos, negsuc, refl, sym, ap, ◌∙◌, subst, ◌+◌}
-use Rattle.std.specs.Prelude.{Ok, slice_get, slice_set, ◌==◌, ◌||◌, ◌<ℤ◌}
-use Rattle.std.specs.Option.{option_and_then}
-use Rattle.std.proofs.lemmas.Bool.{and_parts, eqb-true, ltb-true, cases_eq}
-use Rattle.std.proofs.lemmas.List.{length-set}
-use Rattle.f77_tree.specs.declared.tree.Kind.TheVariants.{Integer, Logical}
+use Rattle.f77_code.proofs.Common.{◌≡◌, ◌∙◌, ap, sym, arith, ℕ, refl, subst, length, true, ◌+◌, List, Some, ◌<◌, slice_get, false, [], suc, ◌∷◌, zero, Bool, ℤ}
+use Rattle.f77_code.proofs.Common.{pos, Ok, Option, inl, inr, slice_set, negsuc, ◌⊎◌, ltb-true, ◌≢◌, length-set, ◌<ℤ◌, ◌==◌, eqb-true, ◌||◌, and_parts}
+use Rattle.f77_code.proofs.Common.{cases_eq, option_and_then, fits_truth, truth_number, IsValueOrFault, fits, Plan, register, Cells, HoldsRegisters, IsSlot}
+use Rattle.f77_code.proofs.Common.{are_held, is_held, held_in, read_as, decoded, Integer, Logical}
 use Rattle.f77_actions.specs.declared.value.Value.{Value}
-use Rattle.f77_actions.specs.declared.value.Value.TheVariants as held
-use Rattle.f77_code.specs.Evaluation.{held_in}
-use Rattle.f77_code.specs.Holds.{Plan, HoldsRegisters, IsSlot, read_as}
-use Rattle.f77_code.specs.Moves.{Cells}
-use Rattle.f77_code.specs.Registers.{register, decoded, is_held, are_held}
-use Rattle.f77_actions.specs.Number.{fits}
-use Rattle.f77_actions.specs.Encoded.{IsValueOrFault, truth_number}
-use Rattle.f77_actions.proofs.Bounds.{fits_truth}
 use Rattle.f77_actions.proofs.Operations.{value_fits}
+use Rattle.f77_actions.specs.declared.value.Value.TheVariants as held
 
 register_same : (registers : List ℤ) (k : ℕ) (z : ℤ) → k < length registers → register (slice_set registers k z) k ≡ decoded z
 register_same [] k z below = absurd (omega arith)

@@ -4,3 +4,9 @@ pub mod Compiling
 pub mod Constants
 pub mod Follow
 pub mod Registers
+pub use Compile.*
+pub use Compiled.*
+pub use Compiling.*
+pub use Constants.*
+pub use Follow.*
+pub use Registers.*

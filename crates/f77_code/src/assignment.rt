@@ -1,12 +1,12 @@
 //! The execution of assignments (ANSI X3.9-1978, 10.1 and 10.2). Each function gives the next place.
 
-ghost use Rattle.std.specs.Prelude.{◌≡◌, ◌≤◌, ◌<◌, ◌+◌, ◌*◌, true, length, slice_set, List, ℤ, Result};
+ghost use Rattle.std.specs.Prelude.{◌≡◌, ◌≤◌, ◌<◌, ◌+◌, ◌*◌, true, length, slice_set, List};
+ghost use Rattle.std.specs.Prelude.{ℤ, Result};
 ghost use Rattle.f77_actions.specs.declared.finish.Fault.{Fault};
 ghost use Rattle.f77_code.specs.declared.control.Turn.{Turn};
 ghost use Rattle.f77_code.specs.Operation as meaning;
-ghost use Rattle.f77_code.specs.Registers.{are_held, vector_place, matrix_place};
-ghost use Rattle.f77_code.specs.Term.{term_value, term_within};
 ghost use Rattle.f77_actions.specs.Encoded.{Encodes, IsValueOrFault};
+ghost use Rattle.f77_code.specs.{are_held, vector_place, matrix_place, term_value, term_within};
 
 use crate::ending::failed;
 use crate::evaluate::operand;

@@ -1,9 +1,7 @@
 //! The inner loop: instructions are executed one after another.
 
 ghost use Rattle.std.specs.Prelude.{◌≡◌, ◌≤◌, ◌<◌, true, length, ℕ};
-ghost use Rattle.f77_code.specs.Block.{code_after, code_within};
-ghost use Rattle.f77_code.specs.Operation.{operation_within, point, ran};
-ghost use Rattle.f77_code.specs.Registers.{are_held};
+ghost use Rattle.f77_code.specs.{code_after, code_within, operation_within, point, ran, are_held};
 
 use crate::control::Turn;
 use crate::instruction::Instruction;

@@ -1,14 +1,13 @@
 //! The execution of branches: a value decides where control goes (ANSI X3.9-1978, 11.2 to 11.7).
 
-ghost use Rattle.std.specs.Prelude.{◌≡◌, ◌<◌, ◌+◌, ◌≤ℤ◌, pos, true, length, unwrap_or, List, ℤ, Result};
+ghost use Rattle.std.specs.Prelude.{◌≡◌, ◌<◌, ◌+◌, ◌≤ℤ◌, pos, true, length, unwrap_or, List, ℤ};
+ghost use Rattle.std.specs.Prelude.{Result};
 ghost use Rattle.f77_actions.specs.declared.finish.Fault.{Fault};
 ghost use Rattle.f77_code.specs.Choice as choice;
 ghost use Rattle.f77_code.specs.declared.control.Turn.{Turn};
 ghost use Rattle.f77_code.specs.Operation as meaning;
-ghost use Rattle.f77_code.specs.Operation.{point, used_in_code};
-ghost use Rattle.f77_code.specs.Registers.{are_held};
-ghost use Rattle.f77_code.specs.Term.{term_value, term_within};
 ghost use Rattle.f77_actions.specs.Encoded.{Encodes, IsValueOrFault};
+ghost use Rattle.f77_code.specs.{point, used_in_code, are_held, term_value, term_within};
 
 use crate::ending::failed;
 use crate::evaluate::operand;

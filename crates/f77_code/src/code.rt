@@ -1,12 +1,10 @@
 //! The code of a program, and its making.
 
 ghost use Rattle.std.specs.Prelude.{◌≡◌, ◌<◌, ◌+◌, length, true, IfOk};
-ghost use Rattle.f77_code.specs.Compiled.{are_ready};
-ghost use Rattle.f77_code.specs.code.Compiled.{AreExecuted, AreFollowed};
 ghost use Rattle.f77_code.specs.declared.constants.Constants.{Constants};
 ghost use Rattle.f77_actions.specs.declared.resolved.Resolved.{Resolved};
-ghost use Rattle.f77_code.specs.Places.{ArePlaces, have_places};
-ghost use Rattle.f77_code.specs.Program.{IsCode};
+ghost use Rattle.f77_code.specs.{are_ready, ArePlaces, have_places, IsCode};
+ghost use Rattle.f77_code.specs.code.{AreExecuted, AreFollowed};
 
 use crate::compile::register_of;
 use crate::constants::Constants;

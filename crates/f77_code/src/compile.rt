@@ -1,11 +1,10 @@
 //! Compiling expressions: their slots and constants become registers.
 
 ghost use Rattle.std.specs.Prelude.{◌≡◌, ◌≤◌, true, IfOk, IfSome};
-ghost use Rattle.f77_code.specs.code.Compile.{IsReadTerm, IsNumberTerm, IsTestTerm};
-ghost use Rattle.f77_code.specs.code.Compile.{IsVectorOf, IsMatrixOf, IsCalculationOf, IsRelationOf};
-ghost use Rattle.f77_code.specs.code.Constants.{GrowsPlan};
-ghost use Rattle.f77_code.specs.Evaluation.{element_within, number_within, condition_within};
 ghost use Rattle.f77_actions.specs.Encoded as meaning;
+ghost use Rattle.f77_code.specs.{element_within, number_within, condition_within};
+ghost use Rattle.f77_code.specs.code.{IsReadTerm, IsNumberTerm, IsTestTerm, IsVectorOf, IsMatrixOf, IsCalculationOf};
+ghost use Rattle.f77_code.specs.code.{IsRelationOf, GrowsPlan};
 
 use crate::constants::Constants;
 use crate::term::{Pair, Term};

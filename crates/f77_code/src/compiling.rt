@@ -2,10 +2,8 @@
 
 ghost use Rattle.std.specs.Prelude.{◌≡◌, ◌<◌, true, IfOk, map};
 ghost use Rattle.std.specs.List.{list_all};
-ghost use Rattle.f77_code.specs.Compiling.{is_of_32_bits, can_compile};
-ghost use Rattle.f77_code.specs.code.Compiling.{IsGiving, IsTesting, IsAssigning, IsConditional, IsCompiled};
-ghost use Rattle.f77_code.specs.code.Constants.{GrowsPlan};
-ghost use Rattle.f77_code.specs.Evaluation.{element_within, condition_within};
+ghost use Rattle.f77_code.specs.{is_of_32_bits, can_compile, element_within, condition_within};
+ghost use Rattle.f77_code.specs.code.{IsGiving, IsTesting, IsAssigning, IsConditional, IsCompiled, GrowsPlan};
 
 use crate::compile::{paired, register_of};
 use crate::constants::Constants;

@@ -5,8 +5,8 @@ ghost use Rattle.f77_actions.specs.declared.finish.Fault.{Fault};
 ghost use Rattle.f77_actions.specs.declared.finish.Finish.{Finish};
 ghost use Rattle.f77_actions.specs.declared.finish.Finish.TheVariants.{Failed, StepLimit};
 ghost use Rattle.f77_code.specs.Operation as meaning;
-ghost use Rattle.f77_code.specs.Registers.{vector_place, matrix_place};
 ghost use Rattle.f77_actions.specs.Encoded.{Encodes, IsValueOrFault, fault_number};
+ghost use Rattle.f77_code.specs.{vector_place, matrix_place};
 
 use f77_actions::encoded::{BAD_SUBSCRIPT, UNDEFINED};
 use f77_actions::{Fault, Finish};

@@ -3,11 +3,11 @@
 ghost use Rattle.std.specs.Prelude.{◌≡◌, ◌≤◌, ◌<◌, ◌+◌, ◌*◌, true, length, Ok};
 ghost use Rattle.f77_actions.specs.declared.expression.Arithmetic.TheVariants as arithmetic;
 ghost use Rattle.f77_code.specs.Evaluation as meaning;
-ghost use Rattle.f77_code.specs.Registers.{are_held, register, vector_place, matrix_place, element_at};
-ghost use Rattle.f77_code.specs.Term.{connected_number, related_number, term_value, term_within};
 ghost use Rattle.f77_actions.specs.Number.{fits, in_range, negated, without_sign};
 ghost use Rattle.f77_actions.specs.Encoded.{Encodes, negation};
 ghost use Rattle.f77_actions.specs.Value.{given, both, pushed};
+ghost use Rattle.f77_code.specs.{are_held, register, vector_place, matrix_place, element_at, connected_number};
+ghost use Rattle.f77_code.specs.{related_number, term_value, term_within};
 
 use crate::operators::{calculated, compared, connected};
 use crate::registers::{element, matrix_element, read};

@@ -2,11 +2,8 @@
 
 ghost use Rattle.std.specs.Prelude.{◌≡◌, ◌<◌, List, length, true, Some, slice_get, IfOk};
 ghost use Rattle.f77_actions.specs.declared.resolved.Resolved.{Resolved};
-ghost use Rattle.f77_code.specs.Compiled.{is_ready, IsInstruction};
-ghost use Rattle.f77_code.specs.code.Compiled.{HaveSameFrames};
-ghost use Rattle.f77_code.specs.code.Constants.{GrowsPlan};
-ghost use Rattle.f77_code.specs.Instructions.{beginning};
-ghost use Rattle.f77_code.specs.Places.{ArePlaces, has_places, have_places};
+ghost use Rattle.f77_code.specs.{is_ready, IsInstruction, beginning, ArePlaces, has_places, have_places};
+ghost use Rattle.f77_code.specs.code.{HaveSameFrames, GrowsPlan};
 
 use crate::compile::register_of;
 use crate::compiling::{place_of, tested};

@@ -1,11 +1,8 @@
 //! The start of a changed run: it begins where it may diverge from the run of the program.
 
-ghost use Rattle.std.specs.Prelude.{◌≡◌, ◌≤◌, ◌+◌, ◌++◌, ℕ, drop, length, take, true, IfNone, IfSome};
-ghost use Rattle.f77_code.specs.Block.{code_after, code_within};
-ghost use Rattle.f77_code.specs.Frame.{with_more};
-ghost use Rattle.f77_code.specs.KeptStep.{IsKept, DivergingRuns};
-ghost use Rattle.f77_code.specs.Operation.{point};
-ghost use Rattle.f77_code.specs.Registers.{are_held};
+ghost use Rattle.std.specs.Prelude.{◌≡◌, ◌≤◌, ◌+◌, ◌++◌, ℕ, drop, length, take, true, IfNone};
+ghost use Rattle.std.specs.Prelude.{IfSome};
+ghost use Rattle.f77_code.specs.{code_after, code_within, with_more, IsKept, DivergingRuns, point, are_held};
 
 use crate::blocks::block;
 use crate::control::Turn;

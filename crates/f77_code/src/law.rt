@@ -1,10 +1,8 @@
 //! Laws of the code of every program.
 
-ghost use Rattle.f77_code.specs.Frame.{LeavesBehind, MoreRegisters, WritesSlots};
-ghost use Rattle.f77_code.specs.Sequences.{BlocksSimulated, CodeComesBack};
-ghost use Rattle.f77_code.specs.Simulation.{MovesSimulated};
-ghost use Rattle.f77_code.specs.Together.{Alongside, MakesStep, NeverDiverge, DivergeAt};
 ghost use Rattle.f77_code.specs.Twins.{TimesOfTwins, TwinsEqual};
+ghost use Rattle.f77_code.specs.{LeavesBehind, MoreRegisters, WritesSlots, BlocksSimulated, CodeComesBack};
+ghost use Rattle.f77_code.specs.{MovesSimulated, Alongside, MakesStep, NeverDiverge, DivergeAt};
 
 /// A step of the code is a step of the machine over slots, and many steps of the code are as many of the machine.
 #[tactic(auto, using(crate::proofs::Simulation::moves_simulated, crate::proofs::Sequences::blocks_simulated))]

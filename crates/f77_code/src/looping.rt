@@ -5,12 +5,10 @@ ghost use Rattle.f77_actions.specs.declared.finish.Fault.{Fault};
 ghost use Rattle.f77_code.specs.declared.control.Turn.{Turn};
 ghost use Rattle.f77_code.specs.declared.instruction.Operation as operation;
 ghost use Rattle.f77_code.specs.Operation as meaning;
-ghost use Rattle.f77_code.specs.Operation.{point, ran};
-ghost use Rattle.f77_code.specs.Registers.{are_held};
-ghost use Rattle.f77_code.specs.Term.{term_value, term_within};
 ghost use Rattle.f77_actions.specs.Number as exact;
 ghost use Rattle.f77_actions.specs.Encoded.{Encodes, IsValueOrFault, HasValue};
 ghost use Rattle.f77_actions.specs.Value.{given};
+ghost use Rattle.f77_code.specs.{point, ran, are_held, term_value, term_within};
 
 use crate::assignment::write;
 use crate::control::Turn;

@@ -4,12 +4,9 @@
 //! times the memory.
 
 ghost use Rattle.std.specs.Prelude.{◌≡◌, ◌≤◌, ◌+◌, drop, length, true, IfOk, OnOk};
-ghost use Rattle.f77_code.specs.Block.{one, code_after, code_within};
-ghost use Rattle.f77_code.specs.Follow.{AreNone, ArePassed, HaveSizes, numbers_kept};
-ghost use Rattle.f77_code.specs.Frame.{AllWriteBelow};
-ghost use Rattle.f77_code.specs.Operation.{point};
-ghost use Rattle.f77_code.specs.Registers.{are_held};
-ghost use Rattle.f77_code.specs.code.Follow.{NotesList};
+ghost use Rattle.f77_code.specs.{one, code_after, code_within, AreNone, ArePassed, HaveSizes, numbers_kept};
+ghost use Rattle.f77_code.specs.{AllWriteBelow, point, are_held};
+ghost use Rattle.f77_code.specs.code.{NotesList};
 
 use crate::blocks::{Stand, block};
 use crate::control::Turn;

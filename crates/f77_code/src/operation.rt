@@ -1,10 +1,8 @@
 //! The execution of an operation.
 
 ghost use Rattle.std.specs.Prelude.{◌≡◌, ◌==◌, true, length, if◌then◌else◌, pos};
-ghost use Rattle.f77_code.specs.Operation.{operation_within, point, ran, used_in_code};
-ghost use Rattle.f77_code.specs.Registers.{are_held};
-ghost use Rattle.f77_code.specs.Term.{term_value, term_within};
 ghost use Rattle.f77_actions.specs.Number.{is_same};
+ghost use Rattle.f77_code.specs.{operation_within, point, ran, used_in_code, are_held, term_value, term_within};
 
 use crate::assignment::{put, set_element, set_matrix};
 use crate::branching::{branch, select, sign};

@@ -3,9 +3,9 @@
 ghost use Rattle.std.specs.Prelude.{◌≡◌, ◌<◌, ◌+◌, if◌then◌else◌, List, length, true, IfOk};
 ghost use Rattle.f77_actions.specs.declared.resolved.Resolved.{Resolved};
 ghost use Rattle.f77_code.specs.Instructions as meaning;
-ghost use Rattle.f77_code.specs.Compiling.{is_of_32_bits};
 ghost use Rattle.f77_code.specs.Holds as counts;
 ghost use Rattle.f77_code.specs.Moves as moves;
+ghost use Rattle.f77_code.specs.{is_of_32_bits};
 
 use crate::compiling::place_of;
 use f77_actions::{Action, Resolved};

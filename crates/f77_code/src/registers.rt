@@ -1,10 +1,11 @@
 //! Reading registers, and the elements of arrays in them.
 
-ghost use Rattle.std.specs.Prelude.{◌≡◌, ◌≤◌, ◌<◌, ◌+◌, ◌*◌, ◌≤ℤ◌, true, length, pos, ℤ, Result};
+ghost use Rattle.std.specs.Prelude.{◌≡◌, ◌≤◌, ◌<◌, ◌+◌, ◌*◌, ◌≤ℤ◌, true, length, pos};
+ghost use Rattle.std.specs.Prelude.{ℤ, Result};
 ghost use Rattle.f77_actions.specs.declared.finish.Fault.{Fault};
 ghost use Rattle.f77_code.specs.code.Registers as meaning;
-ghost use Rattle.f77_code.specs.Registers.{are_held, register, vector_place, matrix_place, element_at};
 ghost use Rattle.f77_actions.specs.Encoded.{Encodes, IsValueOrFault};
+ghost use Rattle.f77_code.specs.{are_held, register, vector_place, matrix_place, element_at};
 
 use f77_actions::encoded::{BAD_SUBSCRIPT, UNDEFINED};
 

@@ -1,12 +1,10 @@
 //! The code of a program in which one instruction at a time is replaced.
 
-ghost use Rattle.std.specs.Prelude.{◌≡◌, ◌≤◌, ◌<◌, List, true, length, IfSome, OnErr, OnOk, slice_get, slice_set};
+ghost use Rattle.std.specs.Prelude.{◌≡◌, ◌≤◌, ◌<◌, List, true, length, IfSome, OnErr, OnOk, slice_get};
+ghost use Rattle.std.specs.Prelude.{slice_set};
 ghost use Rattle.f77_actions.specs.declared.resolved.Resolved.{Resolved as Statement};
-ghost use Rattle.f77_code.specs.Compiled.{is_ready, are_ready};
-ghost use Rattle.f77_code.specs.Replacing.{own_instructions, IsChangedCode, IsAllOwn, HaveOneOwn, MayReplace};
-ghost use Rattle.f77_code.specs.Places.{has_places, have_places};
-ghost use Rattle.f77_code.specs.Program.{IsCode};
-ghost use Rattle.f77_code.specs.Together.{AgreeButAt};
+ghost use Rattle.f77_code.specs.{is_ready, are_ready, own_instructions, IsChangedCode, IsAllOwn, HaveOneOwn};
+ghost use Rattle.f77_code.specs.{MayReplace, has_places, have_places, IsCode, AgreeButAt};
 
 use crate::code::Code;
 use crate::instruction::Instruction;

@@ -1,9 +1,7 @@
 //! Instructions executed one after another, up to a place.
 
 ghost use Rattle.std.specs.Prelude.{◌≡◌, ◌⊎◌, ◌≤◌, ◌<◌, true, length, ℕ};
-ghost use Rattle.f77_code.specs.Block.{code_after, code_within};
-ghost use Rattle.f77_code.specs.Operation.{point};
-ghost use Rattle.f77_code.specs.Registers.{are_held};
+ghost use Rattle.f77_code.specs.{code_after, code_within, point, are_held};
 
 use crate::blocks::{Stand, step};
 use crate::control::Turn;

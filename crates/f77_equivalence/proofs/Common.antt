@@ -16,7 +16,7 @@ pub use Rattle.f77_code.specs.Moves.{passing_at, moved, is_executed, is_loop, St
 pub use Rattle.f77_code.specs.Sequences.{moved_by}
 pub use Rattle.f77_code.specs.declared.control.Place.TheVariants.{Execute, Increment}
 pub use Rattle.f77_equivalence.specs.{start_state, AreStorable, IsChange, start_cells, start_turns, HoldAlike, IsEnding, HoldsStart, IsStartEntry, is_storable}
-pub use Rattle.f77_equivalence.specs.{AgreeBut, PassAlike, site, IsEnd}
+pub use Rattle.f77_equivalence.specs.{AgreeBut, PassAlike, site}
 pub use Rattle.f77_equivalence.specs.code.{facts_given}
 pub use Rattle.f77_facts.specs.Facts.{AreIn, SuitsFact}
 pub use Rattle.f77_facts.specs.Loops.{AreLeft, SuitsTurn}
@@ -24,7 +24,7 @@ pub use Rattle.f77_facts.specs.declared.loops.LoopFact.TheVariants.{Inactive}
 pub use Rattle.f77_legal.specs.Names.{bounds_of, kind_of}
 pub use Rattle.f77_meaning.proofs.InRun.{IsRunningIn, stands_for, values_at}
 pub use Rattle.f77_meaning.specs.Control.{Comes}
-pub use Rattle.f77_meaning.specs.Interpreter.{AreFitting, values_in, has_shape, AreArguments, IsOutcomeOf, Reports, fault_outcome}
+pub use Rattle.f77_meaning.specs.Interpreter.{AreFitting, IsEnd, values_in, has_shape, AreArguments, IsOutcomeOf, Reports, fault_outcome}
 pub use Rattle.f77_meaning.specs.Spans.{all_filled, filled, size_of}
 pub use Rattle.f77_meaning.specs.Start.{IsStart, constant_value, argument_values}
 pub use Rattle.f77_meaning.specs.code.Running.{site_of, RunSite}

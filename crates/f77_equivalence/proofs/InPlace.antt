@@ -1,5 +1,5 @@
 -- A statement in the place of another.
-use Rattle.f77_equivalence.proofs.Common.{arith, ◌≡◌, ◌-◌, ◌<◌, ℕ, List, length, map, sym, ap, option_map, slice_get, slice_set, slice_get_within, LineFields}
+use Rattle.f77_equivalence.proofs.Common.{arith, ◌≡◌, ◌-◌, ◌<◌, ℕ, List, length, map, sym, ap, option_map, slice_set, slice_get_within, LineFields}
 use Rattle.f77_equivalence.proofs.Common.{line_of, CheckedFields, IsChecked, Resolved, IsChange}
 use Rattle.f77_program.specs.Patching.{Fits, patched}
 use Rattle.f77_tree.specs.Statement.{Statement}

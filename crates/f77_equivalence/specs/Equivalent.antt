@@ -4,15 +4,8 @@ use Rattle.f77_program.specs.Program.{LineFields}
 use Rattle.f77_check.specs.Checked.{shapes}
 use Rattle.f77_meaning.specs.declared.argument.Arg.{Arg}
 use Rattle.f77_meaning.specs.declared.outcome.Outcome.{Outcome}
-use Rattle.f77_meaning.specs.declared.outcome.Outcome.TheVariants.{Returned, Stopped}
-use Rattle.f77_meaning.specs.Interpreter.{AreFitting, IsOutcomeOf}
+use Rattle.f77_meaning.specs.Interpreter.{AreFitting, IsEnd, IsOutcomeOf}
 use Rattle.f77_equivalence.specs.Storable.{AreStorable}
-
--- the run ends of itself, and not by a fault
-abbrev pub IsEnd : Outcome → Type 0
-IsEnd (Returned arguments) = Unit {0}
-IsEnd (Stopped arguments) = Unit {0}
-IsEnd _ = ⊥
 
 -- with these arguments, and whatever the limit on steps, where the
 -- first program returns or stops, the second comes to the same

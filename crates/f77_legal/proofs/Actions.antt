@@ -1,13 +1,9 @@
 -- What stands in a logical IF of a program.
-use Rattle.std.proofs.Common.{◌≡◌, ℕ, zero, suc, Bool, true, List, Option, Some, None, refl, subst}
+use Rattle.f77_legal.proofs.Common.{◌≡◌, List, refl, ℕ, Bool, true, Some, None, suc, Option, zero, subst, nth_statement, LineFields, IsProgram, Statement, Tree}
 use Rattle.f77_program.specs.Formed.{is_action}
 use Rattle.f77_program.specs.Group.{group_of}
-use Rattle.f77_program.specs.Program.{LineFields, IsProgram}
 use Rattle.f77_tree.specs.StatementGrammar.{SpellsAction, SpellsStatement, IsFormed, in_text}
-use Rattle.f77_tree.specs.Tree.{Tree}
-use Rattle.f77_tree.specs.Statement.{Statement}
 use Rattle.f77_program.specs.declared.group.Group.{Group}
-use Rattle.f77_legal.specs.Labels.{nth_statement}
 
 spelled_acts : {text : List ℕ} {s : Statement} → SpellsAction text s → is_action s ≡ true
 spelled_acts (SpellsAction.assign a b) = refl

@@ -1,15 +1,6 @@
 -- A change of one statement that is judged by that statement alone.
-use Rattle.std.proofs.Common.{◌≡◌, ℕ, List}
-use Rattle.std.specs.Prelude.{option_map}
-use Rattle.f77_program.specs.Program.{LineFields}
-use Rattle.f77_program.specs.Patching.{replaced}
-use Rattle.f77_tree.specs.Statement.{Statement}
-use Rattle.f77_legal.specs.Clause.{clause_fault}
-use Rattle.f77_legal.specs.Frames.{HaveOneFrame}
-use Rattle.f77_legal.specs.Legal.{IsLegal, first_clause, first_fault}
-use Rattle.f77_legal.specs.Names.{Symbol}
-use Rattle.f77_legal.specs.Patches.{IsStock}
-use Rattle.f77_legal.specs.Alone.{StandsAlone}
+use Rattle.f77_legal.proofs.Common.{◌≡◌, List, ℕ, option_map, Symbol, IsLegal, HaveOneFrame, clause_fault, IsStock, first_clause, first_fault, StandsAlone}
+use Rattle.f77_legal.proofs.Common.{replaced, LineFields, Statement}
 use Rattle.f77_legal.proofs.Changed.{changed_fault}
 use Rattle.f77_legal.proofs.FrameNames.{is_real_same, is_twice_same, elements_same, is_array_same}
 use Rattle.f77_legal.proofs.PatchNames.{replaced_among}

@@ -1,13 +1,8 @@
 -- Names among the names of a list: what holds of them, and how many and how large they are where none stands twice.
-use Rattle.std.proofs.Common.{arith, ◌≡◌, ◌≤◌, ◌+◌, ◌||◌, ℕ, Bool, true, false, cond, not, List, [], ◌∷◌, length, map, filter, refl, sym, ◌∙◌, ap, subst}
-use Rattle.std.proofs.Math.Bool.{or-true}
-use Rattle.std.specs.List.{All, sum, sum_by}
-use Rattle.std.specs.Str.{bytes_eq}
-use Rattle.std.proofs.lemmas.List.Elements.{All-nil, All-cons, All-head, All-tail}
-use Rattle.std.proofs.lemmas.List.Sums.{sum_by-cons, sum-map}
+use Rattle.f77_legal.proofs.Common.{◌≡◌, ◌∙◌, ap, map, sym, List, refl, ℕ, [], false, ◌∷◌, length, Bool, arith, true, ◌+◌, filter, ◌||◌, not, cond, ◌≤◌, subst}
+use Rattle.f77_legal.proofs.Common.{or-true, All-head, All-tail, All-cons, All-nil, sum-map, sum_by-cons, All, sum, sum_by, bytes_eq, Symbol, names_once}
+use Rattle.f77_legal.proofs.Common.{is_name_among}
 use Rattle.std.proofs.lemmas.Map.Views.{any-filter_same}
-use Rattle.f77_legal.specs.Names.{Symbol, names_once}
-use Rattle.f77_legal.specs.Patches.{is_name_among}
 use Rattle.f77_legal.proofs.Symbols.{or_false, same_symbol, symbol_refl, without, Apart, any_once, once_apart}
 
 -- what holds of each name of a list holds of those among them

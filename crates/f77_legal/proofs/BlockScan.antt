@@ -1,18 +1,11 @@
 -- The scan from a statement to the end of its block or its branch.
-use Rattle.std.proofs.Common.{◌≡◌, ◌⊎◌, inl, inr, ℕ, suc, ◌+◌, ◌-◌, ◌<◌, ◌≤◌, Bool, true, false, cond, List, length, take, drop, get_or, Option, Some, None, refl, ap, subst, ◌∙◌, arith, length-drop}
-use Rattle.std.specs.Prelude.{◌==◌, ◌&&◌, ◌||◌, nat_lt, filter, option_map}
+use Rattle.f77_legal.proofs.Common.{◌≡◌, ◌∙◌, ap, List, refl, ℕ, false, length, Bool, arith, true, Some, None, ◌+◌, filter, ◌||◌, suc, take, Option, ◌&&◌, ◌<◌}
+use Rattle.f77_legal.proofs.Common.{cond, drop, get_or, option_map, ◌≤◌, nat_lt, ◌==◌, subst, inr, inl, ◌-◌, ◌⊎◌, lt-ltb, eq-eqb, get_or-drop, length-drop}
+use Rattle.f77_legal.proofs.Common.{cases_lt, and_left, and_right, and_cases, nat_tests, eqb_tells, get_or_from_slice_get, slice_get_within, option_map_or}
+use Rattle.f77_legal.proofs.Common.{nth_statement, is_block_if, is_alternative, block_end, has_at, is_end_if, statement_numbers, branch_end, is_level}
+use Rattle.f77_legal.proofs.Common.{count_between, end_of, depth_behind, stops, LineFields, Statement}
 use Rattle.std.specs.List.{slice_get}
-use Rattle.std.specs.Option.{option_map_or}
-use Rattle.std.proofs.lemmas.Bool.{cases_lt, and_cases, and_left, and_right, lt-ltb, eq-eqb}
-use Rattle.std.proofs.lemmas.Bool.Decides.{eqb_tells, nat_tests}
-use Rattle.std.proofs.lemmas.List.{get_or-drop}
 use Rattle.std.proofs.lemmas.List.Filters.{length-filter_more}
-use Rattle.std.proofs.lemmas.Option.{slice_get_within, get_or_from_slice_get}
-use Rattle.f77_program.specs.Program.{LineFields}
-use Rattle.f77_tree.specs.Statement.{Statement}
-use Rattle.f77_legal.specs.Labels.{nth_statement}
-use Rattle.f77_legal.specs.Blocks.{is_block_if, is_end_if, is_alternative, statement_numbers, has_at, count_between, is_level, block_end, branch_end}
-use Rattle.f77_legal.specs.code.BlockTable.{stops, end_of, depth_behind}
 use Rattle.f77_legal.specs.declared.blocks.Extent.{Extent}
 use Rattle.f77_legal.specs.declared.blocks.Extent.TheVariants.{Block, Branch}
 use Rattle.f77_legal.proofs.FirstNumbers.{none_found, first_found, find_same}

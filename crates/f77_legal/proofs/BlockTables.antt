@@ -1,20 +1,11 @@
 -- What the table of blocks says of a statement.
-use Rattle.std.proofs.Common.{◌≡◌, ◌⊎◌, inl, inr, ℕ, ◌<◌, ◌≤◌, Bool, true, false, cond, List, length, map, take, get_or, Option, Some, None, refl, sym, ap, ◌∙◌, arith}
-use Rattle.std.specs.Prelude.{◌==◌, ◌&&◌, ◌||◌, nat_lt, not, is_some}
-use Rattle.std.specs.List.{list_any, slice_get}
-use Rattle.std.specs.Option.{option_map_or}
-use Rattle.std.proofs.lemmas.Bool.{cases_lt, and_left, and_right}
-use Rattle.std.proofs.lemmas.Bool.Decides.{nat_tests}
-use Rattle.std.proofs.lemmas.List.{get_or_past}
-use Rattle.std.proofs.lemmas.Option.{slice_get_past}
-use Rattle.f77_program.specs.Program.{LineFields}
-use Rattle.f77_tree.specs.Statement.{Statement}
-use Rattle.f77_legal.specs.Labels.{nth_statement}
-use Rattle.f77_legal.specs.Blocks.{is_block_if, is_end_if, is_else, is_alternative, first_numbers, statement_numbers, has_at, block_end}
-use Rattle.f77_legal.specs.Blocks.{branch_end, is_in_block, is_end_of_block, ends_else, begins_branch, branch_holds, breaks_block}
-use Rattle.f77_legal.specs.BlockTable.{block_end_at, else_end_at, branch_end_at, IsBlockTable}
-use Rattle.f77_legal.specs.code.BlockTable.{end_of, is_end_among, is_before_end, is_misplaced}
-use Rattle.f77_legal.specs.declared.blocks.Blocks.{Blocks}
+use Rattle.f77_legal.proofs.Common.{◌≡◌, ◌∙◌, ap, map, sym, List, refl, ℕ, false, length, Bool, arith, true, Some, None, ◌||◌, take, Option, ◌&&◌, ◌<◌, not}
+use Rattle.f77_legal.proofs.Common.{cond, get_or, ◌≤◌, nat_lt, ◌==◌, inr, is_some, inl, ◌⊎◌, cases_lt, and_left, and_right, nat_tests, get_or_past}
+use Rattle.f77_legal.proofs.Common.{slice_get_past, list_any, option_map_or, nth_statement, first_numbers, is_block_if, is_alternative, block_end, has_at}
+use Rattle.f77_legal.proofs.Common.{is_end_if, branch_end_at, is_in_block, statement_numbers, block_end_at, branch_end, else_end_at, is_else, IsBlockTable}
+use Rattle.f77_legal.proofs.Common.{begins_branch, branch_holds, breaks_block, ends_else, is_end_of_block, end_of, is_before_end, is_end_among, is_misplaced}
+use Rattle.f77_legal.proofs.Common.{Blocks, LineFields, Statement}
+use Rattle.std.specs.List.{slice_get}
 use Rattle.f77_legal.specs.declared.blocks.Extent.TheVariants.{Block, Branch}
 use Rattle.f77_legal.proofs.BlockScan.{branch_end_is}
 use Rattle.f77_legal.proofs.FirstNumbers.{length-table, get_or-table, take-table, any_same, any_below, any_end, or_false}

@@ -1,18 +1,10 @@
 -- Each further branch of a block that has its END IF has that END IF too.
-use Rattle.std.proofs.Common.{◌≡◌, inl, inr, ℕ, zero, suc, ◌+◌, ◌-◌, ◌<◌, ◌≤◌, Bool, true, false, cond, List, [], ◌∷◌}
-use Rattle.std.proofs.Common.{length, take, drop, get_or, Option, Some, None, refl, ap, sym, subst, ◌∙◌, arith, length-drop}
-use Rattle.std.specs.Prelude.{◌&&◌, nat_lt, filter, option_map, IsSome}
-use Rattle.std.specs.List.{find, slice_get}
-use Rattle.std.specs.Option.{option_map_or, option_or}
-use Rattle.std.proofs.lemmas.Bool.{cases_lt, lt-ltb, eq-eqb, eqb-true}
-use Rattle.std.proofs.lemmas.List.{get_or-drop}
+use Rattle.f77_legal.proofs.Common.{◌≡◌, ◌∙◌, ap, sym, List, refl, ℕ, [], false, ◌∷◌, length, Bool, arith, true, Some, None, ◌+◌, filter, suc, take, Option}
+use Rattle.f77_legal.proofs.Common.{◌&&◌, ◌<◌, cond, drop, get_or, option_map, ◌≤◌, zero, nat_lt, subst, inr, inl, ◌-◌, eqb-true, IsSome, lt-ltb, eq-eqb}
+use Rattle.f77_legal.proofs.Common.{get_or-drop, length-drop, cases_lt, find-append, get_or_from_slice_get, find, option_map_or, option_or, nth_statement}
+use Rattle.f77_legal.proofs.Common.{first_numbers, is_block_if, is_alternative, block_end, has_at, is_end_if, is_level, count_between, LineFields, Statement}
+use Rattle.std.specs.List.{slice_get}
 use Rattle.std.proofs.lemmas.List.Filters.{length-filter_more}
-use Rattle.std.proofs.lemmas.List.Folds.{find-append}
-use Rattle.std.proofs.lemmas.Option.{get_or_from_slice_get}
-use Rattle.f77_program.specs.Program.{LineFields}
-use Rattle.f77_tree.specs.Statement.{Statement}
-use Rattle.f77_legal.specs.Labels.{nth_statement}
-use Rattle.f77_legal.specs.Blocks.{is_block_if, is_end_if, is_alternative, first_numbers, has_at, count_between, is_level, block_end}
 
 -- how a count grows by a statement
 count_line : (test : Statement → Bool) (p : List LineFields) (i j : ℕ) (line : LineFields) → i < j → j < length p → slice_get p j ≡ Some line

@@ -1,19 +1,9 @@
 -- The first clause that any statement breaks, found statement by statement.
-use Rattle.std.proofs.Common.{arith, ◌≡◌, ◌≤◌, ◌∙◌, ℕ, zero, suc, ◌+◌, Bool, true, false, cond, List, [], ◌∷◌, ◌++◌, take, map, filter, Option, Some, None, refl, sym, ap}
-use Rattle.std.specs.Prelude.{nat_lt}
-use Rattle.std.specs.List.{enumerate_from, find, flat_map, slice_get}
-use Rattle.std.proofs.lemmas.Bool.Decides.{nat_tests}
-use Rattle.std.proofs.lemmas.Grind.{flat_map-append}
-use Rattle.std.proofs.lemmas.List.{map-append}
-use Rattle.std.proofs.lemmas.List.Elements.{filter-append}
-use Rattle.f77_program.specs.Program.{LineFields}
-use Rattle.f77_tree.specs.Statement.{Statement}
-use Rattle.f77_legal.specs.Clause.{breaks, clause_fault, lines_where}
-use Rattle.f77_legal.specs.Legal.{clause_faults, clauses, control_clauses, expression_clauses}
-use Rattle.f77_legal.specs.code.Broken.{breaches, earlier, first_breach, rank}
-use Rattle.f77_legal.specs.declared.clause.Clause.{Clause}
-use Rattle.f77_legal.specs.declared.clause.Clause.TheVariants.{Kinds, Bounds}
-use Rattle.f77_legal.specs.declared.fault.CheckFault.{CheckFault}
+use Rattle.f77_legal.proofs.Common.{◌≡◌, ◌∙◌, ap, map, sym, List, refl, ℕ, [], false, ◌∷◌, Bool, arith, true, Some, None, ◌++◌, ◌+◌, filter, suc, take, Option}
+use Rattle.f77_legal.proofs.Common.{cond, ◌≤◌, zero, nat_lt, nat_tests, flat_map-append, map-append, filter-append, find, enumerate_from, flat_map, breaks}
+use Rattle.f77_legal.proofs.Common.{clause_fault, lines_where, clause_faults, control_clauses, expression_clauses, clauses, breaches, earlier, first_breach}
+use Rattle.f77_legal.proofs.Common.{rank, Clause, Bounds, Kinds, CheckFault, LineFields, Statement}
+use Rattle.std.specs.List.{slice_get}
 use Rattle.f77_legal.proofs.First.{empty_from}
 use Rattle.f77_legal.proofs.LegalGives.{map_none, none_before, none_behind}
 

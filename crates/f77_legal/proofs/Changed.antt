@@ -1,28 +1,13 @@
 -- The fault of a legal program with one statement changed: that of the first clause that this statement breaks.
-use Rattle.std.proofs.Common.{◌≡◌, ◌≢◌, ◌⊎◌, inl, inr, ◌∙◌, ◌+◌, ℕ, zero, suc, List, [], ◌∷◌, ◌++◌, Bool, true, false, cond, not}
-use Rattle.std.proofs.Common.{Option, Some, None, refl, sym, ap, subst, arith, map, filter, length, append_assoc, append-nil}
-use Rattle.std.specs.Prelude.{◌≤◌, nat_lt, option_map}
-use Rattle.std.specs.List.{All, enumerate_from, find, flat_map, slice_get}
-use Rattle.std.specs.Option.{option_and_then, option_map_or}
-use Rattle.std.proofs.lemmas.Bool.{cases_eq, or_parts}
-use Rattle.std.proofs.lemmas.Bool.Decides.{nat_tests}
-use Rattle.std.proofs.lemmas.Option.{slice_get_past, slice_get_within, get_or_from_slice_get, option_and_then_some, same_Some}
-use Rattle.f77_program.specs.Program.{LineFields}
-use Rattle.f77_program.specs.Patching.{replaced}
-use Rattle.f77_tree.specs.Statement.{Statement}
-use Rattle.f77_legal.specs.declared.clause.Clause.{Clause}
-use Rattle.f77_legal.specs.declared.clause.Clause.TheVariants.{Kinds, Bounds, NamedLabels, Targets, Terminals, Nests, Jumps, Variables}
-use Rattle.f77_legal.specs.declared.fault.CheckFault.{CheckFault}
-use Rattle.f77_legal.specs.declared.fault.CheckFault.TheVariants.{RealName, Twice, DoubleLabel, BadData, TooMany}
-use Rattle.f77_legal.specs.Clause.{breaks, clause_fault, faults_of, lines_where}
-use Rattle.f77_legal.specs.Frames.{framed, HaveOneFrame}
-use Rattle.f77_legal.specs.Labels.{nth_statement, statement_with, label_place, terminal_label, is_terminal, ends_badly}
-use Rattle.f77_legal.specs.Legal.{IsLegal, clauses, faults, first_clause, first_fault, name_faults, label_faults, data_faults, too_large_faults}
-use Rattle.f77_legal.specs.Loops.{terminal}
-use Rattle.f77_legal.specs.Names.{Symbol, symbols, is_real, is_twice}
-use Rattle.f77_legal.specs.Patches.{IsStock}
-use Rattle.f77_legal.specs.Alone.{MayStandAt}
-use Rattle.f77_legal.specs.InitialValues.{groups_of, has_bad_data}
+use Rattle.f77_legal.proofs.Common.{◌≡◌, ◌∙◌, ap, map, sym, List, refl, ℕ, [], false, ◌∷◌, length, Bool, arith, true, Some, None, ◌++◌, ◌+◌, filter, suc}
+use Rattle.f77_legal.proofs.Common.{Option, not, cond, option_map, ◌≤◌, zero, nat_lt, subst, inr, inl, append-nil, ◌⊎◌, append_assoc, ◌≢◌, or_parts, cases_eq}
+use Rattle.f77_legal.proofs.Common.{nat_tests, same_Some, get_or_from_slice_get, slice_get_past, slice_get_within, option_and_then_some, find, All}
+use Rattle.f77_legal.proofs.Common.{enumerate_from, flat_map, option_map_or, option_and_then, Symbol, nth_statement, breaks, IsLegal, label_place, symbols}
+use Rattle.f77_legal.proofs.Common.{HaveOneFrame, clause_fault, groups_of, lines_where, terminal_label, too_large_faults, framed, is_real, is_twice}
+use Rattle.f77_legal.proofs.Common.{label_faults, name_faults, clauses, data_faults, faults, has_bad_data, statement_with, terminal, IsStock, faults_of}
+use Rattle.f77_legal.proofs.Common.{first_clause, first_fault, MayStandAt, ends_badly, is_terminal, Clause, Bounds, Kinds, NamedLabels, Nests, Jumps, Targets}
+use Rattle.f77_legal.proofs.Common.{Terminals, Variables, CheckFault, BadData, DoubleLabel, RealName, Twice, TooMany, replaced, LineFields, Statement}
+use Rattle.std.specs.List.{slice_get}
 use Rattle.f77_legal.proofs.FrameNames.{has_bad_data_same}
 use Rattle.f77_legal.proofs.Frames.{groups_of-framed, terminal_label-framed}
 use Rattle.f77_legal.proofs.LegalGives.{kept_by}

@@ -1,15 +1,8 @@
 -- What the program says of a name, from its uses in order.
-use Rattle.std.proofs.Common.{◌≡◌, List, [], ◌∷◌, ◌++◌, ℕ, true, false, refl, ap, ◌∙◌}
-use Rattle.std.specs.Prelude.{filter, map, filter_map}
-use Rattle.std.specs.List.{cons_option, list_any}
-use Rattle.std.specs.Str.{bytes_eq}
-use Rattle.std.proofs.lemmas.List.{append-nil}
-use Rattle.std.proofs.lemmas.List.Elements.{filter-append, filter_map-append}
-use Rattle.f77_tree.specs.declared.tree.Kind.{Kind}
-use Rattle.f77_tree.specs.declared.tree.Kind.TheVariants.{Integer}
-use Rattle.f77_legal.specs.Names.{Symbol, NameUse, name_in, is_dummy, kind_in, bounds_in, some_items, first_item_or, uses_with}
-use Rattle.f77_legal.specs.NameTable.{FactsFields, how_often, facts_of}
-use Rattle.f77_legal.specs.code.NameTable.{once_more, first_said, with_kind, facts_with_bounds, with_fact, no_facts}
+use Rattle.f77_legal.proofs.Common.{◌≡◌, ◌∙◌, ap, map, List, refl, ℕ, [], false, ◌∷◌, true, ◌++◌, filter, append-nil, filter_map, filter-append}
+use Rattle.f77_legal.proofs.Common.{filter_map-append, list_any, cons_option, bytes_eq, Symbol, NameUse, name_in, FactsFields, facts_of, some_items, bounds_in}
+use Rattle.f77_legal.proofs.Common.{first_item_or, how_often, is_dummy, kind_in, uses_with, no_facts, with_fact, facts_with_bounds, first_said, once_more}
+use Rattle.f77_legal.proofs.Common.{with_kind, Kind, Integer}
 use Rattle.f77_legal.proofs.Symbols.{or_false, symbol_symm}
 
 module _ {X : Type 0} where

@@ -1,11 +1,6 @@
 -- The labels of a list, each once: with one more label, and the first that passes a test.
-use Rattle.std.proofs.Common.{◌≡◌, ℕ, List, [], ◌∷◌, ◌++◌, Bool, true, false, cond, refl, ◌∙◌, ap, filter, inl, inr, append-nil}
-use Rattle.std.specs.Prelude.{Option, Some, nat_eq, ◌||◌, not, slice_get}
-use Rattle.std.specs.List.{list_any, find}
-use Rattle.std.proofs.lemmas.Bool.Decides.{eqb_tells}
-use Rattle.std.proofs.lemmas.Cmp.{nat_eq_equiv}
-use Rattle.std.proofs.lemmas.List.Elements.{filter-append}
-use Rattle.f77_legal.specs.LabelTable.{distinct}
+use Rattle.f77_legal.proofs.Common.{◌≡◌, ◌∙◌, ap, List, refl, ℕ, [], false, ◌∷◌, Bool, true, Some, ◌++◌, filter, ◌||◌, Option, not, cond, inr, slice_get, inl}
+use Rattle.f77_legal.proofs.Common.{append-nil, nat_eq, eqb_tells, nat_eq_equiv, filter-append, list_any, find, distinct}
 
 -- `==` either way round
 pub flipped : (a b : ℕ) → nat_eq a b ≡ nat_eq b a

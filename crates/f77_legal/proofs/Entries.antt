@@ -1,15 +1,7 @@
 -- The ends of loops and branches as lists, one entry a statement.
-use Rattle.std.proofs.Common.{◌≡◌, ◌<◌, ℕ, zero, suc, ◌+◌, ◌&&◌, false, List, [], ◌∷◌, ◌++◌, length, map, take, get_or, Option, None, refl, sym, ◌∙◌, ap, nat_lt}
-use Rattle.std.proofs.lemmas.List.{length-map, take_more, map-append}
-use Rattle.std.specs.Option.{option_and_then, option_map_or}
-use Rattle.f77_program.specs.Program.{LineFields, line_of}
-use Rattle.f77_tree.specs.Statement.{statement_of}
-use Rattle.f77_program.specs.declared.program.Line.{Line}
-use Rattle.f77_legal.specs.BlockTable.{IsBlockTable}
-use Rattle.f77_legal.specs.Labels.{label_place, nth_statement, terminal_label}
-use Rattle.f77_legal.specs.LoopTable.{IsTerminals, IsBranches}
-use Rattle.f77_legal.specs.code.Tables.{terminal_of}
-use Rattle.f77_legal.specs.declared.blocks.Blocks.{Blocks}
+use Rattle.f77_legal.proofs.Common.{◌≡◌, ◌∙◌, ap, map, sym, List, refl, ℕ, [], false, ◌∷◌, length, None, ◌++◌, ◌+◌, suc, take, Option, ◌&&◌, ◌<◌, get_or, zero}
+use Rattle.f77_legal.proofs.Common.{nat_lt, map-append, length-map, take_more, option_map_or, option_and_then, nth_statement, label_place, terminal_label}
+use Rattle.f77_legal.proofs.Common.{IsBlockTable, IsBranches, IsTerminals, terminal_of, Blocks, LineFields, line_of, Line, statement_of}
 use Rattle.f77_legal.proofs.BlockTables.{branch_end_held, branch_holds_at}
 
 entry_terminal : (program : List LineFields) (lines : List Line) (d : ℕ)

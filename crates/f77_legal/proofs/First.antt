@@ -1,14 +1,8 @@
 -- The first fault of several lists, searched from the front.
-use Rattle.std.proofs.Common.{◌≡◌, ◌<◌, ℕ, List, [], ◌∷◌, ◌++◌, length, get_or, map, Some, None, inr, refl, sym, ◌∙◌, ap, append_assoc}
-use Rattle.std.specs.Prelude.{Result, Ok, Err}
-use Rattle.std.proofs.lemmas.Option.{slice_get-map, slice_get_read}
-use Rattle.std.specs.Prelude.{slice_get, option_map}
-use Rattle.f77_program.specs.Program.{LineFields, line_of}
-use Rattle.f77_program.specs.declared.program.Line.{Line}
-use Rattle.f77_legal.specs.Legal.{ReportsFirstFault, name_faults, clause_faults, label_faults, statement_faults, data_faults, too_large_faults, faults}
-use Rattle.f77_legal.specs.Legal.{expression_clauses, control_clauses}
-use Rattle.f77_legal.specs.code.Legal.{ReportsFirst}
-use Rattle.f77_legal.specs.declared.fault.CheckFault.{CheckFault}
+use Rattle.f77_legal.proofs.Common.{◌≡◌, ◌∙◌, ap, map, sym, List, refl, ℕ, [], ◌∷◌, length, Some, None, ◌++◌, ◌<◌, get_or, option_map, inr, slice_get}
+use Rattle.f77_legal.proofs.Common.{append_assoc, Err, Ok, Result, slice_get-map, slice_get_read, too_large_faults, clause_faults, control_clauses}
+use Rattle.f77_legal.proofs.Common.{expression_clauses, label_faults, name_faults, data_faults, faults, statement_faults, ReportsFirstFault, ReportsFirst}
+use Rattle.f77_legal.proofs.Common.{CheckFault, LineFields, line_of, Line}
 
 pub empty_from : {X : Type 0} (xs : List X) → slice_get xs 0 ≡ None → xs ≡ []
 empty_from [] h = refl

@@ -1,23 +1,11 @@
 -- The first line whose DATA statement breaks the clause.
-use Rattle.std.proofs.Common.{arith, ◌≡◌, ℕ, zero, suc, ◌+◌, ◌<◌, ◌≤◌, List, [], ◌∷◌, ◌++◌, length, map, Bool, true, false, cond}
-use Rattle.std.proofs.Common.{refl, sym, ap, ◌∙◌, append_assoc, append-nil, take, drop, get_or, drop-cons, add-one, length-append}
-use Rattle.std.specs.Prelude.{◌||◌, not, nat_le, filter, Option, Some, None, if◌then◌else◌}
-use Rattle.std.specs.List.{list_any, enumerate_from, slice_get}
-use Rattle.std.specs.Str.{bytes_eq}
-use Rattle.std.proofs.lemmas.Grind.{flat_map-append}
-use mathlib.Core.Bool.{true≢false}
-use Rattle.f77_program.specs.Program.{LineFields, line_of}
-use Rattle.f77_program.specs.declared.program.Line.{Line}
-use Rattle.f77_tree.specs.declared.tree.Kind.{Kind}
-use Rattle.f77_tree.specs.Statement.{statement_of}
-use Rattle.f77_legal.specs.Clause.{lines_where}
-use Rattle.f77_legal.specs.Names.{Symbol, kind_of, bounds_of}
+use Rattle.f77_legal.proofs.Common.{◌≡◌, ◌∙◌, ap, map, sym, List, refl, ℕ, [], false, ◌∷◌, length, Bool, arith, true, Some, None, ◌++◌, ◌+◌, filter, ◌||◌, suc}
+use Rattle.f77_legal.proofs.Common.{take, Option, ◌<◌, not, cond, drop, get_or, ◌≤◌, zero, append-nil, nat_le, add-one, append_assoc, drop-cons, if◌then◌else◌}
+use Rattle.f77_legal.proofs.Common.{length-append, true≢false, flat_map-append, list_any, enumerate_from, bytes_eq, Symbol, array_bounds, kind_at, groups_of}
+use Rattle.f77_legal.proofs.Common.{lines_where, bounds_of, has_bad_data, IsNameTable, is_dummy_name, kind_of, names_in_data, is_filled, dummy_at}
+use Rattle.f77_legal.proofs.Common.{names_of_groups, breaks_data, Names, LineFields, line_of, Line, statement_of, Kind}
+use Rattle.std.specs.List.{slice_get}
 use Rattle.f77_legal.proofs.Lookups.{same_bounds, same_kinds, same_dummy_at}
-use Rattle.f77_legal.specs.NameTable.{kind_at, array_bounds, IsNameTable}
-use Rattle.f77_legal.specs.code.NameTable.{dummy_at}
-use Rattle.f77_legal.specs.InitialValues.{has_bad_data, groups_of, names_in_data, is_dummy_name, is_filled}
-use Rattle.f77_legal.specs.code.Runs.{breaks_data, names_of_groups}
-use Rattle.f77_legal.specs.declared.names.Names.{Names}
 
 -- the line of the first statement that breaks the clause on DATA, behind these names of DATA
 abbrev pub first_bad : (Symbol → List ℕ) → (Symbol → Kind) → (Symbol → Bool) → List Symbol → List LineFields → Option ℕ

@@ -1,13 +1,8 @@
 -- Lists that hold a value of each of the first numbers, and searches among these.
-use Rattle.std.proofs.Common.{◌≡◌, ◌⊎◌, inl, inr, ℕ, zero, suc, ◌+◌, ◌<◌, ◌≤◌, Bool, true, false, cond, List, [], ◌∷◌}
-use Rattle.std.proofs.Common.{◌++◌, length, map, take, get_or, Option, Some, None, refl, sym, ap, ◌∙◌, arith, add-one}
-use Rattle.std.specs.Prelude.{◌&&◌, ◌||◌}
-use Rattle.std.specs.List.{find, list_any}
-use Rattle.std.specs.Option.{option_map_or, option_or}
-use Rattle.std.proofs.lemmas.Bool.{cases_lt}
-use Rattle.std.proofs.lemmas.List.{map-append, length-map, length-append, get_or_append_left, get_or_push, ext_get_or, take-append-le, take_all}
-use Rattle.std.proofs.lemmas.List.Folds.{find-append, list_any-append}
-use Rattle.f77_legal.specs.Blocks.{first_numbers}
+use Rattle.f77_legal.proofs.Common.{◌≡◌, ◌∙◌, ap, map, sym, List, refl, ℕ, [], false, ◌∷◌, length, Bool, arith, true, Some, None, ◌++◌, ◌+◌, ◌||◌, suc, take}
+use Rattle.f77_legal.proofs.Common.{Option, ◌&&◌, ◌<◌, cond, get_or, ◌≤◌, zero, inr, inl, ◌⊎◌, add-one, length-append, ext_get_or, take_all, cases_lt}
+use Rattle.f77_legal.proofs.Common.{map-append, length-map, get_or_append_left, get_or_push, take-append-le, find-append, list_any-append, list_any, find}
+use Rattle.f77_legal.proofs.Common.{option_map_or, option_or, first_numbers}
 
 pub length-first_numbers : (n : ℕ) → length (first_numbers n) ≡ n
 length-first_numbers zero = refl

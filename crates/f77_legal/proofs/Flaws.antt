@@ -1,33 +1,22 @@
 -- What is wrong with a tree or a statement, from what is wrong with its parts.
-use Rattle.std.proofs.Common.{arith, ◌≡◌, ◌∙◌, ◌<◌, ◌≤◌, ℕ, zero, suc, ◌+◌, ◌==◌, Bool, true, false, not, List, [], ◌∷◌, length, get_or, drop, drop-cons, add-one, map, refl, sym, ap, subst}
-use Rattle.std.proofs.lemmas.Bool.Decides.{nat_tests}
-use Rattle.std.specs.Prelude.{◌&&◌, ◌||◌, Box, Vec, Option, option_map}
+use Rattle.f77_legal.proofs.Common.{◌≡◌, ◌∙◌, ap, map, sym, List, refl, ℕ, [], false, ◌∷◌, length, Bool, arith, true, ◌+◌, ◌||◌, suc, Option, ◌&&◌, ◌<◌, not}
+use Rattle.f77_legal.proofs.Common.{drop, get_or, option_map, ◌≤◌, zero, ◌==◌, subst, add-one, drop-cons, Vec, Box, nat_tests, array_bounds, kind_at}
+use Rattle.f77_legal.proofs.Common.{dimensions_fit, items_pass, all_fit, are_integer, has_name, kinds_agree, names_pass, tree_count, tree_passes, value_passes}
+use Rattle.f77_legal.proofs.Common.{fits_bounds, is_of_kind, is_of_kind_if_given, operand_kind, result_kind, takes, value_fits, Adds, Names, same_kind}
+use Rattle.f77_legal.proofs.Common.{Statement, statement_of, Tree, Trees, tree_of, trees, expr_step, ref_step, Expr, Kind, Integer, Logical}
 use Rattle.std.specs.declared.alloc.Global.{Global}
-use Rattle.f77_tree.specs.Comparing.{same_kind}
-use Rattle.f77_tree.specs.Statement.{Statement, statement_of}
-use Rattle.f77_tree.specs.Tree.{Tree, Trees}
-use Rattle.f77_tree.specs.View.{tree_of, trees, expr_step, ref_step}
 use Rattle.f77_tree.specs.declared.intrinsic.Intrinsic.{Intrinsic}
 use Rattle.f77_tree.specs.declared.operator.Operator.{Operator}
 use Rattle.f77_tree.specs.declared.statement.Stmt.{Stmt}
-use Rattle.f77_tree.specs.declared.statement.Stmt.TheVariants as forms
-use Rattle.f77_tree.specs.declared.statement.Stmt.TheViews as boxed
-use Rattle.f77_tree.specs.declared.tree.Expr.{Expr}
 use Rattle.f77_tree.specs.declared.tree.Expr.TheFolds.{fold-roll-Expr}
 use Rattle.f77_tree.specs.declared.tree.Expr.TheOpen.{Expr-F}
 use Rattle.f77_tree.specs.declared.tree.Expr.TheVariants.{rolls-Call}
-use Rattle.f77_tree.specs.declared.tree.Expr.TheViews as views
-use Rattle.f77_tree.specs.declared.tree.Kind.{Kind}
-use Rattle.f77_tree.specs.declared.tree.Kind.TheVariants.{Integer, Logical}
 use Rattle.f77_tree.specs.declared.tree.Ref.{Ref}
 use Rattle.f77_tree.proofs.Views.{assign_view, binary_view, logical_view, loop_view, ref_view, reference_view}
-use Rattle.f77_legal.specs.Dimensions.{all_fit, dimensions_fit, fits_bounds, takes, tree_count, value_fits}
-use Rattle.f77_legal.specs.Kinds.{are_integer, is_of_kind, is_of_kind_if_given, kinds_agree, operand_kind, result_kind}
-use Rattle.f77_legal.specs.NameTable.{array_bounds, has_name, kind_at}
-use Rattle.f77_legal.specs.Patches.{items_pass, names_pass, tree_passes, value_passes}
-use Rattle.f77_legal.specs.code.Broken.{Adds}
+use Rattle.f77_tree.specs.declared.statement.Stmt.TheVariants as forms
+use Rattle.f77_tree.specs.declared.statement.Stmt.TheViews as boxed
+use Rattle.f77_tree.specs.declared.tree.Expr.TheViews as views
 use Rattle.f77_legal.specs.declared.broken.Flaws.{Flaws}
-use Rattle.f77_legal.specs.declared.names.Names.{Names}
 use Rattle.f77_legal.proofs.Counts.{count_trees}
 
 either_fails : (old a b : Bool) → ((old || not a) || not b) ≡ (old || not (a && b))

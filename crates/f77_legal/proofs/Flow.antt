@@ -1,18 +1,9 @@
 -- In a legal program control has where to go: behind each statement, from each branch, from the end of each DO and by each jump.
-use Rattle.std.proofs.Common.{◌≡◌, ◌⊎◌, ℕ, ◌+◌, ◌==◌, ◌&&◌, ◌||◌, not, Bool, true, false, inl, inr, List, Option, Some, None, refl, sym, ◌∙◌, ap, subst, length}
-use Rattle.std.specs.Prelude.{IsSome, is_some, if◌then◌else◌}
-use Rattle.std.specs.List.{list_any}
-use Rattle.std.specs.Option.{option_and_then, option_map_or}
-use Rattle.std.proofs.lemmas.Bool.{and_parts, or_left, or_right, or_parts}
-use Rattle.f77_program.specs.Program.{LineFields}
-use Rattle.f77_tree.specs.Tree.{Tree}
-use Rattle.f77_tree.specs.Statement.{Statement, jumps_of}
-use Rattle.f77_legal.specs.declared.clause.Clause.TheVariants.{NamedLabels, Nests}
-use Rattle.f77_legal.specs.Blocks.{is_block_if, is_end_if, is_alternative, has_at, is_level, block_end, branch_end, statement_behind, is_in_block, begins_branch}
-use Rattle.f77_legal.specs.BlockTable.{branch_end_at}
-use Rattle.f77_legal.specs.Labels.{label_place, nth_statement, terminal_label}
-use Rattle.f77_legal.specs.Legal.{IsLegal}
-use Rattle.f77_legal.specs.Loops.{terminal, ends_outside, breaks_range, AreNested}
+use Rattle.f77_legal.proofs.Common.{◌≡◌, ◌∙◌, ap, sym, List, refl, ℕ, false, length, Bool, true, Some, None, ◌+◌, ◌||◌, Option, ◌&&◌, not, ◌==◌, subst, inr}
+use Rattle.f77_legal.proofs.Common.{is_some, inl, ◌⊎◌, if◌then◌else◌, IsSome, or_parts, and_parts, or_left, or_right, list_any, option_map_or, option_and_then}
+use Rattle.f77_legal.proofs.Common.{nth_statement, is_block_if, IsLegal, is_alternative, label_place, block_end, has_at, is_end_if, terminal_label}
+use Rattle.f77_legal.proofs.Common.{branch_end_at, is_in_block, branch_end, is_level, terminal, begins_branch, breaks_range, ends_outside, statement_behind}
+use Rattle.f77_legal.proofs.Common.{AreNested, NamedLabels, Nests, LineFields, Statement, jumps_of, Tree}
 use Rattle.f77_legal.proofs.Branches.{found_is, found_some}
 use Rattle.f77_legal.proofs.LegalGives.{clause_kept, kept_by, any_false, some_of, is_some_of, alternative_in_block, alternative_closes, block_closes}
 

@@ -1,21 +1,12 @@
 -- What a statement that is not of a form does not have.
-use Rattle.std.proofs.Common.{◌≡◌, ◌≢◌, ℕ, List, [], map, Option, None, refl, sym, ap, subst}
-use Rattle.std.specs.Prelude.{Vec}
+use Rattle.f77_legal.proofs.Common.{◌≡◌, ap, map, sym, List, refl, ℕ, [], None, Option, subst, ◌≢◌, Vec, groups_of, terminal_label, uses_of, do_variable_of}
+use Rattle.f77_legal.proofs.Common.{Plain, unit_name_of, dummies_of, names_of, Statement, statement_of, stmt_step, Expr, Kind}
 use Rattle.std.specs.declared.alloc.Global.{Global}
 use Rattle.f77_tree.specs.declared.data.DataGroup.{DataGroup}
 use Rattle.f77_tree.specs.declared.declaration.Decl.{Decl}
-use Rattle.f77_tree.specs.declared.tree.Expr.{Expr}
-use Rattle.f77_tree.specs.declared.tree.Kind.{Kind}
 use Rattle.f77_tree.specs.declared.statement.Stmt.{Stmt, Subroutine, Declare, Dimension, Preset, Loop}
-use Rattle.f77_tree.specs.declared.statement.Stmt.TheViews as boxed
 use Rattle.f77_tree.specs.declared.statement.Stmt.TheFolds.{fold_out-Stmt}
-use Rattle.f77_tree.specs.Node.{names_of}
-use Rattle.f77_tree.specs.Statement.{stmt_step, statement_of, Statement}
-use Rattle.f77_legal.specs.Heading.{dummies_of}
-use Rattle.f77_legal.specs.Labels.{terminal_label}
-use Rattle.f77_legal.specs.Loops.{do_variable_of}
-use Rattle.f77_legal.specs.Names.{Plain, uses_of, unit_name_of}
-use Rattle.f77_legal.specs.InitialValues.{groups_of}
+use Rattle.f77_tree.specs.declared.statement.Stmt.TheViews as boxed
 
 abbrev pub IsNoSubroutine : Stmt → Type 0
 IsNoSubroutine s = (name : List ℕ) (arguments : Vec (List ℕ) Global) → s ≢ Subroutine name arguments

@@ -1,25 +1,12 @@
 -- What a program says of its names follows from its frame: no executable statement says anything of a name.
-use Rattle.std.proofs.Common.{◌≡◌, ◌∙◌, ◌==◌, ◌&&◌, ◌||◌, ℕ, suc, List, [], ◌∷◌, ◌++◌, Bool, true, false, not, Option, None, refl, sym, ap, filter, length, take, replicate}
-use Rattle.std.specs.Prelude.{is_some, nat_le}
-use Rattle.std.specs.List.{flat_map, cons_option, filter_map, list_any}
-use Rattle.std.specs.Option.{option_map_or}
-use Rattle.std.specs.Cmp.Lexicographic.{pointwise}
-use Rattle.std.specs.Str.{bytes_eq}
-use Rattle.std.proofs.lemmas.List.{take-map}
-use Rattle.std.proofs.lemmas.List.Elements.{filter-append}
-use Rattle.f77_tree.specs.Intrinsic.{function_named}
-use Rattle.f77_program.specs.Program.{LineFields}
-use Rattle.f77_tree.specs.Tree.{GroupFields}
-use Rattle.f77_tree.specs.Statement.{Statement}
-use Rattle.f77_tree.specs.declared.tree.Kind.TheVariants.{Integer}
-use Rattle.f77_legal.specs.Frames.{framed, framed_line, frame, HaveOneFrame}
-use Rattle.f77_legal.specs.Heading.{dummies}
-use Rattle.f77_tree.specs.Comparing.{same_kind}
-use Rattle.f77_legal.specs.Legal.{is_array}
-use Rattle.f77_legal.specs.Names.{Symbol, NameUse, Dummy, Typed, Dimensioned, Plain, name_in, uses_of, uses, is_dummy, kind_in, some_items, bounds_in}
-use Rattle.f77_legal.specs.Names.{dummies_given, kinds_given, bounds_given, first_item_or, kind_of, bounds_of, is_integer_name, is_real}
-use Rattle.f77_legal.specs.Names.{unit_name, is_twice}
-use Rattle.f77_legal.specs.InitialValues.{product, element_count, is_dummy_name, names_in_data, is_twice_in_data, groups_of, given_kinds, needed_kinds, has_bad_data}
+use Rattle.f77_legal.proofs.Common.{◌≡◌, ◌∙◌, ap, sym, List, refl, ℕ, [], false, ◌∷◌, length, Bool, true, None, ◌++◌, filter, ◌||◌, suc, take, Option, ◌&&◌}
+use Rattle.f77_legal.proofs.Common.{not, ◌==◌, is_some, nat_le, replicate, take-map, filter-append, pointwise, list_any, cons_option, flat_map, option_map_or}
+use Rattle.f77_legal.proofs.Common.{bytes_eq, Symbol, NameUse, name_in, product, HaveOneFrame, groups_of, uses, uses_of, framed, is_real, is_twice, bounds_of}
+use Rattle.f77_legal.proofs.Common.{element_count, has_bad_data, is_array, Plain, frame, framed_line, is_dummy_name, kind_of, some_items, Dimensioned, Dummy}
+use Rattle.f77_legal.proofs.Common.{Typed, bounds_given, bounds_in, dummies_given, first_item_or, is_dummy, is_integer_name, kind_in, kinds_given}
+use Rattle.f77_legal.proofs.Common.{names_in_data, dummies, given_kinds, is_twice_in_data, needed_kinds, unit_name, LineFields, same_kind, function_named}
+use Rattle.f77_legal.proofs.Common.{Statement, GroupFields, Integer}
+use Rattle.std.specs.List.{filter_map}
 use Rattle.f77_legal.proofs.Frames.{declares, declared_in-framed, groups_of-framed, dummies_of-framed, unit_name_of-framed}
 
 -- what follows from the frame is the same for two programs of one frame

@@ -1,16 +1,7 @@
 -- What the frame keeps of one statement: what it is to blocks, DOs, jumps, declarations and DATA.
-use Rattle.std.proofs.Common.{◌≡◌, List, [], ◌∷◌, Bool, true, false, refl, sym, map, filter}
-use Rattle.std.proofs.Common.{true≢false}
-use Rattle.f77_tree.specs.Statement.{form_of, Statement}
-use Rattle.f77_tree.specs.Node.{names_of}
-use Rattle.f77_legal.specs.Blocks.{is_block_if, is_end_if, is_else, is_alternative}
-use Rattle.f77_legal.specs.Frames.{framed}
-use Rattle.f77_legal.specs.code.Frames.{is_framed_out}
-use Rattle.f77_legal.specs.Heading.{dummies_of}
-use Rattle.f77_legal.specs.Labels.{terminal_label, is_target}
-use Rattle.f77_legal.specs.Loops.{do_variable_of}
-use Rattle.f77_legal.specs.Names.{Symbol, NameUse, Dummy, Typed, Dimensioned, Plain, uses_of, unit_name_of}
-use Rattle.f77_legal.specs.InitialValues.{groups_of}
+use Rattle.f77_legal.proofs.Common.{◌≡◌, map, sym, List, refl, [], false, ◌∷◌, Bool, true, filter, true≢false, Symbol, NameUse, is_block_if, is_alternative}
+use Rattle.f77_legal.proofs.Common.{groups_of, is_end_if, terminal_label, uses_of, do_variable_of, framed, is_else, Plain, is_target, unit_name_of, Dimensioned}
+use Rattle.f77_legal.proofs.Common.{Dummy, Typed, dummies_of, is_framed_out, names_of, Statement, form_of}
 
 pub framed_out : (s : Statement) → is_framed_out (form_of s) ≡ true → framed s ≡ Statement.Continue
 framed_out (Statement.Assign name items tree) out = refl

@@ -1,14 +1,7 @@
 -- Where DOs and branches begin: the other statements pass no test of ranges, so that the tests of these alone decide.
-use Rattle.std.proofs.Common.{◌≡◌, ◌∙◌, ◌∷◌, ℕ, List, [], Bool, true, false, cond, Option, None, Some, refl, sym, ap}
-use Rattle.std.specs.Prelude.{filter, is_some, ◌&&◌, ◌||◌, ◌==◌, not, nat_le, nat_lt}
-use Rattle.std.specs.List.{list_any}
-use Rattle.std.specs.Option.{option_map_or}
-use Rattle.std.proofs.lemmas.Bool.{or_from, or_parts}
-use Rattle.std.proofs.Math.Bool.{and-false, or-false}
-use Rattle.f77_legal.specs.Enclosing.{in_branch}
-use Rattle.f77_legal.specs.LoopTable.{is_head}
-use Rattle.f77_legal.specs.code.LoopTable.{is_in_do_range, holds_by, is_left_by_table, leaves_branch, separates, ends_at_by_table, enters}
-use Rattle.f77_legal.specs.declared.enclosing.Ranges.{Ranges}
+use Rattle.f77_legal.proofs.Common.{◌≡◌, ◌∙◌, ap, sym, List, refl, ℕ, [], false, ◌∷◌, Bool, true, Some, None, filter, ◌||◌, Option, ◌&&◌, not, cond, nat_lt}
+use Rattle.f77_legal.proofs.Common.{◌==◌, is_some, nat_le, and-false, or-false, or_parts, or_from, list_any, option_map_or, is_head, in_branch, enters}
+use Rattle.f77_legal.proofs.Common.{holds_by, ends_at_by_table, is_in_do_range, is_left_by_table, separates, leaves_branch, Ranges}
 
 -- what fails q fails p too
 module _ (p q : ℕ → Bool) (fails : (x : ℕ) → q x ≡ false → p x ≡ false) where

@@ -1,8 +1,6 @@
 -- A test of the labels that a statement may jump to, one after another.
-use Rattle.std.proofs.Common.{◌≡◌, ◌∙◌, ◌+◌, ℕ, zero, suc, List, [], ◌∷◌, Bool, false, length, refl, ap, arith}
-use Rattle.std.specs.Prelude.{◌||◌, slice_get}
-use Rattle.std.specs.List.{list_any, range_with_len}
-use Rattle.std.specs.Option.{option_map_or}
+use Rattle.f77_legal.proofs.Common.{◌≡◌, ◌∙◌, ap, List, refl, ℕ, [], false, ◌∷◌, length, Bool, arith, ◌+◌, ◌||◌, suc, slice_get, list_any, range_with_len}
+use Rattle.f77_legal.proofs.Common.{option_map_or}
 
 module _ (test : ℕ → Bool) where
   -- the labels from number k on

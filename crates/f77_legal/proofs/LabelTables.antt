@@ -1,24 +1,11 @@
 -- A table of labels, as one more statement goes in, and what is read from it.
-use Rattle.std.proofs.Common.{◌≡◌, ℕ, suc, List, [], ◌∷◌, ◌++◌, Bool, true, false, cond, refl, sym, ◌∙◌, ap, length, get_or, filter, append-nil, ◌<◌}
-use Rattle.std.specs.Prelude.{Option, Some, None, is_some, nat_eq, ◌==◌, ◌||◌, ◌&&◌, option_map, map, slice_get}
-use Rattle.std.specs.List.{list_any, cons_option, find}
-use Rattle.std.specs.Map.{keys_of}
-use Rattle.std.specs.Option.{option_and_then, option_map_or}
-use Rattle.std.proofs.lemmas.Bool.{eqb-true}
-use Rattle.std.proofs.lemmas.List.{map-append}
-use Rattle.std.proofs.lemmas.Option.{same_Some, slice_get-map, slice_get_read}
-use Rattle.std.proofs.lemmas.List.Elements.{filter_map-append}
+use Rattle.f77_legal.proofs.Common.{◌≡◌, ◌∙◌, ap, map, sym, List, refl, ℕ, [], false, ◌∷◌, length, Bool, true, Some, None, ◌++◌, filter, ◌||◌, suc, Option}
+use Rattle.f77_legal.proofs.Common.{◌&&◌, ◌<◌, cond, get_or, option_map, ◌==◌, is_some, slice_get, append-nil, eqb-true, nat_eq, nat_eq_equiv, map-append}
+use Rattle.f77_legal.proofs.Common.{filter_map-append, same_Some, slice_get-map, slice_get_read, list_any, find, cons_option, keys_of, option_map_or}
+use Rattle.f77_legal.proofs.Common.{option_and_then, label_place, IsLabelTable, statement_with, distinct, is_double, labels, bears, place_in, noted, Labels}
+use Rattle.f77_legal.proofs.Common.{LineFields, line_of, Line, statement_of, keys, IsUnique, get, insert_entry, Updates}
 use Rattle.std.proofs.lemmas.Map.Entries.{lookup_from_place}
-use Rattle.std.proofs.lemmas.Cmp.{nat_eq_equiv}
-use Rattle.indexmap.specs.IndexMap.{get, keys, insert_entry, Updates, IsUnique}
 use Rattle.indexmap.proofs.CallerLemmas.{insert_entry-new, keys-insert_entry-present}
-use Rattle.f77_program.specs.Program.{LineFields, line_of}
-use Rattle.f77_program.specs.declared.program.Line.{Line}
-use Rattle.f77_tree.specs.Statement.{statement_of}
-use Rattle.f77_legal.specs.Labels.{statement_with, labels, bears, is_double, label_place}
-use Rattle.f77_legal.specs.LabelTable.{distinct, place_in, IsLabelTable}
-use Rattle.f77_legal.specs.code.LabelTable.{noted}
-use Rattle.f77_legal.specs.declared.labels.Labels.{Labels}
 use Rattle.f77_legal.specs.declared.labels.Place.{Place}
 use Rattle.f77_legal.proofs.DistinctLabels.{flipped, distinct-push, find_distinct, find_first}
 use Rattle.f77_legal.proofs.Positions.{first_with, position-push, position_some, twice-push, twice_none}

@@ -1,19 +1,10 @@
 -- What the clauses of a legal program give: no statement breaks one, and each block and each branch has its END IF.
-use Rattle.std.proofs.Common.{◌≡◌, ℕ, zero, suc, ◌+◌, ◌<◌, ◌==◌, ◌&&◌, ◌||◌, not, Bool, true, false, cond, List, [], ◌∷◌, ◌++◌, Option, Some, None, refl, sym, ◌∙◌, ap, arith, map, filter}
-use Rattle.std.specs.Prelude.{IsSome, is_some, option_map, nat_lt, slice_get}
-use Rattle.std.specs.List.{list_any, enumerate_from}
-use Rattle.std.specs.Option.{option_map_or}
-use Rattle.std.proofs.lemmas.Bool.{eqb-true, and_parts, or_parts}
-use Rattle.std.proofs.lemmas.Bool.Decides.{nat_tests}
-use Rattle.f77_program.specs.Program.{LineFields}
-use Rattle.f77_tree.specs.Tree.{Tree}
-use Rattle.f77_tree.specs.Statement.{Statement}
-use Rattle.f77_legal.specs.declared.clause.Clause.{Clause}
-use Rattle.f77_legal.specs.declared.clause.Clause.TheVariants.{Kinds, Bounds, NamedLabels, Targets, Terminals, Nests, Jumps, Variables}
-use Rattle.f77_legal.specs.Blocks.{is_block_if, is_alternative, statement_numbers, has_at, block_end, is_in_block, ends_else, breaks_block}
-use Rattle.f77_legal.specs.Clause.{breaks, clause_fault, lines_where, faults_of}
-use Rattle.f77_legal.specs.Labels.{nth_statement}
-use Rattle.f77_legal.specs.Legal.{IsLegal, name_faults, clause_faults, expression_clauses, control_clauses, label_faults, data_faults, too_large_faults}
+use Rattle.f77_legal.proofs.Common.{◌≡◌, ◌∙◌, ap, map, sym, List, refl, ℕ, [], false, ◌∷◌, Bool, arith, true, Some, None, ◌++◌, ◌+◌, filter, ◌||◌, suc, Option}
+use Rattle.f77_legal.proofs.Common.{◌&&◌, ◌<◌, not, cond, option_map, zero, nat_lt, ◌==◌, is_some, slice_get, eqb-true, IsSome, or_parts, and_parts, nat_tests}
+use Rattle.f77_legal.proofs.Common.{list_any, enumerate_from, option_map_or, nth_statement, breaks, is_block_if, IsLegal, is_alternative, block_end}
+use Rattle.f77_legal.proofs.Common.{clause_fault, has_at, lines_where, too_large_faults, clause_faults, control_clauses, expression_clauses, is_in_block}
+use Rattle.f77_legal.proofs.Common.{label_faults, name_faults, statement_numbers, data_faults, breaks_block, ends_else, faults_of, Clause, Bounds, Kinds}
+use Rattle.f77_legal.proofs.Common.{NamedLabels, Nests, Jumps, Targets, Terminals, Variables, LineFields, Statement, Tree}
 use Rattle.f77_legal.proofs.Branches.{branch_closes}
 
 -- no fault of a clause

@@ -1,3 +1,4 @@
+pub mod Common
 mod Rows
 pub mod Forms
 pub mod FirstNumbers

@@ -1,14 +1,8 @@
 -- The names of the nodes of a statement put into the table in turn.
-use Rattle.std.proofs.Common.{◌≡◌, ℕ, ◌+◌, ◌<◌, length, List, [], ◌∷◌, ◌++◌, Option, Some, None, refl, ap, sym, ◌∙◌, take, get_or}
-use Rattle.std.specs.Prelude.{map, filter_map}
-use Rattle.std.proofs.lemmas.List.{map-append, take_more}
-use Rattle.std.proofs.lemmas.List.Elements.{filter_map-append}
-use Rattle.std.proofs.lemmas.List.Sums.{fold-append}
+use Rattle.f77_legal.proofs.Common.{◌≡◌, ◌∙◌, ap, map, sym, List, refl, ℕ, [], ◌∷◌, length, Some, None, ◌++◌, ◌+◌, take, Option, ◌<◌, get_or, filter_map}
+use Rattle.f77_legal.proofs.Common.{map-append, take_more, filter_map-append, fold-append, Symbol, NameUse, Entries, with_uses, with_use, node_of, NodeOf}
+use Rattle.f77_legal.proofs.Common.{node_name}
 use Rattle.f77_tree.specs.declared.node.Node.{Node}
-use Rattle.f77_tree.specs.Node.{NodeOf, node_of, node_name}
-use Rattle.f77_legal.specs.Names.{Symbol, NameUse}
-use Rattle.f77_legal.specs.NameTable.{Entries}
-use Rattle.f77_legal.specs.code.NameTable.{with_use, with_uses}
 
 pub one_more : {X : Type 0} (xs : List X) (i : ℕ) (x : X) → i < length xs → x ≡ get_or xs i x → take (i + 1) xs ≡ take i xs ++ x ∷ []
 one_more xs i x here is = take_more xs i x here ∙ ap (λ z. take i xs ++ z ∷ []) (sym is)

@@ -1,21 +1,11 @@
 -- What the table has of each name, in it or not, and the first of its names that passes a test.
-use Rattle.std.proofs.Common.{arith, ◌≡◌, List, [], ◌∷◌, ◌||◌, ◌&&◌, Bool, true, false, not, refl, ap, sym, ◌∙◌, ◌==◌, nat_le, length, Option, Some, None, slice_get}
-use Rattle.std.specs.Prelude.{map, filter, option_map, is_some}
-use Rattle.std.specs.List.{find, list_any}
-use Rattle.std.specs.Map.{lookup}
-use Rattle.std.specs.Option.{option_and_then, option_map_or}
-use Rattle.std.specs.Str.{bytes_eq}
+use Rattle.f77_legal.proofs.Common.{◌≡◌, ◌∙◌, ap, map, sym, List, refl, [], false, ◌∷◌, length, Bool, arith, true, Some, None, filter, ◌||◌, Option, ◌&&◌, not}
+use Rattle.f77_legal.proofs.Common.{option_map, ◌==◌, is_some, slice_get, nat_le, nat_tests, list_any, find, lookup, option_map_or, option_and_then, bytes_eq}
+use Rattle.f77_legal.proofs.Common.{Symbol, NameUse, array_bounds, kind_at, entry_of, name_in, symbols, table_entries, uses, FactsFields, is_real, is_twice}
+use Rattle.f77_legal.proofs.Common.{bounds_of, facts_fields, facts_of, names_once, Entries, IsNameTable, is_dummy_name, kind_of, unit_name_of, bounds_given}
+use Rattle.f77_legal.proofs.Common.{dummies_given, how_often, is_integer_name, kinds_given, table, dummy_at, no_facts, is_real_entry, is_twice_entry, is_more}
+use Rattle.f77_legal.proofs.Common.{is_never, Facts, Names, LineFields, function_named}
 use Rattle.std.proofs.lemmas.Map.Made.{lookup-map_values}
-use Rattle.std.proofs.lemmas.Bool.Decides.{nat_tests}
-use Rattle.f77_tree.specs.Intrinsic.{function_named}
-use Rattle.f77_program.specs.Program.{LineFields}
-use Rattle.f77_legal.specs.declared.names.Facts.{Facts}
-use Rattle.f77_legal.specs.declared.names.Names.{Names}
-use Rattle.f77_legal.specs.Names.{Symbol, NameUse, name_in, uses, symbols, names_once, is_integer_name, is_real}
-use Rattle.f77_legal.specs.Names.{is_twice, unit_name_of, kind_of, bounds_of, kinds_given, bounds_given, dummies_given}
-use Rattle.f77_legal.specs.NameTable.{FactsFields, Entries, IsNameTable, facts_fields, entry_of, table_entries, how_often, facts_of, table, kind_at, array_bounds}
-use Rattle.f77_legal.specs.code.NameTable.{no_facts, dummy_at, is_never, is_more, is_real_entry, is_twice_entry}
-use Rattle.f77_legal.specs.InitialValues.{is_dummy_name}
 use Rattle.f77_legal.proofs.Digests.{facts_none}
 use Rattle.f77_legal.proofs.Symbols.{same_symbol, any_once}
 use Rattle.f77_legal.proofs.NameTables.{rows}

@@ -1,12 +1,7 @@
 -- Two tests of a list: where some element passes the first alone, and where both keep the same elements.
-use Rattle.std.proofs.Common.{◌≡◌, ℕ, List, [], ◌∷◌, Bool, true, false, cond, refl, sym, ◌∙◌, ap, subst}
-use Rattle.std.specs.Prelude.{filter, ◌&&◌, ◌||◌, ◌==◌, not}
-use Rattle.std.specs.List.{All, list_any, list_all}
-use Rattle.std.proofs.lemmas.Bool.{or_from, or_parts}
-use Rattle.std.proofs.lemmas.Bool.Decides.{Decides-eqb}
-use Rattle.std.proofs.lemmas.List.Elements.{All-head, All-tail, filter_passes}
+use Rattle.f77_legal.proofs.Common.{◌≡◌, ◌∙◌, ap, sym, List, refl, ℕ, [], false, ◌∷◌, Bool, true, filter, ◌||◌, ◌&&◌, not, cond, ◌==◌, subst, or_parts, or_from}
+use Rattle.f77_legal.proofs.Common.{Decides-eqb, All-head, All-tail, filter_passes, list_any, All, list_all, same_numbers}
 use Rattle.std.proofs.lemmas.Slice.Eq.{slice_eq-Decides}
-use Rattle.f77_legal.specs.Loops.{same_numbers}
 
 -- some element passes p and not q
 abbrev pub left_out : (ℕ → Bool) → (ℕ → Bool) → List ℕ → Bool

@@ -1,20 +1,9 @@
 -- What a table of loops and branches says of its program.
-use Rattle.std.proofs.Common.{◌≡◌, ◌<◌, ◌≤◌, ◌+◌, ◌-◌, ℕ, suc, length, List, [], ◌∷◌, Some, None, Bool, true, false, refl, sym, ◌∙◌, ap, arith, map, drop, get_or}
-use Rattle.std.specs.Prelude.{filter, reverse, ◌&&◌, ◌||◌, ◌==◌, not, nat_lt, nat_le}
-use Rattle.std.specs.List.{list_any, range_with_len}
-use Rattle.std.specs.Option.{option_and_then, option_map_or}
-use Rattle.std.specs.Str.{bytes_eq}
-use Rattle.std.proofs.lemmas.Bool.Decides.{nat_tests}
-use Rattle.std.proofs.lemmas.List.{at_drop_more}
-use Rattle.f77_program.specs.Program.{LineFields, line_of}
-use Rattle.f77_program.specs.declared.program.Line.{Line}
-use Rattle.f77_legal.specs.Blocks.{first_numbers, statement_numbers, branch_holds}
-use Rattle.f77_legal.specs.Labels.{nth_statement}
-use Rattle.f77_legal.specs.Loops.{terminal, range_holds, is_left, left_by, loops_ending, ends_outside, breaks_range, goes_in, do_variable_of, holds_with}
-use Rattle.f77_legal.specs.LoopTable.{IsRangeTable}
-use Rattle.f77_legal.specs.Names.{Symbol}
-use Rattle.f77_legal.specs.code.LoopTable.{is_in_do_range, holds_by, is_left_by_table, separates, ends_at_by_table, enters}
-use Rattle.f77_legal.specs.declared.enclosing.Ranges.{Ranges}
+use Rattle.f77_legal.proofs.Common.{◌≡◌, ◌∙◌, ap, map, sym, List, refl, ℕ, [], false, ◌∷◌, length, Bool, arith, true, Some, None, ◌+◌, filter, ◌||◌, ◌&&◌}
+use Rattle.f77_legal.proofs.Common.{◌<◌, not, drop, get_or, nat_lt, ◌==◌, ◌-◌, nat_le, reverse, nat_tests, at_drop_more, list_any, range_with_len}
+use Rattle.f77_legal.proofs.Common.{option_map_or, option_and_then, bytes_eq, Symbol, nth_statement, first_numbers, do_variable_of, statement_numbers, terminal}
+use Rattle.f77_legal.proofs.Common.{branch_holds, breaks_range, ends_outside, goes_in, IsRangeTable, holds_with, left_by, loops_ending, range_holds, is_left}
+use Rattle.f77_legal.proofs.Common.{enters, holds_by, ends_at_by_table, is_in_do_range, is_left_by_table, separates, Ranges, LineFields, line_of, Line}
 use Rattle.f77_legal.proofs.Heads.{begins, filter_again, any_again, enters_again, unranged, unheld, unleft, unended, unseparated}
 use Rattle.f77_legal.proofs.LoopLists.{left_out, all_kept, same_filters}
 use Rattle.f77_legal.proofs.Prefixes.{begins_kept, numbers_are}

@@ -1,20 +1,10 @@
 -- Names of DATA that are dummy arguments or stand there twice.
-use Rattle.std.proofs.Common.{arith, ◌≡◌, ℕ, suc, ◌+◌, ◌<◌, List, [], ◌∷◌, ◌++◌, length, map, Bool, true, false, cond, refl}
-use Rattle.std.proofs.Common.{sym, ap, subst, ◌∙◌, append_assoc, append-nil, drop, get_or, drop-cons, add-one, length-append}
-use Rattle.std.specs.Prelude.{◌||◌, not, nat_le, filter}
+use Rattle.f77_legal.proofs.Common.{◌≡◌, ◌∙◌, ap, map, sym, List, refl, ℕ, [], false, ◌∷◌, length, Bool, arith, true, ◌++◌, ◌+◌, filter, ◌||◌, suc, ◌<◌, not}
+use Rattle.f77_legal.proofs.Common.{cond, drop, get_or, subst, append-nil, nat_le, add-one, append_assoc, drop-cons, length-append, true≢false, nat_tests}
+use Rattle.f77_legal.proofs.Common.{filter-append, nat_list_eq_equiv, same_text, list_any, bytes_eq, Symbol, names_held, groups_break, misplaces}
+use Rattle.f77_legal.proofs.Common.{names_of_groups, fills, data_group_of, GroupFields, Kind}
 use Rattle.std.specs.Borrow.{Bor}
-use Rattle.std.specs.List.{list_any}
-use Rattle.std.specs.Str.{bytes_eq}
-use Rattle.std.proofs.lemmas.Bool.Decides.{nat_tests}
-use Rattle.std.proofs.lemmas.List.Elements.{filter-append}
-use mathlib.Core.Bool.{true≢false}
-use Rattle.std.specs.Cmp.Lexicographic.{nat_list_eq_equiv, same_text}
-use Rattle.f77_tree.specs.Data.{data_group_of}
 use Rattle.f77_tree.specs.declared.data.DataGroup.{DataGroup}
-use Rattle.f77_tree.specs.declared.tree.Kind.{Kind}
-use Rattle.f77_tree.specs.Tree.{GroupFields}
-use Rattle.f77_legal.specs.Names.{Symbol}
-use Rattle.f77_legal.specs.code.Runs.{fills, groups_break, misplaces, names_of_groups, names_held}
 
 held_any : (name : Symbol) (keys : List (Bor (List ℕ))) → list_any (λ key. bytes_eq name key.now) keys ≡ list_any (bytes_eq name) (names_held keys)
 held_any name [] = refl

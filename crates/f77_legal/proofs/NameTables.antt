@@ -1,17 +1,8 @@
 -- The table of a list of uses of names, made from one after another.
-use Rattle.std.proofs.Common.{◌≡◌, ℕ, ◌+◌, ◌<◌, length, List, [], ◌∷◌, ◌++◌, Bool, true, false, refl, ap, sym, ◌∙◌, subst, append_assoc, take, get_or}
-use Rattle.std.specs.Prelude.{map}
-use Rattle.std.specs.List.{list_any}
-use Rattle.std.specs.Str.{bytes_eq}
-use Rattle.std.proofs.lemmas.List.{append-nil, map-append}
+use Rattle.f77_legal.proofs.Common.{◌≡◌, ◌∙◌, ap, map, sym, List, refl, ℕ, [], false, ◌∷◌, length, Bool, true, ◌++◌, ◌+◌, take, ◌<◌, get_or, subst, append-nil}
+use Rattle.f77_legal.proofs.Common.{append_assoc, map-append, fold-append, list_any, bytes_eq, Symbol, NameUse, name_in, uses, uses_of, FactsFields, facts_of}
+use Rattle.f77_legal.proofs.Common.{names_once, Entries, table, with_uses, no_facts, with_fact, with_use, LineFields, line_of, Line, statement_of}
 use Rattle.std.proofs.lemmas.List.Concat.{flat_map-append}
-use Rattle.std.proofs.lemmas.List.Sums.{fold-append}
-use Rattle.f77_program.specs.declared.program.Line.{Line}
-use Rattle.f77_program.specs.Program.{LineFields, line_of}
-use Rattle.f77_tree.specs.Statement.{statement_of}
-use Rattle.f77_legal.specs.Names.{Symbol, NameUse, name_in, uses_of, uses, names_once}
-use Rattle.f77_legal.specs.NameTable.{FactsFields, Entries, facts_of, table}
-use Rattle.f77_legal.specs.code.NameTable.{with_fact, no_facts, with_use, with_uses}
 use Rattle.f77_legal.proofs.Digests.{facts_hit, facts_miss, facts_none}
 use Rattle.f77_legal.proofs.Listing.{one_more}
 use Rattle.f77_legal.proofs.Symbols.{or_false, same_symbol, symbol_refl, Apart, any_once, once_push, once_apart}

@@ -1,15 +1,7 @@
 -- What a legal program keeps: bounds at each statement, and its size.
-use Rattle.std.proofs.Common.{arith, ◌≡◌, ℕ, ◌+◌, List, [], ◌∷◌, Bool, true, false, not, refl, map, filter, length}
-use Rattle.std.specs.Prelude.{◌≤◌, nat_lt, ◌||◌}
-use Rattle.std.specs.List.{enumerate_from, list_all, sum}
-use Rattle.std.proofs.lemmas.Bool.Decides.{nat_tests}
-use Rattle.f77_program.specs.Program.{LineFields}
-use Rattle.f77_legal.specs.declared.clause.Clause.TheVariants.{Bounds}
-use Rattle.f77_legal.specs.Clause.{breaks, clause_fault, lines_where}
-use Rattle.f77_legal.specs.Dimensions.{dimensions_fit}
-use Rattle.f77_legal.specs.Legal.{IsLegal, is_array, is_too_large, too_large_faults}
-use Rattle.f77_legal.specs.Names.{symbols, bounds_of}
-use Rattle.f77_legal.specs.InitialValues.{element_count}
+use Rattle.f77_legal.proofs.Common.{◌≡◌, map, List, refl, ℕ, [], false, ◌∷◌, length, Bool, arith, true, ◌+◌, filter, ◌||◌, not, ◌≤◌, nat_lt, nat_tests}
+use Rattle.f77_legal.proofs.Common.{enumerate_from, list_all, sum, breaks, IsLegal, symbols, clause_fault, lines_where, too_large_faults, bounds_of}
+use Rattle.f77_legal.proofs.Common.{element_count, is_array, dimensions_fit, is_too_large, Bounds, LineFields}
 use Rattle.f77_legal.proofs.LegalGives.{kept_by, map_none}
 use Rattle.f77_legal.proofs.Symbols.{or_false}
 

@@ -1,16 +1,9 @@
 -- The table as one use of a name after another is put into it.
-use Rattle.std.proofs.Common.{◌≡◌, ◌≢◌, ℕ, length, List, [], ◌∷◌, Bool, true, false, refl, ap, sym, ◌∙◌, Some, None}
-use Rattle.std.specs.Prelude.{map}
-use Rattle.std.specs.Map.{lookup, set_value}
-use Rattle.std.specs.Str.{bytes_eq}
-use Rattle.std.proofs.lemmas.Option.{none-some, same_Some}
-use Rattle.indexmap.specs.IndexMap.{insert_entry}
-use Rattle.f77_legal.specs.declared.names.Facts.{Facts}
+use Rattle.f77_legal.proofs.Common.{◌≡◌, ◌∙◌, ap, map, sym, List, refl, ℕ, [], false, ◌∷◌, length, Bool, true, Some, None, ◌≢◌, same_Some, none-some, lookup}
+use Rattle.f77_legal.proofs.Common.{set_value, bytes_eq, Symbol, NameUse, entry_of, name_in, FactsFields, facts_fields, no_facts, with_fact, with_use}
+use Rattle.f77_legal.proofs.Common.{facts_with_bounds, use_of, with_shape, Facts, insert_entry}
 use Rattle.f77_legal.specs.declared.uses.Said.{Said}
 use Rattle.f77_legal.specs.declared.uses.Said.TheVariants as said
-use Rattle.f77_legal.specs.Names.{Symbol, NameUse, name_in}
-use Rattle.f77_legal.specs.NameTable.{entry_of, facts_fields, FactsFields}
-use Rattle.f77_legal.specs.code.NameTable.{facts_with_bounds, with_shape, with_fact, no_facts, with_use, use_of}
 
 pub bounds_given : (f : FactsFields) (bounds : List ℕ) → length bounds ≢ 0 → facts_with_bounds f bounds ≡ with_shape f bounds
 bounds_given f [] some = absurd (some refl)

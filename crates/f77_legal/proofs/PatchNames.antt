@@ -1,33 +1,19 @@
 -- The names of a program with one statement changed, and a walk over the trees of a statement that tests each of its names.
-use Rattle.std.proofs.Common.{◌≡◌, ℕ, zero, suc, Bool, true, false, ◌&&◌, List, [], ◌∷◌, ◌++◌, Option, Some, None, map, refl, sym, ◌∙◌, ap}
-use Rattle.std.proofs.Math.Bool.{and-true}
-use Rattle.std.specs.Prelude.{is_some, filter_map}
-use Rattle.std.specs.List.{All, list_all}
-use Rattle.std.specs.Str.{bytes_eq}
-use Rattle.std.proofs.lemmas.List.{map-append}
+use Rattle.f77_legal.proofs.Common.{◌≡◌, ◌∙◌, ap, map, sym, List, refl, ℕ, [], false, ◌∷◌, Bool, true, Some, None, ◌++◌, suc, Option, ◌&&◌, zero, is_some}
+use Rattle.f77_legal.proofs.Common.{filter_map, and-true, map-append, filter_map-append, list_all-append, list_all-map, AllPass-from_list_all}
+use Rattle.f77_legal.proofs.Common.{list_all-from_AllPass, All, list_all, bytes_eq, Symbol, NameUse, name_in, symbols, uses, uses_of, is_name_among, items_pass}
+use Rattle.f77_legal.proofs.Common.{names_pass, tree_passes, value_passes, NamesAmong, Names, replaced, LineFields, names_of, NodeOf, node_name, all_parts}
+use Rattle.f77_legal.proofs.Common.{nodes_of, parts, tree_nodes, value_nodes, Statement, Tree, Trees, keys, get}
 use Rattle.std.proofs.lemmas.List.Concat.{flat_map-cons}
-use Rattle.std.proofs.lemmas.List.Elements.{filter_map-append}
-use Rattle.std.proofs.lemmas.List.Folds.{list_all-append, list_all-map}
-use Rattle.std.proofs.lemmas.List.Sums.{AllPass-from_list_all, list_all-from_AllPass}
 use Rattle.std.proofs.lemmas.Map.Made.{is_some-lookup}
-use Rattle.indexmap.specs.IndexMap.{get, keys}
 use Rattle.f77_program.specs.Formed.{is_action}
 use Rattle.f77_program.specs.code.Formed.{statement_formed, formed}
 use Rattle.f77_program.specs.Group.{group_of}
-use Rattle.f77_tree.specs.Node.{NodeOf, parts, all_parts, tree_nodes, value_nodes, nodes_of, node_name, names_of}
-use Rattle.f77_program.specs.Program.{LineFields}
-use Rattle.f77_program.specs.Patching.{replaced}
 use Rattle.f77_tree.specs.Grammar.{is_name}
 use Rattle.f77_tree.specs.StatementGrammar.{IsFormed}
-use Rattle.f77_tree.specs.Tree.{Tree, Trees}
-use Rattle.f77_tree.specs.Statement.{Statement}
 use Rattle.f77_program.specs.declared.group.Group.TheVariants.{Executable}
 use Rattle.f77_program.proofs.StatementForming.{is_formed}
 use Rattle.f77_tree.proofs.Tests.{and_true}
-use Rattle.f77_legal.specs.declared.names.Names.{Names}
-use Rattle.f77_legal.specs.Names.{Symbol, NameUse, name_in, uses_of, uses, symbols}
-use Rattle.f77_legal.specs.Patches.{is_name_among, tree_passes, items_pass, value_passes, names_pass}
-use Rattle.f77_legal.specs.Alone.{NamesAmong}
 use Rattle.f77_legal.proofs.Among.{all_once, once_all}
 
 -- each use of a name in the changed program is one in another line or in the statement

@@ -1,10 +1,7 @@
 -- The first place where a test passes, and how often it passes, once a list has one more element.
-use Rattle.std.proofs.Common.{arith, ◌≡◌, ℕ, suc, ◌+◌, ◌<◌, List, [], ◌∷◌, ◌++◌, Bool, true, false, cond, refl, sym, ◌∙◌, ap, length, map, filter, inl, inr, length-append}
-use Rattle.std.specs.Prelude.{Option, Some, None, is_some, nat_le, nat_lt, ◌||◌, ◌&&◌, not, option_map}
-use Rattle.std.specs.List.{position, position_or_len, list_any}
-use Rattle.std.proofs.lemmas.Bool.{cases_lt, lt-ltb, le-ltb}
-use Rattle.std.proofs.lemmas.Bool.Decides.{nat_tests}
-use Rattle.std.proofs.lemmas.List.Elements.{filter-append}
+use Rattle.f77_legal.proofs.Common.{◌≡◌, ◌∙◌, ap, map, sym, List, refl, ℕ, [], false, ◌∷◌, length, Bool, arith, true, Some, None, ◌++◌, ◌+◌, filter, ◌||◌, suc}
+use Rattle.f77_legal.proofs.Common.{Option, ◌&&◌, ◌<◌, not, cond, option_map, nat_lt, inr, is_some, inl, nat_le, length-append, lt-ltb, le-ltb, cases_lt}
+use Rattle.f77_legal.proofs.Common.{nat_tests, filter-append, list_any, position, position_or_len}
 
 -- the place where the new element, at i, is the first unless there was one
 abbrev pub first_with : Option ℕ → ℕ → Bool → Option ℕ

@@ -1,11 +1,7 @@
 -- Where the numbers that pass one test begin with those that pass another.
-use Rattle.std.proofs.Common.{◌≡◌, ℕ, zero, suc, ◌<◌, ◌+◌, List, [], ◌∷◌, ◌++◌, Bool, true, false, cond, refl, sym, ◌∙◌, ap, arith}
-use Rattle.std.specs.Prelude.{filter, ◌&&◌, ◌||◌, ◌==◌, not}
-use Rattle.std.specs.List.{All, list_any, range_with_len, starts_with}
-use Rattle.std.proofs.lemmas.Bool.Decides.{nat_tests}
-use Rattle.std.proofs.lemmas.List.Elements.{All-nil, All-cons, All-head, All-tail}
-use Rattle.f77_legal.specs.Blocks.{first_numbers}
-use Rattle.f77_legal.specs.code.LoopTable.{enters}
+use Rattle.f77_legal.proofs.Common.{◌≡◌, ◌∙◌, ap, sym, List, refl, ℕ, [], false, ◌∷◌, Bool, arith, true, ◌++◌, ◌+◌, filter, ◌||◌, suc, ◌&&◌, ◌<◌, not, cond}
+use Rattle.f77_legal.proofs.Common.{zero, ◌==◌, nat_tests, All-head, All-tail, All-cons, All-nil, list_any, All, range_with_len, starts_with, first_numbers}
+use Rattle.f77_legal.proofs.Common.{enters}
 use Rattle.f77_legal.proofs.LoopLists.{left_out}
 
 abbrev begins : List ℕ → List ℕ → Bool

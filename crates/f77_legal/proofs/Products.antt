@@ -1,9 +1,7 @@
 -- Products that are clipped on the way.
-use Rattle.std.proofs.Common.{arith, ◌≡◌, ◌⊎◌, inl, inr, ℕ, zero, suc, ◌+◌, ◌*◌, ◌<◌, ◌≤◌, List, length, get_or, drop, drop-cons, add-one, refl, sym, ap}
-use Rattle.std.specs.Prelude.{min}
+use Rattle.f77_legal.proofs.Common.{◌≡◌, ap, sym, List, refl, ℕ, length, arith, ◌+◌, suc, ◌<◌, drop, get_or, ◌≤◌, zero, inr, inl, ◌⊎◌, min, add-one, drop-cons}
+use Rattle.f77_legal.proofs.Common.{◌*◌, nat_tests, product}
 use Rattle.std.proofs.Math.Nat.{mul_assoc}
-use Rattle.std.proofs.lemmas.Bool.Decides.{nat_tests}
-use Rattle.f77_legal.specs.InitialValues.{product}
 
 -- a product that was clipped on the way
 clip_product : (n q top most : ℕ) → most ≤ top → min (min n top * q) most ≡ min (n * q) most

@@ -1,11 +1,7 @@
 -- A program with one statement changed: what stays, and when its frame does.
-use Rattle.std.proofs.Common.{◌≡◌, ◌≢◌, ℕ, zero, suc, List, [], ◌∷◌, length, Option, Some, refl, sym, ap, ◌∙◌}
+use Rattle.f77_legal.proofs.Common.{◌≡◌, ◌∙◌, ap, sym, List, refl, ℕ, [], ◌∷◌, length, Some, suc, Option, zero, ◌≢◌, same_Some, HaveOneFrame, framed, frame}
+use Rattle.f77_legal.proofs.Common.{framed_line, replaced, LineFields, Statement}
 use Rattle.std.specs.List.{slice_get}
-use Rattle.std.proofs.lemmas.Option.{same_Some}
-use Rattle.f77_program.specs.Program.{LineFields}
-use Rattle.f77_program.specs.Patching.{replaced}
-use Rattle.f77_tree.specs.Statement.{Statement}
-use Rattle.f77_legal.specs.Frames.{framed, framed_line, frame, HaveOneFrame}
 
 pub length-replaced : (p : List LineFields) (i : ℕ) (s : Statement) → length (replaced p i s) ≡ length p
 length-replaced [] i s = refl

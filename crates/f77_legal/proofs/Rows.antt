@@ -1,15 +1,10 @@
 -- The definitions at worked rows.
-use Rattle.std.specs.Prelude.{◌≡◌, refl, ℕ, ℤ, pos, List, [], ◌∷◌, Some, None, codes}
-use Rattle.f77_program.specs.Program.{LineFields}
-use Rattle.f77_tree.specs.Tree.{Tree, Trees, DeclFields}
-use Rattle.f77_tree.specs.Statement.{Statement}
+use Rattle.f77_legal.proofs.Common.{◌≡◌, List, refl, ℕ, [], ◌∷◌, Some, None, codes, pos, ℤ, faults, first_fault, BadData, DoubleLabel, RealName, Twice}
+use Rattle.f77_legal.proofs.Common.{BadTarget, BadTerminal, Dimensions, DoVariable, IntoBlock, Nesting, NoLabel, LineFields, function_named, Statement, Tree}
+use Rattle.f77_legal.proofs.Common.{Trees, DeclFields, Integer}
 use Rattle.f77_tree.specs.declared.data.Constant.TheVariants.{Number}
 use Rattle.f77_tree.specs.declared.data.Value.{Value}
-use Rattle.f77_tree.specs.declared.tree.Kind.TheVariants.{Integer}
 use Rattle.f77_tree.specs.declared.operator.Operator.TheVariants.{Greater}
-use Rattle.f77_legal.specs.declared.fault.CheckFault.TheVariants.{RealName, Twice, Dimensions, DoubleLabel, NoLabel, BadTarget, IntoBlock, BadTerminal, Nesting, DoVariable, BadData}
-use Rattle.f77_tree.specs.Intrinsic.{function_named}
-use Rattle.f77_legal.specs.Legal.{faults, first_fault}
 
 abbrev line : ℕ → Statement → LineFields
 line n s = record { label = None; stmt = s; line = n }

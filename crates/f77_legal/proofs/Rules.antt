@@ -1,18 +1,9 @@
 -- A program is legal exactly where it keeps every rule.
-use Rattle.std.proofs.Common.{◌≡◌, ℕ, suc, ◌+◌, Bool, true, false, cond, List, [], ◌∷◌, ◌++◌, Some, refl, sym, ◌∙◌, ap, arith, map, filter}
-use Rattle.std.specs.List.{All, enumerate_from}
-use Rattle.std.proofs.lemmas.List.Elements.{All-nil, All-cons, All-head, All-tail}
-use Rattle.f77_program.specs.Program.{LineFields}
-use Rattle.f77_tree.specs.Statement.{Statement}
-use Rattle.f77_legal.specs.declared.clause.Clause.{Clause}
-use Rattle.f77_legal.specs.declared.clause.Clause.TheVariants.{Kinds, Bounds, NamedLabels, Targets, Terminals, Nests, Jumps, Variables}
-use Rattle.f77_legal.specs.declared.fault.CheckFault.TheVariants.{RealName, Twice, DoubleLabel, BadData, TooMany}
-use Rattle.f77_legal.specs.Clause.{breaks, lines_where, faults_of, clause_fault}
-use Rattle.f77_legal.specs.Labels.{labels, nth_statement, is_double}
-use Rattle.f77_legal.specs.Law.{KeepsEveryRule}
-use Rattle.f77_legal.specs.Legal.{IsLegal, name_faults, clause_faults, expression_clauses, control_clauses, label_faults, data_faults, too_large_faults}
-use Rattle.f77_legal.specs.Names.{symbols, is_real, is_twice}
-use Rattle.f77_legal.specs.InitialValues.{has_bad_data}
+use Rattle.f77_legal.proofs.Common.{◌≡◌, ◌∙◌, ap, map, sym, List, refl, ℕ, [], false, ◌∷◌, Bool, arith, true, Some, ◌++◌, ◌+◌, filter, suc, cond, All-head}
+use Rattle.f77_legal.proofs.Common.{All-tail, All-cons, All-nil, All, enumerate_from, nth_statement, breaks, IsLegal, symbols, clause_fault, lines_where}
+use Rattle.f77_legal.proofs.Common.{too_large_faults, clause_faults, control_clauses, expression_clauses, is_real, is_twice, label_faults, name_faults}
+use Rattle.f77_legal.proofs.Common.{data_faults, has_bad_data, faults_of, is_double, labels, KeepsEveryRule, Clause, Bounds, Kinds, NamedLabels, Nests, Jumps}
+use Rattle.f77_legal.proofs.Common.{Targets, Terminals, Variables, BadData, DoubleLabel, RealName, Twice, TooMany, LineFields, Statement}
 use Rattle.f77_legal.proofs.LegalGives.{Kept, kept_by, none_before, none_behind, map_none, test_kept}
 use Rattle.f77_legal.proofs.NoFaults.{not_large}
 

@@ -1,19 +1,9 @@
 -- How runs of kinds are taken from the front of others.
-use Rattle.std.proofs.Common.{arith, ◌≡◌, ◌⊎◌, inl, inr, ℕ, zero, suc, ◌+◌, ◌-◌, ◌<◌, ◌≤◌, List, [], ◌∷◌, ◌++◌, length, replicate}
-use Rattle.std.proofs.Common.{Bool, true, false, cond, refl, sym, ap, ◌∙◌, length-append, get_or, drop, drop-cons, add-one}
-use Rattle.std.specs.Prelude.{◌==◌, ◌||◌, ◌&&◌, min, Some, None}
-use Rattle.std.specs.Option.{option_map_or}
-use Rattle.std.specs.List.{list_all}
-use Rattle.std.specs.Cmp.Lexicographic.{pointwise}
-use Rattle.std.proofs.lemmas.Bool.{eqb-true}
-use Rattle.std.proofs.lemmas.Bool.Decides.{nat_tests}
-use Rattle.std.proofs.lemmas.List.{length-replicate}
+use Rattle.f77_legal.proofs.Common.{◌≡◌, ◌∙◌, ap, sym, List, refl, ℕ, [], false, ◌∷◌, length, Bool, arith, true, Some, None, ◌++◌, ◌+◌, ◌||◌, suc, ◌&&◌, ◌<◌}
+use Rattle.f77_legal.proofs.Common.{cond, drop, get_or, ◌≤◌, zero, ◌==◌, inr, inl, ◌-◌, ◌⊎◌, min, add-one, drop-cons, length-append, eqb-true, replicate}
+use Rattle.f77_legal.proofs.Common.{nat_tests, length-replicate, pointwise, list_all, option_map_or, Symbol, product, behind_kinds, kinds_in, kinds_needed}
+use Rattle.f77_legal.proofs.Common.{same_kind, Kind}
 use Rattle.f77_tree.specs.declared.data.Value.{Value}
-use Rattle.f77_tree.specs.declared.tree.Kind.{Kind}
-use Rattle.f77_tree.specs.Comparing.{same_kind}
-use Rattle.f77_legal.specs.Names.{Symbol}
-use Rattle.f77_legal.specs.InitialValues.{product}
-use Rattle.f77_legal.specs.code.Runs.{kinds_in, behind_kinds, kinds_needed}
 
 -- one value more
 count_more : (v : Value) (vs : List Value) → length (kinds_in (v ∷ vs)) ≡ v.times + length (kinds_in vs)

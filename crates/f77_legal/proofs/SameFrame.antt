@@ -1,27 +1,16 @@
 -- Programs of one frame have the same labels, blocks and DOs, and a statement breaks the same clauses in each, but for what its DO may end at.
-use Rattle.std.proofs.Common.{◌≡◌, ◌≢◌, ◌∙◌, ◌+◌, ◌==◌, ◌&&◌, ◌||◌, ℕ, zero, suc, List, [], ◌∷◌, Bool, true, false}
-use Rattle.std.proofs.Common.{cond, not, Option, Some, None, refl, sym, ap, reverse, length, filter, take, drop, ◌-◌}
-use Rattle.std.specs.Prelude.{nat_lt, nat_le, is_some, if◌then◌else◌, option_map}
-use Rattle.std.specs.List.{find, list_any, list_all, starts_with, prefix_len, cons_option}
-use Rattle.std.specs.Option.{option_and_then, option_map_or}
-use Rattle.std.specs.Str.{bytes_eq}
-use Rattle.std.proofs.lemmas.List.{length-map, take-map, drop-map}
-use Rattle.f77_program.specs.Program.{LineFields}
-use Rattle.f77_tree.specs.Statement.{Statement, jumps_of}
-use Rattle.f77_legal.specs.declared.clause.Clause.{Clause}
-use Rattle.f77_legal.specs.declared.clause.Clause.TheVariants.{Kinds, Bounds, NamedLabels, Targets, Terminals, Nests, Jumps, Variables}
-use Rattle.f77_legal.specs.Blocks.{is_block_if, is_end_if, is_else, is_alternative, first_numbers, statement_numbers, has_at, count_between, is_level, block_end, branch_end}
-use Rattle.f77_legal.specs.Blocks.{statement_behind, is_in_block, is_end_of_block, ends_else, begins_branch, branch_holds, breaks_block}
-use Rattle.f77_legal.specs.Clause.{breaks}
-use Rattle.f77_legal.specs.Dimensions.{dimensions_fit}
-use Rattle.f77_legal.specs.Frames.{framed, framed_line, frame, HaveOneFrame}
-use Rattle.f77_legal.specs.Kinds.{kinds_agree}
-use Rattle.f77_legal.specs.Labels.{labels, bears, is_double, label_place, nth_statement, statement_with, terminal_label, is_target}
-use Rattle.f77_legal.specs.Loops.{terminal, range_holds, left_by, loops_ending, branches, enclosing, same_numbers, ends_outside, breaks_range}
-use Rattle.f77_legal.specs.Loops.{breaks_nesting, goes_in, set_by, do_variable_of, holds_with}
-use Rattle.f77_legal.specs.Names.{Symbol}
+use Rattle.f77_legal.proofs.Common.{◌≡◌, ◌∙◌, ap, sym, List, refl, ℕ, [], false, ◌∷◌, length, Bool, true, Some, None, ◌+◌, filter, ◌||◌, suc, take, Option}
+use Rattle.f77_legal.proofs.Common.{◌&&◌, not, cond, drop, option_map, zero, nat_lt, ◌==◌, is_some, ◌-◌, nat_le, if◌then◌else◌, ◌≢◌, reverse, length-map}
+use Rattle.f77_legal.proofs.Common.{take-map, drop-map, list_any, find, list_all, cons_option, starts_with, prefix_len, option_map_or, option_and_then}
+use Rattle.f77_legal.proofs.Common.{bytes_eq, Symbol, nth_statement, breaks, first_numbers, is_block_if, is_alternative, label_place, HaveOneFrame, block_end}
+use Rattle.f77_legal.proofs.Common.{has_at, is_end_if, terminal_label, do_variable_of, framed, is_in_block, statement_numbers, branch_end, is_else, is_level}
+use Rattle.f77_legal.proofs.Common.{statement_with, terminal, begins_branch, branch_holds, breaks_block, breaks_range, count_between, dimensions_fit, ends_else}
+use Rattle.f77_legal.proofs.Common.{ends_outside, frame, framed_line, goes_in, is_double, is_target, labels, bears, holds_with, is_end_of_block, kinds_agree}
+use Rattle.f77_legal.proofs.Common.{left_by, loops_ending, range_holds, same_numbers, statement_behind, branches, breaks_nesting, enclosing, set_by, Clause}
+use Rattle.f77_legal.proofs.Common.{Bounds, Kinds, NamedLabels, Nests, Jumps, Targets, Terminals, Variables, LineFields, Statement, jumps_of}
 use Rattle.f77_legal.proofs.FrameNames.{by_frame, kind_of_same, bounds_of_same}
-use Rattle.f77_legal.proofs.Frames.{is_block_if-framed, is_end_if-framed, is_else-framed, is_alternative-framed, is_target-framed, terminal_label-framed, variable_of-framed}
+use Rattle.f77_legal.proofs.Frames.{is_block_if-framed, is_end_if-framed, is_else-framed, is_alternative-framed, is_target-framed, terminal_label-framed}
+use Rattle.f77_legal.proofs.Frames.{variable_of-framed}
 
 -- what follows from the frame of a statement follows from the frame of its program
 at-frame : {X : Type 0} (f : Option Statement → X) → ((s : Statement) → f (Some (framed s)) ≡ f (Some s)) → (p : List LineFields) (i : ℕ)

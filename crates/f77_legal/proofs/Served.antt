@@ -1,16 +1,7 @@
 -- Tables that answer for a program.
-use Rattle.std.proofs.Common.{◌≡◌, ◌∙◌, ℕ, List, map, ap, if◌then◌else◌, None}
-use Rattle.std.specs.Prelude.{option_map}
-use Rattle.f77_program.specs.Program.{LineFields}
-use Rattle.f77_legal.specs.Blocks.{is_block_if, is_else}
-use Rattle.f77_legal.specs.BlockTable.{block_end_at, else_end_at, branch_end_at, tabled, IsBlockTable}
-use Rattle.f77_legal.specs.Frames.{HaveOneFrame}
-use Rattle.f77_legal.specs.LabelTable.{distinct, IsLabelTable}
-use Rattle.f77_legal.specs.LoopTable.{IsRangeTable}
-use Rattle.f77_legal.specs.Tables.{AreTables, Serve}
-use Rattle.f77_legal.specs.declared.blocks.Blocks.{Blocks}
-use Rattle.f77_legal.specs.declared.enclosing.Ranges.{Ranges}
-use Rattle.f77_legal.specs.declared.labels.Labels.{Labels}
+use Rattle.f77_legal.proofs.Common.{◌≡◌, ◌∙◌, ap, map, List, ℕ, None, option_map, if◌then◌else◌, is_block_if, HaveOneFrame, branch_end_at, IsLabelTable}
+use Rattle.f77_legal.proofs.Common.{block_end_at, else_end_at, is_else, IsBlockTable, distinct, AreTables, IsRangeTable, Serve, tabled, Blocks, Ranges, Labels}
+use Rattle.f77_legal.proofs.Common.{LineFields}
 use Rattle.f77_legal.specs.declared.tables.Tables.{Tables}
 use Rattle.f77_legal.proofs.Frames.{is_block_if-framed, is_else-framed}
 use Rattle.f77_legal.proofs.FrameNames.{kind_of_same, bounds_of_same}

@@ -1,20 +1,9 @@
 -- Products and sums that stop at a limit.
-use Rattle.std.proofs.Common.{◌≡◌, ℕ, zero, suc, ◌+◌, ◌*◌, ◌<◌, ◌≤◌, min, length, List, [], ◌∷◌, ◌++◌, Bool, true, false, refl, ap, sym, ◌∙◌, take, get_or, arith, ◌⊎◌, inl, inr}
-use Rattle.std.specs.Prelude.{map, filter, fold, nat_lt, is_some}
-use Rattle.std.specs.List.{sum}
-use Rattle.std.specs.Map.{values_of}
-use Rattle.std.proofs.lemmas.List.{take_more}
-use Rattle.std.proofs.lemmas.Bool.{cases_lt}
-use Rattle.std.proofs.lemmas.Bool.Decides.{nat_tests}
+use Rattle.f77_legal.proofs.Common.{◌≡◌, ◌∙◌, ap, map, sym, List, refl, ℕ, [], false, ◌∷◌, length, Bool, arith, true, ◌++◌, ◌+◌, filter, suc, take, ◌<◌, get_or}
+use Rattle.f77_legal.proofs.Common.{◌≤◌, zero, nat_lt, inr, is_some, inl, ◌⊎◌, min, ◌*◌, fold, cases_lt, nat_tests, take_more, sum, values_of, Symbol, entry_of}
+use Rattle.f77_legal.proofs.Common.{product, symbols, uses, FactsFields, element_count, facts_fields, facts_of, is_array, IsNameTable, some_items, array_size}
+use Rattle.f77_legal.proofs.Common.{Facts, Names, LineFields}
 use Rattle.std.proofs.Math.Nat.{mul_assoc}
-use Rattle.f77_program.specs.Program.{LineFields}
-use Rattle.f77_legal.specs.declared.names.Facts.{Facts}
-use Rattle.f77_legal.specs.declared.names.Names.{Names}
-use Rattle.f77_legal.specs.Legal.{is_array}
-use Rattle.f77_legal.specs.Names.{Symbol, uses, symbols, some_items}
-use Rattle.f77_legal.specs.NameTable.{FactsFields, IsNameTable, facts_fields, entry_of, facts_of}
-use Rattle.f77_legal.specs.code.NameTable.{array_size}
-use Rattle.f77_legal.specs.InitialValues.{product, element_count}
 use Rattle.f77_legal.proofs.NameTables.{rows}
 
 product_push : (xs : List ℕ) (x : ℕ) → product (xs ++ x ∷ []) ≡ product xs * x

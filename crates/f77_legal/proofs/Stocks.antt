@@ -1,14 +1,7 @@
 -- Stocks of names: those of a legal program are one, and what a stock gives to a program with these names.
-use Rattle.std.proofs.Common.{arith, ◌≡◌, ◌≤◌, true, false, length, map, filter, List, ◌∙◌}
-use Rattle.std.specs.Prelude.{nat_lt, ◌||◌}
-use Rattle.std.specs.List.{All, sum}
-use Rattle.std.proofs.lemmas.Bool.Decides.{nat_tests}
-use Rattle.std.proofs.lemmas.List.Elements.{All-weaker}
-use Rattle.f77_program.specs.Program.{LineFields}
-use Rattle.f77_legal.specs.Legal.{IsLegal, is_array, is_too_large}
-use Rattle.f77_legal.specs.Names.{Symbol, name_in, uses, symbols, is_real, is_twice}
-use Rattle.f77_legal.specs.Patches.{is_name_among, IsStock}
-use Rattle.f77_legal.specs.InitialValues.{element_count}
+use Rattle.f77_legal.proofs.Common.{◌≡◌, ◌∙◌, map, List, false, length, arith, true, filter, ◌||◌, ◌≤◌, nat_lt, nat_tests, All-weaker, All, sum, Symbol}
+use Rattle.f77_legal.proofs.Common.{IsLegal, name_in, symbols, uses, is_real, is_twice, element_count, is_array, IsStock, is_name_among, is_too_large}
+use Rattle.f77_legal.proofs.Common.{LineFields}
 use Rattle.f77_legal.proofs.Among.{among_holds, among_itself, each_counted, once_fewer, once_smaller}
 use Rattle.f77_legal.proofs.NoFaults.{few_symbols, few_elements}
 use Rattle.f77_legal.proofs.Rules.{keeps_every_rule}

@@ -7,3 +7,12 @@ pub mod Tables
 pub mod Legal
 pub mod Frames
 pub mod Broken
+pub use NameTable.*
+pub use LabelTable.*
+pub use BlockTable.*
+pub use LoopTable.*
+pub use Runs.*
+pub use Tables.*
+pub use Legal.*
+pub use Frames.*
+pub use Broken.*

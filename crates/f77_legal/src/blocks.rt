@@ -10,12 +10,10 @@ ghost use Rattle.std.specs.Option.{option_map_or};
 ghost use Rattle.f77_program.specs.Program.{LineFields, line_of};
 ghost use Rattle.f77_tree.specs.Statement.{statement_of};
 ghost use Rattle.f77_legal.specs.Blocks as words;
-ghost use Rattle.f77_legal.specs.Blocks.{statement_behind, branch_holds, breaks_block};
 ghost use Rattle.f77_legal.specs.BlockTable as table;
 ghost use Rattle.f77_legal.specs.code.BlockTable as table_code;
-ghost use Rattle.f77_legal.specs.BlockTable.{IsBlockTable};
-ghost use Rattle.f77_legal.specs.code.BlockTable.{is_end_among, is_before_end};
-ghost use Rattle.f77_legal.specs.Labels.{nth_statement};
+ghost use Rattle.f77_legal.specs.{statement_behind, branch_holds, breaks_block, IsBlockTable, nth_statement};
+ghost use Rattle.f77_legal.specs.code.{is_end_among, is_before_end};
 
 use f77_program::Line;
 use f77_tree::{Form, Shared, Stmt};

@@ -1,8 +1,8 @@
 //! The clauses that a single statement keeps or breaks.
 
 ghost use Rattle.std.specs.Prelude.{◌≡◌, nat_lt};
-ghost use Rattle.f77_legal.specs.Clause.{clause_fault};
 ghost use Rattle.f77_legal.specs.code.Broken as broken;
+ghost use Rattle.f77_legal.specs.{clause_fault};
 
 use crate::fault::CheckFault;
 

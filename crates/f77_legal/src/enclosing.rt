@@ -7,9 +7,9 @@
 ghost use Rattle.std.specs.Prelude.{◌≡◌, ◌&&◌, ◌||◌, not, List, IfOk};
 ghost use Rattle.f77_program.specs.Program.{LineFields};
 ghost use Rattle.f77_legal.specs.Enclosing as enclosing;
-ghost use Rattle.f77_legal.specs.LoopTable.{IsRangeTable, is_head, heads_of};
 ghost use Rattle.f77_legal.specs.Loops as loops;
 ghost use Rattle.f77_legal.specs.code.LoopTable as table;
+ghost use Rattle.f77_legal.specs.{IsRangeTable, is_head, heads_of};
 
 use crate::blocks::end_in;
 use std::alloc::{AllocError, Global};

@@ -4,8 +4,7 @@ ghost use Rattle.std.specs.Prelude.{◌≡◌, [], map, option_map};
 ghost use Rattle.std.specs.Option.{option_map_or};
 ghost use Rattle.f77_program.specs.Program.{line_of};
 ghost use Rattle.f77_tree.specs.Statement.{statement_of};
-ghost use Rattle.f77_legal.specs.Names.{unit_name, unit_name_of};
-ghost use Rattle.f77_legal.specs.Heading.{dummies, dummies_of};
+ghost use Rattle.f77_legal.specs.{unit_name, unit_name_of, dummies, dummies_of};
 
 use f77_program::Line;
 use f77_tree::{Name, Shared, Stmt};

@@ -3,7 +3,8 @@
 //! Values are taken in runs, and elements are counted with saturation: a limit on elements is tested last (C14), so
 //! arrays of any size come here.
 
-ghost use Rattle.std.specs.Prelude.{◌≡◌, ◌==◌, ◌||◌, ◌≤◌, ◌*◌, ◌++◌, false, not, [], ◌∷◌};
+ghost use Rattle.std.specs.Prelude.{◌≡◌, ◌==◌, ◌||◌, ◌≤◌, ◌*◌, ◌++◌, false, not, []};
+ghost use Rattle.std.specs.Prelude.{◌∷◌};
 ghost use Rattle.std.specs.Prelude.{length, map, min, option_map, slice_get, IfOk};
 ghost use Rattle.std.specs.List.{list_all, list_any};
 ghost use Rattle.std.specs.Str.{bytes_eq};
@@ -11,13 +12,10 @@ ghost use Rattle.f77_tree.specs.Comparing as comparing;
 ghost use Rattle.f77_tree.specs.Data.{data_group_of};
 ghost use Rattle.f77_program.specs.Program.{line_of};
 ghost use Rattle.f77_tree.specs.Statement.{statement_of};
-ghost use Rattle.f77_legal.specs.Clause.{lines_where};
-ghost use Rattle.f77_legal.specs.NameTable.{kind_at, array_bounds, IsNameTable};
-ghost use Rattle.f77_legal.specs.code.NameTable.{dummy_at};
 ghost use Rattle.f77_legal.specs.InitialValues as initial_values;
-ghost use Rattle.f77_legal.specs.InitialValues.{product, groups_of, has_bad_data};
-ghost use Rattle.f77_legal.specs.code.Runs.{kinds_in, kinds_left, behind_kinds, fills, misplaces};
-ghost use Rattle.f77_legal.specs.code.Runs.{names_of_groups, groups_break, breaks_data, names_held};
+ghost use Rattle.f77_legal.specs.{lines_where, kind_at, array_bounds, IsNameTable, product, groups_of, has_bad_data};
+ghost use Rattle.f77_legal.specs.code.{dummy_at, kinds_in, kinds_left, behind_kinds, fills, misplaces, names_of_groups};
+ghost use Rattle.f77_legal.specs.code.{groups_break, breaks_data, names_held};
 
 use crate::names::Names;
 use f77_program::Line;

@@ -11,10 +11,9 @@ ghost use Rattle.std.specs.Option.{option_and_then, option_map_or};
 ghost use Rattle.indexmap.specs.IndexMap.{get, IsUnique};
 ghost use Rattle.f77_program.specs.Program.{LineFields, line_of};
 ghost use Rattle.f77_tree.specs.Statement.{jumps_of, statement_of};
-ghost use Rattle.f77_legal.specs.LabelTable.{IsLabelTable};
-ghost use Rattle.f77_legal.specs.code.LabelTable.{noted};
 ghost use Rattle.f77_legal.specs.Labels as clause;
-ghost use Rattle.f77_legal.specs.Labels.{is_double, label_place};
+ghost use Rattle.f77_legal.specs.{IsLabelTable, is_double, label_place};
+ghost use Rattle.f77_legal.specs.code.{noted};
 
 use crate::blocks::is_alternative;
 use f77_program::Line;

@@ -2,8 +2,7 @@
 
 ghost use Rattle.std.specs.Prelude.{List};
 ghost use Rattle.f77_program.specs.Program.{LineFields};
-ghost use Rattle.f77_legal.specs.Law.{KeepsEveryRule};
-ghost use Rattle.f77_legal.specs.Legal.{IsLegal};
+ghost use Rattle.f77_legal.specs.{KeepsEveryRule, IsLegal};
 
 /// A program is legal exactly where no statement breaks a clause, and its names, labels, DATA statements and sizes are
 /// right.

@@ -2,19 +2,10 @@
 
 ghost use Rattle.std.specs.Prelude.{◌≡◌, ◌++◌, List, [], map, slice_get, Some, Err};
 ghost use Rattle.f77_program.specs.Program.{LineFields, line_of};
-ghost use Rattle.f77_legal.specs.Legal.{
-  ReportsFirstFault,
-  name_faults,
-  clause_faults,
-  label_faults,
-};
-ghost use Rattle.f77_legal.specs.Legal.{expression_clauses, control_clauses};
-ghost use Rattle.f77_legal.specs.code.Broken.{first_breach};
-ghost use Rattle.f77_legal.specs.code.Legal.{ReportsFirst};
-ghost use Rattle.f77_legal.specs.Legal.{data_faults, too_large_faults, statement_faults, faults};
-ghost use Rattle.f77_legal.specs.LabelTable.{IsLabelTable};
-ghost use Rattle.f77_legal.specs.NameTable.{IsNameTable};
-ghost use Rattle.f77_legal.specs.Tables.{AreTables};
+ghost use Rattle.f77_legal.specs.{ReportsFirstFault, name_faults, clause_faults, label_faults, expression_clauses};
+ghost use Rattle.f77_legal.specs.{control_clauses, data_faults, too_large_faults, statement_faults, faults};
+ghost use Rattle.f77_legal.specs.{IsLabelTable, IsNameTable, AreTables};
+ghost use Rattle.f77_legal.specs.code.{first_breach, ReportsFirst};
 
 use crate::clause::Clause;
 use crate::fault::CheckFault;

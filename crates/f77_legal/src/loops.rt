@@ -6,10 +6,8 @@ ghost use Rattle.std.specs.Option.{option_and_then, option_map_or};
 ghost use Rattle.std.specs.Str.{bytes_eq};
 ghost use Rattle.f77_program.specs.Program.{line_of};
 ghost use Rattle.f77_tree.specs.Statement.{statement_of};
-ghost use Rattle.f77_legal.specs.Blocks.{statement_numbers};
-ghost use Rattle.f77_legal.specs.Labels.{nth_statement};
 ghost use Rattle.f77_legal.specs.Loops as loops;
-ghost use Rattle.f77_legal.specs.LoopTable.{IsRangeTable};
+ghost use Rattle.f77_legal.specs.{statement_numbers, nth_statement, IsRangeTable};
 
 use crate::enclosing::Ranges;
 use f77_program::Line;

@@ -9,14 +9,12 @@ ghost use Rattle.std.specs.Str.{bytes_eq};
 ghost use Rattle.indexmap.specs.IndexMap.{get, index_of, values};
 ghost use Rattle.f77_tree.specs.Intrinsic.{function_named};
 ghost use Rattle.f77_program.specs.Program.{LineFields, line_of};
-ghost use Rattle.f77_legal.specs.Legal.{is_array};
 ghost use Rattle.f77_legal.specs.Names as named;
-ghost use Rattle.f77_legal.specs.Names.{symbols, is_real, is_twice, unit_name};
 ghost use Rattle.f77_legal.specs.code.NameTable as table_code;
-ghost use Rattle.f77_legal.specs.NameTable.{IsNameTable, kind_at, array_bounds, facts_fields, entry_of};
-ghost use Rattle.f77_legal.specs.code.NameTable.{dummy_at};
 ghost use Rattle.f77_legal.specs.InitialValues as initial_values;
-ghost use Rattle.f77_legal.specs.InitialValues.{product};
+ghost use Rattle.f77_legal.specs.{is_array, symbols, is_real, is_twice, unit_name, IsNameTable, kind_at, array_bounds};
+ghost use Rattle.f77_legal.specs.{facts_fields, entry_of, product};
+ghost use Rattle.f77_legal.specs.code.{dummy_at};
 
 use f77_program::Line;
 use f77_tree::{Intrinsic, Kind, Name, Shared};

@@ -4,7 +4,7 @@ ghost use Rattle.std.specs.Prelude.{◌≡◌, true, None};
 ghost use Rattle.f77_tree.specs.Statement.{statement_of, Statement};
 ghost use Rattle.f77_tree.specs.Tree.{Tree};
 ghost use Rattle.f77_legal.specs.code.Frames as frames;
-ghost use Rattle.f77_legal.specs.Frames.{framed};
+ghost use Rattle.f77_legal.specs.{framed};
 
 use f77_tree::{Form, Name, Stmt};
 

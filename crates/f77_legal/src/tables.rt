@@ -3,13 +3,11 @@
 
 ghost use Rattle.std.specs.Prelude.{◌≡◌, List, map, IfOk, false};
 ghost use Rattle.std.specs.Option.{option_map_or};
-ghost use Rattle.f77_legal.specs.Labels.{label_place};
 ghost use Rattle.f77_program.specs.Program.{LineFields, line_of};
 ghost use Rattle.f77_tree.specs.Statement.{statement_of};
 ghost use Rattle.f77_legal.specs.Loops as loops;
-ghost use Rattle.f77_legal.specs.LabelTable.{IsLabelTable};
-ghost use Rattle.f77_legal.specs.Tables.{AreTables, Serve};
-ghost use Rattle.f77_legal.specs.code.Tables.{terminal_of};
+ghost use Rattle.f77_legal.specs.{label_place, IsLabelTable, AreTables, Serve};
+ghost use Rattle.f77_legal.specs.code.{terminal_of};
 
 use crate::blocks::Blocks;
 use crate::enclosing::Ranges;

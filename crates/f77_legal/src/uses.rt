@@ -6,11 +6,9 @@ ghost use Rattle.indexmap.specs.IndexMap.{get};
 ghost use Rattle.f77_tree.specs.Declaration.{decl_of};
 ghost use Rattle.f77_tree.specs.Node.{names_of};
 ghost use Rattle.f77_tree.specs.Statement.{statement_of};
-ghost use Rattle.f77_legal.specs.Names.{NameUse, uses_of};
-ghost use Rattle.f77_legal.specs.NameTable.{facts_fields, table_entries};
-ghost use Rattle.f77_legal.specs.code.NameTable.{once_more, first_said, with_kind, with_shape};
-ghost use Rattle.f77_legal.specs.code.NameTable.{facts_with_bounds, with_fact, no_facts};
-ghost use Rattle.f77_legal.specs.code.NameTable.{with_use, with_uses, use_of};
+ghost use Rattle.f77_legal.specs.{NameUse, uses_of, facts_fields, table_entries};
+ghost use Rattle.f77_legal.specs.code.{once_more, first_said, with_kind, with_shape, facts_with_bounds, with_fact};
+ghost use Rattle.f77_legal.specs.code.{no_facts, with_use, with_uses, use_of};
 
 use crate::names::{Facts, Names, Times};
 use f77_tree::{Decl, Kind, Name, Stmt, nodes};

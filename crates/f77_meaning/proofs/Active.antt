@@ -1,32 +1,13 @@
 -- In a run of a legal program the place of control decides which DOs are active.
-use Rattle.std.proofs.Common.{◌≡◌, ◌⊎◌, ℕ, zero, suc, ◌-◌, ◌<◌, ◌==◌, ◌&&◌, ◌||◌, not, Bool, true, false, inl, inr, List, Option, Some, None, refl, sym, ◌∙◌, ap, subst, arith, ℤ, pos, negsuc}
-use Rattle.std.specs.Prelude.{Result, Ok, Err, MatchOption, IsSome, is_some, nat_lt, option_map, slice_get, if◌then◌else◌, ◌+ℤ◌}
-use Rattle.std.specs.Cmp.{both_ways}
-use Rattle.std.specs.List.{list_any}
-use Rattle.std.specs.Option.{option_and_then}
-use Rattle.std.proofs.lemmas.Bool.{and_from, and_parts, false_from_ne_true, lt-ltb}
-use Rattle.std.proofs.lemmas.List.Quantifiers.{position-Some}
-use Rattle.std.proofs.lemmas.Option.{option_and_then_some, get_or_from_slice_get}
-use Rattle.f77_program.specs.Formed.{is_action}
-use Rattle.f77_program.specs.Program.{LineFields, IsProgram}
-use Rattle.f77_tree.specs.Tree.{Tree, Trees}
-use Rattle.f77_tree.specs.Statement.{Statement, jumps_of, is_executable_statement}
-use Rattle.f77_legal.specs.Labels.{label_place, nth_statement, terminal_label}
-use Rattle.f77_legal.specs.Legal.{IsLegal}
-use Rattle.f77_legal.specs.Loops.{terminal, range_holds}
-use Rattle.f77_legal.specs.Names.{Symbol, kind_of, bounds_of}
-use Rattle.f77_legal.proofs.Actions.{inner_acts}
-use Rattle.f77_legal.proofs.Flow.{some_terminal}
-use Rattle.f77_legal.proofs.LegalGives.{some_of}
-use Rattle.f77_meaning.specs.Active.{AreActive, ActiveByPlace}
-use Rattle.f77_code.specs.Choice.{by_sign, item_chosen}
-use Rattle.f77_meaning.specs.Control.{Comes}
-use Rattle.f77_actions.specs.Number.{in_range, trip_count}
-use Rattle.f77_meaning.specs.Start.{IsStart}
-use Rattle.f77_meaning.specs.Step.{Place, Execute, Increment, Turn, Turns, Config, config, Next, Goes, GoesOn, Jumps, Passes, Begins, With, Either, Skips, step_number, Executes, Increments, StepAt}
-use Rattle.f77_meaning.specs.Value.{Store, store_with, number, truth, value, place}
-use Rattle.f77_actions.specs.declared.finish.Fault.{Fault}
-use Rattle.f77_actions.specs.declared.value.Value.{Value}
+use Rattle.f77_meaning.proofs.Common.{List, ℕ, ◌≡◌, refl, Some, true, ap, arith, ◌∙◌, None, false, sym, Bool, Option, suc, zero, ◌<◌, inr, inl, subst}
+use Rattle.f77_meaning.proofs.Common.{option_map, ℤ, slice_get, if◌then◌else◌, pos, Err, Ok, Result, negsuc, ◌==◌, nat_lt, ◌&&◌, ◌-◌, ◌||◌, IsSome, is_some}
+use Rattle.f77_meaning.proofs.Common.{lt-ltb, not, ◌+ℤ◌, MatchOption, ◌⊎◌, and_parts, and_from, false_from_ne_true, position-Some, get_or_from_slice_get}
+use Rattle.f77_meaning.proofs.Common.{option_and_then_some, both_ways, list_any, option_and_then, in_range, trip_count, Fault, Value, item_chosen, by_sign}
+use Rattle.f77_meaning.proofs.Common.{inner_acts, some_terminal, some_of, nth_statement, label_place, terminal_label, IsLegal, terminal, range_holds, Symbol}
+use Rattle.f77_meaning.proofs.Common.{bounds_of, kind_of, Store, store_with, place, number, truth, value, Comes, IsStart, AreActive, ActiveByPlace, Config}
+use Rattle.f77_meaning.proofs.Common.{config, Execute, Next, Goes, GoesOn, Turns, Begins, Increment, Increments, Passes, Place, Turn, With, step_number, Either}
+use Rattle.f77_meaning.proofs.Common.{Executes, Jumps, StepAt, Skips, is_action, LineFields, IsProgram, Statement, is_executable_statement, jumps_of, Tree}
+use Rattle.f77_meaning.proofs.Common.{Trees}
 use Rattle.f77_actions.specs.declared.value.Value.TheVariants as held
 use Rattle.f77_meaning.proofs.Branching.{ranges_skipped}
 use Rattle.f77_meaning.proofs.Control.{chosen_label, one_label}

@@ -1,15 +1,7 @@
 -- Which slots and statements the step of a machine over slots asks for. Statements are numbered from 0 here.
-use Rattle.std.specs.Prelude.{◌&&◌, nat_lt}
-use Rattle.std.specs.Prelude.{ℕ, List}
-use Rattle.std.specs.Prelude.{Bool, true}
-use Rattle.std.specs.List.{list_all}
-use Rattle.f77_actions.specs.declared.action.Action.{Action, Declaration, AssignNumber, AssignTruth}
-use Rattle.f77_actions.specs.declared.action.Action.{Goto, ComputedGoto, ArithmeticIf, LogicalIf'}
-use Rattle.f77_actions.specs.declared.action.Action.{Branch, Continue, Loop, Return, Stop, Trap}
-use Rattle.f77_actions.specs.declared.action.Jump.{Jump}
-use Rattle.f77_actions.specs.declared.resolved.Resolved.{Resolved}
-use Rattle.f77_code.specs.Evaluation.{element_within, number_within, condition_within}
-use Rattle.f77_code.specs.Moves.{are_below}
+use Rattle.f77_meaning.proofs.Common.{List, ℕ, true, Bool, nat_lt, ◌&&◌, list_all, Loop, Action, ArithmeticIf, AssignNumber, AssignTruth, Branch, ComputedGoto}
+use Rattle.f77_meaning.proofs.Common.{Continue, Declaration, Goto, LogicalIf', Return, Stop, Trap, Jump, Resolved, number_within, condition_within}
+use Rattle.f77_meaning.proofs.Common.{element_within, are_below}
 
 abbrev pub jump_within : ℕ → Jump → Bool
 jump_within n jump = are_below n jump.leaves.items

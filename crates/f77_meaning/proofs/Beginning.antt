@@ -1,40 +1,19 @@
 -- A machine at the start of a run, and what its dummy arguments hold at an end.
-use Rattle.std.proofs.Common.{arith, ◌≡◌, ℕ, zero, suc, ◌+◌, ◌≤◌, Bool, true, false, List, [], ◌∷◌, ◌++◌, length, map, Option, Some, None, refl, ap, sym, subst, ◌∙◌}
-use Rattle.std.specs.Prelude.{option_map, nat_le, position, slice_get, replicate, Result, Ok, Err, IfOk}
-use Rattle.std.specs.List.{list_all, list_any, flat_map, zip}
-use Rattle.std.specs.Option.{option_map_or}
-use Rattle.std.specs.Str.{bytes_eq}
-use Rattle.std.proofs.lemmas.Bool.{and_parts}
-use Rattle.std.proofs.lemmas.Bool.Decides.{nat_tests}
-use Rattle.std.proofs.lemmas.List.{map-append}
-use Rattle.f77_program.specs.Program.{LineFields, line_of}
-use Rattle.f77_legal.specs.Blocks.{first_numbers}
-use Rattle.f77_check.specs.Checked.{CheckedFields, IsChecked, shapes}
+use Rattle.f77_meaning.proofs.Common.{List, ℕ, ◌≡◌, refl, Some, true, ap, arith, ◌∙◌, None, false, [], sym, ◌∷◌, Bool, Option, suc, length, zero, ◌+◌, subst}
+use Rattle.f77_meaning.proofs.Common.{option_map, ◌≤◌, slice_get, Err, Ok, Result, map, position, nat_le, ◌++◌, IfOk, replicate, and_parts, nat_tests}
+use Rattle.f77_meaning.proofs.Common.{map-append, list_any, list_all, zip, flat_map, option_map_or, bytes_eq, Value, shapes, CheckedFields, IsChecked}
+use Rattle.f77_meaning.proofs.Common.{slot_count, Cells, State, turn_at, first_numbers, dummies, product, element_count, Symbol, bounds_of, symbols, values_of}
+use Rattle.f77_meaning.proofs.Common.{IsStart, AreFitting, placed_in_run, start_values, values_in, AreArguments, all_filled, constant_value, size_of, held}
+use Rattle.f77_meaning.proofs.Common.{config, IsTyped, AllHold, span, AreWithin, HaveRoom, site_of, Arg, LineFields, line_of}
 use Rattle.f77_check.specs.declared.checked.Shape.{Shape}
-use Rattle.f77_legal.specs.Names.{Symbol, bounds_of, symbols}
 use Rattle.f77_legal.specs.Patches.{is_name_among}
-use Rattle.f77_legal.specs.InitialValues.{element_count, product}
-use Rattle.f77_check.specs.Slots.{slot_count}
-use Rattle.f77_legal.specs.Heading.{dummies}
 use Rattle.f77_check.specs.Start.{initial_value}
 use Rattle.f77_legal.proofs.Among.{among_holds}
 use Rattle.f77_check.proofs.NoInitialValue.{no_initial_value}
-use Rattle.f77_meaning.specs.declared.argument.Arg.{Arg}
-use Rattle.f77_actions.specs.declared.value.Value.{Value}
-use Rattle.f77_meaning.specs.Interpreter.{AreFitting, AreArguments, values_in}
-use Rattle.f77_meaning.specs.States.{values_of, placed_in_run}
-use Rattle.f77_meaning.proofs.StateDefinitions.{turns_of, turn_of}
-use Rattle.f77_code.specs.Moves.{Cells, State, turn_at}
-use Rattle.f77_meaning.specs.Site.{held}
-use Rattle.f77_meaning.specs.code.Running.{site_of}
-use Rattle.f77_meaning.specs.code.Spans.{HaveRoom, AreWithin, AllHold, span}
-use Rattle.f77_meaning.specs.Spans.{size_of, all_filled}
-use Rattle.f77_meaning.specs.Start.{IsStart, constant_value, start_values}
 use Rattle.f77_code.specs.declared.control.Place.TheVariants as places
-use Rattle.f77_meaning.proofs.InRun.{stands_for}
-use Rattle.f77_meaning.specs.Step.{config}
 use Rattle.f77_meaning.specs.Step as run
-use Rattle.f77_meaning.specs.code.Typed.{IsTyped}
+use Rattle.f77_meaning.proofs.StateDefinitions.{turns_of, turn_of}
+use Rattle.f77_meaning.proofs.InRun.{stands_for}
 use Rattle.f77_meaning.proofs.Filling.{arguments_filled, arguments_within, all_filled_length}
 use Rattle.f77_meaning.proofs.Reading.{all_hold, spans_read, spans_within}
 use Rattle.f77_meaning.proofs.Laying.{laid_values, laid_all, unlaid_values}

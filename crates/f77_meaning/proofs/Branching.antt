@@ -1,25 +1,14 @@
 -- From a branch to the next one, and to the END IF of its block: a range that holds the one holds the other.
-use Rattle.std.proofs.Common.{◌≡◌, ◌⊎◌, ℕ, zero, suc, ◌+◌, ◌-◌, ◌<◌, ◌≤◌, ◌==◌, ◌&&◌, ◌||◌, Bool, true, false, cond, inl, inr, List, ◌∷◌, ◌++◌}
-use Rattle.std.proofs.Common.{Option, Some, None, refl, sym, ◌∙◌, ap, arith, length, take, drop, drop-cons, drop-drop, filter, slice_get}
-use Rattle.std.specs.Prelude.{is_some, nat_lt, option_map, if◌then◌else◌}
-use Rattle.std.specs.Cmp.{both_ways}
-use Rattle.std.specs.Option.{option_map_or}
+use Rattle.f77_meaning.proofs.Common.{List, ℕ, ◌≡◌, refl, Some, true, ap, arith, ◌∙◌, None, false, sym, ◌∷◌, Bool, Option, suc, length, zero, ◌<◌, ◌+◌, inr}
+use Rattle.f77_meaning.proofs.Common.{inl, option_map, ◌≤◌, slice_get, if◌then◌else◌, ◌==◌, nat_lt, ◌&&◌, ◌-◌, ◌||◌, is_some, lt-ltb, eqb-true, ◌⊎◌, cond}
+use Rattle.f77_meaning.proofs.Common.{ltb-true, ◌++◌, eq-eqb, filter, length-append, take, drop, drop-cons, drop-drop, and_parts, cases_lt, and_from, or_left}
+use Rattle.f77_meaning.proofs.Common.{or_right, or_cases, filter-append, get_or_from_slice_get, slice_get_within, both_ways, option_map_or, found_is}
+use Rattle.f77_meaning.proofs.Common.{found_some, some_branch, kept_by, some_of, alternative_in_block, branch_end, has_at, is_alternative, block_end, is_end_if}
+use Rattle.f77_meaning.proofs.Common.{is_level, statement_behind, begins_branch, is_block_if, count_between, is_in_block, nth_statement, IsLegal, terminal}
+use Rattle.f77_meaning.proofs.Common.{range_holds, LineFields, Statement, Tree}
 use Rattle.std.proofs.Math.Seq.{take-add}
-use Rattle.std.proofs.lemmas.Bool.{and_from, and_parts, cases_lt, eq-eqb, eqb-true, lt-ltb, ltb-true, or_cases, or_left, or_right}
-use Rattle.std.proofs.lemmas.List.{length-append}
-use Rattle.std.proofs.lemmas.List.Elements.{filter-append}
-use Rattle.std.proofs.lemmas.Option.{get_or_from_slice_get, slice_get_within}
-use Rattle.f77_program.specs.Program.{LineFields}
-use Rattle.f77_tree.specs.Statement.{Statement}
-use Rattle.f77_tree.specs.Tree.{Tree}
-use Rattle.f77_legal.specs.Blocks.{is_block_if, is_end_if, is_alternative, has_at, count_between, is_level, is_in_block, begins_branch, block_end, branch_end, statement_behind}
-use Rattle.f77_legal.specs.Labels.{nth_statement}
-use Rattle.f77_legal.specs.Legal.{IsLegal}
-use Rattle.f77_legal.specs.Loops.{terminal, range_holds}
-use Rattle.f77_legal.proofs.Branches.{found_is, found_some}
-use Rattle.f77_legal.proofs.Flow.{some_branch}
-use Rattle.f77_legal.proofs.LegalGives.{kept_by, some_of, alternative_in_block}
-use Rattle.f77_meaning.proofs.Nested.{in_range, range_of, in_branch, branch_of, branch_ends, branch_holds_last, branch_holds_first, last_is_no_branch, begins_no_branch}
+use Rattle.f77_meaning.proofs.Nested.{in_range, range_of, in_branch, branch_of, branch_ends, branch_holds_last, branch_holds_first, last_is_no_branch}
+use Rattle.f77_meaning.proofs.Nested.{begins_no_branch}
 
 -- a count up to k and one behind it
 module _ (test : Statement → Bool) (p : List LineFields) (b k j : ℕ) (before : b < k) (behind : k < j) (line : LineFields) (at : slice_get p k ≡ Some line)

@@ -1,20 +1,9 @@
 -- The elements of names, read from slots.
-use Rattle.std.proofs.Common.{arith, ◌≡◌, ◌⊎◌, inl, inr, ◌<◌, ◌≤◌, ℕ, zero, suc, ◌+◌, ◌*◌, Bool, true, false, List, [], ◌∷◌, ◌++◌, length, map, get_or, Option, Some, refl, sym, ap, ◌∙◌, add-one}
-use Rattle.std.specs.Prelude.{ℤ, pos, negsuc, nat_lt, Result, Ok, Err, slice_get, option_map}
-use Rattle.std.specs.Option.{option_and_then}
-use Rattle.std.proofs.lemmas.Bool.{cases_lt, ltb-true}
-use Rattle.std.proofs.lemmas.List.{length-append, length-map, get_or_append_left, get_or_push}
+use Rattle.f77_meaning.proofs.Common.{List, ℕ, ◌≡◌, refl, Some, true, ap, arith, ◌∙◌, false, [], sym, ◌∷◌, Bool, Option, suc, length, zero, ◌<◌, ◌+◌, inr, inl}
+use Rattle.f77_meaning.proofs.Common.{option_map, ℤ, ◌≤◌, slice_get, pos, Err, Ok, Result, negsuc, map, nat_lt, ◌⊎◌, get_or, ltb-true, ◌++◌, length-append, ◌*◌}
+use Rattle.f77_meaning.proofs.Common.{add-one, cases_lt, length-map, get_or_append_left, get_or_push, get_or_from_slice_get, slice_get-map, slice_get_read}
+use Rattle.f77_meaning.proofs.Common.{option_and_then, element, Fault, Value, first_slot, held_in, first_numbers, product, Symbol, values_of}
 use Rattle.std.proofs.lemmas.Nat.{mul-add-lt}
-use Rattle.std.proofs.lemmas.Option.{slice_get-map, slice_get_read, get_or_from_slice_get}
-use Rattle.f77_legal.specs.Blocks.{first_numbers}
-use Rattle.f77_legal.specs.Names.{Symbol}
-use Rattle.f77_legal.specs.InitialValues.{product}
-use Rattle.f77_check.specs.Slots.{first_slot}
-use Rattle.f77_actions.specs.declared.finish.Fault.{Fault}
-use Rattle.f77_actions.specs.declared.value.Value.{Value}
-use Rattle.f77_code.specs.Evaluation.{held_in}
-use Rattle.f77_meaning.specs.States.{values_of}
-use Rattle.f77_actions.specs.Value.{element}
 
 length-numbers : (n : ℕ) → length (first_numbers n) ≡ n
 length-numbers zero = refl

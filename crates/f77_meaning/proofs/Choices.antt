@@ -1,8 +1,6 @@
 -- The least and the greatest of numbers are the same from either end.
-use Rattle.std.proofs.Common.{arith, ◌≡◌, Bool, true, false, List, [], ◌∷◌, ℤ, pos, negsuc, refl, ◌∙◌}
-use Rattle.std.specs.Prelude.{if◌then◌else◌}
-use Rattle.std.proofs.lemmas.Bool.{ltb-true, ltb-false, lt-ltb, le-ltb, false≢true, true≢false}
-use Rattle.f77_actions.specs.Number.{is_below, least, greatest}
+use Rattle.f77_meaning.proofs.Common.{List, ◌≡◌, refl, true, arith, ◌∙◌, false, [], ◌∷◌, Bool, ℤ, if◌then◌else◌, pos, negsuc, lt-ltb, le-ltb, ltb-true}
+use Rattle.f77_meaning.proofs.Common.{ltb-false, true≢false, false≢true, greatest, least, is_below}
 
 below_further : (a b c : ℤ) → is_below a b ≡ true → is_below b c ≡ true → is_below a c ≡ true
 below_further (pos a) (pos b) (pos c) h k = lt-ltb a c (omega (arith, ltb-true a b h, ltb-true b c k))

@@ -1,27 +1,15 @@
 -- Control is never lost: from where it may be some step leads, and where it leads control may be.
-use Rattle.std.proofs.Common.{◌≡◌, ℕ, zero, suc, ◌+◌, ◌-◌, ◌==◌, Bool, true, false, List, [], ◌∷◌, Option, Some, None, refl, sym, ap, subst, arith, length, ℤ, pos, negsuc}
-use Rattle.std.specs.Prelude.{Result, Ok, Err, IsSome, option_map, if◌then◌else◌, ◌+ℤ◌}
-use Rattle.std.specs.List.{list_any}
-use Rattle.std.specs.Option.{option_and_then, option_map_or}
-use Rattle.std.proofs.lemmas.Bool.Decides.{nat_tests}
-use Rattle.f77_program.specs.Formed.{is_action}
-use Rattle.f77_program.specs.Program.{LineFields}
-use Rattle.f77_tree.specs.Tree.{Tree, Trees}
-use Rattle.f77_tree.specs.Statement.{Statement, jumps_of, is_executable_statement}
-use Rattle.f77_legal.specs.Blocks.{has_at, is_alternative, block_end, branch_end, statement_behind}
-use Rattle.f77_legal.specs.Labels.{label_place, nth_statement, terminal_label}
-use Rattle.f77_legal.specs.Loops.{terminal, is_left}
-use Rattle.f77_legal.specs.Names.{Symbol, kind_of, bounds_of}
-use Rattle.f77_actions.specs.declared.finish.Fault.{Fault}
-use Rattle.f77_meaning.proofs.ControlDefinitions.{CanHaveControl, IsPlacedAt, AreLoops, IsPlaced, is_last, LeadsToStatement, NeverLosesControl}
-use Rattle.f77_actions.specs.Number.{in_range, trip_count}
-use Rattle.f77_meaning.specs.Value.{Store, store_with, number, truth, value, place}
-use Rattle.f77_code.specs.Choice.{by_sign, item_chosen}
-use Rattle.f77_meaning.specs.Step.{Place, Execute, Increment, Turn, Turns, Config, config, Next, Goes, Ends, Step, with_turn, left_behind, step_number}
-use Rattle.f77_meaning.proofs.Stepping.{sound_step, innermost, Found, is_found, chosen, goes_on, jumps, last_pass, passes}
-use Rattle.f77_meaning.proofs.Stepping.{begins, unless_fault, either, of_option, jumps_or_on, executes, increments, next_at}
-use Rattle.f77_meaning.proofs.Numbered.{numbered_among}
+use Rattle.f77_meaning.proofs.Common.{List, ℕ, ◌≡◌, refl, Some, true, ap, arith, None, false, [], sym, ◌∷◌, Bool, Option, suc, length, zero, ◌+◌, subst}
+use Rattle.f77_meaning.proofs.Common.{option_map, ℤ, if◌then◌else◌, pos, Err, Ok, Result, negsuc, ◌==◌, ◌-◌, IsSome, ◌+ℤ◌, nat_tests, list_any, option_map_or}
+use Rattle.f77_meaning.proofs.Common.{option_and_then, in_range, trip_count, Fault, item_chosen, by_sign, branch_end, has_at, is_alternative, block_end}
+use Rattle.f77_meaning.proofs.Common.{statement_behind, nth_statement, label_place, terminal_label, terminal, is_left, Symbol, bounds_of, kind_of, Store}
+use Rattle.f77_meaning.proofs.Common.{store_with, place, number, truth, value, Config, config, Execute, Next, Goes, Turns, with_turn, Increment, Place, Turn}
+use Rattle.f77_meaning.proofs.Common.{step_number, Ends, Step, left_behind, is_action, LineFields, Statement, is_executable_statement, jumps_of, Tree, Trees}
 use Rattle.f77_actions.specs.declared.value.Value.TheVariants as held
+use Rattle.f77_meaning.proofs.ControlDefinitions.{CanHaveControl, IsPlacedAt, AreLoops, IsPlaced, is_last, LeadsToStatement, NeverLosesControl}
+use Rattle.f77_meaning.proofs.Stepping.{sound_step, innermost, Found, is_found, chosen, goes_on, jumps, last_pass, passes, begins, unless_fault, either}
+use Rattle.f77_meaning.proofs.Stepping.{of_option, jumps_or_on, executes, increments, next_at}
+use Rattle.f77_meaning.proofs.Numbered.{numbered_among}
 
 -- what comes next is there, and control may be where it goes
 abbrev pub Fine : List LineFields → Next → Type 0

@@ -1,16 +1,8 @@
 -- Where control is in a run, and that it is never lost.
 -- Proofs alone cite what stands here.
-use Rattle.std.specs.Prelude.{◌≡◌, ℕ, ◌+◌, ◌==◌, Bool, true, false, List, Option, Some, IsSome}
-use Rattle.std.specs.List.{list_any}
-use Rattle.std.specs.Option.{option_and_then}
-use Rattle.f77_program.specs.Formed.{is_action}
-use Rattle.f77_program.specs.Program.{LineFields}
-use Rattle.f77_tree.specs.Tree.{Tree}
-use Rattle.f77_tree.specs.Statement.{Statement, jumps_of, is_executable_statement}
-use Rattle.f77_legal.specs.Blocks.{has_at, is_alternative, block_end, branch_end}
-use Rattle.f77_legal.specs.Labels.{label_place, nth_statement, terminal_label}
-use Rattle.f77_legal.specs.Loops.{terminal}
-use Rattle.f77_meaning.specs.Step.{Config, Place, Execute, Increment, Turns}
+use Rattle.f77_meaning.proofs.Common.{List, ℕ, ◌≡◌, Some, true, false, Bool, Option, ◌+◌, ◌==◌, IsSome, list_any, option_and_then, branch_end, has_at}
+use Rattle.f77_meaning.proofs.Common.{is_alternative, block_end, nth_statement, label_place, terminal_label, terminal, Config, Execute, Turns, Increment, Place}
+use Rattle.f77_meaning.proofs.Common.{is_action, LineFields, Statement, is_executable_statement, jumps_of, Tree}
 
 -- control may be there
 abbrev pub CanHaveControl : List LineFields → ℕ → Type 0

@@ -1,20 +1,11 @@
 -- No name stands twice among the dummy arguments of a legal program.
-use Rattle.std.proofs.Common.{arith, ◌≡◌, ◌<◌, ◌≤◌, ℕ, suc, ◌||◌, not, Bool, true, false, List, [], ◌∷◌, ◌++◌, length, map, filter, refl, sym, ap, subst, ◌∙◌}
-use Rattle.std.specs.Prelude.{nat_le}
-use Rattle.std.specs.List.{list_any}
-use Rattle.std.specs.Str.{bytes_eq}
-use Rattle.std.proofs.lemmas.Bool.{or_parts}
-use Rattle.std.proofs.lemmas.Bool.Decides.{nat_tests}
+use Rattle.f77_meaning.proofs.Common.{List, ℕ, ◌≡◌, refl, true, ap, arith, ◌∙◌, false, [], sym, ◌∷◌, Bool, suc, length, ◌<◌, subst, ◌≤◌, map, ◌||◌, not, nat_le}
+use Rattle.f77_meaning.proofs.Common.{◌++◌, filter, or_parts, nat_tests, bytes_eq-Decides, list_any, bytes_eq, map_none, none_before, none_behind, dummies}
+use Rattle.f77_meaning.proofs.Common.{dummies_of, IsLegal, name_faults, Symbol, symbols, Dummy, NameUse, dummies_given, is_real, is_twice, name_in, names_once}
+use Rattle.f77_meaning.proofs.Common.{uses, uses_of, LineFields, Statement}
 use Rattle.std.proofs.lemmas.Cmp.{nat_list_eq_equiv}
 use Rattle.std.proofs.lemmas.Map.Views.{any-filter_same}
-use Rattle.std.proofs.lemmas.Slice.Eq.{bytes_eq-Decides}
-use Rattle.f77_program.specs.Program.{LineFields}
-use Rattle.f77_tree.specs.Statement.{Statement}
-use Rattle.f77_legal.specs.Heading.{dummies, dummies_of}
-use Rattle.f77_legal.specs.Legal.{IsLegal, name_faults}
-use Rattle.f77_legal.specs.Names.{Symbol, NameUse, Dummy, name_in, uses_of, uses, names_once, symbols, is_real, is_twice, dummies_given}
 use Rattle.f77_legal.specs.declared.fault.CheckFault.TheVariants.{RealName, Twice}
-use Rattle.f77_legal.proofs.LegalGives.{none_before, none_behind, map_none}
 
 -- no name of the list stands in it twice
 abbrev pub AreApart : List Symbol → Type 0

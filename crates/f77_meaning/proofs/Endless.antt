@@ -1,12 +1,6 @@
 -- Steps one after another; a run that comes back to a configuration never ends.
-use Rattle.std.proofs.Common.{arith, ◌≡◌, ℕ, zero, suc, ◌+◌, ◌-◌, ◌≤◌, inr, List, refl, ap, subst}
-use Rattle.f77_program.specs.Program.{LineFields}
-use Rattle.f77_actions.specs.declared.finish.Finish.{Finish}
-use Rattle.f77_actions.specs.declared.finish.Finish.TheVariants.{StepLimit}
-use Rattle.f77_meaning.specs.Endless.{Reaches, ComesBack, MeetsLimits}
-use Rattle.f77_meaning.specs.Outcome.{IsOutcome}
-use Rattle.f77_meaning.specs.Step.{Config, Goes, Step}
-use Rattle.f77_meaning.specs.Value.{Store}
+use Rattle.f77_meaning.proofs.Common.{List, ℕ, ◌≡◌, refl, ap, arith, suc, zero, ◌+◌, inr, subst, ◌≤◌, ◌-◌, Finish, StepLimit, Store, IsOutcome, Reaches}
+use Rattle.f77_meaning.proofs.Common.{ComesBack, MeetsLimits, Config, Goes, Step, LineFields}
 
 module _ (p : List LineFields) where
   -- two stretches are one

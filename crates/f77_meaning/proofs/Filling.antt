@@ -1,26 +1,9 @@
 -- Values put into the slots of a name, and the arguments into those of the dummy arguments.
-use Rattle.std.proofs.Common.{arith, ◌≡◌, ◌⊎◌, inl, inr, ◌≢◌, ◌<◌, ◌≤◌, ℕ, zero, suc, ◌+◌, Bool, true, false, List, [], ◌∷◌, length, map, get_or, Option, Some, None, refl, sym, ap, ◌∙◌}
-use Rattle.std.specs.Prelude.{nat_le, position, slice_get, slice_set, if◌then◌else◌}
-use Rattle.std.specs.List.{list_all, zip}
-use Rattle.std.specs.Option.{option_map_or}
-use Rattle.std.specs.Str.{bytes_eq}
-use Rattle.std.proofs.lemmas.Bool.{le-leb}
-use Rattle.std.proofs.lemmas.List.{length-map, length-set, ext_get_or}
-use Rattle.f77_program.specs.Program.{LineFields}
-use Rattle.f77_legal.specs.Blocks.{first_numbers}
-use Rattle.f77_check.specs.Checked.{shape_of, shapes}
-use Rattle.f77_legal.specs.Heading.{dummies}
-use Rattle.f77_legal.specs.Legal.{IsLegal}
-use Rattle.f77_legal.specs.Names.{Symbol, bounds_of}
-use Rattle.f77_legal.specs.InitialValues.{product}
-use Rattle.f77_check.specs.Slots.{slot_count, first_slot}
-use Rattle.f77_meaning.specs.declared.argument.Arg.{Arg}
-use Rattle.f77_actions.specs.declared.value.Value.{Value}
-use Rattle.f77_code.specs.Evaluation.{held_in}
-use Rattle.f77_meaning.specs.States.{values_of}
-use Rattle.f77_code.specs.Moves.{Cells}
-use Rattle.f77_meaning.specs.Interpreter.{values_in, has_shape, AreFitting}
-use Rattle.f77_meaning.specs.Spans.{filled, all_filled}
+use Rattle.f77_meaning.proofs.Common.{List, ℕ, ◌≡◌, refl, Some, true, ap, arith, ◌∙◌, None, false, [], sym, ◌∷◌, Bool, Option, suc, length, zero, ◌<◌, ◌+◌, inr}
+use Rattle.f77_meaning.proofs.Common.{inl, ◌≤◌, slice_get, if◌then◌else◌, map, position, slice_set, ◌⊎◌, get_or, nat_le, ◌≢◌, length-set, le-leb, ext_get_or}
+use Rattle.f77_meaning.proofs.Common.{length-map, list_all, zip, option_map_or, bytes_eq, Value, shapes, shape_of, slot_count, first_slot, held_in, Cells}
+use Rattle.f77_meaning.proofs.Common.{first_numbers, dummies, product, IsLegal, Symbol, bounds_of, values_of, AreFitting, values_in, has_shape, all_filled}
+use Rattle.f77_meaning.proofs.Common.{filled, Arg, LineFields}
 use Rattle.f77_meaning.proofs.Cells.{length-table, get_or-table}
 use Rattle.f77_meaning.proofs.Dummies.{AreApart, same_symbol, either_way, dummies_apart}
 use Rattle.f77_meaning.proofs.Places.{place_here, place_behind, missed}

@@ -1,14 +1,8 @@
 -- Which DOs are active where control goes on, from a statement and through a DO.
-use Rattle.std.proofs.Common.{◌≡◌, ℕ, zero, suc, ◌+◌, ◌<◌, ◌≤◌, ◌==◌, ◌&&◌, ◌||◌, Bool, true, false, inl, inr, List, Some, None, refl, sym, ◌∙◌, ap, subst, arith, ℤ}
-use Rattle.std.specs.Prelude.{is_some, nat_lt, if◌then◌else◌}
-use Rattle.std.specs.Cmp.{both_ways}
-use Rattle.std.proofs.lemmas.Bool.{and_from, and_parts, and_right, cases_lt, eq-eqb, eqb-false, eqb-true, le-ltb, lt-ltb, ltb-true, or_cases, or_left, or_right}
-use Rattle.f77_program.specs.Program.{LineFields}
-use Rattle.f77_legal.specs.Legal.{IsLegal}
-use Rattle.f77_legal.specs.Loops.{terminal, range_holds}
-use Rattle.f77_meaning.specs.Active.{AreActive}
-use Rattle.f77_meaning.specs.Step.{Turn, Turns, Next, Goes, Ends, with_turn, IsInnermost, GoesOn, Passes}
-use Rattle.f77_meaning.specs.Value.{Store}
+use Rattle.f77_meaning.proofs.Common.{List, ℕ, ◌≡◌, refl, Some, true, ap, arith, ◌∙◌, None, false, sym, Bool, suc, zero, ◌<◌, ◌+◌, inr, inl, subst, ℤ, ◌≤◌}
+use Rattle.f77_meaning.proofs.Common.{if◌then◌else◌, ◌==◌, nat_lt, ◌&&◌, ◌||◌, is_some, lt-ltb, eqb-true, le-ltb, ltb-true, eq-eqb, and_parts, cases_lt}
+use Rattle.f77_meaning.proofs.Common.{and_from, or_left, or_right, or_cases, and_right, eqb-false, both_ways, IsLegal, terminal, range_holds, Store, AreActive}
+use Rattle.f77_meaning.proofs.Common.{Next, Goes, GoesOn, Turns, with_turn, Passes, Turn, Ends, IsInnermost, LineFields}
 use Rattle.f77_meaning.proofs.Branching.{ranges_behind}
 use Rattle.f77_meaning.proofs.Nested.{in_range, range_of, range_holds_last, ends_behind, ends_within, last_is_no_loop}
 

@@ -1,24 +1,8 @@
 -- A state over slots in a run of a program: where it stands is what the run comes to.
-use Rattle.std.specs.Prelude.{◌≡◌, ◌≢◌, ◌≤◌, ℕ, true, None, List, length}
-use Rattle.std.specs.List.{list_any}
-use Rattle.std.specs.Str.{bytes_eq}
-use Rattle.f77_program.specs.Program.{LineFields, IsProgram}
-use Rattle.f77_legal.specs.Heading.{dummies}
-use Rattle.f77_legal.specs.Legal.{IsLegal}
-use Rattle.f77_legal.specs.Names.{Symbol, bounds_of}
-use Rattle.f77_check.specs.Resolved.{AreResolved}
-use Rattle.f77_check.specs.Slots.{slot_count}
-use Rattle.f77_actions.specs.declared.resolved.Resolved.{Resolved}
-use Rattle.f77_actions.specs.declared.finish.Finish.{Finish}
-use Rattle.f77_actions.specs.declared.finish.Finish.TheVariants.{StepLimit}
-use Rattle.f77_meaning.specs.Control.{Comes}
-use Rattle.f77_meaning.specs.States.{values_of}
+use Rattle.f77_meaning.proofs.Common.{List, ℕ, ◌≡◌, true, None, length, ◌≤◌, ◌≢◌, list_any, bytes_eq, Finish, StepLimit, Resolved, AreResolved, slot_count}
+use Rattle.f77_meaning.proofs.Common.{Cells, State, dummies, IsLegal, Symbol, bounds_of, Store, values_of, IsOutcome, Comes, Config, RunSite, LineFields}
+use Rattle.f77_meaning.proofs.Common.{IsProgram}
 use Rattle.f77_meaning.proofs.StateDefinitions.{config_of}
-use Rattle.f77_code.specs.Moves.{Cells, State}
-use Rattle.f77_meaning.specs.Outcome.{IsOutcome}
-use Rattle.f77_meaning.specs.Step.{Config}
-use Rattle.f77_meaning.specs.Value.{Store}
-use Rattle.f77_meaning.specs.code.Running.{RunSite}
 
 -- what the slots and a state stand for there
 abbrev pub values_at : RunSite → Cells → Store

@@ -1,16 +1,8 @@
 -- A jump of a legal program goes into no range from outside of it.
-use Rattle.std.proofs.Common.{◌≡◌, ℕ, ◌==◌, ◌||◌, true, false, inl, inr, List, Some, sym, ◌∙◌, ap, length}
-use Rattle.std.specs.List.{list_any, starts_with}
-use Rattle.std.specs.Option.{option_map_or}
-use Rattle.std.proofs.lemmas.Bool.{and_left, not-true, or_cases, or_left, or_parts}
-use Rattle.f77_program.specs.Program.{LineFields}
-use Rattle.f77_tree.specs.Statement.{Statement, jumps_of}
+use Rattle.f77_meaning.proofs.Common.{List, ℕ, ◌≡◌, Some, true, ap, ◌∙◌, false, sym, length, inr, inl, ◌==◌, ◌||◌, or_left, or_parts, and_left, or_cases}
+use Rattle.f77_meaning.proofs.Common.{not-true, list_any, starts_with, option_map_or, kept_by, clause_kept, not_false, any_false, branch_holds, nth_statement}
+use Rattle.f77_meaning.proofs.Common.{label_place, IsLegal, range_holds, enclosing, goes_in, LineFields, Statement, jumps_of}
 use Rattle.f77_legal.specs.declared.clause.Clause.TheVariants.{Jumps}
-use Rattle.f77_legal.specs.Blocks.{branch_holds}
-use Rattle.f77_legal.specs.Labels.{label_place, nth_statement}
-use Rattle.f77_legal.specs.Legal.{IsLegal}
-use Rattle.f77_legal.specs.Loops.{range_holds, enclosing, goes_in}
-use Rattle.f77_legal.proofs.LegalGives.{any_false, clause_kept, kept_by, not_false}
 use Rattle.f77_legal.proofs.Prefixes.{begins_is}
 use Rattle.f77_meaning.proofs.Nested.{in_range, begins_no_branch, none_left_out}
 use Rattle.f77_meaning.proofs.Stepping.{within}

@@ -1,18 +1,8 @@
 -- Slots laid out name by name: each name holds its own elements, in order.
-use Rattle.std.proofs.Common.{arith, ◌≡◌, ◌<◌, ℕ, ◌+◌, true, false, List, [], ◌∷◌, length, map, take, get_or, Option, Some, None, refl, sym, ap, ◌∙◌}
-use Rattle.std.specs.Prelude.{option_map}
-use Rattle.std.specs.List.{flat_map, list_any}
-use Rattle.std.specs.Str.{bytes_eq}
-use Rattle.std.proofs.lemmas.List.{length-append}
+use Rattle.f77_meaning.proofs.Common.{List, ℕ, ◌≡◌, refl, Some, true, ap, arith, ◌∙◌, None, false, [], sym, ◌∷◌, Option, length, ◌<◌, ◌+◌, option_map, map}
+use Rattle.f77_meaning.proofs.Common.{get_or, length-append, take, list_any, flat_map, bytes_eq, Value, slot_count, first_slot, held_in, Cells, first_numbers}
+use Rattle.f77_meaning.proofs.Common.{product, Symbol, values_of}
 use Rattle.std.proofs.lemmas.List.Concat.{get_or-flat_map}
-use Rattle.f77_legal.specs.Blocks.{first_numbers}
-use Rattle.f77_legal.specs.Names.{Symbol}
-use Rattle.f77_legal.specs.InitialValues.{product}
-use Rattle.f77_check.specs.Slots.{slot_count, first_slot}
-use Rattle.f77_actions.specs.declared.value.Value.{Value}
-use Rattle.f77_code.specs.Evaluation.{held_in}
-use Rattle.f77_meaning.specs.States.{values_of}
-use Rattle.f77_code.specs.Moves.{Cells}
 use Rattle.f77_meaning.proofs.Cells.{length-table, get_or-table}
 use Rattle.f77_meaning.proofs.Places.{found, missed}
 use Rattle.f77_meaning.proofs.Spans.{count_more, starts_at}

@@ -1,3 +1,4 @@
+pub mod Common
 pub mod InRun
 pub mod Asking
 pub mod StateDefinitions

@@ -1,37 +1,17 @@
 -- The passes of a DO: what the machine does at its beginning and at its end is what a run does.
-use Rattle.std.proofs.Common.{◌≡◌, ℕ, zero, suc, ◌+◌, ◌-◌, ◌<◌, List, [], ◌∷◌, Option, Some, None, refl, sym, ◌∙◌, ap, subst, arith, length, ℤ, pos, negsuc}
-use Rattle.std.specs.Prelude.{Result, Ok, Err, slice_get, slice_set, ◌+ℤ◌}
-use Rattle.std.specs.Option.{option_and_then, option_map_or}
-use Rattle.std.proofs.lemmas.Option.{option_and_then_some}
-use Rattle.f77_program.specs.Program.{LineFields}
-use Rattle.f77_tree.specs.Tree.{Tree, Trees}
-use Rattle.f77_tree.specs.Statement.{Statement}
-use Rattle.f77_actions.specs.declared.action.Action.{Loop}
-use Rattle.f77_actions.specs.declared.expression.Element.{Variable}
-use Rattle.f77_actions.specs.declared.expression.Number as number
-use Rattle.f77_actions.specs.declared.expression.Number.{Number}
-use Rattle.f77_actions.specs.declared.resolved.Resolved.{Resolved}
-use Rattle.f77_legal.specs.Labels.{bears, label_place, nth_statement, terminal_label}
-use Rattle.f77_legal.specs.Loops.{terminal}
-use Rattle.f77_legal.specs.Names.{Symbol, bounds_of}
-use Rattle.f77_legal.specs.InitialValues.{product}
-use Rattle.f77_check.specs.Resolved.{IsResolved, AreResolved}
-use Rattle.f77_check.specs.Slots.{slot_count, first_slot}
-use Rattle.f77_actions.specs.declared.finish.Fault.{Fault}
+use Rattle.f77_meaning.proofs.Common.{List, ℕ, ◌≡◌, refl, Some, ap, arith, ◌∙◌, None, [], sym, ◌∷◌, Option, suc, length, zero, ◌<◌, ◌+◌, subst, ℤ, slice_get}
+use Rattle.f77_meaning.proofs.Common.{pos, Err, Ok, Result, negsuc, ◌-◌, ◌+ℤ◌, slice_set, option_and_then_some, option_map_or, option_and_then, in_range}
+use Rattle.f77_meaning.proofs.Common.{trip_count, given, Loop, Variable, Number, Fault, Resolved, Value, AreResolved, IsResolved, slot_count, first_slot, Cells}
+use Rattle.f77_meaning.proofs.Common.{TurnList, Move, state, incremented, used, begun, passing, passing_at, product, nth_statement, label_place, terminal_label}
+use Rattle.f77_meaning.proofs.Common.{bears, terminal, Symbol, bounds_of, values_of, store_with, config, Next, GoesOn, with_turn, Begins, Increments, Passes}
+use Rattle.f77_meaning.proofs.Common.{With, LineFields, Statement, Tree, Trees}
 use Rattle.f77_code.specs.declared.control.Place.TheVariants.{Execute}
 use Rattle.f77_code.specs.declared.control.Turn.{Turn}
-use Rattle.f77_actions.specs.declared.value.Value.{Value}
+use Rattle.f77_actions.specs.declared.expression.Number as number
 use Rattle.f77_actions.specs.declared.value.Value.TheVariants as held
-use Rattle.f77_meaning.specs.States.{values_of}
-use Rattle.f77_meaning.proofs.StateDefinitions.{turn_of, turns_of}
-use Rattle.f77_meaning.proofs.StateDefinitions.{next_of}
 use Rattle.f77_code.specs.Moves as moves
-use Rattle.f77_code.specs.Moves.{Cells, TurnList, Move, state, used, passing, passing_at, begun, incremented}
-use Rattle.f77_actions.specs.Number.{in_range, trip_count}
 use Rattle.f77_meaning.specs.Step as run
-use Rattle.f77_meaning.specs.Step.{Next, config, with_turn, GoesOn, Passes, Begins, With, Increments}
-use Rattle.f77_meaning.specs.Value.{store_with}
-use Rattle.f77_actions.specs.Value.{given}
+use Rattle.f77_meaning.proofs.StateDefinitions.{turn_of, turns_of, next_of}
 use Rattle.f77_meaning.proofs.SameValue.{same_number}
 use Rattle.f77_meaning.proofs.Stored.{stored}
 use Rattle.f77_meaning.proofs.Soundness.{place_within, there}

@@ -1,43 +1,25 @@
 -- Moves of the machine over slots, one after another, are as many steps of a run of a legal program.
-use Rattle.std.proofs.Common.{arith, ◌≡◌, ◌≢◌, ◌<◌, ◌≤◌, ◌+◌, ◌-◌, ℕ, zero, suc, ℤ, pos, negsuc, Bool, true, false, inl, inr, refl, subst, ◌∙◌}
-use Rattle.std.proofs.Common.{List, [], ◌∷◌, length, Option, Some, None}
-use Rattle.std.specs.Prelude.{IsSome, Result, Ok, Err, if◌then◌else◌, option_map, slice_get, slice_set, ◌+ℤ◌}
-use Rattle.std.specs.Option.{option_and_then, option_map_or}
-use Rattle.std.proofs.lemmas.List.{length-set}
-use Rattle.std.proofs.lemmas.Option.{slice_get_within}
-use Rattle.f77_actions.specs.declared.action.Action.{Action, Declaration, AssignNumber, AssignTruth, Goto, ComputedGoto, ArithmeticIf}
-use Rattle.f77_actions.specs.declared.action.Action.{LogicalIf', Branch, Continue, Loop, Return, Stop, Trap}
-use Rattle.f77_actions.specs.declared.action.Jump.{Jump}
-use Rattle.f77_actions.specs.declared.resolved.Resolved.{Resolved}
-use Rattle.f77_legal.specs.Names.{bounds_of}
-use Rattle.f77_check.specs.Slots.{slot_count}
-use Rattle.f77_actions.specs.declared.finish.Fault.{Fault}
-use Rattle.f77_actions.specs.declared.finish.Fault.TheVariants.{ZeroStep, Trapped}
-use Rattle.f77_actions.specs.declared.finish.Finish.{Finish}
-use Rattle.f77_actions.specs.declared.finish.Finish.TheVariants.{Failed, StepLimit}
-use Rattle.f77_actions.specs.declared.value.Value.TheVariants as held
-use Rattle.f77_actions.specs.Number.{in_range, trip_count}
-use Rattle.f77_actions.specs.Value.{whole}
+use Rattle.f77_meaning.proofs.Common.{List, ℕ, ◌≡◌, refl, Some, true, arith, ◌∙◌, None, false, [], ◌∷◌, Bool, Option, suc, length, zero, ◌<◌, ◌+◌, inr, inl}
+use Rattle.f77_meaning.proofs.Common.{subst, option_map, ℤ, ◌≤◌, slice_get, if◌then◌else◌, pos, Err, Ok, Result, negsuc, ◌-◌, IsSome, ◌+ℤ◌, slice_set, ◌≢◌}
+use Rattle.f77_meaning.proofs.Common.{length-set, slice_get_within, option_map_or, option_and_then, in_range, trip_count, whole, Loop, Action, ArithmeticIf}
+use Rattle.f77_meaning.proofs.Common.{AssignNumber, AssignTruth, Branch, ComputedGoto, Continue, Declaration, Goto, LogicalIf', Return, Stop, Trap, Jump, Fault}
+use Rattle.f77_meaning.proofs.Common.{ZeroStep, Trapped, Finish, StepLimit, Failed, Resolved, slot_count, item_chosen, by_sign, held_in, number_in, slot_in}
+use Rattle.f77_meaning.proofs.Common.{truth_in, Cells, State, TurnList, turn_at, Move, state, incremented, is_loop, used, without, acted, begun, go_on}
+use Rattle.f77_meaning.proofs.Common.{is_executed, jump_chosen, jump_to, moved, passing, passing_at, bounds_of, IsOutcome, Comes, Reaches, Config, Step}
+use Rattle.f77_meaning.proofs.Common.{RunSite}
 use Rattle.f77_code.specs.declared.control.Place.{Place}
 use Rattle.f77_code.specs.declared.control.Place.TheVariants.{Execute, Increment}
 use Rattle.f77_code.specs.declared.control.Turn.{Turn}
-use Rattle.f77_code.specs.Choice.{by_sign, item_chosen}
 use Rattle.f77_code.specs.Instructions.{place_at}
-use Rattle.f77_code.specs.Evaluation.{held_in, slot_in, number_in, truth_in}
 use Rattle.f77_code.specs.Holds.{loop_count, do_rank}
-use Rattle.f77_code.specs.Moves.{Cells, TurnList, State, state, Move, Goes, Ends, used, turn_at, go_on, without, jump_to, passing, passing_at}
-use Rattle.f77_code.specs.Moves.{begun, jump_chosen, acted, incremented, is_executed, is_loop, moved}
+use Rattle.f77_code.specs.Moves.{Goes, Ends}
 use Rattle.f77_code.specs.Sequences.{then_moved, moved_by, AreStatesNested}
 use Rattle.f77_code.specs.Simulation.{IsNested}
 use Rattle.f77_code.proofs.Counters.{rank_below}
 use Rattle.f77_code.proofs.Listed.{loop_is}
-use Rattle.f77_meaning.specs.Control.{Comes}
-use Rattle.f77_meaning.specs.Endless.{Reaches}
+use Rattle.f77_actions.specs.declared.value.Value.TheVariants as held
 use Rattle.f77_meaning.proofs.StateDefinitions.{next_of}
-use Rattle.f77_meaning.specs.Outcome.{IsOutcome}
-use Rattle.f77_meaning.specs.code.Running.{RunSite}
 use Rattle.f77_meaning.proofs.InRun.{IsRunningIn, stands_for, values_at}
-use Rattle.f77_meaning.specs.Step.{Config, Step}
 use Rattle.f77_meaning.proofs.NeverLost.{leads_on}
 use Rattle.f77_meaning.proofs.Simulation.{simulates, moves_on}
 use Rattle.f77_meaning.proofs.StandsNested.{stands_nested}

@@ -1,21 +1,10 @@
 -- The DOs of a legal program are nested: what holds a DO, a range or a branch, holds its terminal statement.
-use Rattle.std.proofs.Common.{◌≡◌, ℕ, zero, suc, ◌<◌, ◌≤◌, ◌&&◌, ◌||◌, not, Bool, true, false, inl, inr, List, [], ◌∷◌, Option, Some, None, refl, sym, ◌∙◌, ap, arith, length}
-use Rattle.std.specs.Prelude.{nat_lt, nat_le}
-use Rattle.std.specs.List.{list_all}
-use Rattle.std.specs.Option.{option_and_then, option_map_or}
-use Rattle.std.proofs.lemmas.Bool.{and_from, and_left, and_parts, cases_lt, le-leb, leb-true, lt-ltb, ltb-true, not-true, or_from, or_parts}
-use Rattle.std.proofs.lemmas.List.Folds.{list_any-append}
-use Rattle.std.proofs.lemmas.Option.{option_and_then_some}
-use Rattle.f77_program.specs.Program.{LineFields}
-use Rattle.f77_tree.specs.Statement.{Statement}
-use Rattle.f77_legal.specs.declared.clause.Clause.TheVariants.{Terminals}
-use Rattle.f77_legal.specs.Blocks.{is_block_if, is_end_if, is_alternative, first_numbers, statement_numbers, has_at, is_level, begins_branch, branch_end, branch_holds}
-use Rattle.f77_legal.specs.Labels.{label_place, nth_statement, statement_with, terminal_label, is_terminal}
-use Rattle.f77_legal.specs.Legal.{IsLegal}
-use Rattle.f77_legal.specs.Loops.{terminal, range_holds, branches, same_numbers, ends_outside}
-use Rattle.f77_legal.proofs.Branches.{found_is}
-use Rattle.f77_legal.proofs.Flow.{are_nested}
-use Rattle.f77_legal.proofs.LegalGives.{clause_kept, kept_by, not_false}
+use Rattle.f77_meaning.proofs.Common.{List, ℕ, ◌≡◌, refl, Some, true, ap, arith, ◌∙◌, None, false, [], sym, ◌∷◌, Bool, Option, suc, length, zero, ◌<◌, inr, inl}
+use Rattle.f77_meaning.proofs.Common.{◌≤◌, nat_lt, ◌&&◌, ◌||◌, lt-ltb, not, ltb-true, nat_le, le-leb, leb-true, and_parts, cases_lt, and_from, or_parts}
+use Rattle.f77_meaning.proofs.Common.{and_left, not-true, or_from, list_any-append, option_and_then_some, list_all, option_map_or, option_and_then, found_is}
+use Rattle.f77_meaning.proofs.Common.{are_nested, kept_by, clause_kept, not_false, first_numbers, branch_end, has_at, is_alternative, is_end_if, is_level}
+use Rattle.f77_meaning.proofs.Common.{begins_branch, branch_holds, is_block_if, statement_numbers, nth_statement, label_place, terminal_label, is_terminal}
+use Rattle.f77_meaning.proofs.Common.{statement_with, IsLegal, terminal, range_holds, branches, ends_outside, same_numbers, Terminals, LineFields, Statement}
 use Rattle.f77_legal.proofs.LoopLists.{left_out, all_kept, same_filters}
 use Rattle.f77_meaning.proofs.Stepping.{within}
 

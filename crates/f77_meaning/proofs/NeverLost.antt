@@ -1,20 +1,11 @@
 -- A run of a legal program starts, and control is never lost.
-use Rattle.std.proofs.Common.{false, List, [], ◌∷◌, None, refl, sym, ◌∙◌, ap, subst}
-use Rattle.std.specs.Prelude.{option_map}
-use Rattle.std.specs.Option.{option_map_or}
-use Rattle.std.proofs.lemmas.List.Quantifiers.{position-Some}
-use Rattle.std.proofs.lemmas.Option.{slice_get-get_or}
-use Rattle.f77_program.specs.Program.{LineFields}
-use Rattle.f77_tree.specs.Statement.{is_executable_statement}
+use Rattle.f77_meaning.proofs.Common.{List, refl, ap, ◌∙◌, None, false, [], sym, ◌∷◌, subst, option_map, position-Some, slice_get-get_or, option_map_or, Value}
+use Rattle.f77_meaning.proofs.Common.{Comes, IsStart, start_values, LeadsOn, Starts, Config, config, Execute, Goes, LineFields, is_executable_statement}
 use Rattle.f77_check.proofs.FirstExecutable.{first_executable}
 use Rattle.f77_meaning.proofs.ControlDefinitions.{CanHaveControl, IsPlaced, NeverLosesControl}
-use Rattle.f77_meaning.specs.Control.{Comes, Starts, LeadsOn}
-use Rattle.f77_meaning.specs.Start.{IsStart, start_values}
-use Rattle.f77_meaning.specs.Step.{Config, config, Execute, Goes}
 use Rattle.f77_meaning.proofs.Control.{Fine, kept}
 use Rattle.f77_meaning.proofs.OneWay.{one_successor}
 use Rattle.f77_meaning.proofs.Soundness.{legal_is_sound}
-use Rattle.f77_actions.specs.declared.value.Value.{Value}
 
 placed_start : (p : List LineFields) (given : List (List Value)) (c : Config) → IsStart p given c → IsPlaced p c
 placed_start [] given c start = absurd (cc (start.1))

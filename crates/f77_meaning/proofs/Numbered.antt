@@ -1,12 +1,6 @@
 -- The label that a computed GO TO has for a value, and the jump that it has for it.
-use Rattle.std.proofs.Common.{◌≡◌, ℕ, zero, suc, ◌==◌, true, List, [], ◌∷◌, Option, Some, None, ℤ, pos, negsuc}
-use Rattle.std.specs.Prelude.{slice_get}
-use Rattle.std.specs.List.{list_any}
-use Rattle.std.proofs.lemmas.Bool.{eq-eqb, or_left, or_right}
-use Rattle.f77_program.specs.Program.{LineFields}
-use Rattle.f77_actions.specs.declared.action.Jump.{Jump}
-use Rattle.f77_check.specs.Action.{IsJump, AreJumps}
-use Rattle.f77_code.specs.Choice.{item_chosen}
+use Rattle.f77_meaning.proofs.Common.{List, ℕ, ◌≡◌, Some, true, None, [], ◌∷◌, Option, suc, zero, ℤ, slice_get, pos, negsuc, ◌==◌, eq-eqb, or_left, or_right}
+use Rattle.f77_meaning.proofs.Common.{list_any, Jump, IsJump, AreJumps, item_chosen, LineFields}
 
 label_among : (labels : List ℕ) (k label : ℕ) → slice_get labels k ≡ Some label → list_any (λ x. x == label) labels ≡ true
 label_among [] k label e = absurd (cc (e))

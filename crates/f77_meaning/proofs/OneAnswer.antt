@@ -1,25 +1,13 @@
 -- A run with given arguments has one outcome at most.
-use Rattle.std.proofs.Common.{◌≡◌, ℕ, Bool, true, List, [], ◌∷◌, Option, Some, None, length, map, refl, sym, ◌∙◌, ap, subst, ℤ}
-use Rattle.std.proofs.lemmas.Bool.{and_parts}
-use Rattle.std.proofs.lemmas.Option.{same_Some}
-use Rattle.f77_program.specs.Program.{LineFields}
-use Rattle.f77_tree.specs.declared.tree.Kind.{Kind}
-use Rattle.f77_tree.specs.declared.tree.Kind.TheVariants.{Integer, Logical}
-use Rattle.f77_check.specs.Checked.{shapes}
+use Rattle.f77_meaning.proofs.Common.{List, ℕ, ◌≡◌, refl, Some, true, ap, ◌∙◌, None, [], sym, ◌∷◌, Bool, Option, length, subst, ℤ, map, and_parts, same_Some}
+use Rattle.f77_meaning.proofs.Common.{Finish, Value, shapes, Store, IsOutcome, IsStart, AreFitting, start_values, values_in, AreArguments, has_shape, Reports}
+use Rattle.f77_meaning.proofs.Common.{is_count, is_single, OneAnswer, Config, config, Execute, Arg, LineFields, Kind, Integer, Logical}
 use Rattle.f77_tree.specs.Comparing.{same_kind}
 use Rattle.f77_check.specs.declared.checked.Shape.{Shape}
-use Rattle.f77_meaning.specs.declared.argument.Arg.{Arg}
-use Rattle.f77_meaning.specs.declared.argument.Arg.TheVariants.{Int, Truth, Ints, Truths}
-use Rattle.f77_actions.specs.declared.finish.Finish.{Finish}
 use Rattle.f77_actions.specs.declared.finish.Finish.TheVariants as finish
+use Rattle.f77_meaning.specs.declared.argument.Arg.TheVariants.{Int, Truth, Ints, Truths}
 use Rattle.f77_meaning.specs.declared.outcome.Outcome.{Outcome}
 use Rattle.f77_meaning.specs.declared.outcome.Outcome.TheVariants as outcome
-use Rattle.f77_actions.specs.declared.value.Value.{Value}
-use Rattle.f77_meaning.specs.Interpreter.{values_in, is_count, is_single, has_shape, AreFitting, AreArguments, Reports, OneAnswer}
-use Rattle.f77_meaning.specs.Outcome.{IsOutcome}
-use Rattle.f77_meaning.specs.Start.{IsStart, start_values}
-use Rattle.f77_meaning.specs.Step.{Config, config, Execute}
-use Rattle.f77_meaning.specs.Value.{Store}
 use Rattle.f77_meaning.proofs.OneWay.{one_outcome}
 
 -- what a dummy argument holds that has this value

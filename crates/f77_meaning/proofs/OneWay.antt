@@ -1,18 +1,9 @@
 -- A step and a run are determined.
-use Rattle.std.proofs.Common.{◌≡◌, ℕ, zero, suc, ◌-◌, ◌<◌, inl, inr, Bool, true, false, List, Option, Some, None, sym, ◌∙◌, ap, subst, arith, ℤ, pos, negsuc}
-use Rattle.std.specs.Prelude.{Result, Ok, Err, MatchOption, IsSome, ◌+ℤ◌}
-use Rattle.f77_program.specs.Program.{LineFields}
-use Rattle.f77_tree.specs.Tree.{Tree, Trees}
-use Rattle.f77_tree.specs.Statement.{Statement}
-use Rattle.f77_legal.specs.Labels.{nth_statement}
-use Rattle.f77_legal.specs.Names.{Symbol, kind_of, bounds_of}
-use Rattle.f77_actions.specs.declared.finish.Fault.{Fault}
-use Rattle.f77_actions.specs.Number.{in_range, trip_count}
-use Rattle.f77_meaning.specs.Value.{Store, store_with, number, truth, value, place}
-use Rattle.f77_code.specs.Choice.{by_sign, item_chosen}
-use Rattle.f77_meaning.specs.Step.{Place, Execute, Increment, Turn, Turns, config, Next, Goes, with_turn, left_behind, IsInnermost}
-use Rattle.f77_meaning.specs.Step.{GoesOn, Jumps, Passes, Begins, With, Either, Skips, step_number, Executes, Increments, StepAt}
-use Rattle.f77_meaning.specs.Outcome.{IsOutcome, OneSuccessor, OneOutcome}
+use Rattle.f77_meaning.proofs.Common.{List, ℕ, ◌≡◌, Some, true, ap, arith, ◌∙◌, None, false, sym, Bool, Option, suc, zero, ◌<◌, inr, inl, subst, ℤ, pos, Err}
+use Rattle.f77_meaning.proofs.Common.{Ok, Result, negsuc, ◌-◌, IsSome, ◌+ℤ◌, MatchOption, in_range, trip_count, Fault, item_chosen, by_sign, nth_statement}
+use Rattle.f77_meaning.proofs.Common.{Symbol, bounds_of, kind_of, Store, store_with, place, number, truth, value, IsOutcome, OneOutcome, OneSuccessor, config}
+use Rattle.f77_meaning.proofs.Common.{Execute, Next, Goes, GoesOn, Turns, with_turn, Begins, Increment, Increments, Passes, Place, Turn, With, step_number}
+use Rattle.f77_meaning.proofs.Common.{Either, Executes, Jumps, StepAt, Skips, left_behind, IsInnermost, LineFields, Statement, Tree, Trees}
 use Rattle.f77_actions.specs.declared.value.Value.TheVariants as held
 
 none_is_not_some : {A : Type 0} (o : Option A) → o ≡ None → IsSome o → ⊥

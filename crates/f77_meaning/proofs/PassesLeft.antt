@@ -1,32 +1,14 @@
 -- Each active DO of a run has a pass left, and its statement is a DO.
-use Rattle.std.proofs.Common.{◌≡◌, ◌∙◌, ◌-◌, ◌<◌, ◌==◌, inl, inr, ℕ, zero, suc, Bool, true, false, List, Option, Some, None, ℤ, pos, negsuc}
-use Rattle.std.proofs.Common.{refl, sym, ap, subst, arith}
-use Rattle.std.specs.Prelude.{Result, Ok, Err, MatchOption, IsSome, is_some, if◌then◌else◌, ◌+ℤ◌}
-use Rattle.std.specs.Option.{option_and_then}
-use Rattle.std.proofs.lemmas.Option.{same_Some}
-use Rattle.f77_program.specs.Program.{LineFields, IsProgram}
-use Rattle.f77_tree.specs.Tree.{Tree, Trees}
-use Rattle.f77_tree.specs.Statement.{Statement}
-use Rattle.f77_actions.specs.declared.action.Action.{Action, Loop}
-use Rattle.f77_actions.specs.declared.resolved.Resolved.{Resolved}
-use Rattle.f77_check.specs.Action.{IsAction}
-use Rattle.f77_check.specs.Resolved.{AreResolved}
-use Rattle.f77_legal.specs.Labels.{nth_statement, terminal_label}
-use Rattle.f77_legal.specs.Legal.{IsLegal}
-use Rattle.f77_legal.specs.Loops.{is_left}
-use Rattle.f77_legal.specs.Names.{Symbol, kind_of, bounds_of}
-use Rattle.f77_actions.specs.declared.finish.Fault.{Fault}
-use Rattle.f77_actions.specs.declared.value.Value.{Value}
-use Rattle.f77_actions.specs.declared.value.Value.TheVariants as held
-use Rattle.f77_actions.specs.Number.{in_range, trip_count}
-use Rattle.f77_code.specs.Choice.{by_sign, item_chosen}
+use Rattle.f77_meaning.proofs.Common.{List, ℕ, ◌≡◌, refl, Some, true, ap, arith, ◌∙◌, None, false, sym, Bool, Option, suc, zero, ◌<◌, inr, inl, subst, ℤ}
+use Rattle.f77_meaning.proofs.Common.{if◌then◌else◌, pos, Err, Ok, Result, negsuc, ◌==◌, ◌-◌, IsSome, is_some, ◌+ℤ◌, MatchOption, same_Some, option_and_then}
+use Rattle.f77_meaning.proofs.Common.{in_range, trip_count, Loop, Action, Fault, Resolved, Value, IsAction, AreResolved, item_chosen, by_sign, is_loop}
+use Rattle.f77_meaning.proofs.Common.{nth_statement, terminal_label, IsLegal, is_left, Symbol, bounds_of, kind_of, Store, store_with, place, number, truth}
+use Rattle.f77_meaning.proofs.Common.{value, Comes, Config, Execute, Next, Goes, GoesOn, Turns, with_turn, Begins, Increment, Increments, Passes, Place, Turn}
+use Rattle.f77_meaning.proofs.Common.{With, step_number, Either, Executes, Jumps, StepAt, Ends, Skips, left_behind, LineFields, IsProgram, Statement, Tree}
+use Rattle.f77_meaning.proofs.Common.{Trees}
 use Rattle.f77_code.specs.Holds.{is_loop_at}
-use Rattle.f77_code.specs.Moves.{is_loop}
 use Rattle.f77_code.proofs.Listed.{loop_is}
-use Rattle.f77_meaning.specs.Control.{Comes}
-use Rattle.f77_meaning.specs.Step.{Place, Execute, Increment, Turn, Turns, Config, Next, Goes, Ends, with_turn, left_behind, GoesOn, Jumps, Passes}
-use Rattle.f77_meaning.specs.Step.{Begins, With, Either, Skips, step_number, Executes, Increments, StepAt}
-use Rattle.f77_meaning.specs.Value.{Store, store_with, number, truth, value, place}
+use Rattle.f77_actions.specs.declared.value.Value.TheVariants as held
 use Rattle.f77_meaning.proofs.Looping.{row_at}
 use Rattle.f77_meaning.proofs.NeverLost.{placed}
 use Rattle.f77_meaning.proofs.Soundness.{legal_is_sound}

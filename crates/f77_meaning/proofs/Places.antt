@@ -1,8 +1,6 @@
 -- Whether a list has a place where a test passes.
-use Rattle.std.proofs.Common.{◌≡◌, ℕ, suc, ◌||◌, Bool, true, false, cond, List, [], ◌∷◌, Some, None, refl, sym, ap, ◌∙◌}
-use Rattle.std.specs.Prelude.{option_map, position}
-use Rattle.std.specs.List.{list_any}
-use Rattle.std.proofs.lemmas.Bool.{or_parts}
+use Rattle.f77_meaning.proofs.Common.{List, ℕ, ◌≡◌, refl, Some, true, ap, ◌∙◌, None, false, [], sym, ◌∷◌, Bool, suc, option_map, ◌||◌, position, cond, or_parts}
+use Rattle.f77_meaning.proofs.Common.{list_any}
 use Rattle.f77_meaning.proofs.Typing.{first_place}
 
 module _ {X : Type 0} (q : X → Bool) where

@@ -1,29 +1,11 @@
 -- The slots and the statements that the resolved statements of a legal program name are there.
-use Rattle.std.proofs.Common.{◌≡◌, ℕ, zero, suc, ◌<◌, ◌≤◌, Bool, true, false, cond, List, [], ◌∷◌, Option, Some, None, refl, ◌∙◌, ap, arith, length, reverse, filter}
-use Rattle.std.specs.Prelude.{nat_lt, slice_get}
-use Rattle.std.specs.List.{list_all}
-use Rattle.std.proofs.lemmas.Bool.{and_from, and_parts, lt-ltb}
-use Rattle.std.proofs.lemmas.List.{reverse-append}
-use Rattle.std.proofs.lemmas.List.Elements.{filter-append}
-use Rattle.std.proofs.lemmas.List.Folds.{list_all-append}
-use Rattle.f77_program.specs.Program.{LineFields}
-use Rattle.f77_tree.specs.Tree.{Tree, Trees}
-use Rattle.f77_tree.specs.Statement.{Statement}
-use Rattle.f77_actions.specs.declared.action.Action.{Action, Declaration, AssignNumber, AssignTruth, Goto, ComputedGoto, ArithmeticIf, LogicalIf', Branch, Continue, Loop, Return, Stop, Trap}
-use Rattle.f77_actions.specs.declared.action.Jump.{Jump}
-use Rattle.f77_actions.specs.declared.expression.Element.{Variable}
-use Rattle.f77_actions.specs.declared.expression.Number.{Number}
-use Rattle.f77_actions.specs.declared.resolved.Resolved.{Resolved}
-use Rattle.f77_check.specs.Action.{IsJump, AreJumps, IsIncrementation, IsAssignment, IsAction}
-use Rattle.f77_legal.specs.Blocks.{first_numbers}
+use Rattle.f77_meaning.proofs.Common.{List, ℕ, ◌≡◌, refl, Some, true, ap, arith, ◌∙◌, None, false, [], ◌∷◌, Bool, Option, suc, length, zero, ◌<◌, ◌≤◌}
+use Rattle.f77_meaning.proofs.Common.{slice_get, nat_lt, lt-ltb, cond, filter, reverse, and_parts, and_from, reverse-append, filter-append, list_all-append}
+use Rattle.f77_meaning.proofs.Common.{list_all, Loop, Action, ArithmeticIf, AssignNumber, AssignTruth, Branch, ComputedGoto, Continue, Declaration, Goto}
+use Rattle.f77_meaning.proofs.Common.{LogicalIf', Return, Stop, Trap, Jump, Variable, Number, Resolved, IsAction, IsJump, AreJumps, IsAssignment}
+use Rattle.f77_meaning.proofs.Common.{IsIncrementation, AreResolved, IsResolved, slot_count, number_within, are_below, first_numbers, IsLegal, ends_at, is_left}
+use Rattle.f77_meaning.proofs.Common.{Symbol, bounds_of, kind_of, LineFields, Statement, Tree, Trees}
 use Rattle.f77_legal.specs.Dimensions.{dimensions_fit}
-use Rattle.f77_legal.specs.Legal.{IsLegal}
-use Rattle.f77_legal.specs.Loops.{is_left, ends_at}
-use Rattle.f77_legal.specs.Names.{Symbol, kind_of, bounds_of}
-use Rattle.f77_check.specs.Resolved.{IsResolved, AreResolved}
-use Rattle.f77_check.specs.Slots.{slot_count}
-use Rattle.f77_code.specs.Evaluation.{number_within}
-use Rattle.f77_code.specs.Moves.{are_below}
 use Rattle.f77_meaning.proofs.Asking.{jump_within, action_within, resolved_within, all_within}
 use Rattle.f77_meaning.proofs.Within.{number_fits, element_fits, condition_fits}
 use Rattle.f77_meaning.proofs.Looping.{terminal_within}

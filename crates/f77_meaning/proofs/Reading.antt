@@ -1,24 +1,9 @@
 -- What the slots of the dummy arguments hold.
-use Rattle.std.proofs.Common.{arith, ◌≡◌, ◌≤◌, ℕ, ◌+◌, ◌||◌, true, List, [], ◌∷◌, length, map, Some, None, refl, sym, ap, subst, ◌∙◌}
-use Rattle.std.specs.Prelude.{is_some, nat_le, if◌then◌else◌}
-use Rattle.std.specs.List.{list_all, list_any, zip}
-use Rattle.std.specs.Str.{bytes_eq}
-use Rattle.std.proofs.lemmas.Bool.{le-leb}
+use Rattle.f77_meaning.proofs.Common.{List, ℕ, ◌≡◌, refl, Some, true, ap, arith, ◌∙◌, None, [], sym, ◌∷◌, length, ◌+◌, subst, ◌≤◌, if◌then◌else◌, map, ◌||◌}
+use Rattle.f77_meaning.proofs.Common.{is_some, nat_le, le-leb, length-map, list_any, list_all, zip, bytes_eq, shapes, shape_of, slot_count, first_slot, Cells}
+use Rattle.f77_meaning.proofs.Common.{first_numbers, dummies, product, element_count, Symbol, bounds_of, kind_of, some_items, values_of, size_of, IsTyped}
+use Rattle.f77_meaning.proofs.Common.{AllHold, HasValues, has_kind, span, LineFields, Kind}
 use Rattle.std.proofs.lemmas.Cmp.{nat_list_eq_equiv}
-use Rattle.std.proofs.lemmas.List.{length-map}
-use Rattle.f77_program.specs.Program.{LineFields}
-use Rattle.f77_tree.specs.declared.tree.Kind.{Kind}
-use Rattle.f77_legal.specs.Blocks.{first_numbers}
-use Rattle.f77_check.specs.Checked.{shape_of, shapes}
-use Rattle.f77_legal.specs.Heading.{dummies}
-use Rattle.f77_legal.specs.Names.{Symbol, some_items, kind_of, bounds_of}
-use Rattle.f77_legal.specs.InitialValues.{product, element_count}
-use Rattle.f77_check.specs.Slots.{slot_count, first_slot}
-use Rattle.f77_meaning.specs.States.{values_of}
-use Rattle.f77_code.specs.Moves.{Cells}
-use Rattle.f77_meaning.specs.Spans.{size_of}
-use Rattle.f77_meaning.specs.code.Spans.{span, AllHold}
-use Rattle.f77_meaning.specs.code.Typed.{has_kind, HasValues, IsTyped}
 use Rattle.f77_meaning.proofs.Dummies.{or_later}
 use Rattle.f77_meaning.proofs.Spans.{span_within}
 use Rattle.f77_meaning.proofs.Stored.{held_from}

@@ -1,8 +1,5 @@
 -- What results are used for: in one order or another, with the same end.
-use Rattle.std.proofs.Common.{◌≡◌, List, [], ◌∷◌, ℤ, refl}
-use Rattle.std.specs.Prelude.{Result, Ok, Err, IfOk}
-use Rattle.f77_actions.specs.declared.finish.Fault.{Fault}
-use Rattle.f77_actions.specs.Value.{given, both}
+use Rattle.f77_meaning.proofs.Common.{List, ◌≡◌, refl, [], ◌∷◌, ℤ, Err, Ok, Result, IfOk, given, both, Fault}
 
 pub used : {A B : Type 0} (r : Result A Fault) (f g : A → Result B Fault) → ((v : A) → r ≡ Ok v → f v ≡ g v) → given r f ≡ given r g
 used (Ok v) f g each = each v refl

@@ -1,21 +1,10 @@
 -- Worked runs, computed by the definitions.
-use Rattle.std.proofs.Common.{◌≡◌, refl, ℕ, ℤ, pos, negsuc, List, [], ◌∷◌, Option, Some, None}
-use Rattle.std.specs.Prelude.{codes, map, option_map, position}
-use Rattle.std.specs.Option.{option_and_then}
-use Rattle.f77_program.specs.Program.{LineFields}
-use Rattle.f77_tree.specs.Tree.{Tree, Trees}
-use Rattle.f77_tree.specs.Statement.{Statement, is_executable_statement}
-use Rattle.f77_tree.specs.declared.tree.Kind.TheVariants.{Integer}
-use Rattle.f77_tree.specs.declared.intrinsic.Intrinsic.TheVariants.{Mod}
+use Rattle.f77_meaning.proofs.Common.{List, ℕ, ◌≡◌, refl, Some, None, [], ◌∷◌, Option, option_map, ℤ, pos, negsuc, map, position, codes, option_and_then}
+use Rattle.f77_meaning.proofs.Common.{ZeroStep, BadSubscript, DivideByZero, Overflow, Undefined, ZeroPower, Finish, StepLimit, Failed, Returned, Value}
+use Rattle.f77_meaning.proofs.Common.{start_values, argument_values, config, Execute, LineFields, Statement, is_executable_statement, Tree, Trees, Mod, Integer}
 use Rattle.f77_tree.specs.declared.operator.Operator.TheVariants.{Add, Divide, Power, Less}
-use Rattle.f77_actions.specs.declared.finish.Fault.TheVariants.{Overflow, DivideByZero, ZeroPower, BadSubscript, ZeroStep, Undefined}
-use Rattle.f77_actions.specs.declared.finish.Finish.{Finish}
-use Rattle.f77_actions.specs.declared.finish.Finish.TheVariants.{Returned, Failed, StepLimit}
-use Rattle.f77_meaning.specs.Step.{config, Execute}
-use Rattle.f77_meaning.specs.Start.{start_values, argument_values}
-use Rattle.f77_meaning.proofs.Stepping.{run}
-use Rattle.f77_actions.specs.declared.value.Value.{Value}
 use Rattle.f77_actions.specs.declared.value.Value.TheVariants as held
+use Rattle.f77_meaning.proofs.Stepping.{run}
 
 abbrev line : ℕ → Statement → LineFields
 line n s = record { label = None; stmt = s; line = n }

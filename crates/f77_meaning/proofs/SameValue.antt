@@ -1,38 +1,26 @@
 -- A resolved expression has the value of the expression that it stands for.
-use Rattle.std.proofs.Common.{arith, ◌≡◌, ◌<◌, ◌≤◌, ◌^◌, ℕ, ◌+◌, Bool, true, false, not, List, [], ◌∷◌, Option, Some, ℤ, pos, refl, sym, ap, ◌∙◌}
-use Rattle.std.specs.Prelude.{Result, Ok, Err, slice_get}
-use Rattle.std.specs.Option.{option_and_then}
-use Rattle.std.proofs.lemmas.Bool.{lt-ltb, le-ltb}
-use Rattle.f77_tree.specs.Tree.{Tree, Trees}
+use Rattle.f77_meaning.proofs.Common.{List, ℕ, ◌≡◌, refl, Some, true, ap, arith, ◌∙◌, false, [], sym, ◌∷◌, Bool, Option, ◌<◌, ◌+◌, ℤ, ◌≤◌, slice_get, pos, Err}
+use Rattle.f77_meaning.proofs.Common.{Ok, Result, lt-ltb, not, le-ltb, ◌^◌, option_and_then, in_range, greatest, least, called, fits, modulus, signed}
+use Rattle.f77_meaning.proofs.Common.{without_sign, given, element, both, whole, logic, pushed, Variable, Element, Matrix', Vector', Number, Absolute', Binary'}
+use Rattle.f77_meaning.proofs.Common.{Constant, Negated', TooLarge, ZeroPush', Fault, Value, IsElement, IsChosen, IsCondition, IsNumber, first_slot, held_in}
+use Rattle.f77_meaning.proofs.Common.{number_in, slot_in, truth_in, calculated, compared, joined, Symbol, Store, values_of, place, number, truth, arithmetic}
+use Rattle.f77_meaning.proofs.Common.{connected, numbers, related, Tree, Trees, Mod, Iabs, Max0, Min0}
 use Rattle.f77_tree.specs.declared.intrinsic.Intrinsic.{Intrinsic}
-use Rattle.f77_tree.specs.declared.intrinsic.Intrinsic.TheVariants.{Mod, Iabs, Min0, Max0}
 use Rattle.f77_tree.specs.declared.operator.Operator.{Operator}
-use Rattle.f77_tree.specs.declared.operator.Operator.TheVariants as operator
 use Rattle.f77_tree.specs.declared.operator.Sign.{Sign}
 use Rattle.f77_tree.specs.declared.operator.Sign.TheVariants.{Plus, Minus}
 use Rattle.f77_actions.specs.declared.expression.Arithmetic.{Arithmetic}
-use Rattle.f77_actions.specs.declared.expression.Arithmetic.TheVariants as arithmetics
 use Rattle.f77_actions.specs.declared.expression.Relation.{Relation}
-use Rattle.f77_actions.specs.declared.expression.Relation.TheVariants as relation
 use Rattle.f77_actions.specs.declared.expression.Connective.{Connective}
-use Rattle.f77_actions.specs.declared.expression.Connective.TheVariants as connective
-use Rattle.f77_actions.specs.declared.expression.Element.{Element, Variable, Vector', Matrix'}
-use Rattle.f77_actions.specs.declared.expression.Number.{Number, Constant, TooLarge, Negated', Absolute', ZeroPush', Binary'}
-use Rattle.f77_actions.specs.declared.expression.Number as numeric
 use Rattle.f77_actions.specs.declared.expression.Condition.{Condition, Not', Related, Connected'}
-use Rattle.f77_actions.specs.declared.expression.Condition as condition
 use Rattle.f77_tree.specs.Operator.{is_relation}
-use Rattle.f77_check.specs.Expression.{IsElement, IsNumber, IsChosen, IsCondition}
 use Rattle.f77_actions.specs.Operators.{arithmetic_of, relation_of, connective_of}
-use Rattle.f77_legal.specs.Names.{Symbol}
-use Rattle.f77_check.specs.Slots.{first_slot}
-use Rattle.f77_actions.specs.declared.finish.Fault.{Fault}
-use Rattle.f77_actions.specs.declared.value.Value.{Value}
-use Rattle.f77_code.specs.Evaluation.{held_in, slot_in, number_in, truth_in, calculated, compared, joined}
-use Rattle.f77_meaning.specs.States.{values_of}
-use Rattle.f77_actions.specs.Number.{fits, in_range, least, greatest, called, signed, modulus, without_sign}
-use Rattle.f77_meaning.specs.Value.{Store, arithmetic, related, connected, number, numbers, place, truth}
-use Rattle.f77_actions.specs.Value.{given, both, whole, logic, element, pushed}
+use Rattle.f77_tree.specs.declared.operator.Operator.TheVariants as operator
+use Rattle.f77_actions.specs.declared.expression.Arithmetic.TheVariants as arithmetics
+use Rattle.f77_actions.specs.declared.expression.Relation.TheVariants as relation
+use Rattle.f77_actions.specs.declared.expression.Connective.TheVariants as connective
+use Rattle.f77_actions.specs.declared.expression.Number as numeric
+use Rattle.f77_actions.specs.declared.expression.Condition as condition
 use Rattle.f77_meaning.proofs.Cells.{place_within, held_value}
 use Rattle.f77_meaning.proofs.Choices.{least_first, greatest_first}
 use Rattle.f77_meaning.proofs.Results.{used, kept, in_turn, used_for, both_same, one_given, two_given}

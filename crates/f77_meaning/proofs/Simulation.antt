@@ -1,48 +1,23 @@
 -- A step of the machine is a step of the run that it stands for.
-use Rattle.std.proofs.Common.{◌≡◌, ℕ, zero, suc, ◌+◌, ◌*◌, ◌<◌, ◌≤◌, ◌==◌, ◌&&◌, inl, inr, Bool, true, false, List}
-use Rattle.std.proofs.Common.{[], ◌∷◌, Option, Some, None, refl, sym, ◌∙◌, ap, subst, arith, length, ℤ, pos, negsuc}
-use Rattle.std.specs.Prelude.{Result, Ok, Err, IsSome, MatchOption, nat_lt, if◌then◌else◌, option_map, slice_get, slice_set}
-use Rattle.std.specs.Option.{option_and_then, option_map_or}
+use Rattle.f77_meaning.proofs.Common.{List, ℕ, ◌≡◌, refl, Some, true, ap, arith, ◌∙◌, None, false, [], sym, ◌∷◌, Bool, Option, suc, length, zero, ◌<◌, ◌+◌, inr}
+use Rattle.f77_meaning.proofs.Common.{inl, subst, option_map, ℤ, ◌≤◌, slice_get, if◌then◌else◌, pos, Err, Ok, Result, negsuc, ◌==◌, nat_lt, ◌&&◌, IsSome}
+use Rattle.f77_meaning.proofs.Common.{MatchOption, slice_set, eqb-true, ltb-true, ◌*◌, and_parts, cases_lt, same_Some, slice_get_past, slice_get_within}
+use Rattle.f77_meaning.proofs.Common.{option_map_or, option_and_then, given, element, Loop, Action, ArithmeticIf, AssignNumber, AssignTruth, Branch}
+use Rattle.f77_meaning.proofs.Common.{ComputedGoto, Continue, Declaration, Goto, LogicalIf', Return, Stop, Trap, Jump, Variable, Element, Matrix', Vector'}
+use Rattle.f77_meaning.proofs.Common.{Number, Fault, Resolved, Value, IsAction, IsJump, IsAssignment, IsIncrementation, IsElement, AreResolved, IsResolved}
+use Rattle.f77_meaning.proofs.Common.{slot_count, first_slot, item_chosen, by_sign, number_in, slot_in, Cells, State, TurnList, turn_at, Move, state}
+use Rattle.f77_meaning.proofs.Common.{incremented, is_loop, used, without, acted, go_on, is_executed, jump_chosen, jump_to, moved, inner_acts, kept_by}
+use Rattle.f77_meaning.proofs.Common.{clause_kept, not_false, product, nth_statement, IsLegal, Symbol, bounds_of, kind_of, Bounds, Store, values_of, store_with}
+use Rattle.f77_meaning.proofs.Common.{place, value, placed_in_run, config, Next, GoesOn, Begins, Increments, With, step_number, Either, Executes, Jumps, StepAt}
+use Rattle.f77_meaning.proofs.Common.{Step, is_action, LineFields, IsProgram, Statement, Tree, Trees}
 use Rattle.std.proofs.Math.Nat.{mul-le-mul_left}
-use Rattle.std.proofs.lemmas.Bool.{and_parts, cases_lt, eqb-true, ltb-true}
-use Rattle.std.proofs.lemmas.Option.{slice_get_past, slice_get_within, same_Some}
-use Rattle.f77_program.specs.Formed.{is_action}
-use Rattle.f77_program.specs.Program.{LineFields, IsProgram}
-use Rattle.f77_tree.specs.Tree.{Tree, Trees}
-use Rattle.f77_tree.specs.Statement.{Statement}
-use Rattle.f77_actions.specs.declared.action.Action.{Action, Declaration, AssignNumber, AssignTruth, Goto, ComputedGoto, ArithmeticIf, LogicalIf', Branch, Continue, Loop, Return, Stop, Trap}
-use Rattle.f77_actions.specs.declared.action.Jump.{Jump}
-use Rattle.f77_legal.specs.declared.clause.Clause.TheVariants.{Bounds}
-use Rattle.f77_actions.specs.declared.expression.Element.{Element, Variable, Vector', Matrix'}
-use Rattle.f77_actions.specs.declared.expression.Number.{Number}
-use Rattle.f77_actions.specs.declared.resolved.Resolved.{Resolved}
-use Rattle.f77_check.specs.Action.{IsJump, IsIncrementation, IsAssignment, IsAction}
 use Rattle.f77_legal.specs.Dimensions.{dimensions_fit}
-use Rattle.f77_check.specs.Expression.{IsElement}
-use Rattle.f77_legal.specs.Labels.{nth_statement}
-use Rattle.f77_legal.specs.Legal.{IsLegal}
-use Rattle.f77_legal.specs.Names.{Symbol, kind_of, bounds_of}
-use Rattle.f77_legal.specs.InitialValues.{product}
-use Rattle.f77_check.specs.Resolved.{IsResolved, AreResolved}
-use Rattle.f77_check.specs.Slots.{slot_count, first_slot}
-use Rattle.f77_legal.proofs.Actions.{inner_acts}
-use Rattle.f77_legal.proofs.LegalGives.{clause_kept, kept_by, not_false}
-use Rattle.f77_actions.specs.declared.finish.Fault.{Fault}
 use Rattle.f77_code.specs.declared.control.Place.{Place}
 use Rattle.f77_code.specs.declared.control.Place.TheVariants.{Execute, Increment}
 use Rattle.f77_code.specs.declared.control.Turn.{Turn}
-use Rattle.f77_actions.specs.declared.value.Value.{Value}
 use Rattle.f77_actions.specs.declared.value.Value.TheVariants as held
-use Rattle.f77_code.specs.Choice.{by_sign, item_chosen}
-use Rattle.f77_code.specs.Evaluation.{slot_in, number_in}
-use Rattle.f77_meaning.specs.States.{values_of, placed_in_run}
-use Rattle.f77_meaning.proofs.StateDefinitions.{turn_of, turns_of, config_of}
-use Rattle.f77_meaning.proofs.StateDefinitions.{next_of}
-use Rattle.f77_code.specs.Moves.{Cells, TurnList, State, Move, state, used, turn_at, go_on, without, jump_to, jump_chosen, acted, incremented, is_executed, is_loop, moved}
 use Rattle.f77_meaning.specs.Step as run
-use Rattle.f77_meaning.specs.Step.{Next, config, GoesOn, Jumps, Begins, With, Either, step_number, Executes, Increments, StepAt, Step}
-use Rattle.f77_meaning.specs.Value.{Store, store_with, value, place}
-use Rattle.f77_actions.specs.Value.{given, element}
+use Rattle.f77_meaning.proofs.StateDefinitions.{turn_of, turns_of, config_of, next_of}
 use Rattle.f77_meaning.proofs.SameValue.{same_number, same_slot, same_truth}
 use Rattle.f77_meaning.proofs.Stored.{stored}
 use Rattle.f77_meaning.proofs.Looping.{with_used, with_slot, row_at, begins, increments}

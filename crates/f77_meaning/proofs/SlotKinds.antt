@@ -1,13 +1,8 @@
 -- Slots have the kinds of the names that they belong to.
-use Rattle.std.proofs.Common.{arith, ◌≡◌, ◌<◌, ℕ, ◌+◌, List, [], ◌∷◌, length, take, replicate, get_or, Some, refl, sym, ap, ◌∙◌}
-use Rattle.std.specs.Prelude.{slice_get}
-use Rattle.std.proofs.lemmas.List.{length-append, length-replicate, get_or-replicate}
+use Rattle.f77_meaning.proofs.Common.{List, ℕ, ◌≡◌, refl, Some, ap, arith, ◌∙◌, [], sym, ◌∷◌, length, ◌<◌, ◌+◌, slice_get, get_or, length-append, take}
+use Rattle.f77_meaning.proofs.Common.{replicate, get_or-replicate, length-replicate, slice_get-get_or, slot_count, first_slot, slot_kinds, product, Symbol}
+use Rattle.f77_meaning.proofs.Common.{Kind}
 use Rattle.std.proofs.lemmas.List.Concat.{get_or-flat_map}
-use Rattle.std.proofs.lemmas.Option.{slice_get-get_or}
-use Rattle.f77_tree.specs.declared.tree.Kind.{Kind}
-use Rattle.f77_legal.specs.Names.{Symbol}
-use Rattle.f77_legal.specs.InitialValues.{product}
-use Rattle.f77_check.specs.Slots.{slot_count, first_slot, slot_kinds}
 use Rattle.f77_meaning.proofs.Spans.{count_more, starts_at, span_within}
 
 module _ (kinds : Symbol → Kind) (bounds : Symbol → List ℕ) where

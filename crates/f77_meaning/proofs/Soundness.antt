@@ -1,25 +1,13 @@
 -- In a legal program control is never lost.
-use Rattle.std.proofs.Common.{◌≡◌, ◌⊎◌, ℕ, zero, suc, ◌+◌, ◌<◌, ◌==◌, ◌&&◌, ◌||◌, not, Bool, true, false, cond, inl, inr, List, [], ◌∷◌, Option, Some, None, refl, sym, ◌∙◌, ap, subst, arith, length}
-use Rattle.std.specs.Prelude.{IsSome, nat_lt, position}
-use Rattle.std.specs.List.{list_any, position_or_len}
-use Rattle.std.specs.Option.{option_and_then, option_map_or}
-use Rattle.std.proofs.lemmas.Bool.Decides.{nat_tests}
-use Rattle.std.proofs.lemmas.Bool.{and_parts, or_left}
+use Rattle.f77_meaning.proofs.Common.{List, ℕ, ◌≡◌, refl, Some, true, ap, arith, ◌∙◌, None, false, [], sym, ◌∷◌, Bool, Option, suc, length, zero, ◌<◌, ◌+◌, inr}
+use Rattle.f77_meaning.proofs.Common.{inl, subst, ◌==◌, nat_lt, ◌&&◌, ◌||◌, IsSome, not, position, ◌⊎◌, cond, and_parts, or_left, nat_tests, list_any}
+use Rattle.f77_meaning.proofs.Common.{position_or_len, option_map_or, option_and_then, inner_acts, found_is, some_branch, some_terminal, some_place, kept_by}
+use Rattle.f77_meaning.proofs.Common.{clause_kept, not_false, some_of, any_false, alternative_closes, branch_end, has_at, is_alternative, block_end, is_end_if}
+use Rattle.f77_meaning.proofs.Common.{is_level, nth_statement, label_place, terminal_label, bears, is_terminal, statement_with, is_target, IsLegal, terminal}
+use Rattle.f77_meaning.proofs.Common.{Terminals, Targets, LineFields, IsProgram, Statement, is_executable_statement, jumps_of, Tree}
 use Rattle.f77_program.specs.Group.{group_of, may_stand}
-use Rattle.f77_program.specs.Program.{LineFields, IsProgram}
-use Rattle.f77_tree.specs.Tree.{Tree}
-use Rattle.f77_tree.specs.Statement.{Statement, jumps_of, is_executable_statement}
 use Rattle.f77_program.specs.declared.group.Group.{Group}
 use Rattle.f77_program.specs.declared.group.Group.TheVariants.{Executable}
-use Rattle.f77_legal.specs.declared.clause.Clause.TheVariants.{Targets, Terminals}
-use Rattle.f77_legal.specs.Blocks.{is_end_if, is_alternative, has_at, is_level, block_end, branch_end}
-use Rattle.f77_legal.specs.Labels.{bears, label_place, nth_statement, statement_with, terminal_label, is_target, is_terminal}
-use Rattle.f77_legal.specs.Legal.{IsLegal}
-use Rattle.f77_legal.specs.Loops.{terminal}
-use Rattle.f77_legal.proofs.Branches.{found_is}
-use Rattle.f77_legal.proofs.Actions.{inner_acts}
-use Rattle.f77_legal.proofs.Flow.{some_branch, some_terminal, some_place}
-use Rattle.f77_legal.proofs.LegalGives.{clause_kept, kept_by, any_false, not_false, some_of, alternative_closes}
 use Rattle.f77_meaning.proofs.ControlDefinitions.{CanHaveControl, is_last, LeadsToStatement, NeverLosesControl}
 
 -- a place stands in the program

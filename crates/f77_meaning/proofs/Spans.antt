@@ -1,15 +1,8 @@
 -- The slots of a name are among all slots, and apart from those of another name.
-use Rattle.std.proofs.Common.{arith, ◌≡◌, ◌⊎◌, inl, inr, ◌<◌, ◌≤◌, ℕ, zero, suc, ◌+◌, false, List, [], ◌∷◌, length, map, take, get_or, Option, Some, None, refl, sym, ap, ◌∙◌}
-use Rattle.std.specs.Prelude.{position, option_map}
-use Rattle.std.specs.Str.{bytes_eq}
-use Rattle.std.proofs.lemmas.Bool.{cases_order, false≢true}
-use Rattle.std.proofs.lemmas.List.{take_all}
-use Rattle.std.proofs.lemmas.List.Quantifiers.{position-Some}
+use Rattle.f77_meaning.proofs.Common.{List, ℕ, ◌≡◌, refl, Some, ap, arith, ◌∙◌, None, false, [], sym, ◌∷◌, Option, suc, length, zero, ◌<◌, ◌+◌, inr, inl}
+use Rattle.f77_meaning.proofs.Common.{option_map, ◌≤◌, map, position, ◌⊎◌, get_or, take, take_all, false≢true, cases_order, position-Some, bytes_eq-Decides}
+use Rattle.f77_meaning.proofs.Common.{bytes_eq, slot_count, first_slot, product, Symbol}
 use Rattle.std.proofs.lemmas.List.Sums.{sum_by-cons}
-use Rattle.std.proofs.lemmas.Slice.Eq.{bytes_eq-Decides}
-use Rattle.f77_legal.specs.Names.{Symbol}
-use Rattle.f77_legal.specs.InitialValues.{product}
-use Rattle.f77_check.specs.Slots.{slot_count, first_slot}
 
 module _ (bounds : Symbol → List ℕ) where
   pub count_more : (name : Symbol) (names : List Symbol) → slot_count bounds (name ∷ names) ≡ product (bounds name) + slot_count bounds names

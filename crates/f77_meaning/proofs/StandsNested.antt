@@ -1,32 +1,15 @@
 -- Where a run comes to, the DOs that end there are active; and of those that end with a DO those round it, and not those in it.
-use Rattle.std.proofs.Common.{◌≡◌, ◌≢◌, ◌∙◌, ◌<◌, ◌==◌, ◌&&◌, ◌++◌, ◌∷◌, inl, inr, ℕ, zero, suc, Bool, true, false, not, cond, Option, Some, None}
-use Rattle.std.proofs.Common.{List, [], length, filter, reverse, refl, sym, ap, subst, arith}
-use Rattle.std.specs.Prelude.{MatchOption, is_some, nat_lt, nat_le, if◌then◌else◌, option_map, slice_get, slice_set}
-use Rattle.std.specs.Option.{option_map_or}
-use Rattle.std.proofs.lemmas.Bool.{and_from, and_left, cases_lt, eq-eqb, eqb-true, le-ltb, ne_eqb, not_from_false, or_from, or_right}
-use Rattle.std.proofs.lemmas.List.{reverse-append}
-use Rattle.std.proofs.lemmas.List.Elements.{filter-append}
-use Rattle.f77_program.specs.Program.{LineFields, IsProgram}
-use Rattle.f77_tree.specs.Statement.{Statement}
-use Rattle.f77_actions.specs.declared.action.Action.{Action, Loop}
-use Rattle.f77_actions.specs.declared.expression.Number.{Number}
-use Rattle.f77_actions.specs.declared.resolved.Resolved.{Resolved}
-use Rattle.f77_check.specs.Action.{IsAction}
-use Rattle.f77_check.specs.Resolved.{AreResolved}
-use Rattle.f77_legal.specs.Blocks.{first_numbers}
-use Rattle.f77_legal.specs.Legal.{IsLegal}
-use Rattle.f77_legal.specs.Loops.{terminal, range_holds, ends_at}
-use Rattle.f77_legal.specs.Names.{Symbol, kind_of, bounds_of}
-use Rattle.f77_actions.specs.declared.value.Value.{Value}
+use Rattle.f77_meaning.proofs.Common.{List, ℕ, ◌≡◌, refl, Some, true, ap, arith, ◌∙◌, None, false, [], sym, ◌∷◌, Bool, Option, suc, length, zero, ◌<◌, inr, inl}
+use Rattle.f77_meaning.proofs.Common.{subst, option_map, slice_get, if◌then◌else◌, ◌==◌, nat_lt, ◌&&◌, is_some, not, MatchOption, slice_set, eqb-true, cond}
+use Rattle.f77_meaning.proofs.Common.{le-ltb, nat_le, ◌++◌, ◌≢◌, eq-eqb, filter, reverse, ne_eqb, cases_lt, and_from, or_right, and_left, or_from}
+use Rattle.f77_meaning.proofs.Common.{not_from_false, reverse-append, filter-append, option_map_or, Loop, Action, Number, Resolved, Value, IsAction}
+use Rattle.f77_meaning.proofs.Common.{AreResolved, State, TurnList, turn_at, state, first_numbers, IsLegal, terminal, range_holds, ends_at, Symbol, bounds_of}
+use Rattle.f77_meaning.proofs.Common.{kind_of, Comes, placed_in_run, is_active_at, LineFields, IsProgram, Statement}
 use Rattle.f77_code.specs.declared.control.Place.{Place}
 use Rattle.f77_code.specs.declared.control.Place.TheVariants.{Execute, Increment}
 use Rattle.f77_code.specs.declared.control.Turn.{Turn}
-use Rattle.f77_code.specs.Moves.{TurnList, State, state, turn_at}
 use Rattle.f77_code.specs.Simulation.{are_active, only_round, MayLeave, IsNested}
 use Rattle.f77_code.proofs.Written.{at_other}
-use Rattle.f77_meaning.specs.Active.{is_active_at}
-use Rattle.f77_meaning.specs.Control.{Comes}
-use Rattle.f77_meaning.specs.States.{placed_in_run}
 use Rattle.f77_meaning.proofs.StateDefinitions.{turn_of, config_of}
 use Rattle.f77_meaning.proofs.Active.{active_by_place}
 use Rattle.f77_meaning.proofs.Looping.{row_at, terminal_within}

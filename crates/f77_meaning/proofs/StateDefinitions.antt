@@ -1,12 +1,9 @@
 -- The configuration that a state over slots stands for, and what the answer of a step over slots does.
 -- Proofs alone cite what stands here.
-use Rattle.std.specs.Prelude.{ℕ, List, option_map}
-use Rattle.f77_legal.specs.Names.{Symbol}
+use Rattle.f77_meaning.proofs.Common.{List, ℕ, option_map, State, TurnList, turn_at, Move, Symbol, values_of, placed_in_run, Config, config, Next}
 use Rattle.f77_code.specs.declared.control.Turn.{Turn}
-use Rattle.f77_code.specs.Moves.{TurnList, State, Move, Goes, Ends, turn_at}
-use Rattle.f77_meaning.specs.States.{placed_in_run, values_of}
+use Rattle.f77_code.specs.Moves.{Goes, Ends}
 use Rattle.f77_meaning.specs.Step as run
-use Rattle.f77_meaning.specs.Step.{Config, Next, config}
 
 abbrev pub turn_of : Turn → run.Turn
 turn_of turn = record { passes = turn.passes; step = turn.step }

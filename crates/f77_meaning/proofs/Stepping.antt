@@ -1,26 +1,11 @@
 -- A step, computed: what it gives is a step of the relation.
-use Rattle.std.proofs.Common.{◌≡◌, ℕ, zero, suc, ◌+◌, ◌-◌, ◌<◌, ◌==◌, ◌&&◌, inl, inr, Bool, true, false, List, Option, Some, None, refl, ap, subst, arith, length, ℤ, pos, negsuc}
-use Rattle.std.specs.Prelude.{Result, Ok, Err, MatchOption, IsSome, is_some, ◌+ℤ◌, if◌then◌else◌, option_map}
-use Rattle.std.specs.Option.{option_map_or, option_and_then}
-use Rattle.std.proofs.lemmas.Bool.{cases_lt, eqb-true}
-use Rattle.std.proofs.lemmas.Bool.Decides.{nat_tests}
-use Rattle.std.proofs.lemmas.Option.{slice_get_past}
-use Rattle.f77_program.specs.Program.{LineFields}
-use Rattle.f77_tree.specs.Tree.{Tree, Trees}
-use Rattle.f77_tree.specs.Statement.{Statement}
-use Rattle.f77_legal.specs.Blocks.{branch_end, statement_behind}
-use Rattle.f77_legal.specs.Labels.{label_place, nth_statement, terminal_label}
-use Rattle.f77_legal.specs.Loops.{terminal, ends_at}
-use Rattle.f77_legal.specs.Names.{Symbol, kind_of, bounds_of}
-use Rattle.f77_actions.specs.declared.finish.Fault.{Fault}
-use Rattle.f77_actions.specs.declared.finish.Fault.TheVariants.{ZeroStep, Trapped}
-use Rattle.f77_actions.specs.declared.finish.Finish.{Finish}
-use Rattle.f77_actions.specs.declared.finish.Finish.TheVariants.{Returned, Stopped, Failed, StepLimit}
-use Rattle.f77_actions.specs.Number.{in_range, trip_count}
-use Rattle.f77_meaning.specs.Value.{Store, store_with, number, truth, value, place}
-use Rattle.f77_code.specs.Choice.{by_sign, item_chosen}
-use Rattle.f77_meaning.specs.Step.{Place, Execute, Increment, Turn, Turns, Config, config, Next, Goes, Ends, with_turn, left_behind}
-use Rattle.f77_meaning.specs.Step.{GoesOn, Jumps, Passes, Begins, With, Either, Skips, step_number, Executes, Increments, StepAt}
+use Rattle.f77_meaning.proofs.Common.{List, ℕ, ◌≡◌, refl, Some, true, ap, arith, None, false, Bool, Option, suc, length, zero, ◌<◌, ◌+◌, inr, inl, subst}
+use Rattle.f77_meaning.proofs.Common.{option_map, ℤ, if◌then◌else◌, pos, Err, Ok, Result, negsuc, ◌==◌, ◌&&◌, ◌-◌, IsSome, is_some, ◌+ℤ◌, MatchOption, eqb-true}
+use Rattle.f77_meaning.proofs.Common.{cases_lt, nat_tests, slice_get_past, option_map_or, option_and_then, in_range, trip_count, Fault, ZeroStep, Trapped}
+use Rattle.f77_meaning.proofs.Common.{Finish, StepLimit, Failed, Returned, Stopped, item_chosen, by_sign, branch_end, statement_behind, nth_statement}
+use Rattle.f77_meaning.proofs.Common.{label_place, terminal_label, terminal, ends_at, Symbol, bounds_of, kind_of, Store, store_with, place, number, truth}
+use Rattle.f77_meaning.proofs.Common.{value, Config, config, Execute, Next, Goes, GoesOn, Turns, with_turn, Begins, Increment, Increments, Passes, Place, Turn}
+use Rattle.f77_meaning.proofs.Common.{With, step_number, Either, Executes, Jumps, StepAt, Ends, Skips, left_behind, LineFields, Statement, Tree, Trees}
 use Rattle.f77_actions.specs.declared.value.Value.TheVariants as held
 
 -- the innermost active DO that ends at t, of those before n

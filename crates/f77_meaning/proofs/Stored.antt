@@ -1,20 +1,8 @@
 -- A value put into a slot is put into the element of the name that the slot belongs to.
-use Rattle.std.proofs.Common.{arith, ◌≡◌, ◌⊎◌, inl, inr, ◌≢◌, ◌<◌, ◌≤◌, ℕ, ◌+◌, Bool, true, false, List, length, map, get_or, Option, Some, None, refl, sym, ap, ◌∙◌}
-use Rattle.std.specs.Prelude.{slice_get, slice_set, unwrap_or}
-use Rattle.std.specs.Option.{option_and_then}
-use Rattle.std.specs.Str.{bytes_eq}
-use Rattle.std.proofs.lemmas.Bool.{cases_eq}
-use Rattle.std.proofs.lemmas.List.{length-set, get_or-set_same, get_or-set_other, ext_get_or}
-use Rattle.std.proofs.lemmas.Option.{unwrap_or-slice_get}
-use Rattle.std.proofs.lemmas.Slice.Eq.{bytes_eq-Decides}
-use Rattle.f77_legal.specs.Blocks.{first_numbers}
-use Rattle.f77_legal.specs.Names.{Symbol}
-use Rattle.f77_legal.specs.InitialValues.{product}
-use Rattle.f77_check.specs.Slots.{slot_count, first_slot}
-use Rattle.f77_actions.specs.declared.value.Value.{Value}
-use Rattle.f77_code.specs.Evaluation.{held_in}
-use Rattle.f77_meaning.specs.States.{values_of}
-use Rattle.f77_meaning.specs.Value.{store_with}
+use Rattle.f77_meaning.proofs.Common.{List, ℕ, ◌≡◌, refl, Some, true, ap, arith, ◌∙◌, None, false, sym, Bool, Option, length, ◌<◌, ◌+◌, inr, inl, ◌≤◌}
+use Rattle.f77_meaning.proofs.Common.{slice_get, map, slice_set, ◌⊎◌, get_or, ◌≢◌, length-set, ext_get_or, get_or-set_other, get_or-set_same, unwrap_or}
+use Rattle.f77_meaning.proofs.Common.{cases_eq, unwrap_or-slice_get, bytes_eq-Decides, option_and_then, bytes_eq, Value, slot_count, first_slot, held_in}
+use Rattle.f77_meaning.proofs.Common.{first_numbers, product, Symbol, values_of, store_with}
 use Rattle.f77_meaning.proofs.Cells.{length-table, get_or-table}
 use Rattle.f77_meaning.proofs.Spans.{span_within, spans_apart}
 

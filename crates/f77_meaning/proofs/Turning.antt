@@ -1,32 +1,17 @@
 -- The active DOs of a machine: how they change, and where control goes on by them.
-use Rattle.std.proofs.Common.{◌≡◌, ℕ, zero, suc, ◌<◌, ◌≤◌, ◌==◌, ◌&&◌, ◌||◌, inl, inr, Bool, true, false, List, [], ◌∷◌, ◌++◌, Option, Some, None, refl, sym, ◌∙◌, ap, arith, length, reverse, filter}
-use Rattle.std.specs.Prelude.{is_some, if◌then◌else◌, option_map, slice_set}
-use Rattle.std.specs.List.{list_any}
-use Rattle.std.specs.Option.{option_and_then, option_map_or}
+use Rattle.f77_meaning.proofs.Common.{List, ℕ, ◌≡◌, refl, Some, true, ap, arith, ◌∙◌, None, false, [], sym, ◌∷◌, Bool, Option, suc, length, zero, ◌<◌, inr, inl}
+use Rattle.f77_meaning.proofs.Common.{option_map, ◌≤◌, if◌then◌else◌, ◌==◌, ◌&&◌, ◌||◌, is_some, slice_set, eqb-true, ◌++◌, eq-eqb, filter, reverse, cases_lt}
+use Rattle.f77_meaning.proofs.Common.{or_left, or_right, reverse-append, filter-append, list_any-append, slice_get_past, list_any, option_map_or}
+use Rattle.f77_meaning.proofs.Common.{option_and_then, Resolved, IsResolved, TurnList, turn_at, without, innermost, place_behind, first_numbers, ends_at}
+use Rattle.f77_meaning.proofs.Common.{is_left, left_by, Symbol, Store, placed_in_run, config, GoesOn, with_turn, left_behind, LineFields, Statement}
 use Rattle.std.proofs.Math.Dec.{eqb-zero-suc, eqb-suc-zero, eqb-suc-suc}
-use Rattle.std.proofs.lemmas.Bool.{cases_lt, eq-eqb, eqb-true, or_left, or_right}
-use Rattle.std.proofs.lemmas.List.{reverse-append}
-use Rattle.std.proofs.lemmas.List.Elements.{filter-append}
-use Rattle.std.proofs.lemmas.List.Folds.{list_any-append}
 use Rattle.std.proofs.lemmas.Map.Views.{any-filter_same}
-use Rattle.std.proofs.lemmas.Option.{slice_get_past}
-use Rattle.f77_program.specs.Program.{LineFields}
-use Rattle.f77_tree.specs.Statement.{Statement}
-use Rattle.f77_actions.specs.declared.resolved.Resolved.{Resolved}
-use Rattle.f77_legal.specs.Blocks.{first_numbers}
-use Rattle.f77_legal.specs.Loops.{is_left, left_by, ends_at}
-use Rattle.f77_legal.specs.Names.{Symbol}
-use Rattle.f77_check.specs.Resolved.{IsResolved}
 use Rattle.f77_code.specs.declared.control.Place.TheVariants.{Execute, Increment}
 use Rattle.f77_code.specs.declared.control.Turn.{Turn}
-use Rattle.f77_meaning.specs.States.{placed_in_run}
-use Rattle.f77_meaning.proofs.StateDefinitions.{turn_of, turns_of}
-use Rattle.f77_code.specs.Moves.{TurnList, turn_at, innermost, place_behind, without}
 use Rattle.f77_meaning.specs.Step as run
-use Rattle.f77_meaning.specs.Step.{config, with_turn, left_behind, GoesOn}
-use Rattle.f77_meaning.specs.Value.{Store}
-use Rattle.f77_meaning.proofs.Stepping as computed
+use Rattle.f77_meaning.proofs.StateDefinitions.{turn_of, turns_of}
 use Rattle.f77_meaning.proofs.Stepping.{chosen, sound_on}
+use Rattle.f77_meaning.proofs.Stepping as computed
 
 no_turn : (b : Bool) (x y : Option Turn) → x ≡ None → y ≡ None → (if b then x else y) ≡ None
 no_turn true x y e f = e

@@ -1,44 +1,17 @@
 -- Dummy arguments have values of their kinds at the start of a run, and keep them.
-use Rattle.std.proofs.Common.{◌≡◌, ℕ, zero, suc, ◌+◌, ◌-◌, ◌||◌, not, inl, inr, Bool, true, false, cond, List, []}
-use Rattle.std.proofs.Common.{◌∷◌, Option, Some, None, refl, sym, ◌∙◌, ap, subst, arith, length, map, ℤ, pos, negsuc}
-use Rattle.std.specs.Prelude.{Result, Ok, Err, MatchOption, is_some, nat_lt, option_map, position, slice_get, slice_set, if◌then◌else◌, ◌+ℤ◌}
-use Rattle.std.specs.List.{list_all, list_any, position_or_len}
-use Rattle.std.specs.Option.{option_map_or}
-use Rattle.std.specs.Str.{bytes_eq}
-use Rattle.std.proofs.lemmas.Bool.{and_parts, cases_lt, eqb-true, lt-ltb, le-ltb}
-use Rattle.std.proofs.lemmas.List.{length-set}
-use Rattle.std.proofs.lemmas.Slice.Eq.{bytes_eq-Decides}
-use Rattle.f77_program.specs.Program.{LineFields}
-use Rattle.f77_tree.specs.Tree.{Tree, Trees}
-use Rattle.f77_tree.specs.Statement.{Statement}
-use Rattle.f77_tree.specs.declared.tree.Kind.{Kind}
-use Rattle.f77_tree.specs.declared.tree.Kind.TheVariants.{Integer, Logical}
-use Rattle.f77_legal.specs.declared.clause.Clause.TheVariants.{Kinds}
-use Rattle.f77_check.specs.Checked.{shape_of, shapes}
-use Rattle.f77_legal.specs.Heading.{dummies}
+use Rattle.f77_meaning.proofs.Common.{List, ℕ, ◌≡◌, refl, Some, true, ap, arith, ◌∙◌, None, false, [], sym, ◌∷◌, Bool, Option, suc, length, zero, ◌+◌, inr, inl}
+use Rattle.f77_meaning.proofs.Common.{subst, option_map, ℤ, slice_get, if◌then◌else◌, pos, Err, Ok, Result, negsuc, map, nat_lt, ◌-◌, ◌||◌, is_some, lt-ltb}
+use Rattle.f77_meaning.proofs.Common.{not, ◌+ℤ◌, MatchOption, position, slice_set, eqb-true, cond, le-ltb, length-set, and_parts, cases_lt, bytes_eq-Decides}
+use Rattle.f77_meaning.proofs.Common.{list_any, list_all, position_or_len, option_map_or, bytes_eq, in_range, trip_count, given, Fault, Finish, Value, shapes}
+use Rattle.f77_meaning.proofs.Common.{shape_of, item_chosen, by_sign, kept_by, clause_kept, not_false, dummies, product, element_count, nth_statement, IsLegal}
+use Rattle.f77_meaning.proofs.Common.{Symbol, bounds_of, kind_of, some_items, Kinds, Store, store_with, place, number, truth, value, IsOutcome, IsStart}
+use Rattle.f77_meaning.proofs.Common.{AreFitting, values_in, has_shape, is_count, is_single, Config, Execute, Next, Goes, GoesOn, Turns, with_turn, Begins}
+use Rattle.f77_meaning.proofs.Common.{Increment, Increments, Passes, Place, Turn, With, step_number, Either, Executes, Jumps, StepAt, Ends, Skips, Step}
+use Rattle.f77_meaning.proofs.Common.{IsTyped, HasValues, has_kind, Arg, LineFields, Statement, Tree, Trees, Kind, Integer, Logical}
 use Rattle.f77_tree.specs.Comparing.{same_kind}
 use Rattle.f77_legal.specs.Kinds.{kinds_agree}
-use Rattle.f77_legal.specs.Labels.{nth_statement}
-use Rattle.f77_legal.specs.Legal.{IsLegal}
-use Rattle.f77_legal.specs.Names.{Symbol, some_items, kind_of, bounds_of}
-use Rattle.f77_legal.specs.InitialValues.{product, element_count}
-use Rattle.f77_legal.proofs.LegalGives.{clause_kept, kept_by, not_false}
-use Rattle.f77_meaning.specs.declared.argument.Arg.{Arg}
-use Rattle.f77_meaning.specs.declared.argument.Arg.TheVariants.{Int, Truth, Ints, Truths}
-use Rattle.f77_actions.specs.declared.finish.Fault.{Fault}
-use Rattle.f77_actions.specs.declared.finish.Finish.{Finish}
-use Rattle.f77_actions.specs.declared.value.Value.{Value}
 use Rattle.f77_actions.specs.declared.value.Value.TheVariants as held
-use Rattle.f77_actions.specs.Number.{in_range, trip_count}
-use Rattle.f77_meaning.specs.Outcome.{IsOutcome}
-use Rattle.f77_meaning.specs.Interpreter.{values_in, has_shape, is_count, is_single, AreFitting}
-use Rattle.f77_meaning.specs.Start.{IsStart}
-use Rattle.f77_code.specs.Choice.{by_sign, item_chosen}
-use Rattle.f77_meaning.specs.Step.{Place, Execute, Increment, Turn, Turns, Config, Next, Goes, Ends, Step, with_turn, GoesOn}
-use Rattle.f77_meaning.specs.Step.{Jumps, Passes, Begins, With, Either, Skips, step_number, Executes, Increments, StepAt}
-use Rattle.f77_meaning.specs.code.Typed.{has_kind, HasValues, IsTyped}
-use Rattle.f77_meaning.specs.Value.{Store, store_with, number, truth, value, place}
-use Rattle.f77_actions.specs.Value.{given}
+use Rattle.f77_meaning.specs.declared.argument.Arg.TheVariants.{Int, Truth, Ints, Truths}
 
 -- an element put in keeps what holds of each
 set_keeps : (q : Option Value → Bool) (cells : List (Option Value)) (k : ℕ) (cell : Option Value) → q cell ≡ true → list_all q cells ≡ true

@@ -1,35 +1,20 @@
 -- A statement that control does not come to may be another one of the same frame.
-use Rattle.std.proofs.Common.{arith, ◌≡◌, ◌≢◌, ◌∙◌, ◌-◌, ◌&&◌, ℕ, zero, suc, inl, inr, Bool, true, false, not, List, [], map, Option, Some, None, refl, sym, ap, subst, ℤ, pos, negsuc}
-use Rattle.std.specs.Prelude.{Result, Ok, Err, MatchOption, ◌+ℤ◌, if◌then◌else◌, option_map, position, slice_get}
-use Rattle.std.specs.Option.{option_map_or}
-use Rattle.std.specs.Str.{bytes_eq}
-use Rattle.f77_program.specs.Program.{LineFields}
-use Rattle.f77_tree.specs.Tree.{Tree, Trees}
-use Rattle.f77_tree.specs.Statement.{Statement}
-use Rattle.f77_legal.specs.Blocks.{first_numbers}
+use Rattle.f77_meaning.proofs.Common.{List, ℕ, ◌≡◌, refl, Some, true, ap, arith, ◌∙◌, None, false, [], sym, Bool, Option, suc, zero, inr, inl, subst}
+use Rattle.f77_meaning.proofs.Common.{option_map, ℤ, slice_get, if◌then◌else◌, pos, Err, Ok, Result, negsuc, map, ◌&&◌, ◌-◌, not, ◌+ℤ◌, MatchOption, position}
+use Rattle.f77_meaning.proofs.Common.{◌≢◌, option_map_or, bytes_eq, in_range, trip_count, Fault, Finish, Value, item_chosen, by_sign, first_numbers}
+use Rattle.f77_meaning.proofs.Common.{nth_statement, Symbol, bounds_of, kind_of, Store, store_with, place, number, truth, value, IsOutcome, IsStart, AreFitting}
+use Rattle.f77_meaning.proofs.Common.{start_values, values_in, AreArguments, Reports, constant_value, AreSameBut, IsReached, MayBeAnother, statement_number}
+use Rattle.f77_meaning.proofs.Common.{Config, config, Execute, Next, Goes, GoesOn, Turns, with_turn, Begins, Increment, Increments, Passes, Place, Turn, With}
+use Rattle.f77_meaning.proofs.Common.{step_number, Either, Executes, Jumps, StepAt, Ends, Skips, Step, left_behind, IsInnermost, Arg, LineFields, Statement}
+use Rattle.f77_meaning.proofs.Common.{Tree, Trees}
 use Rattle.f77_legal.specs.Frames.{HaveOneFrame}
-use Rattle.f77_legal.specs.Labels.{nth_statement}
-use Rattle.f77_legal.specs.Names.{Symbol, kind_of, bounds_of}
 use Rattle.f77_legal.proofs.FrameNames.{kind_of_same, bounds_of_same, elements_same, dummies_same}
 use Rattle.f77_legal.proofs.SameFrame.{place_of_same, range_holds_same, branch_end_same, terminal_same, behind_same}
 use Rattle.f77_check.proofs.Carried.{entry_same, initial_at_same, shapes_same}
-use Rattle.f77_meaning.specs.declared.argument.Arg.{Arg}
-use Rattle.f77_actions.specs.declared.finish.Fault.{Fault}
-use Rattle.f77_actions.specs.declared.finish.Finish.{Finish}
 use Rattle.f77_actions.specs.declared.finish.Finish.TheVariants as finish
+use Rattle.f77_actions.specs.declared.value.Value.TheVariants as held
 use Rattle.f77_meaning.specs.declared.outcome.Outcome.{Outcome}
 use Rattle.f77_meaning.specs.declared.outcome.Outcome.TheVariants as outcome
-use Rattle.f77_actions.specs.declared.value.Value.{Value}
-use Rattle.f77_actions.specs.declared.value.Value.TheVariants as held
-use Rattle.f77_code.specs.Choice.{by_sign, item_chosen}
-use Rattle.f77_meaning.specs.Interpreter.{AreFitting, AreArguments, Reports, values_in}
-use Rattle.f77_actions.specs.Number.{in_range, trip_count}
-use Rattle.f77_meaning.specs.Outcome.{IsOutcome}
-use Rattle.f77_meaning.specs.Reached.{statement_number, IsReached, AreSameBut, MayBeAnother}
-use Rattle.f77_meaning.specs.Start.{IsStart, start_values, constant_value}
-use Rattle.f77_meaning.specs.Step.{Config, config, Place, Execute, Increment, Turn, Turns, Next, Goes, Ends, with_turn, left_behind, IsInnermost}
-use Rattle.f77_meaning.specs.Step.{GoesOn, Jumps, Passes, Begins, With, Either, Skips, step_number, Executes, Increments, StepAt, Step}
-use Rattle.f77_meaning.specs.Value.{Store, store_with, number, truth, value, place}
 
 with_same : {A : Type 0} (r q : Result A Fault) (s : Store) (n : Next) (P Q : A → Type 0) → r ≡ q → ((x : A) → P x → Q x) → With r s n P → With q s n Q
 with_same r q s n P Q same each h = subst (λ t. With t s n Q) same (kept r h)

@@ -1,22 +1,15 @@
 -- The slots that a resolved expression can name are among those of its names.
-use Rattle.std.proofs.Common.{arith, ◌≡◌, ◌≤◌, ℕ, ◌+◌, ◌*◌, true, not, List, [], ◌∷◌, Some, refl, ap}
-use Rattle.std.proofs.lemmas.Bool.{and_from, le-ltb, lt-ltb}
-use Rattle.f77_tree.specs.Tree.{Tree, Trees}
+use Rattle.f77_meaning.proofs.Common.{List, ℕ, ◌≡◌, refl, Some, true, ap, arith, [], ◌∷◌, ◌+◌, ◌≤◌, lt-ltb, not, le-ltb, ◌*◌, and_from, Variable, Element}
+use Rattle.f77_meaning.proofs.Common.{Matrix', Vector', Number, Absolute', Binary', Constant, Negated', TooLarge, ZeroPush', IsElement, IsChosen, IsCondition}
+use Rattle.f77_meaning.proofs.Common.{IsNumber, slot_count, first_slot, number_within, condition_within, element_within, product, Symbol, Tree, Trees, Mod}
+use Rattle.f77_meaning.proofs.Common.{Iabs, Max0, Min0}
 use Rattle.f77_tree.specs.declared.intrinsic.Intrinsic.{Intrinsic}
-use Rattle.f77_tree.specs.declared.intrinsic.Intrinsic.TheVariants.{Mod, Iabs, Min0, Max0}
 use Rattle.f77_tree.specs.declared.operator.Sign.TheVariants.{Plus, Minus}
 use Rattle.f77_actions.specs.declared.expression.Arithmetic.{Arithmetic}
-use Rattle.f77_actions.specs.declared.expression.Arithmetic.TheVariants as arithmetic
-use Rattle.f77_actions.specs.declared.expression.Element.{Element, Variable, Vector', Matrix'}
-use Rattle.f77_actions.specs.declared.expression.Number.{Number, Constant, TooLarge, Negated', Absolute', ZeroPush', Binary'}
-use Rattle.f77_actions.specs.declared.expression.Number as numeric
 use Rattle.f77_actions.specs.declared.expression.Condition.{Condition, Not', Related, Connected'}
+use Rattle.f77_actions.specs.declared.expression.Arithmetic.TheVariants as arithmetic
+use Rattle.f77_actions.specs.declared.expression.Number as numeric
 use Rattle.f77_actions.specs.declared.expression.Condition as condition
-use Rattle.f77_check.specs.Expression.{IsElement, IsNumber, IsChosen, IsCondition}
-use Rattle.f77_legal.specs.Names.{Symbol}
-use Rattle.f77_legal.specs.InitialValues.{product}
-use Rattle.f77_check.specs.Slots.{slot_count, first_slot}
-use Rattle.f77_code.specs.Evaluation.{element_within, number_within, condition_within}
 use Rattle.f77_meaning.proofs.Spans.{span_within}
 
 module _ (bounds : Symbol → List ℕ) (names : List Symbol) where

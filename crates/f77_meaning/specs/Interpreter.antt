@@ -1,6 +1,6 @@
 -- The outcome of a checked program, for values of its dummy arguments and a limit on steps.
 use Rattle.std.specs.Prelude.{◌≡◌, ◌+◌, ◌==◌, ◌&&◌, ◌∷◌, if◌then◌else◌, ℕ, Bool, true, false, not}
-use Rattle.std.specs.Prelude.{List, [], length, map, Option, Some, None, option_map, position}
+use Rattle.std.specs.Prelude.{⊤, List, [], length, map, Option, Some, None, option_map, position}
 use Rattle.std.specs.List.{AllZip, zip}
 use Rattle.f77_program.specs.Program.{LineFields}
 use Rattle.f77_tree.specs.declared.tree.Kind.TheVariants.{Integer, Logical}
@@ -30,6 +30,12 @@ values_in (Int z) = held.Number z ∷ []
 values_in (Truth b) = held.Truth b ∷ []
 values_in (Ints zs) = map (λ z. held.Number z) zs
 values_in (Truths bs) = map (λ b. held.Truth b) bs
+
+-- the program returned or stopped
+abbrev pub IsEnd : Outcome → Type 0
+IsEnd (outcome.Returned arguments) = ⊤
+IsEnd (outcome.Stopped arguments) = ⊤
+IsEnd _ = ⊥
 
 -- an array has n elements
 abbrev pub is_count : Option ℕ → ℕ → Bool

@@ -11,3 +11,14 @@ pub mod Endless
 pub mod Reached
 pub mod Active
 pub mod code
+pub use Value.*
+pub use Outcome.*
+pub use Start.*
+pub use Control.*
+pub use States.*
+pub use Interpreter.*
+pub use Spans.*
+pub use Site.*
+pub use Endless.*
+pub use Reached.*
+pub use Active.*

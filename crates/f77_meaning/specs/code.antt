@@ -1,3 +1,6 @@
 pub mod Running
 pub mod Spans
 pub mod Typed
+pub use Running.*
+pub use Spans.*
+pub use Typed.*

@@ -1,11 +1,7 @@
 //! Laws of the steps and runs of every program.
 
-ghost use Rattle.f77_meaning.specs.Active.{ActiveByPlace};
-ghost use Rattle.f77_meaning.specs.Control.{Starts, LeadsOn};
-ghost use Rattle.f77_meaning.specs.Endless.{ComesBack, MeetsLimits};
-ghost use Rattle.f77_meaning.specs.Interpreter.{OneAnswer};
-ghost use Rattle.f77_meaning.specs.Outcome.{OneSuccessor, OneOutcome};
-ghost use Rattle.f77_meaning.specs.Reached.{MayBeAnother};
+ghost use Rattle.f77_meaning.specs.{ActiveByPlace, Starts, LeadsOn, ComesBack, MeetsLimits, OneAnswer, OneSuccessor};
+ghost use Rattle.f77_meaning.specs.{OneOutcome, MayBeAnother};
 
 /// A configuration leads to at most one configuration or end, a run ends in at most one way within each limit on steps,
 /// and a run with given arguments has at most one outcome.

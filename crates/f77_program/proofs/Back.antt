@@ -1,24 +1,13 @@
 -- The canonical text of a tree spells it.
-use Rattle.std.proofs.Common.{arith, ◌≡◌, ◌<◌, ◌≤◌, ◌^◌, ◌+◌, ◌%◌, ℕ, List, [], ◌∷◌, ◌++◌, Bool, true, false, cond, refl, sym, subst}
-use Rattle.std.specs.Prelude.{nat_lt, nat_le, ◌&&◌, not}
-use Rattle.std.specs.List.{list_all}
-use Rattle.std.specs.Fmt.{decimal}
+use Rattle.f77_program.proofs.Common.{◌≡◌, [], ◌++◌, List, sym, ◌∷◌, refl, subst, ℕ, true, Bool, arith, false, ◌&&◌, not, ◌<◌, append-nil, nat_le, ◌≤◌, cond}
+use Rattle.f77_program.proofs.Common.{◌+◌, leb-true, nat_lt, ◌%◌, ltb-false, ◌^◌, nat_tests, decimal_by_steps, decimal_is_IsNumeral, decimal, list_all}
+use Rattle.f77_program.proofs.Common.{list_text, rest_text, text_of, operand, own_level, all_formed, formed, is_reference, is_some_list, all_small_constants}
+use Rattle.f77_program.proofs.Common.{small_constants, and_true, not_true, is_name, is_number, Spells, is_call, SpellsAll, SpellsReference, is_digit}
+use Rattle.f77_program.proofs.Common.{left_level, right_level, level, tree_in_text, trees_in_text, Tree, Trees}
 use Rattle.std.specs.Str.Parse.{digits_value}
-use Rattle.std.proofs.lemmas.Bool.{ltb-false, leb-true}
-use Rattle.std.proofs.lemmas.List.{append-nil}
-use Rattle.std.proofs.lemmas.Fmt.{decimal_by_steps, decimal_is_IsNumeral}
-use Rattle.std.proofs.lemmas.Bool.Decides.{nat_tests}
-use Rattle.f77_tree.proofs.Tests.{and_true, not_true}
 use Rattle.f77_tree.specs.declared.operator.Operator.{Operator}
-use Rattle.f77_tree.specs.declared.operator.Operator.TheVariants.{Equivalent, NotEquivalent, Or, And, Less, LessOrEqual, Equal, NotEqual}
-use Rattle.f77_tree.specs.declared.operator.Operator.TheVariants.{GreaterOrEqual, Greater, Add, Subtract, Multiply, Divide, Power}
-use Rattle.f77_tree.specs.Operator.{level, left_level, right_level}
-use Rattle.f77_tree.specs.Tree.{Tree, Trees}
-use Rattle.f77_tree.specs.Grammar.{Spells, SpellsReference, SpellsAll, is_name, is_call, is_digit, is_number}
-use Rattle.f77_tree.specs.StatementGrammar.{tree_in_text, trees_in_text}
-use Rattle.f77_program.specs.Canonical.{own_level, operand, text_of, list_text, rest_text}
-use Rattle.f77_program.specs.code.Formed.{is_reference, is_some_list, formed, all_formed}
-use Rattle.f77_tree.proofs.Constants.{small_constants, all_small_constants}
+use Rattle.f77_tree.specs.declared.operator.Operator.TheVariants.{Equivalent, NotEquivalent, Or, And, Less, LessOrEqual, Equal, NotEqual, GreaterOrEqual}
+use Rattle.f77_tree.specs.declared.operator.Operator.TheVariants.{Greater, Add, Subtract, Multiply, Divide, Power}
 
 pub digit_is : (d : ℕ) → d < 10 → is_digit (48 + d) ≡ true
 digit_is d h = grind (arith, nat_tests)

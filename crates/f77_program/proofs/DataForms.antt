@@ -1,23 +1,12 @@
 -- Initial values: which of them some text spells, and their canonical texts.
-use Rattle.std.proofs.Common.{arith, ◌≡◌, ℕ, suc, length, List, [], ◌∷◌, ◌++◌, Bool, true, false, cond, refl, sym, append_assoc, subst}
-use Rattle.std.specs.Prelude.{pos, negsuc, ◌==◌, ◌&&◌, not, nat_le, codes}
-use Rattle.std.specs.List.{list_all}
-use Rattle.std.specs.Fmt.{decimal}
-use Rattle.std.proofs.lemmas.Bool.{eqb-true}
+use Rattle.f77_program.proofs.Common.{◌≡◌, [], ◌++◌, List, sym, ◌∷◌, refl, subst, ℕ, true, Bool, arith, codes, false, length, ◌&&◌, not, append_assoc, nat_le}
+use Rattle.f77_program.proofs.Common.{◌==◌, cond, eqb-true, suc, negsuc, pos, decimal, list_all, name_text, groups_text, group_text, value_text, constant_text}
+use Rattle.f77_program.proofs.Common.{repeat_text, is_group, any_value, data_formed, data_constants, group_constants, small_value, and_true, SpellsConstant}
+use Rattle.f77_program.proofs.Common.{SpellsGroup, SpellsGroups, SpellsValue, negative, SpellsNumber, SpellsName, is_name, truth_constant_text, separated}
+use Rattle.f77_program.proofs.Common.{Joined, largest_integer, small_constant, GroupFields, some_all}
 use Rattle.f77_tree.specs.declared.data.Constant.{Constant}
 use Rattle.f77_tree.specs.declared.data.Constant.TheVariants.{Number, Truth}
 use Rattle.f77_tree.specs.declared.data.Value.{Value}
-use Rattle.f77_tree.specs.Grammar.{is_name, truth_constant_text}
-use Rattle.f77_tree.specs.Limits.{largest_integer, small_constant}
-use Rattle.f77_tree.specs.Joined.{Joined, separated}
-use Rattle.f77_tree.specs.code.Joined.{some_all}
-use Rattle.f77_tree.specs.Declaration.{SpellsName, SpellsNumber}
-use Rattle.f77_tree.specs.Tree.{GroupFields}
-use Rattle.f77_tree.specs.Data.{SpellsConstant, SpellsValue, SpellsGroup, SpellsGroups, negative}
-use Rattle.f77_program.specs.code.Data.{any_value, is_group, data_formed}
-use Rattle.f77_program.specs.Data.{constant_text, repeat_text, value_text, name_text, group_text, groups_text}
-use Rattle.f77_tree.proofs.Constants.{small_value, group_constants, data_constants}
-use Rattle.f77_tree.proofs.Tests.{and_true}
 use Rattle.f77_program.proofs.Plain.{IsPlain, both, plain_name, plain_decimal}
 use Rattle.f77_program.proofs.JoinedForms.{joined_all, joined_text, joined_back, plain_separated}
 use Rattle.f77_program.proofs.DeclarationForms.{number_for, number_back}

@@ -1,16 +1,7 @@
 -- Declared names: which of them some text spells, and their canonical texts.
-use Rattle.std.proofs.Common.{arith, ◌≡◌, ℕ, List, [], ◌∷◌, ◌++◌, Bool, true, refl, sym, append-nil, subst}
-use Rattle.std.specs.Prelude.{◌&&◌, codes}
-use Rattle.std.specs.List.{list_all}
-use Rattle.std.specs.Fmt.{decimal}
-use Rattle.f77_tree.specs.Grammar.{is_name}
-use Rattle.f77_tree.specs.Joined.{separated}
-use Rattle.f77_tree.specs.Tree.{DeclFields}
-use Rattle.f77_tree.specs.Declaration.{SpellsNumber, SpellsDecl, SpellsDecls}
-use Rattle.f77_program.specs.code.Declaration.{is_decl, declaration_formed}
-use Rattle.f77_program.specs.Declaration.{bounds_text, decl_text, declarations_text}
-use Rattle.f77_tree.proofs.Constants.{small_bound, decl_constants, declaration_constants}
-use Rattle.f77_tree.proofs.Tests.{and_true}
+use Rattle.f77_program.proofs.Common.{◌≡◌, [], ◌++◌, List, sym, ◌∷◌, refl, subst, ℕ, true, Bool, arith, codes, ◌&&◌, append-nil, decimal, list_all}
+use Rattle.f77_program.proofs.Common.{declarations_text, decl_text, bounds_text, declaration_formed, is_decl, decl_constants, declaration_constants}
+use Rattle.f77_program.proofs.Common.{small_bound, and_true, SpellsNumber, SpellsDecl, SpellsDecls, is_name, separated, DeclFields}
 use Rattle.f77_program.proofs.Back.{decimal_number, small}
 use Rattle.f77_program.proofs.Forming.{numeral}
 use Rattle.f77_program.proofs.Plain.{IsPlain, both, plain_name, plain_decimal}

@@ -1,22 +1,14 @@
 -- Some text spells a tree exactly where the tree is formed.
-use Rattle.std.proofs.Common.{arith, ◌≡◌, ◌≤◌, ◌+◌, ◌/◌, ◌%◌, ℕ, zero, suc, length, List, [], ◌∷◌, ◌++◌, Bool, true, false, refl, sym, ◌∙◌, subst}
-use Rattle.std.specs.Prelude.{◌==◌, not, is_some, codes, map}
+use Rattle.f77_program.proofs.Common.{◌≡◌, [], ◌++◌, ◌∙◌, List, map, sym, ◌∷◌, refl, subst, ℕ, true, Bool, arith, codes, false, length, not, ◌==◌, ◌≤◌}
+use Rattle.f77_program.proofs.Common.{eqb-true, suc, ◌+◌, zero, ◌%◌, ◌/◌, is_some, nat_tests, operand, own_level, all_formed, formed, is_reference}
+use Rattle.f77_program.proofs.Common.{is_some_list, and_true, is_name, is_number, Spells, is_call, truth_constant_text, SpellsAll, SpellsReference, left_level}
+use Rattle.f77_program.proofs.Common.{right_level, sign_symbol, symbol, tree_in_text, trees_in_text, Tree, Trees, tree_of, trees}
 use Rattle.std.specs.Str.Parse.{digits_value}
 use Rattle.std.specs.Char.{digit_value}
-use Rattle.std.proofs.lemmas.Bool.{eqb-true}
-use Rattle.std.proofs.lemmas.Bool.Decides.{nat_tests}
 use Rattle.std.proofs.lemmas.Int.Digits.{digits_value_push}
 use Rattle.f77_tree.specs.declared.intrinsic.Intrinsic.TheVariants.{Iabs}
-use Rattle.f77_tree.specs.Operator.{symbol, sign_symbol, left_level, right_level}
 use Rattle.f77_tree.specs.Intrinsic.{function_name, function_named}
 use Rattle.f77_tree.specs.declared.tree.Expr.{Expr}
-use Rattle.f77_tree.specs.Tree.{Tree, Trees}
-use Rattle.f77_tree.specs.View.{tree_of, trees}
-use Rattle.f77_tree.specs.Grammar.{Spells, SpellsReference, SpellsAll, is_name, is_call, is_number, truth_constant_text}
-use Rattle.f77_tree.specs.StatementGrammar.{tree_in_text, trees_in_text}
-use Rattle.f77_program.specs.Canonical.{own_level, operand}
-use Rattle.f77_program.specs.code.Formed.{is_some_list, is_reference, formed, all_formed}
-use Rattle.f77_tree.proofs.Tests.{and_true}
 use Rattle.f77_program.proofs.Back.{digit_is, mod_lt, one_more, as_operand, own_low, reference_formed, no_call, call_formed}
 
 pub some_list : {text : List ℕ} {items : Trees} → SpellsAll text items → is_some_list items ≡ true

@@ -1,12 +1,6 @@
 -- Items joined by commas: which of them some text spells, and their canonical texts.
-use Rattle.std.proofs.Common.{arith, ◌≡◌, ◌<◌, ◌+◌, ℕ, get_or, drop, length, List, [], ◌∷◌, ◌++◌, Bool, true, false, refl, ap, sym, ◌∙◌, append_assoc, append-nil, subst}
-use Rattle.std.specs.Prelude.{◌==◌, map, codes}
-use Rattle.std.specs.List.{list_all}
-use Rattle.std.proofs.lemmas.List.{drop_more}
-use Rattle.std.proofs.lemmas.Bool.{eqb-true}
-use Rattle.f77_tree.specs.Joined.{Joined, separated}
-use Rattle.f77_tree.specs.code.Joined.{some_all}
-use Rattle.f77_tree.proofs.Tests.{and_true}
+use Rattle.f77_program.proofs.Common.{◌≡◌, [], ◌++◌, ap, ◌∙◌, List, map, sym, ◌∷◌, refl, subst, ℕ, true, Bool, arith, codes, false, length, drop, ◌<◌}
+use Rattle.f77_program.proofs.Common.{append-nil, append_assoc, ◌==◌, eqb-true, ◌+◌, get_or, drop_more, list_all, and_true, separated, Joined, some_all}
 use Rattle.f77_program.proofs.Plain.{IsPlain, both}
 
 -- what holds of each item holds of all of them

@@ -1,3 +1,4 @@
+pub mod Common
 pub mod JoinedForms
 pub mod DeclarationForms
 pub mod DataForms

@@ -1,12 +1,9 @@
 -- Lists of lines that are copied or compared item by item.
-use Rattle.std.proofs.Common.{◌≡◌, List, [], ◌∷◌, map, refl, sym, ap, subst, None}
-use Rattle.std.specs.List.{AllZip}
+use Rattle.f77_program.proofs.Common.{◌≡◌, [], ap, List, map, sym, ◌∷◌, refl, subst, None, AllZip, line_of, IsProgram, same_line, Line}
 use Rattle.std.specs.Cmp.Lexicographic.{pointwise}
 use Rattle.std.specs.Ordering.{on}
 use Rattle.f77_tree.proofs.Comparisons.{by_views}
-use Rattle.f77_program.specs.Comparing.{same_line, same_lines as same_texts}
-use Rattle.f77_program.specs.Program.{line_of, IsProgram}
-use Rattle.f77_program.specs.declared.program.Line.{Line}
+use Rattle.f77_program.specs.{same_lines as same_texts}
 
 same_items : {X : Type 0} (xs ys : List X) → AllZip (λ x y. y ≡ x) xs ys → ys ≡ xs
 same_items [] [] all = refl

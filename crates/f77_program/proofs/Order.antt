@@ -1,12 +1,7 @@
 -- Lines that are tested one by one.
-use Rattle.std.proofs.Common.{◌≡◌, ◌≢◌, ◌<◌, ◌+◌, ℕ, length, List, [], ◌∷◌, refl, ap, sym, ◌∙◌, subst, Option, Some, None, drop, get_or}
-use Rattle.std.specs.Prelude.{map}
-use Rattle.std.proofs.lemmas.List.{drop_more}
-use Rattle.f77_program.specs.declared.group.Group.{Group}
+use Rattle.f77_program.proofs.Common.{◌≡◌, [], ap, ◌∙◌, List, map, sym, ◌∷◌, refl, subst, ℕ, None, length, drop, Option, Some, ◌<◌, ◌+◌, get_or, ◌≢◌, drop_more}
+use Rattle.f77_program.proofs.Common.{line_of, IsProgram, LineFields, group_of, MayFollow, Group, Line}
 use Rattle.f77_program.specs.declared.group.Group.TheVariants.{End}
-use Rattle.f77_program.specs.declared.program.Line.{Line}
-use Rattle.f77_program.specs.Group.{group_of}
-use Rattle.f77_program.specs.Program.{LineFields, line_of, MayFollow, IsProgram}
 
 first_follows : {before : Option Group} {line : LineFields} {lines : List LineFields} → IsProgram before (line ∷ lines) → MayFollow before line
 first_follows (IsProgram.next may rest) = may

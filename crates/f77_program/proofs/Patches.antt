@@ -1,21 +1,12 @@
 -- Lines with one of them changed.
-use Rattle.std.proofs.Common.{◌≡◌, ◌<◌, ◌-◌, ℕ, zero, suc, true, length, List, [], ◌∷◌, map, refl, ap, sym, ◌∙◌, subst, arith, Option, Some, None}
+use Rattle.f77_program.proofs.Common.{◌≡◌, [], ap, ◌∙◌, List, map, sym, ◌∷◌, refl, subst, ℕ, true, arith, None, length, Option, Some, ◌<◌, option_map, suc}
+use Rattle.f77_program.proofs.Common.{true≢false, zero, ◌-◌, length-map, slice_get, line_of, IsProgram, LineFields, group_of, Fits, line_at, patched, replaced}
+use Rattle.f77_program.proofs.Common.{Group, Line, Statement, IsFormed}
 use Rattle.std.proofs.Math.ListN.{set, get_or}
-use Rattle.std.proofs.lemmas.List.{length-map}
 use Rattle.std.proofs.lemmas.Option.{same_Some, none-some, slice_get_within, slice_get-map}
-use Rattle.std.specs.List.{slice_get}
-use Rattle.std.specs.Prelude.{option_map}
-use Rattle.f77_program.specs.declared.program.Line.{Line}
 use denote.Enum.Bare.{sameb}
-use Rattle.std.proofs.Common.{true≢false}
 use Rattle.f77_program.specs.contracts.group.Group.{the_type}
-use Rattle.f77_program.specs.declared.group.Group.{Group}
 use Rattle.f77_program.specs.declared.group.Group.TheVariants.{Subroutine, Declaration, Data, Executable, End}
-use Rattle.f77_program.specs.Group.{group_of}
-use Rattle.f77_program.specs.Program.{LineFields, line_of, line_at, IsProgram}
-use Rattle.f77_program.specs.Patching.{replaced, Fits, patched}
-use Rattle.f77_tree.specs.StatementGrammar.{IsFormed}
-use Rattle.f77_tree.specs.Statement.{Statement}
 
 -- writing over an item changes its line
 pub set_replaced : (lines : List Line) (i : ℕ) (old changed : Line) (s : Statement) → i < length lines

@@ -1,30 +1,21 @@
 -- Canonical texts hold no character that reading changes, but for the blanks behind keywords.
-use Rattle.std.proofs.Common.{arith, ◌≡◌, ◌≤◌, ◌<◌, ◌/◌, ◌%◌, ℕ, zero, suc, length, List, [], ◌∷◌, ◌++◌, Bool, true, false, cond, refl, ap, ◌∙◌}
-use Rattle.std.specs.Prelude.{nat_le, nat_lt, ◌==◌, ◌&&◌, not, codes, filter, map}
-use Rattle.std.specs.List.{list_all}
+use Rattle.f77_program.proofs.Common.{◌≡◌, [], ◌++◌, ap, ◌∙◌, List, map, ◌∷◌, refl, ℕ, true, Bool, arith, codes, false, length, ◌&&◌, not, ◌<◌, nat_le, ◌==◌}
+use Rattle.f77_program.proofs.Common.{◌≤◌, cond, suc, nat_lt, zero, ◌%◌, ◌/◌, filter, nat_tests, length-map, map-append, decimal, digit_glyph, digits_onto}
+use Rattle.f77_program.proofs.Common.{list_all, list_text, rest_text, text_of, operand, own_level, all_formed, formed, squeezed, is_printable, and_true}
+use Rattle.f77_program.proofs.Common.{is_name, truth_constant_text, is_letter, is_word, left_level, right_level, sign_symbol, symbol, Tree, Trees}
 use Rattle.std.specs.Char.{to_ascii_uppercase}
-use Rattle.std.specs.Fmt.{decimal, digits, digits_onto, digit_glyph}
-use Rattle.std.proofs.lemmas.Bool.Decides.{nat_tests}
+use Rattle.std.specs.Fmt.{digits}
 use Rattle.std.proofs.lemmas.List.Folds.{list_all-append}
-use Rattle.std.proofs.lemmas.List.{length-map, map-append}
 use Rattle.std.proofs.lemmas.List.Elements.{filter-append}
 use Rattle.f77_source.specs.Line.{is_blank}
-use Rattle.f77_source.specs.Law.{squeezed}
-use Rattle.f77_source.specs.Write.{is_printable}
 use Rattle.f77_tree.specs.declared.operator.Operator.{Operator}
-use Rattle.f77_tree.specs.declared.operator.Operator.TheVariants.{Equivalent, NotEquivalent, Or, And, Less, LessOrEqual, Equal, NotEqual}
-use Rattle.f77_tree.specs.declared.operator.Operator.TheVariants.{GreaterOrEqual, Greater, Add, Subtract, Multiply, Divide, Power}
+use Rattle.f77_tree.specs.declared.operator.Operator.TheVariants.{Equivalent, NotEquivalent, Or, And, Less, LessOrEqual, Equal, NotEqual, GreaterOrEqual}
+use Rattle.f77_tree.specs.declared.operator.Operator.TheVariants.{Greater, Add, Subtract, Multiply, Divide, Power}
 use Rattle.f77_tree.specs.declared.operator.Sign.{Sign}
 use Rattle.f77_tree.specs.declared.operator.Sign.TheVariants.{Plus, Minus}
 use Rattle.f77_tree.specs.declared.intrinsic.Intrinsic.{Intrinsic}
 use Rattle.f77_tree.specs.declared.intrinsic.Intrinsic.TheVariants.{Mod, Iabs, Min0, Max0}
-use Rattle.f77_tree.specs.Operator.{symbol, sign_symbol, left_level, right_level}
 use Rattle.f77_tree.specs.Intrinsic.{function_name}
-use Rattle.f77_tree.specs.Tree.{Tree, Trees}
-use Rattle.f77_tree.specs.Grammar.{is_letter, is_word, is_name, truth_constant_text}
-use Rattle.f77_program.specs.Canonical.{own_level, operand, text_of, list_text, rest_text}
-use Rattle.f77_program.specs.code.Formed.{formed, all_formed}
-use Rattle.f77_tree.proofs.Tests.{and_true}
 use Rattle.f77_program.proofs.Back.{reference_formed, no_call, call_formed}
 
 -- a printable character that is no blank and no lower-case letter

@@ -1,19 +1,11 @@
 -- A line can not be printed exactly where its card can not be written.
-use Rattle.std.proofs.Common.{◌≡◌, ◌⊎◌, inl, inr, List, [], ◌∷◌, Bool, true, false, cond, refl, ap, sym, ◌∙◌, Option, Some, None}
-use Rattle.std.specs.Prelude.{map, IsSome, nat_lt, option_map}
-use Rattle.std.specs.List.{slice_get, cons_option}
-use Rattle.f77_source.specs.Write.{is_bad_label, continuation_count, card_fault, card_faults}
+use Rattle.f77_program.proofs.Common.{◌≡◌, [], ap, ◌∙◌, List, map, sym, ◌∷◌, refl, true, Bool, false, None, Option, Some, option_map, cond, nat_lt, IsSome, inl}
+use Rattle.f77_program.proofs.Common.{inr, ◌⊎◌, slice_get, cons_option, IsProgram, statement_text, LineFields, card_of, print_fault, print_faults}
+use Rattle.f77_program.proofs.Common.{statement_formed, reported_fault, Group, card_faults, card_fault, continuation_count, is_bad_label, is_name}
 use Rattle.f77_source.specs.declared.fault.FormFault.{FormFault}
 use Rattle.f77_source.specs.declared.fault.FormFault.TheVariants.{BadLabel, TooManyContinuations}
-use Rattle.f77_tree.specs.Grammar.{is_name}
-use Rattle.f77_program.specs.Canonical.{statement_text}
-use Rattle.f77_program.specs.code.Formed.{statement_formed}
-use Rattle.f77_program.specs.Printing.{card_of, print_fault, print_faults}
-use Rattle.f77_program.specs.code.Printing.{reported_fault}
-use Rattle.f77_program.specs.Program.{LineFields, IsProgram}
 use Rattle.f77_program.specs.declared.fault.SyntaxFault.{SyntaxFault}
 use Rattle.f77_program.specs.declared.fault.SyntaxFault.TheVariants.{Memory, BadConstant, TooLong}
-use Rattle.f77_program.specs.declared.group.Group.{Group}
 use Rattle.f77_program.proofs.StatementForming.{is_formed}
 use Rattle.f77_program.proofs.StatementPlain.{printable_statement}
 

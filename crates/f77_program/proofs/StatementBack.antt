@@ -1,29 +1,11 @@
 -- The canonical text of a statement spells it.
-use Rattle.std.proofs.Common.{arith, ◌≡◌, ◌≤◌, ℕ, List, [], ◌∷◌, ◌++◌, true, false, refl, ap, sym, subst}
-use Rattle.std.specs.Prelude.{nat_le, ◌&&◌, codes, length, Option, Some, None, option_map}
-use Rattle.std.specs.List.{list_all, join_with_byte}
-use Rattle.std.specs.Fmt.{decimal}
-use Rattle.std.proofs.lemmas.Bool.{leb-true, le-leb}
-use Rattle.std.proofs.lemmas.List.{append-nil}
-use Rattle.std.proofs.lemmas.Fmt.{length-decimal-le}
-use Rattle.f77_tree.proofs.Tests.{and_true}
-use Rattle.f77_tree.specs.Tree.{Tree}
-use Rattle.f77_tree.specs.Statement.{Statement}
-use Rattle.f77_tree.specs.Grammar.{Spells, is_name, is_number}
-use Rattle.f77_tree.specs.Joined.{has_items, separated}
-use Rattle.f77_tree.specs.StatementGrammar.{SpellsLabel, SpellsAction, SpellsStatement, IsUnmutated, in_text, tree_in_text, trees_in_text, label_number}
-use Rattle.f77_program.specs.Canonical.{text_of, list_text, step_text}
-use Rattle.f77_program.specs.code.Formed.{formed, all_formed, value_formed, statement_formed}
-use Rattle.f77_program.specs.Formed.{is_action}
-use Rattle.f77_tree.specs.Limits.{is_label}
-use Rattle.f77_tree.specs.Names.{of_value}
-use Rattle.f77_tree.proofs.Constants.{small_constants, all_small_constants, by_part}
+use Rattle.f77_program.proofs.Common.{◌≡◌, [], ◌++◌, ap, List, sym, ◌∷◌, refl, subst, ℕ, true, arith, codes, false, None, length, ◌&&◌, Option, Some}
+use Rattle.f77_program.proofs.Common.{append-nil, nat_le, option_map, ◌≤◌, leb-true, le-leb, length-decimal-le, decimal, list_all, join_with_byte, list_text}
+use Rattle.f77_program.proofs.Common.{name_text, is_action, text_of, declarations_text, groups_text, step_text, all_formed, formed, declaration_formed}
+use Rattle.f77_program.proofs.Common.{statement_formed, value_formed, all_small_constants, small_constants, by_part, and_true, all_bounded, is_name, is_number}
+use Rattle.f77_program.proofs.Common.{Spells, separated, has_items, is_label, of_value, Statement, SpellsStatement, tree_in_text, kind_keyword, trees_in_text}
+use Rattle.f77_program.proofs.Common.{IsUnmutated, SpellsAction, SpellsLabel, in_text, label_number, Tree}
 use Rattle.f77_program.proofs.Back.{decimal_number, own_low, small, back, back_reference}
-use Rattle.f77_tree.specs.StatementGrammar.{kind_keyword}
-use Rattle.f77_program.specs.Declaration.{declarations_text}
-use Rattle.f77_program.specs.code.Declaration.{declaration_formed}
-use Rattle.f77_tree.specs.Declaration.{all_bounded}
-use Rattle.f77_program.specs.Data.{groups_text, name_text}
 use Rattle.f77_program.proofs.JoinedForms.{joined_back}
 use Rattle.f77_program.proofs.DeclarationForms.{declaration_back}
 use Rattle.f77_program.proofs.DataForms.{data_back}

@@ -1,25 +1,11 @@
 -- Some text spells a statement exactly where the statement is formed.
-use Rattle.std.proofs.Common.{arith, ◌≡◌, ◌≤◌, ℕ, length, List, [], ◌∷◌, ◌++◌, Bool, true, false, true≢false, refl, sym, ◌∙◌, subst}
-use Rattle.std.specs.Prelude.{◌&&◌, nat_le, codes, Option, Some, None, option_map, map}
-use Rattle.std.specs.List.{list_all}
-use Rattle.std.specs.Fmt.{decimal}
-use Rattle.std.proofs.lemmas.Fmt.{length-decimal-le}
-use Rattle.std.proofs.lemmas.Bool.{le-leb, leb-true}
-use Rattle.f77_tree.specs.Tree.{Tree, Trees}
-use Rattle.f77_tree.specs.Statement.{Statement}
-use Rattle.f77_tree.specs.Grammar.{is_name, is_number}
-use Rattle.f77_tree.specs.Name.{is_symbolic}
-use Rattle.f77_tree.specs.Names.{statement_names}
-use Rattle.f77_tree.specs.Joined.{Joined, has_items}
-use Rattle.f77_tree.specs.StatementGrammar.{SpellsLabel, SpellsAction, SpellsStatement, IsFormed, in_text, tree_in_text, label_number, label_in_text}
-use Rattle.f77_program.specs.code.Formed.{formed, all_formed, value_formed, statement_formed}
-use Rattle.f77_program.specs.Formed.{is_action}
-use Rattle.f77_tree.proofs.Tests.{and_true}
+use Rattle.f77_program.proofs.Common.{◌≡◌, [], ◌++◌, ◌∙◌, List, map, sym, ◌∷◌, refl, subst, ℕ, true, Bool, arith, codes, false, None, length, ◌&&◌, Option}
+use Rattle.f77_program.proofs.Common.{Some, nat_le, option_map, ◌≤◌, leb-true, true≢false, le-leb, length-decimal-le, decimal, list_all, is_action, all_formed}
+use Rattle.f77_program.proofs.Common.{formed, declaration_formed, statement_formed, value_formed, and_true, all_bounded, is_name, is_number, has_items, Joined}
+use Rattle.f77_program.proofs.Common.{is_symbolic, statement_names, Statement, SpellsStatement, tree_in_text, IsFormed, kind_keyword, SpellsAction, SpellsLabel}
+use Rattle.f77_program.proofs.Common.{in_text, label_number, label_in_text, Tree, Trees}
 use Rattle.f77_program.proofs.Back.{own_low, decimal_number}
 use Rattle.f77_program.proofs.Forming.{tree_formed, reference_name, reference_items, tree_in_text_formed, trees_in_text_formed, text_for, reference_for}
-use Rattle.f77_tree.specs.StatementGrammar.{kind_keyword}
-use Rattle.f77_program.specs.code.Declaration.{declaration_formed}
-use Rattle.f77_tree.specs.Declaration.{all_bounded}
 use Rattle.f77_program.proofs.DeclarationForms.{declaration_is_formed, declaration_spelled}
 use Rattle.f77_program.proofs.DataForms.{data_is_formed, data_spelled}
 use Rattle.f77_program.proofs.SymbolicNames.{symbolic_statement}

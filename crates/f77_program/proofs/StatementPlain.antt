@@ -1,32 +1,16 @@
 -- What reading leaves of the canonical text of a statement.
-use Rattle.std.proofs.Common.{◌≡◌, ℕ, List, [], ◌∷◌, ◌++◌, true, refl, ap, sym, ◌∙◌, subst, append_assoc}
-use Rattle.std.specs.Prelude.{◌&&◌, not, codes, Option, Some, None}
-use Rattle.std.specs.List.{list_all}
-use Rattle.std.specs.Fmt.{decimal}
+use Rattle.f77_program.proofs.Common.{◌≡◌, [], ◌++◌, ap, ◌∙◌, List, sym, ◌∷◌, refl, subst, ℕ, true, codes, None, ◌&&◌, Option, Some, not, append_assoc, decimal}
+use Rattle.f77_program.proofs.Common.{list_all, list_text, name_text, is_action, statement_text, text_of, declarations_text, groups_text, step_text, all_formed}
+use Rattle.f77_program.proofs.Common.{formed, declaration_formed, statement_formed, value_formed, squeezed, is_printable, piece, decided_by_part, and_true}
+use Rattle.f77_program.proofs.Common.{not_true, all_bounded, is_name, is_letter, is_word, separated, has_items, statement_constants, Statement, SpellsStatement}
+use Rattle.f77_program.proofs.Common.{IsFormed, kind_keyword, IsUnmutated, Tree, Trees}
 use Rattle.f77_source.specs.Line.{is_blank}
-use Rattle.f77_source.specs.Law.{squeezed}
-use Rattle.f77_source.specs.Write.{is_printable, piece}
-use Rattle.f77_tree.specs.Tree.{Tree, Trees}
-use Rattle.f77_tree.specs.Statement.{Statement}
-use Rattle.f77_tree.specs.Joined.{has_items, separated}
-use Rattle.f77_tree.specs.StatementGrammar.{SpellsStatement, IsFormed, IsUnmutated}
-use Rattle.f77_tree.specs.Grammar.{is_letter, is_word, is_name}
-use Rattle.f77_tree.proofs.Constants.{decided_by_part}
-use Rattle.f77_program.specs.Canonical.{text_of, list_text, step_text, statement_text}
-use Rattle.f77_program.specs.code.Formed.{formed, all_formed, value_formed, statement_formed}
-use Rattle.f77_program.specs.Formed.{is_action}
-use Rattle.f77_tree.proofs.Tests.{and_true, not_true}
-use Rattle.f77_program.proofs.StatementForming.{is_formed}
-use Rattle.f77_tree.specs.Limits.{statement_constants}
-use Rattle.f77_program.proofs.StatementBack.{bare_text, back_statement}
-use Rattle.f77_program.proofs.Plain.{IsPlain, both, plain_letter, plain_name, plain_decimal, plain_text, plain_list, not_blank, squeezed_plain, printable_plain, behind_plain, printable_both}
-use Rattle.f77_tree.specs.StatementGrammar.{kind_keyword}
-use Rattle.f77_program.specs.Declaration.{declarations_text}
-use Rattle.f77_program.specs.code.Declaration.{declaration_formed}
-use Rattle.f77_tree.specs.Declaration.{all_bounded}
-use Rattle.f77_program.specs.Data.{groups_text, name_text}
 use Rattle.f77_tree.specs.declared.tree.Kind.{Kind}
 use Rattle.f77_tree.specs.declared.tree.Kind.TheVariants.{Integer, Logical}
+use Rattle.f77_program.proofs.StatementForming.{is_formed}
+use Rattle.f77_program.proofs.StatementBack.{bare_text, back_statement}
+use Rattle.f77_program.proofs.Plain.{IsPlain, both, plain_letter, plain_name, plain_decimal, plain_text, plain_list, not_blank, squeezed_plain, printable_plain}
+use Rattle.f77_program.proofs.Plain.{behind_plain, printable_both}
 use Rattle.f77_program.proofs.JoinedForms.{plain_separated}
 use Rattle.f77_program.proofs.DeclarationForms.{any_size, any_sizes, plain_declaration}
 use Rattle.f77_program.proofs.DataForms.{plain_data}

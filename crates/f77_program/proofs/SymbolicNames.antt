@@ -1,19 +1,8 @@
 -- What is formed of symbolic names is formed of names that have six characters at most.
-use Rattle.std.proofs.Common.{◌≡◌, ℕ, List, [], ◌∷◌, Bool, true, false, refl}
-use Rattle.std.specs.Prelude.{◌&&◌, not, Option, Some, None}
-use Rattle.std.specs.List.{list_all}
-use Rattle.f77_tree.specs.Declaration.{all_bounded}
-use Rattle.f77_tree.specs.Grammar.{is_call, is_name}
-use Rattle.f77_tree.specs.Name.{is_short, is_symbolic}
-use Rattle.f77_tree.specs.Names.{short_names, all_short_names, of_value, decl_name, declaration_names, has_short_group_names, statement_names}
-use Rattle.f77_tree.specs.Joined.{has_items}
-use Rattle.f77_tree.specs.Statement.{Statement}
-use Rattle.f77_tree.specs.Tree.{Tree, Trees, DeclFields, GroupFields}
-use Rattle.f77_tree.specs.code.Joined.{some_all}
-use Rattle.f77_program.specs.Formed.{is_action}
-use Rattle.f77_program.specs.code.Data.{any_value, is_group}
-use Rattle.f77_program.specs.code.Declaration.{is_decl, declaration_formed}
-use Rattle.f77_program.specs.code.Formed.{is_some_list, is_reference, formed, all_formed, value_formed, statement_formed}
+use Rattle.f77_program.proofs.Common.{◌≡◌, [], List, ◌∷◌, refl, ℕ, true, Bool, false, None, ◌&&◌, Option, Some, not, list_all, is_action, all_formed, formed}
+use Rattle.f77_program.proofs.Common.{declaration_formed, statement_formed, value_formed, is_decl, is_group, is_reference, is_some_list, any_value, all_bounded}
+use Rattle.f77_program.proofs.Common.{is_name, is_call, has_items, is_symbolic, is_short, of_value, statement_names, all_short_names, decl_name}
+use Rattle.f77_program.proofs.Common.{declaration_names, has_short_group_names, short_names, Statement, Tree, Trees, DeclFields, GroupFields, some_all}
 
 -- a test is the conjunction of two tests, also over what is joined by AND
 pub record Twice (both one other : Bool) : Type 0 where

@@ -1,13 +1,7 @@
 -- A list in parentheses, written in three steps.
-use Rattle.std.proofs.Common.{arith, ◌≡◌, ℕ, length, List, [], ◌∷◌, ◌++◌, Bool, true, false, ap, ◌∙◌, append_assoc}
-use Rattle.std.proofs.lemmas.Bool.{eqb-true}
-use Rattle.std.specs.Prelude.{◌==◌, map, codes}
+use Rattle.f77_program.proofs.Common.{◌≡◌, [], ◌++◌, ap, ◌∙◌, List, map, ◌∷◌, ℕ, true, Bool, arith, codes, false, length, append_assoc, ◌==◌, eqb-true}
+use Rattle.f77_program.proofs.Common.{list_text, name_text, rest_text, statement_text, separated, Statement, tree_of, trees}
 use Rattle.f77_tree.specs.declared.tree.Expr.{Expr}
-use Rattle.f77_tree.specs.Statement.{Statement}
-use Rattle.f77_program.specs.Canonical.{list_text, rest_text, statement_text}
-use Rattle.f77_tree.specs.View.{tree_of, trees}
-use Rattle.f77_tree.specs.Joined.{separated}
-use Rattle.f77_program.specs.Data.{name_text}
 
 pub list_whole : (old mid new : List ℕ) (items : List Expr) (b : Bool) → b ≡ (length items == 0) → b ≡ false
     → mid ≡ old ++ rest_text 40 (trees (map tree_of items)) → new ≡ mid ++ 41 ∷ [] → new ≡ old ++ list_text (trees (map tree_of items))

@@ -1,4 +1,5 @@
 pub mod Group
+pub mod Joined
 pub mod Declaration
 pub mod Data
 pub mod Formed
@@ -9,3 +10,14 @@ pub mod SameLines
 pub mod Patching
 pub mod Printing
 pub mod code
+pub use Group.*
+pub use Joined.*
+pub use Declaration.*
+pub use Data.*
+pub use Formed.*
+pub use Canonical.*
+pub use Program.*
+pub use Comparing.*
+pub use SameLines.*
+pub use Patching.*
+unfoldable pub use Printing.*

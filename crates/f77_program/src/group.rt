@@ -2,9 +2,9 @@
 
 ghost use Rattle.std.specs.Prelude.{◌≡◌, ◌≢◌, true, false, Some};
 ghost use Rattle.f77_program.specs.Group as groups;
-ghost use Rattle.f77_program.specs.Group.{group_of, may_stand};
 ghost use Rattle.f77_tree.specs.Statement.{statement_of};
 ghost use Rattle.f77_program.specs.declared.group.Group.TheVariants as Group;
+ghost use Rattle.f77_program.specs.{group_of, may_stand};
 
 use f77_tree::{Form, Stmt};
 

@@ -3,8 +3,7 @@
 ghost use Rattle.std.specs.Prelude.{◌≡◌, ◌++◌, List, ℕ, OnOk, codes, string_bytes};
 ghost use Rattle.std.specs.Fmt.{decimal};
 ghost use Rattle.f77_tree.specs.Joined.{separated};
-ghost use Rattle.f77_program.specs.Data.{name_text};
-ghost use Rattle.f77_program.specs.code.Joined.{Writes};
+ghost use Rattle.f77_program.specs.{enclosed_text, name_text, Writes};
 
 use f77_tree::Name;
 use std::alloc::AllocError;
@@ -27,6 +26,23 @@ pub(crate) fn print_joined<T, F: Fn(&mut String, &T) -> Result<(), AllocError>>(
         before = ",";
     }
     Ok(())
+}
+
+/// Writes items between two texts, with commas between them, by a function for one item.
+pub fn print_enclosed<T, F: Fn(&mut String, &T) -> Result<(), AllocError>>(
+    out: &mut String,
+    opening: &str,
+    items: &[T],
+    closing: &str,
+    print: F,
+) -> Result<(), AllocError>
+    requires { F.IsAlwaysCallable print }
+    ensures enclosed { (text : T → List ℕ) → Writes (F.post print) text → OnOk result
+        (string_bytes out.new ≡ string_bytes out.old ++ enclosed_text opening.now text items.now closing.now) }
+{
+    out.push_str(opening)?;
+    print_joined(out, "", items, print)?;
+    out.push_str(closing)
 }
 
 fn print_name(out: &mut String, name: &Name) -> Result<(), AllocError>

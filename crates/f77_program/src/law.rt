@@ -1,8 +1,7 @@
 //! Laws of lines and programs.
 
 ghost use Rattle.std.specs.Prelude.{◌≡◌, ◌↔◌, true, List};
-ghost use Rattle.f77_program.specs.Comparing.{same_line, same_lines};
-ghost use Rattle.f77_program.specs.Program.{LineFields};
+ghost use Rattle.f77_program.specs.{same_line, same_lines, LineFields};
 
 /// Two programs, or two lines, are equal by `==` exactly where their views are equal.
 #[tactic(auto, using(crate::specs::SameLines::line_decides, crate::specs::SameLines::lines_decide))]

@@ -18,5 +18,6 @@ pub use canonical::print_stmt;
 pub use fault::SyntaxFault;
 pub use formed::{is_action, is_formed};
 pub use group::{Group, group_of, is_end};
+pub use joined::print_enclosed;
 pub use printing::print;
 pub use program::{Line, Program};

@@ -1,9 +1,8 @@
 //! Programs with one statement changed. All other lines are shared with the old program.
 
 ghost use Rattle.std.specs.Prelude.{◌≡◌, true, false, map, IfOk};
-ghost use Rattle.f77_program.specs.Program.{line_of};
-ghost use Rattle.f77_program.specs.Patching.{Fits, patched};
 ghost use Rattle.f77_tree.specs.Statement.{statement_of};
+ghost use Rattle.f77_program.specs.{line_of, Fits, patched};
 
 use crate::formed::is_formed;
 use crate::group::group_of;

@@ -2,10 +2,9 @@
 
 ghost use Rattle.std.specs.Prelude.{◌≡◌, ◌⊎◌, [], Some, IsSome, IfOk, IfErr, map, string_bytes};
 ghost use Rattle.std.specs.List.{slice_get};
-ghost use Rattle.f77_program.specs.Program.{line_of};
 ghost use Rattle.f77_program.specs.Printing as printing;
-ghost use Rattle.f77_program.specs.Printing.{printed, print_faults};
-ghost use Rattle.f77_program.specs.code.Printing.{reported_fault};
+ghost use Rattle.f77_program.specs.{line_of, printed, print_faults};
+ghost use Rattle.f77_program.specs.code.{reported_fault};
 
 use crate::canonical::print_stmt;
 use crate::fault::SyntaxFault;

@@ -1,11 +1,7 @@
 -- Instructions behind others, and code that comes back to where it stood.
-use Rattle.std.proofs.Common.{arith, ◌≡◌, ◌<◌, ◌⊎◌, inl, inr, ◌≤◌, ℕ, zero, suc, ◌+◌, ◌-◌, List, length, zero-add, refl, sym, ap, ◌∙◌, subst}
-use Rattle.std.proofs.lemmas.Bool.{cases_lt}
-use Rattle.f77_code.specs.declared.instruction.Instruction.{Instruction}
-use Rattle.f77_code.specs.Block.{one, code_after}
-use Rattle.f77_code.specs.Operation.{Point}
+use Rattle.f77_run.proofs.Common.{◌≡◌, length, sym, ◌∙◌, ap, subst, List, arith, refl, ◌<◌, ℕ, ◌≤◌, ◌+◌, suc, zero, ◌-◌, ◌⊎◌, inr, inl, zero-add, cases_lt}
+use Rattle.f77_run.proofs.Common.{code_after, one, Point, Instruction, CameBack, Leads}
 use Rattle.f77_code.proofs.Frame.{length_after}
-use Rattle.f77_run.specs.code.Running.{CameBack, Leads}
 
 -- a instructions and then b are a + b instructions
 pub after_more : (code : List Instruction) (a b : ℕ) (p : Point) → code_after code (a + b) p ≡ code_after code b (code_after code a p)

@@ -1,50 +1,21 @@
 -- The run of a changed program beside that of the program: what it comes to where the two do not diverge, and where they do.
-use Rattle.std.proofs.Common.{arith, ◌≡◌, ◌∙◌, ◌+◌, ◌-◌, ◌≤◌, ◌<◌, ◌⊎◌, ◌++◌, ◌&&◌, ℕ, suc, ℤ, Bool, true, false, List, [], ◌∷◌, drop, length, map, inl, inr}
-use Rattle.std.proofs.Common.{refl, sym, ap, subst, append_assoc, length-append}
-use Rattle.std.specs.Prelude.{Some, None, IfSome, slice_get}
-use Rattle.std.proofs.Math.Seq.{drop-append_seam}
-use Rattle.std.proofs.lemmas.Bool.{and_parts}
-use Rattle.std.proofs.lemmas.List.Folds.{list_all-append}
-use Rattle.std.proofs.lemmas.Option.{same_Some}
-use Rattle.f77_tree.specs.declared.tree.Kind.{Kind}
-use Rattle.f77_program.specs.Program.{LineFields, line_of}
-use Rattle.f77_check.specs.Checked.{CheckedFields, IsChecked}
-use Rattle.f77_actions.specs.declared.finish.Finish.{Finish}
-use Rattle.f77_actions.specs.declared.finish.Finish.TheVariants.{StepLimit}
-use Rattle.f77_code.specs.declared.code.Code.{Code}
-use Rattle.f77_code.specs.declared.control.Turn.{Turn}
-use Rattle.f77_code.specs.declared.instruction.Instruction.{Instruction}
+use Rattle.f77_run.proofs.Common.{◌≡◌, length, sym, ◌∙◌, ap, subst, List, arith, refl, ◌<◌, ℕ, Some, true, [], map, ◌∷◌, ◌++◌, None, ◌≤◌, ℤ, ◌+◌, Bool, drop}
+use Rattle.f77_run.proofs.Common.{slice_get, suc, ◌-◌, false, length-append, ◌&&◌, ◌⊎◌, IfSome, inr, inl, append_assoc, drop-append_seam, and_parts}
+use Rattle.f77_run.proofs.Common.{list_all-append, same_Some, Finish, StepLimit, CheckedFields, IsChecked, get_left, code_after, code_within, HasSizes}
+use Rattle.f77_run.proofs.Common.{first_time, Cells, Point, point, ended_point, are_held, is_held, decoded, AreTimes, MayDiverge, TwoRuns, time_of, Code, Turn}
+use Rattle.f77_run.proofs.Common.{Instruction, one_answer, IsOutcomeOf, Reports, held, IsTyped, Outcome, line_of, LineFields, loaded, AreAtStart, AreLoaded}
+use Rattle.f77_run.proofs.Common.{cells_at_start, shown_cells, RunOf, shown_as, CameBack, HasCode, shown_by, IsDivergence, ShowsEnd, Divergence, Registers}
+use Rattle.f77_run.proofs.Common.{Kind}
 use Rattle.f77_code.specs.declared.kept_step.KeptStep.{KeptStep}
-use Rattle.f77_code.specs.Block.{code_after, code_within}
-use Rattle.f77_code.specs.Follow.{HasSizes, first_time}
 use Rattle.f77_code.specs.Frame.{AllWriteBelow, with_more}
 use Rattle.f77_code.specs.KeptStep.{IsKept, DivergingRuns, kept_time}
-use Rattle.f77_code.specs.Moves.{Cells}
-use Rattle.f77_code.specs.Operation.{Point, point, ended_point}
-use Rattle.f77_code.specs.Registers.{are_held, is_held, decoded}
-use Rattle.f77_code.specs.Together.{AreTimes, MayDiverge, TwoRuns, time_of}
-use Rattle.f77_code.proofs.Listed.{get_left}
 use Rattle.f77_code.proofs.Together.{never_diverge}
 use Rattle.f77_code.proofs.Writes.{writes_slots}
-use Rattle.f77_meaning.specs.declared.outcome.Outcome.{Outcome}
-use Rattle.f77_meaning.specs.Interpreter.{IsOutcomeOf, Reports}
-use Rattle.f77_meaning.specs.Site.{held}
-use Rattle.f77_meaning.specs.code.Typed.{IsTyped}
-use Rattle.f77_meaning.proofs.OneAnswer.{one_answer}
-use Rattle.f77_run.specs.declared.registers.Registers.{Registers}
-use Rattle.f77_run.specs.Registers.{AreLoaded, loaded}
-use Rattle.f77_run.specs.code.Registers.{shown_as, shown_cells}
-use Rattle.f77_run.specs.Visits.{AreAtStart, cells_at_start}
-use Rattle.f77_run.specs.code.Ends.{RunOf, ShowsEnd}
-use Rattle.f77_run.specs.code.Diverging.{IsDivergence, Divergence}
-use Rattle.f77_run.specs.code.Running.{CameBack}
-use Rattle.f77_run.specs.code.Runs.{HasCode}
-use Rattle.f77_run.specs.code.Site.{shown_by}
-use Rattle.f77_run.proofs.Ends as ends
 use Rattle.f77_run.proofs.Finished.{finish_of, finish_ended, finish_limit}
 use Rattle.f77_run.proofs.Loaded.{loaded_count, loaded_room}
 use Rattle.f77_run.proofs.Starting.{initial_cells, own_run as run_itself, own_compiled as compiled_itself, slots_counted}
 use Rattle.f77_run.proofs.Reporting.{some_outcome}
+use Rattle.f77_run.proofs.Ends as ends
 
 -- two runs whose registers have the same for each slot show the same values
 shown_equal : (kinds : List Kind) (xs ys : List ℤ) → length kinds ≤ length xs → ((k : ℕ) → k < length kinds → slice_get ys k ≡ slice_get xs k)

@@ -1,51 +1,23 @@
 -- One statement in the place of another: that it can be compiled there, and which of the registers are those of the program itself.
-use Rattle.std.proofs.Common.{arith, ◌≡◌, ◌∙◌, ◌+◌, ◌-◌, ◌<◌, ◌≤◌, ℕ, zero, suc, Bool, true, List, [], ◌∷◌, ◌++◌, drop, length, map, take, Option, Some, None, refl, sym, ap, subst}
-use Rattle.std.specs.Prelude.{IfSome, option_map, slice_get, slice_set}
-use Rattle.std.specs.List.{list_all}
-use Rattle.std.proofs.Math.Seq.{take-append-add}
-use Rattle.std.proofs.lemmas.Bool.{and_parts}
-use Rattle.std.proofs.lemmas.List.{length-append, length-map, length-set, take_all, take-append-drop}
-use Rattle.std.proofs.lemmas.List.Folds.{list_all-append}
-use Rattle.std.proofs.lemmas.Option.{same_Some, slice_get-get_or, slice_get_within}
+use Rattle.f77_run.proofs.Common.{◌≡◌, length, sym, ◌∙◌, ap, subst, List, arith, refl, ◌<◌, ℕ, Some, true, [], map, ◌∷◌, ◌++◌, None, ◌≤◌, ◌+◌, Bool, drop}
+use Rattle.f77_run.proofs.Common.{Option, slice_get, suc, take, zero, ◌-◌, option_map, length-append, slice_set, IfSome, length-set, take_all, take-append-drop}
+use Rattle.f77_run.proofs.Common.{take-append-add, and_parts, length-map, list_all-append, same_Some, slice_get_within, slice_get-get_or, list_all, fits}
+use Rattle.f77_run.proofs.Common.{Action, Loop, Resolved, IsAction, CheckedFields, IsChecked, AreResolved, slot_count, first_slot, set_here, are_ready}
+use Rattle.f77_run.proofs.Common.{is_ready, Cells, have_places, has_places, IsCode, is_held, own_instructions, HaveOneDo, HaveOneOwn, IsAllOwn, IsChangedCode}
+use Rattle.f77_run.proofs.Common.{MayReplace, AgreeButAt, terminal_same, nth_statement, IsLegal, kind_of, bounds_of, Symbol, kinds_count, constant_value}
+use Rattle.f77_run.proofs.Common.{line_of, LineFields, IsProgram, loaded, AreLoaded, IsChanged, changed_fields, ChangedFields, IsImage, BeginsImage, CanReplace}
+use Rattle.f77_run.proofs.Common.{Change, Registers, Statement, Kind}
 use Rattle.f77_program.specs.Patching.{Fits, patched}
-use Rattle.f77_program.specs.Program.{LineFields, IsProgram, line_of}
-use Rattle.f77_tree.specs.Statement.{Statement, statement_of}
+use Rattle.f77_tree.specs.Statement.{statement_of}
 use Rattle.f77_tree.specs.declared.statement.Stmt.{Stmt}
-use Rattle.f77_tree.specs.declared.tree.Kind.{Kind}
-use Rattle.f77_actions.specs.declared.action.Action.{Action, Loop}
-use Rattle.f77_actions.specs.declared.resolved.Resolved.{Resolved}
-use Rattle.f77_actions.specs.Number.{fits}
 use Rattle.f77_legal.specs.Alone.{StandsAlone}
 use Rattle.f77_legal.specs.Frames.{HaveOneFrame, frame, framed}
-use Rattle.f77_legal.specs.Labels.{nth_statement}
-use Rattle.f77_legal.specs.Legal.{IsLegal}
 use Rattle.f77_legal.specs.Loops.{do_variable_of, terminal}
-use Rattle.f77_legal.specs.Names.{Symbol, kind_of, bounds_of}
 use Rattle.f77_legal.proofs.FrameNames.{bounds_of_same}
 use Rattle.f77_legal.proofs.Frames.{variable_of-framed}
-use Rattle.f77_legal.proofs.SameFrame.{terminal_same}
-use Rattle.f77_check.specs.Action.{IsAction}
-use Rattle.f77_check.specs.Checked.{CheckedFields, IsChecked}
 use Rattle.f77_check.specs.Patching.{IsInPlace}
-use Rattle.f77_check.specs.Resolved.{AreResolved}
-use Rattle.f77_check.specs.Slots.{first_slot, slot_count}
 use Rattle.f77_code.specs.declared.replacing.ChangedCode.{ChangedCode}
-use Rattle.f77_code.specs.Compiled.{are_ready, is_ready}
-use Rattle.f77_code.specs.Replacing.{HaveOneDo, HaveOneOwn, IsAllOwn, IsChangedCode, MayReplace, own_instructions}
-use Rattle.f77_code.specs.Moves.{Cells}
-use Rattle.f77_code.specs.Places.{has_places, have_places}
-use Rattle.f77_code.specs.Program.{IsCode}
-use Rattle.f77_code.specs.Registers.{is_held}
-use Rattle.f77_code.specs.Together.{AgreeButAt}
-use Rattle.f77_code.proofs.Listed.{set_here}
-use Rattle.f77_meaning.specs.Start.{constant_value}
 use Rattle.f77_meaning.proofs.Simulation.{statement_of as statement_at}
-use Rattle.f77_meaning.proofs.SlotKinds.{kinds_count}
-use Rattle.f77_run.specs.declared.changed.Change.{Change}
-use Rattle.f77_run.specs.declared.registers.Registers.{Registers}
-use Rattle.f77_run.specs.Changed.{ChangedFields, IsChanged, changed_fields}
-use Rattle.f77_run.specs.Registers.{AreLoaded, IsImage, loaded}
-use Rattle.f77_run.specs.code.Changing.{BeginsImage, CanReplace}
 use Rattle.f77_run.proofs.Framed.{frames_same}
 use Rattle.f77_run.proofs.Loaded.{loaded_count}
 use Rattle.f77_run.proofs.Readiness.{all_ready, few_statements, have_all_places, places, ready}

@@ -1,20 +1,7 @@
 -- What the code of a run, from its start on, says of its end.
-use Rattle.std.proofs.Common.{◌≡◌, ◌∙◌, ◌≤◌, ◌<◌, ◌⊎◌, ℕ, ℤ, true, List, length, sym, ap, subst}
-use Rattle.f77_check.specs.Checked.{CheckedFields}
-use Rattle.f77_actions.specs.declared.finish.Finish.{Finish}
-use Rattle.f77_actions.specs.declared.finish.Finish.TheVariants.{StepLimit}
-use Rattle.f77_actions.specs.declared.resolved.Resolved.{Resolved}
-use Rattle.f77_code.specs.declared.code.Code.{Code}
-use Rattle.f77_code.specs.declared.control.Turn.{Turn}
-use Rattle.f77_code.specs.declared.instruction.Instruction.{Instruction}
-use Rattle.f77_code.specs.Block.{code_after, code_within}
-use Rattle.f77_code.specs.Operation.{Point, point, ended_point}
-use Rattle.f77_code.specs.Registers.{are_held}
-use Rattle.f77_meaning.specs.declared.argument.Arg.{Arg}
-use Rattle.f77_run.specs.Visits.{AreAtStart}
-use Rattle.f77_run.specs.code.Ends.{HasEnded, RunOf}
-use Rattle.f77_run.specs.code.Running.{CameBack}
-use Rattle.f77_run.specs.code.Runs.{HasCode}
+use Rattle.f77_run.proofs.Common.{◌≡◌, length, sym, ◌∙◌, ap, subst, List, ◌<◌, ℕ, true, ◌≤◌, ℤ, ◌⊎◌, Finish, StepLimit, Resolved, CheckedFields, code_after}
+use Rattle.f77_run.proofs.Common.{code_within, Point, point, ended_point, are_held, Code, Turn, Instruction, Arg, AreAtStart, RunOf, CameBack, HasCode}
+use Rattle.f77_run.proofs.Common.{HasEnded}
 use Rattle.f77_run.proofs.Ends as ends
 
 module _ (checked : CheckedFields) (arguments : List Arg) (code : Code) (registers : List ℤ) (turns : List Turn)

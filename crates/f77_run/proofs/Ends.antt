@@ -1,58 +1,26 @@
 -- How a run that code makes ends: of a checked program, or of one of its frame.
-use Rattle.std.proofs.Common.{◌≡◌, ◌∙◌, ◌≤◌, ◌<◌, ◌⊎◌, ℕ, ℤ, Bool, true, List, None, length, map, refl, replicate, sym, ap, subst}
-use Rattle.std.specs.Bool.{Decides}
-use Rattle.std.specs.List.{list_all, list_any}
-use Rattle.std.specs.Str.{bytes_eq}
-use Rattle.std.proofs.lemmas.List.{length-map, length-replicate}
-use Rattle.f77_tree.specs.declared.tree.Kind.{Kind}
-use Rattle.f77_program.specs.Program.{LineFields, line_of}
-use Rattle.f77_legal.specs.Names.{kind_of, bounds_of}
+use Rattle.f77_run.proofs.Common.{◌≡◌, length, sym, ◌∙◌, ap, subst, List, refl, ◌<◌, ℕ, true, map, None, ◌≤◌, ℤ, Bool, replicate, ◌⊎◌, length-map}
+use Rattle.f77_run.proofs.Common.{length-replicate, Decides, list_all, list_any, bytes_eq, Finish, StepLimit, Resolved, Value, shapes, slot_count, slot_kinds}
+use Rattle.f77_run.proofs.Common.{code_after, code_within, AreCode, Cells, State, state, Point, point, ended_point, are_held, Code, Turn, length_same, kind_of}
+use Rattle.f77_run.proofs.Common.{bounds_of, filled_size, state_starts, IsRunningIn, ComesToCells, stands_for, values_at, kinds_count, outcome_typed}
+use Rattle.f77_run.proofs.Common.{start_typed, AreFitting, values_in, IsOutcomeOf, Reports, held, IsStart, Store, IsTyped, has_kind, Outcome, line_of}
+use Rattle.f77_run.proofs.Common.{LineFields, AreAtStart, counters_of, cells_at_start, shown_cells, HoldDummies, RunOf, CameBack, HasCode, ReportsOf, shown_by}
+use Rattle.f77_run.proofs.Common.{HasEnded, IsRun, ShowsEnd, site_in, Kind}
 use Rattle.f77_legal.proofs.FrameNames.{kind_of_same, bounds_of_same, elements_same, dummies_same}
-use Rattle.f77_legal.proofs.SameFrame.{length_same}
-use Rattle.f77_check.specs.Checked.{shapes}
-use Rattle.f77_check.specs.Slots.{slot_count, slot_kinds}
 use Rattle.f77_check.proofs.Carried.{shapes_same}
-use Rattle.f77_actions.specs.declared.finish.Finish.{Finish}
-use Rattle.f77_actions.specs.declared.finish.Finish.TheVariants.{StepLimit}
-use Rattle.f77_actions.specs.declared.resolved.Resolved.{Resolved}
-use Rattle.f77_actions.specs.declared.value.Value.{Value}
-use Rattle.f77_code.specs.declared.code.Code.{Code}
 use Rattle.f77_code.specs.declared.control.Place.TheVariants.{Execute}
-use Rattle.f77_code.specs.declared.control.Turn.{Turn}
-use Rattle.f77_code.specs.Block.{code_after, code_within}
-use Rattle.f77_code.specs.Instructions.{AreCode}
-use Rattle.f77_code.specs.Moves.{Cells, State, state}
-use Rattle.f77_code.specs.Operation.{Point, point, ended_point}
-use Rattle.f77_code.specs.Registers.{are_held}
-use Rattle.f77_meaning.specs.declared.outcome.Outcome.{Outcome}
 use Rattle.f77_meaning.specs.Control.{Comes}
-use Rattle.f77_meaning.specs.Interpreter.{AreFitting, IsOutcomeOf, Reports, values_in}
 use Rattle.f77_meaning.specs.Outcome.{IsOutcome}
-use Rattle.f77_meaning.specs.Site.{held}
 use Rattle.f77_meaning.specs.code.Running.{site_of}
-use Rattle.f77_meaning.specs.Start.{IsStart}
 use Rattle.f77_meaning.specs.States.{values_of}
 use Rattle.f77_meaning.proofs.StateDefinitions.{config_of}
-use Rattle.f77_meaning.specs.Value.{Store}
-use Rattle.f77_meaning.proofs.InRun.{ComesToCells, IsRunningIn, stands_for, values_at}
-use Rattle.f77_meaning.specs.code.Typed.{has_kind, IsTyped}
-use Rattle.f77_meaning.proofs.Beginning.{filled_size, state_starts}
-use Rattle.f77_meaning.proofs.SlotKinds.{kinds_count}
-use Rattle.f77_meaning.proofs.Typing.{outcome_typed, start_typed}
 use Rattle.f77_meaning.proofs.Unreached.{starts_same, reports_same}
-use Rattle.f77_run.specs.Registers.{counters_of}
-use Rattle.f77_run.specs.code.Registers.{shown_cells}
-use Rattle.f77_run.specs.Visits.{AreAtStart, cells_at_start}
-use Rattle.f77_run.specs.code.Ends.{HasEnded, RunOf, ReportsOf, ShowsEnd}
-use Rattle.f77_run.specs.code.Running.{CameBack}
-use Rattle.f77_run.specs.code.Runs.{HasCode, IsRun, site_in}
-use Rattle.f77_run.specs.code.Site.{HoldDummies, shown_by}
 use Rattle.f77_run.proofs.Framed.{counters_same}
-use Rattle.f77_run.proofs.Going as going
 use Rattle.f77_run.proofs.Held.{decided_of}
 use Rattle.f77_run.proofs.Loaded.{shown_count}
 use Rattle.f77_run.proofs.SameReports.{same_shown, reports_in_both, typed_in_both}
 use Rattle.f77_run.proofs.Reporting.{reports_within}
+use Rattle.f77_run.proofs.Going as going
 
 module _ (run : RunOf) (statements : List Resolved) (is : IsRun run statements) where
   abbrev p : List LineFields

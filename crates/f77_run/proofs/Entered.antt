@@ -1,25 +1,9 @@
 -- Values put into the registers of slots, and compared with what these show.
-use Rattle.std.proofs.Common.{arith, ◌≡◌, ℕ, zero, suc, ◌+◌, ◌<◌, ◌≤◌, ℤ, Bool, true, List, [], ◌∷◌, ◌++◌, drop, take, length, map, get_or, Option, Some, None}
-use Rattle.std.proofs.Common.{refl, sym, ap, subst, ◌∙◌}
-use Rattle.std.specs.Prelude.{slice_get, slice_set}
-use Rattle.std.specs.List.{list_all, zip}
-use Rattle.std.proofs.lemmas.Bool.{and_from, and_parts}
-use Rattle.std.proofs.lemmas.List.{drop_all, drop_more, get_or-map, length-set, map-append, set-append_left, take_all, take_more}
-use Rattle.std.proofs.lemmas.Option.{get_or_from_slice_get, same_Some, slice_get-get_or, slice_get_within}
-use Rattle.f77_tree.specs.declared.tree.Kind.{Kind}
-use Rattle.f77_legal.specs.Blocks.{first_numbers}
-use Rattle.f77_actions.specs.declared.value.Value.{Value}
-use Rattle.f77_actions.specs.Encoded.{coded, is_fitting}
-use Rattle.f77_code.specs.Evaluation.{held_in}
-use Rattle.f77_code.specs.Holds.{read_as}
-use Rattle.f77_code.specs.Moves.{Cells}
-use Rattle.f77_code.specs.Registers.{is_held, decoded_at, decoded}
-use Rattle.f77_meaning.specs.declared.argument.Arg.{Arg}
-use Rattle.f77_meaning.specs.Interpreter.{values_in}
-use Rattle.f77_run.specs.Registers.{AreLoaded, loaded, values_fit}
-use Rattle.f77_run.specs.code.Registers.{shown_as, shown_cells}
-use Rattle.f77_meaning.specs.code.Spans.{span}
-use Rattle.f77_meaning.specs.Spans.{all_filled, filled}
+use Rattle.f77_run.proofs.Common.{◌≡◌, length, sym, ◌∙◌, ap, subst, List, arith, refl, ◌<◌, ℕ, Some, true, [], map, ◌∷◌, ◌++◌, None, ◌≤◌, ℤ, ◌+◌, Bool, drop}
+use Rattle.f77_run.proofs.Common.{Option, slice_get, suc, get_or, take, zero, slice_set, length-set, take_all, and_parts, and_from, take_more, drop_all}
+use Rattle.f77_run.proofs.Common.{drop_more, get_or-map, map-append, set-append_left, same_Some, slice_get_within, slice_get-get_or, get_or_from_slice_get}
+use Rattle.f77_run.proofs.Common.{list_all, zip, coded, is_fitting, Value, held_in, read_as, Cells, is_held, decoded, decoded_at, first_numbers, values_in}
+use Rattle.f77_run.proofs.Common.{all_filled, filled, span, Arg, loaded, AreLoaded, values_fit, shown_cells, shown_as, Kind}
 use Rattle.f77_meaning.proofs.Cells.{get_or-table}
 use Rattle.f77_run.proofs.Loaded.{loaded_count, shown_at}
 

@@ -1,19 +1,7 @@
 -- Slots that are filled and read one after another.
-use Rattle.std.proofs.Common.{◌≡◌, ℕ, zero, suc, ◌+◌, ◌-◌, ◌<◌, ◌≤◌, ◌∙◌, List, [], ◌∷◌, ◌++◌, length, take, drop, get_or, Option, Some, None, refl, sym, ap, subst, arith, true}
-use Rattle.std.specs.List.{list_all}
-use Rattle.std.specs.Option.{option_and_then}
-use Rattle.std.proofs.lemmas.Bool.{and_parts}
-use Rattle.std.proofs.lemmas.List.{get_or-drop, length-drop, take_more, map-append}
-use Rattle.std.proofs.lemmas.Option.{slice_get-get_or}
-use Rattle.f77_tree.specs.declared.tree.Kind.{Kind}
-use Rattle.f77_legal.specs.Blocks.{first_numbers}
-use Rattle.f77_check.specs.declared.checked.Shape.{Shape}
-use Rattle.f77_actions.specs.declared.value.Value.{Value}
-use Rattle.f77_code.specs.Evaluation.{held_in}
-use Rattle.f77_code.specs.Moves.{Cells}
-use Rattle.f77_meaning.specs.code.Spans.{span}
-use Rattle.f77_meaning.specs.Spans.{size_of}
-use Rattle.f77_meaning.specs.code.Typed.{HasValues, has_kind}
+use Rattle.f77_run.proofs.Common.{◌≡◌, length, sym, ◌∙◌, ap, subst, List, arith, refl, ◌<◌, ℕ, Some, true, [], ◌∷◌, ◌++◌, None, ◌≤◌, ◌+◌, drop, Option, suc}
+use Rattle.f77_run.proofs.Common.{get_or, take, zero, ◌-◌, length-drop, get_or-drop, and_parts, take_more, map-append, slice_get-get_or, list_all}
+use Rattle.f77_run.proofs.Common.{option_and_then, Value, Shape, held_in, Cells, first_numbers, size_of, span, has_kind, HasValues, Kind}
 
 same_cell : (cells : Cells) (k : ℕ) (cell : Option Value) → k < length cells → get_or cells k cell ≡ held_in cells k
 same_cell cells k cell lt = sym (ap (option_and_then (λ cell. cell)) (slice_get-get_or cells k cell lt))

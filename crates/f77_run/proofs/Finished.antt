@@ -1,11 +1,7 @@
 -- How a run has ended, by the place where control is then.
-use Rattle.std.proofs.Common.{arith, ◌≡◌, ◌<◌, ◌==◌, ℕ, refl, ap, ◌∙◌}
-use Rattle.std.specs.Prelude.{if◌then◌else◌}
+use Rattle.f77_run.proofs.Common.{◌≡◌, ◌∙◌, ap, arith, refl, ◌<◌, ℕ, if◌then◌else◌, ◌==◌, Finish, StepLimit, Failed, Returned, Stopped, ended_point}
 use Rattle.std.proofs.lemmas.Bool.Decides.{nat_tests}
 use Rattle.f77_actions.specs.declared.finish.Fault.TheVariants.{Undefined, Overflow, BadSubscript, ZeroStep, Trapped, DivideByZero, ZeroPower}
-use Rattle.f77_actions.specs.declared.finish.Finish.{Finish}
-use Rattle.f77_actions.specs.declared.finish.Finish.TheVariants.{Returned, Stopped, Failed, StepLimit}
-use Rattle.f77_code.specs.Operation.{ended_point}
 
 -- how a run has ended, from its place: StepLimit where the place is no end
 abbrev pub finish_of : ℕ → Finish

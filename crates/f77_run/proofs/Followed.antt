@@ -1,32 +1,13 @@
 -- What is known of code of a checked program that is followed from the start of a run on.
-use Rattle.std.proofs.Common.{arith, ◌≡◌, ◌∙◌, ◌≤◌, ◌<◌, ℕ, ℤ, true, List, drop, length, map, sym, ap, subst}
-use Rattle.std.proofs.lemmas.List.{length-map}
-use Rattle.f77_program.specs.Program.{line_of}
-use Rattle.f77_check.specs.Checked.{CheckedFields, IsChecked}
-use Rattle.f77_actions.specs.declared.finish.Finish.{Finish}
-use Rattle.f77_actions.specs.declared.finish.Finish.TheVariants.{StepLimit}
-use Rattle.f77_code.specs.declared.code.Code.{Code}
-use Rattle.f77_code.specs.declared.control.Turn.{Turn}
-use Rattle.f77_code.specs.declared.instruction.Instruction.{Instruction}
-use Rattle.f77_code.specs.Block.{code_after, code_within}
-use Rattle.f77_code.specs.Follow.{ArePassed, HaveSizes}
+use Rattle.f77_run.proofs.Common.{◌≡◌, length, sym, ◌∙◌, ap, subst, List, arith, ◌<◌, ℕ, true, map, ◌≤◌, ℤ, drop, length-map, Finish, StepLimit, CheckedFields}
+use Rattle.f77_run.proofs.Common.{IsChecked, code_after, code_within, ArePassed, HaveSizes, Point, point, ended_point, IsCode, are_held, Code, Turn}
+use Rattle.f77_run.proofs.Common.{Instruction, AreFitting, IsOutcomeOf, Reports, held, Arg, Outcome, line_of, AreAtStart, cells_at_start, IsFollowed}
+use Rattle.f77_run.proofs.Common.{HoldDummies, RunOf, HasCode, shown_by, Visits}
 use Rattle.f77_code.specs.Frame.{AllWriteBelow}
-use Rattle.f77_code.specs.Operation.{Point, point, ended_point}
-use Rattle.f77_code.specs.Registers.{are_held}
-use Rattle.f77_code.specs.Program.{IsCode}
 use Rattle.f77_code.proofs.Writes.{writes_slots}
-use Rattle.f77_meaning.specs.declared.argument.Arg.{Arg}
-use Rattle.f77_meaning.specs.declared.outcome.Outcome.{Outcome}
-use Rattle.f77_meaning.specs.Interpreter.{AreFitting, IsOutcomeOf, Reports}
-use Rattle.f77_meaning.specs.Site.{held}
-use Rattle.f77_run.specs.declared.visits.Visits.{Visits}
-use Rattle.f77_run.specs.Visits.{AreAtStart, IsFollowed, cells_at_start}
-use Rattle.f77_run.specs.code.Ends.{RunOf}
-use Rattle.f77_run.specs.code.Runs.{HasCode}
-use Rattle.f77_run.specs.code.Site.{HoldDummies, shown_by}
-use Rattle.f77_run.proofs.Ends as ends
 use Rattle.f77_run.proofs.Loaded.{loaded_room}
 use Rattle.f77_run.proofs.Starting.{own_compiled, own_run, slots_counted}
+use Rattle.f77_run.proofs.Ends as ends
 
 module _ (checked : CheckedFields) (is : IsChecked checked) (arguments : List Arg) (fits : AreFitting checked.arguments arguments)
     (code : Code) (code_is : IsCode checked.statements code) (slots : code.constants.slots ≡ checked.slots)

@@ -1,23 +1,9 @@
 -- Statements of two programs of one frame: what is the same of them when they are resolved.
-use Rattle.std.proofs.Common.{arith, ◌≡◌, ◌∙◌, ℕ, zero, suc, List, [], ◌∷◌, ◌++◌, length, Some, None, pos, refl, replicate, sym, ap}
-use Rattle.std.specs.Prelude.{if◌then◌else◌, is_some, slice_get}
-use Rattle.std.specs.Option.{option_and_then}
-use Rattle.std.proofs.lemmas.Option.{same_Some}
-use Rattle.f77_program.specs.Program.{LineFields}
-use Rattle.f77_tree.specs.Statement.{Statement}
-use Rattle.f77_actions.specs.declared.action.Action.{Action, Loop}
-use Rattle.f77_actions.specs.declared.resolved.Resolved.{Resolved}
-use Rattle.f77_check.specs.Action.{IsAction}
-use Rattle.f77_check.specs.Resolved.{AreResolved, IsResolved}
+use Rattle.f77_run.proofs.Common.{◌≡◌, length, sym, ◌∙◌, ap, List, arith, refl, ℕ, Some, [], ◌∷◌, ◌++◌, None, slice_get, suc, zero, pos, if◌then◌else◌}
+use Rattle.f77_run.proofs.Common.{replicate, is_some, same_Some, option_and_then, Action, Loop, Resolved, IsAction, AreResolved, IsResolved, HasOneFrame}
+use Rattle.f77_run.proofs.Common.{is_loop, Turn, length_same, behind_same, loops_ending_same, terminal_label_same, nth_statement, terminal_label, kind_of}
+use Rattle.f77_run.proofs.Common.{bounds_of, Symbol, statement_of, LineFields, counters_of, Statement}
 use Rattle.f77_legal.specs.Frames.{HaveOneFrame}
-use Rattle.f77_legal.specs.Labels.{nth_statement, terminal_label}
-use Rattle.f77_legal.specs.Names.{Symbol, kind_of, bounds_of}
-use Rattle.f77_legal.proofs.SameFrame.{behind_same, length_same, loops_ending_same, terminal_label_same}
-use Rattle.f77_code.specs.declared.control.Turn.{Turn}
-use Rattle.f77_code.specs.Compiled.{HasOneFrame}
-use Rattle.f77_code.specs.Moves.{is_loop}
-use Rattle.f77_meaning.proofs.Simulation.{statement_of}
-use Rattle.f77_run.specs.Registers.{counters_of}
 
 -- a statement is resolved to a DO exactly where it is one
 loop_where_do : (p : List LineFields) (names : List Symbol) (i : ℕ) (stmt : Statement) (action : Action)

@@ -1,53 +1,28 @@
 -- What the code of a program comes to is what its run comes to.
-use Rattle.std.proofs.Common.{arith, ◌≡◌, ◌≢◌, ◌≤◌, ◌<◌, ◌+◌, ◌-◌, ◌⊎◌, ◌++◌, inl, inr, ℕ, ℤ, true, List, length, length-append, Some, None}
-use Rattle.std.proofs.Common.{refl, sym, ap, subst, ◌∙◌}
-use Rattle.std.specs.Prelude.{option_map, slice_get}
-use Rattle.std.specs.List.{list_all}
-use Rattle.std.proofs.lemmas.Option.{same_Some, slice_get_past}
-use Rattle.f77_tree.specs.declared.tree.Kind.{Kind}
-use Rattle.f77_actions.specs.declared.resolved.Resolved.{Resolved}
-use Rattle.f77_legal.specs.Names.{kind_of, bounds_of}
-use Rattle.f77_check.specs.Slots.{slot_count, slot_kinds}
-use Rattle.f77_actions.specs.Number.{fits}
-use Rattle.f77_actions.specs.declared.finish.Finish.{Finish}
-use Rattle.f77_actions.specs.declared.finish.Finish.TheVariants.{Returned, Stopped, Failed, StepLimit}
-use Rattle.f77_code.specs.declared.code.Code.{Code}
-use Rattle.f77_code.specs.declared.control.Turn.{Turn}
-use Rattle.f77_code.specs.Block.{code_after, code_within}
-use Rattle.f77_code.specs.Instructions.{place_at, AreCode}
-use Rattle.f77_code.specs.Compiled.{are_ready}
+use Rattle.f77_run.proofs.Common.{◌≡◌, length, sym, ◌∙◌, ap, subst, List, arith, refl, ◌<◌, ℕ, Some, true, ◌++◌, None, ◌≤◌, ℤ, ◌+◌, slice_get, ◌-◌, option_map}
+use Rattle.f77_run.proofs.Common.{length-append, ◌⊎◌, inr, inl, ◌≢◌, same_Some, slice_get_past, list_all, fits, Finish, StepLimit, Failed, Returned, Stopped}
+use Rattle.f77_run.proofs.Common.{Resolved, slot_count, slot_kinds, item_at, order, code_after, code_within, are_ready, loop_count, HoldsRegisters}
+use Rattle.f77_run.proofs.Common.{HoldsCounters, Plan, AreCode, place_at, Cells, State, Ends, Goes, Move, Point, point, ended_point, IsCode, are_held, Code}
+use Rattle.f77_run.proofs.Common.{Turn, kind_of, bounds_of, AgreeOnDummies, IsRunningIn, ComesToCells, stands_for, values_at, kinds_count, outcome_typed, Store}
+use Rattle.f77_run.proofs.Common.{IsTyped, loaded, counters_of, values_fit, shown_cells, CameBack, plan_of, Kind}
 use Rattle.f77_code.specs.code.Compiled.{HaveActions}
 use Rattle.f77_code.specs.Constants.{BeginsPlan}
-use Rattle.f77_code.specs.Holds.{Plan, HoldsRegisters, HoldsCounters, loop_count}
-use Rattle.f77_code.specs.Moves.{Cells, State, Move, Goes, Ends}
-use Rattle.f77_code.specs.Operation.{Point, point, ended_point}
-use Rattle.f77_code.specs.Program.{IsCode}
-use Rattle.f77_code.specs.Registers.{are_held}
 use Rattle.f77_code.specs.Sequences.{moved_by}
 use Rattle.f77_code.specs.Simulation.{IsAt, IsMove}
 use Rattle.f77_code.proofs.Assembled.{code_stands}
-use Rattle.f77_code.proofs.Listed.{item_at, order}
 use Rattle.f77_code.proofs.Reached.{code_there}
 use Rattle.f77_code.proofs.Sequences.{blocks_simulated, goes_round}
 use Rattle.f77_meaning.proofs.StateDefinitions.{turn_of}
 use Rattle.f77_meaning.specs.Outcome.{IsOutcome}
-use Rattle.f77_meaning.specs.Value.{Store}
-use Rattle.f77_run.specs.Registers.{loaded, counters_of, values_fit}
-use Rattle.f77_run.specs.code.Registers.{plan_of, shown_cells}
 use Rattle.f77_meaning.specs.code.Running.{RunSite}
-use Rattle.f77_run.specs.code.Running.{CameBack}
-use Rattle.f77_meaning.proofs.InRun.{IsRunningIn, AgreeOnDummies, ComesToCells, stands_for, values_at}
-use Rattle.f77_meaning.specs.code.Typed.{IsTyped}
-use Rattle.f77_run.proofs.Advancing.{after_more}
 use Rattle.f77_meaning.proofs.Endless.{limit_met}
-use Rattle.f77_run.proofs.Kinded.{have_actions}
-use Rattle.f77_run.proofs.Loaded.{loaded_count, loaded_holds, counters_count, counters_hold}
 use Rattle.f77_meaning.proofs.Moving.{ComesIn, moves_by, all_nested, ends_later, place_below}
 use Rattle.f77_meaning.proofs.PassesLeft.{active_is_loop, passes_left}
+use Rattle.f77_run.proofs.Advancing.{after_more}
+use Rattle.f77_run.proofs.Kinded.{have_actions}
+use Rattle.f77_run.proofs.Loaded.{loaded_count, loaded_holds, counters_count, counters_hold}
 use Rattle.f77_run.proofs.Readiness.{few_statements, all_ready}
 use Rattle.f77_run.proofs.Shown.{agree_on_dummies}
-use Rattle.f77_meaning.proofs.SlotKinds.{kinds_count}
-use Rattle.f77_meaning.proofs.Typing.{outcome_typed}
 
 -- ends have places beyond those of all instructions
 end_far : (finish : Finish) → 4294967296 ≤ ended_point finish

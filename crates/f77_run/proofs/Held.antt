@@ -1,18 +1,8 @@
 -- Arguments that stand in the slots of their dummy arguments are the values of these.
-use Rattle.std.proofs.Common.{arith, ◌≡◌, ℕ, Bool, true, false, true≢false, List, [], ◌∷◌, length, map, Option, Some, None, refl, sym, ap, subst, ◌∙◌}
-use Rattle.std.specs.Bool.{Decides}
-use Rattle.std.specs.List.{zip}
-use Rattle.std.proofs.lemmas.Bool.{and_parts, eqb-true}
-use Rattle.std.proofs.lemmas.List.{length-map}
-use Rattle.f77_tree.specs.declared.tree.Kind.{Kind}
-use Rattle.f77_check.specs.declared.checked.Shape.{Shape}
-use Rattle.f77_meaning.specs.declared.argument.Arg.{Arg}
+use Rattle.f77_run.proofs.Common.{◌≡◌, length, sym, ◌∙◌, ap, subst, List, arith, refl, ℕ, Some, true, [], map, ◌∷◌, None, Bool, Option, false, true≢false}
+use Rattle.f77_run.proofs.Common.{eqb-true, and_parts, length-map, Decides, zip, Shape, Cells, AreFitting, values_in, has_shape, size_of, span, Arg, AreHeld}
+use Rattle.f77_run.proofs.Common.{IsHeld, Kind}
 use Rattle.f77_meaning.specs.declared.argument.Arg.TheVariants.{Int, Truth, Ints, Truths}
-use Rattle.f77_run.specs.code.Holding.{IsHeld, AreHeld}
-use Rattle.f77_meaning.specs.Interpreter.{values_in, has_shape, AreFitting}
-use Rattle.f77_code.specs.Moves.{Cells}
-use Rattle.f77_meaning.specs.code.Spans.{span}
-use Rattle.f77_meaning.specs.Spans.{size_of}
 
 -- a test that decides one statement decides another that holds exactly where the first does
 pub decided_of : {P Q : Type 0} (r : Bool) → Decides r P → (P → Q) → (Q → P) → Decides r Q

@@ -1,47 +1,31 @@
 -- The slots that the resolved statements of a legal program name are there, and of the kinds that their places ask for.
-use Rattle.std.proofs.Common.{arith, ◌≡◌, ◌<◌, ℕ, ◌+◌, ◌*◌, ◌&&◌, true, List, [], ◌∷◌, length, Option, Some, None, refl, sym, ap, subst, ◌∙◌}
-use Rattle.std.specs.Prelude.{unwrap_or}
-use Rattle.std.proofs.lemmas.Bool.{and_parts}
-use Rattle.f77_program.specs.Program.{LineFields}
+use Rattle.f77_run.proofs.Common.{◌≡◌, length, sym, ◌∙◌, ap, subst, List, arith, refl, ◌<◌, ℕ, Some, true, [], ◌∷◌, None, ◌+◌, Option, ◌&&◌, unwrap_or, ◌*◌}
+use Rattle.f77_run.proofs.Common.{and_parts, Action, Loop, ArithmeticIf, AssignNumber, AssignTruth, Branch, ComputedGoto, Continue, Declaration, Goto}
+use Rattle.f77_run.proofs.Common.{LogicalIf', Return, Stop, Trap, Resolved, IsAction, IsAssignment, IsIncrementation, AreResolved, slot_kinds, first_slot, Plan}
+use Rattle.f77_run.proofs.Common.{AreSlots, IsSlot, Constants, product, IsLegal, kind_of, bounds_of, Symbol, statement_of, legal_fits, no_bounds, kinds_count}
+use Rattle.f77_run.proofs.Common.{kind_read, LineFields, plan_of, Statement, Kind, Integer, Logical}
 use Rattle.f77_tree.specs.Tree.{Tree, Trees}
-use Rattle.f77_tree.specs.Statement.{Statement}
 use Rattle.f77_tree.specs.declared.intrinsic.Intrinsic.{Intrinsic}
 use Rattle.f77_tree.specs.declared.intrinsic.Intrinsic.TheVariants.{Mod, Iabs, Min0, Max0}
 use Rattle.f77_tree.specs.declared.operator.Operator.{Operator}
 use Rattle.f77_tree.specs.declared.operator.Sign.TheVariants.{Plus, Minus}
-use Rattle.f77_tree.specs.declared.tree.Kind.{Kind}
-use Rattle.f77_tree.specs.declared.tree.Kind.TheVariants.{Integer, Logical}
-use Rattle.f77_actions.specs.declared.action.Action.{Action, Declaration, AssignNumber, AssignTruth, Goto, ComputedGoto, ArithmeticIf}
-use Rattle.f77_actions.specs.declared.action.Action.{LogicalIf', Branch, Continue, Loop, Return, Stop, Trap}
 use Rattle.f77_actions.specs.declared.expression.Arithmetic.{Arithmetic}
-use Rattle.f77_actions.specs.declared.expression.Arithmetic.TheVariants as arithmetic
 use Rattle.f77_actions.specs.declared.expression.Element.{Element, Variable, Vector', Matrix'}
 use Rattle.f77_actions.specs.declared.expression.Number.{Number, Constant, TooLarge, Negated', Absolute', ZeroPush', Binary'}
-use Rattle.f77_actions.specs.declared.expression.Number as numeric
 use Rattle.f77_actions.specs.declared.expression.Condition.{Condition, Not', Related, Connected'}
-use Rattle.f77_actions.specs.declared.expression.Condition as condition
-use Rattle.f77_actions.specs.declared.resolved.Resolved.{Resolved}
 use Rattle.f77_legal.specs.declared.clause.Clause.TheVariants.{Kinds}
 use Rattle.f77_legal.specs.Dimensions.{dimensions_fit}
 use Rattle.f77_tree.specs.Comparing.{same_kind}
 use Rattle.f77_legal.specs.Kinds.{result_kind, operand_kind, is_of_kind, are_integer, is_of_kind_if_given, kinds_agree}
-use Rattle.f77_legal.specs.Legal.{IsLegal}
-use Rattle.f77_legal.specs.Names.{Symbol, kind_of, bounds_of}
-use Rattle.f77_legal.specs.InitialValues.{product}
 use Rattle.f77_legal.proofs.LegalGives.{clause_kept, kept_by, not_false}
-use Rattle.f77_check.specs.Action.{IsIncrementation, IsAssignment, IsAction}
 use Rattle.f77_check.specs.Expression.{IsElement, IsNumber, IsChosen, IsCondition}
-use Rattle.f77_check.specs.Resolved.{AreResolved}
-use Rattle.f77_check.specs.Slots.{first_slot, slot_kinds}
 use Rattle.f77_check.proofs.Operands.{arithmetic_takes, relation_takes, connective_takes}
-use Rattle.f77_code.specs.declared.constants.Constants.{Constants}
 use Rattle.f77_code.specs.code.Compiled.{HaveActions}
-use Rattle.f77_code.specs.Holds.{Plan, IsSlot, AreSlots}
 use Rattle.f77_code.specs.Typing.{HasSlots, HasNumbers, HasTruths, HasAction}
-use Rattle.f77_run.specs.code.Registers.{plan_of}
-use Rattle.f77_meaning.proofs.Simulation.{statement_of, legal_fits, no_bounds}
-use Rattle.f77_meaning.proofs.SlotKinds.{kinds_count, kind_read}
 use Rattle.f77_meaning.proofs.Spans.{span_within}
+use Rattle.f77_actions.specs.declared.expression.Arithmetic.TheVariants as arithmetic
+use Rattle.f77_actions.specs.declared.expression.Number as numeric
+use Rattle.f77_actions.specs.declared.expression.Condition as condition
 
 -- kinds that the test finds equal are equal
 kind_is : (kind other : Kind) → same_kind kind other ≡ true → kind ≡ other

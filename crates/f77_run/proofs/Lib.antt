@@ -1,7 +1,8 @@
+pub mod Common
 mod Steps
 mod Runs
 mod Pairs
-mod Misfits
+pub mod Misfits
 mod Filled
 mod Held
 mod Framed

@@ -1,30 +1,13 @@
 -- Loaded registers and counters hold the state of the machine over slots, and what is shown of the registers is what its slots hold.
-use Rattle.std.proofs.Common.{arith, ◌≡◌, ◌<◌, ◌≤◌, ℕ, zero, suc, ◌+◌, ℤ, pos, Bool, true, false, List, [], ◌∷◌, ◌++◌, length, take}
-use Rattle.std.proofs.Common.{Option, Some, None, refl, sym, ap, ◌∙◌}
-use Rattle.std.specs.Prelude.{Ok, slice_get, unwrap_or, if◌then◌else◌}
-use Rattle.std.specs.List.{list_all}
-use Rattle.std.proofs.lemmas.Bool.{and_parts}
-use Rattle.std.proofs.lemmas.List.{length-append}
-use Rattle.std.proofs.lemmas.Option.{same_Some, slice_get_within}
-use Rattle.f77_tree.specs.declared.tree.Kind.{Kind}
-use Rattle.f77_tree.specs.declared.tree.Kind.TheVariants.{Integer, Logical}
-use Rattle.f77_actions.specs.declared.resolved.Resolved.{Resolved}
-use Rattle.f77_actions.specs.declared.value.Value.{Value}
-use Rattle.f77_actions.specs.declared.value.Value.TheVariants as held
-use Rattle.f77_actions.specs.Number.{fits}
-use Rattle.f77_actions.specs.Encoded.{coded, is_fitting}
-use Rattle.f77_code.specs.declared.constants.Constants.{Constants}
-use Rattle.f77_code.specs.declared.control.Turn.{Turn}
-use Rattle.f77_code.specs.Evaluation.{held_in}
-use Rattle.f77_code.specs.Holds.{HoldsRegisters, HoldsCounters, read_as, loop_count, do_rank, is_loop_at}
-use Rattle.f77_code.specs.Moves.{Cells, TurnList, turn_at, is_loop}
-use Rattle.f77_code.specs.Registers.{register, decoded, decoded_at, are_held}
+use Rattle.f77_run.proofs.Common.{◌≡◌, length, sym, ◌∙◌, ap, List, arith, refl, ◌<◌, ℕ, Some, true, [], ◌∷◌, ◌++◌, None, ◌≤◌, ℤ, ◌+◌, Bool, Option, slice_get}
+use Rattle.f77_run.proofs.Common.{suc, take, zero, false, pos, length-append, if◌then◌else◌, unwrap_or, Ok, and_parts, same_Some, slice_get_within, list_all}
+use Rattle.f77_run.proofs.Common.{coded, is_fitting, fits, Resolved, Value, all_at, one_if, get_behind, held_in, loop_count, read_as, HoldsRegisters}
+use Rattle.f77_run.proofs.Common.{HoldsCounters, do_rank, is_loop_at, Cells, is_loop, TurnList, turn_at, are_held, decoded, decoded_at, register, Constants}
+use Rattle.f77_run.proofs.Common.{Turn, has_kind, loaded, counters_of, AreLoaded, values_fit, counter_of, shown_cells, shown_as, plan_of, Kind, Integer}
+use Rattle.f77_run.proofs.Common.{Logical}
 use Rattle.f77_code.proofs.Counters.{weight, more}
-use Rattle.f77_code.proofs.Listed.{all_at, get_behind, one_if}
 use Rattle.f77_code.proofs.Written.{decoded_fits}
-use Rattle.f77_run.specs.Registers.{AreLoaded, values_fit, loaded, counter_of, counters_of}
-use Rattle.f77_run.specs.code.Registers.{plan_of, shown_as, shown_cells}
-use Rattle.f77_meaning.specs.code.Typed.{has_kind}
+use Rattle.f77_actions.specs.declared.value.Value.TheVariants as held
 
 -- a register for each slot
 pub loaded_count : (kinds : List Kind) (cells : Cells) → length cells ≡ length kinds → length (loaded kinds cells) ≡ length kinds

@@ -1,15 +1,8 @@
 -- Arguments beside the shapes of their dummy arguments.
-use Rattle.std.proofs.Common.{◌≡◌, ℕ, suc, ◌<◌, ◌≤◌, ◌∙◌, Bool, true, false, not, cond, List, [], ◌∷◌, ◌++◌, length, drop, Option, Some, None, refl, sym, ap, subst, arith}
-use Rattle.std.specs.Prelude.{option_map}
-use Rattle.std.specs.List.{zip}
-use Rattle.std.proofs.lemmas.Bool.{eq-eqb}
-use Rattle.std.proofs.lemmas.List.{append-nil, drop_all}
+use Rattle.f77_run.proofs.Common.{◌≡◌, length, sym, ◌∙◌, ap, subst, List, arith, refl, ◌<◌, ℕ, Some, true, [], ◌∷◌, ◌++◌, None, ◌≤◌, Bool, drop, Option, suc}
+use Rattle.f77_run.proofs.Common.{false, option_map, append-nil, eq-eqb, not, cond, drop_all, length-zip, AllZip-long, zip, Shape, first_place, AreFitting}
+use Rattle.f77_run.proofs.Common.{has_shape, first_misfit, refusal, Arg}
 use Rattle.std.proofs.lemmas.List.Quantifiers.{position-Some}
-use Rattle.std.proofs.lemmas.Slice.Zip.{length-zip, AllZip-long}
-use Rattle.f77_check.specs.declared.checked.Shape.{Shape}
-use Rattle.f77_meaning.specs.declared.argument.Arg.{Arg}
-use Rattle.f77_meaning.specs.Interpreter.{AreFitting, first_misfit, has_shape, refusal}
-use Rattle.f77_meaning.proofs.Typing.{first_place}
 
 -- the first misfit is one of the arguments
 pub misfit_within : (list : List Shape) (arguments : List Arg) (i : ℕ) → first_misfit list arguments ≡ Some i → i < length arguments

@@ -1,8 +1,6 @@
 -- The pairs of two lists, from an index on.
-use Rattle.std.proofs.Common.{◌≡◌, ℕ, ◌+◌, ◌<◌, ◌∙◌, List, [], ◌∷◌, length, drop, get_or, refl, sym, ap, arith, min}
-use Rattle.std.specs.List.{zip}
-use Rattle.std.proofs.lemmas.List.{drop_more, length-drop}
-use Rattle.std.proofs.lemmas.Slice.Zip.{length-zip}
+use Rattle.f77_run.proofs.Common.{◌≡◌, length, sym, ◌∙◌, ap, List, arith, refl, ◌<◌, ℕ, [], ◌∷◌, ◌+◌, drop, get_or, length-drop, min, drop_more, length-zip}
+use Rattle.f77_run.proofs.Common.{zip}
 
 one_left : {X : Type 0} (xs : List X) (i : ℕ) (x : X) → i < length xs → x ≡ get_or xs i x → drop i xs ≡ x ∷ drop (i + 1) xs
 one_left xs i x lt at = drop_more xs i x lt ∙ ap (λ y. y ∷ drop (i + 1) xs) (sym at)

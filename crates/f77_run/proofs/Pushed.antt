@@ -1,11 +1,7 @@
 -- A list that grows while one list is gone through, or two are side by side.
-use Rattle.std.proofs.Common.{◌≡◌, ◌&&◌, ◌||◌, ◌==◌, ◌<◌, ℕ, ℤ, pos, negsuc, ◌+◌, Bool, true, List, [], ◌∷◌, ◌++◌, drop, take, get_or, length, map}
-use Rattle.std.proofs.Common.{append_assoc, append-nil, min, w32, FitsSigned, refl, sym, ap, ◌∙◌}
-use Rattle.std.specs.List.{list_all, zip}
-use Rattle.std.proofs.lemmas.Bool.{and_from}
-use Rattle.std.proofs.lemmas.List.{take_more}
-use Rattle.std.proofs.lemmas.List.Folds.{list_all-append}
-use Rattle.f77_code.specs.Registers.{are_held, is_held}
+use Rattle.f77_run.proofs.Common.{◌≡◌, length, sym, ◌∙◌, ap, List, refl, ◌<◌, ℕ, true, [], map, ◌∷◌, ◌++◌, ℤ, ◌+◌, Bool, drop, get_or, take, FitsSigned, pos}
+use Rattle.f77_run.proofs.Common.{◌&&◌, w32, ◌||◌, append-nil, append_assoc, min, ◌==◌, negsuc, and_from, take_more, list_all-append, list_all, zip, are_held}
+use Rattle.f77_run.proofs.Common.{is_held}
 use Rattle.f77_code.proofs.Points.{narrow_fits}
 use Rattle.f77_run.proofs.Pairs.{none_left}
 

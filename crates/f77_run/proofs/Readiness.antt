@@ -1,38 +1,21 @@
 -- A legal program can be compiled: its statements are few, the numbers of those that they name have 32 bits, and the slots that they name are there.
-use Rattle.std.proofs.Common.{arith, ◌≡◌, ◌∙◌, ◌<◌, ◌≤◌, ◌+◌, ◌&&◌, ℕ, Bool, true, false, List, [], ◌∷◌, length, Some, None, refl, sym, ap, subst}
-use Rattle.std.specs.Prelude.{slice_get, if◌then◌else◌}
-use Rattle.std.specs.List.{list_all}
-use Rattle.std.proofs.lemmas.Bool.{and_from, and_parts, lt-ltb}
-use Rattle.std.proofs.lemmas.Option.{slice_get_within}
+use Rattle.f77_run.proofs.Common.{◌≡◌, length, sym, ◌∙◌, ap, subst, List, arith, refl, ◌<◌, ℕ, Some, true, [], ◌∷◌, None, ◌≤◌, ◌+◌, Bool, slice_get, false}
+use Rattle.f77_run.proofs.Common.{if◌then◌else◌, ◌&&◌, lt-ltb, and_parts, and_from, slice_get_within, list_all, Action, Loop, ArithmeticIf, AssignNumber}
+use Rattle.f77_run.proofs.Common.{AssignTruth, Branch, ComputedGoto, Continue, Declaration, Goto, LogicalIf', Return, Stop, Trap, Resolved, IsAction, AreJumps}
+use Rattle.f77_run.proofs.Common.{IsJump, AreResolved, slot_count, all_at, are_ready, is_ready, condition_within, number_within, are_below, have_places}
+use Rattle.f77_run.proofs.Common.{has_places, block_end, branch_end, has_at, is_alternative, is_end_if, is_level, statement_behind, bears, IsLegal, kind_of}
+use Rattle.f77_run.proofs.Common.{bounds_of, Symbol, statement_of, LineFields, IsProgram, Statement}
 use Rattle.f77_program.specs.Formed.{is_action}
-use Rattle.f77_program.specs.Program.{LineFields, IsProgram}
 use Rattle.f77_tree.specs.Tree.{Tree}
-use Rattle.f77_tree.specs.Statement.{Statement}
-use Rattle.f77_actions.specs.declared.action.Action.{Action, Declaration, AssignNumber, AssignTruth, Goto, ComputedGoto, ArithmeticIf}
-use Rattle.f77_actions.specs.declared.action.Action.{LogicalIf', Branch, Continue, Loop, Return, Stop, Trap}
 use Rattle.f77_actions.specs.declared.action.Jump.{Jump}
-use Rattle.f77_actions.specs.declared.resolved.Resolved.{Resolved}
-use Rattle.f77_check.specs.Action.{IsJump, AreJumps, IsAction}
-use Rattle.f77_check.specs.Resolved.{AreResolved}
-use Rattle.f77_check.specs.Slots.{slot_count}
-use Rattle.f77_legal.specs.Blocks.{is_end_if, is_alternative, has_at, is_level, block_end, branch_end, statement_behind}
-use Rattle.f77_legal.specs.Labels.{bears}
-use Rattle.f77_legal.specs.Legal.{IsLegal}
-use Rattle.f77_legal.specs.Names.{Symbol, kind_of, bounds_of}
 use Rattle.f77_legal.proofs.Actions.{inner_acts}
 use Rattle.f77_legal.proofs.Branches.{found_is}
-use Rattle.f77_code.specs.Compiled.{is_ready, are_ready}
 use Rattle.f77_code.specs.Compiling.{is_of_32_bits, can_compile}
-use Rattle.f77_code.specs.Evaluation.{number_within, condition_within}
-use Rattle.f77_code.specs.Moves.{are_below}
 use Rattle.f77_meaning.proofs.Asking.{action_within, resolved_within}
-use Rattle.f77_code.specs.Places.{has_places, have_places}
-use Rattle.f77_code.proofs.Listed.{all_at}
 use Rattle.f77_meaning.proofs.Nested.{branch_ends}
 use Rattle.f77_meaning.proofs.Reaching.{all_from_each, reach}
-use Rattle.f77_run.proofs.Runs.{few_lines}
-use Rattle.f77_meaning.proofs.Simulation.{statement_of}
 use Rattle.f77_meaning.proofs.Soundness.{place_within}
+use Rattle.f77_run.proofs.Runs.{few_lines}
 
 module _ (p : List LineFields) (legal : IsLegal p) where
   -- the number of a statement, and the one behind the last of them, has 32 bits

@@ -1,49 +1,22 @@
 -- Every end of a run has an outcome that reports it; whether a given outcome reports it says whether that is the outcome of the run.
-use Rattle.std.proofs.Common.{arith, ◌≡◌, ◌||◌, ℕ, Bool, true, false, true≢false, List, [], ◌∷◌, length, map, Option, Some, None, refl, sym, ap, subst, ◌∙◌, ℤ}
-use Rattle.std.specs.Bool.{Decides}
-use Rattle.std.specs.Prelude.{IfSome}
-use Rattle.std.specs.List.{list_all, list_any, zip}
-use Rattle.std.specs.Str.{bytes_eq}
-use Rattle.std.proofs.lemmas.Bool.{eq-eqb}
+use Rattle.f77_run.proofs.Common.{◌≡◌, length, sym, ◌∙◌, ap, subst, List, arith, refl, ℕ, Some, true, [], map, ◌∷◌, None, ℤ, Bool, Option, false, IfSome}
+use Rattle.f77_run.proofs.Common.{true≢false, ◌||◌, eq-eqb, length-map, Decides, list_all, zip, list_any, bytes_eq, Finish, Value, CheckedFields, IsChecked}
+use Rattle.f77_run.proofs.Common.{shapes, shape_of, slot_count, Shape, Cells, dummies, element_count, kind_of, bounds_of, Symbol, dummies_read, room_of}
+use Rattle.f77_run.proofs.Common.{ComesToEnd, outcome_once, AreFitting, values_in, IsOutcomeOf, Reports, has_shape, AreArguments, fault_outcome, held, size_of}
+use Rattle.f77_run.proofs.Common.{IsStart, Store, HaveRoom, span, IsTyped, has_kind, HasValues, Arg, Outcome, line_of, LineFields, AreHeld, outcome_values}
+use Rattle.f77_run.proofs.Common.{Kind, Integer, Logical}
 use Rattle.std.proofs.lemmas.Cmp.{nat_list_eq_equiv}
-use Rattle.std.proofs.lemmas.List.{length-map}
-use Rattle.f77_program.specs.Program.{LineFields, line_of}
-use Rattle.f77_tree.specs.declared.tree.Kind.{Kind}
-use Rattle.f77_tree.specs.declared.tree.Kind.TheVariants.{Integer, Logical}
-use Rattle.f77_check.specs.Checked.{CheckedFields, IsChecked, shape_of, shapes}
-use Rattle.f77_check.specs.declared.checked.Shape.{Shape}
-use Rattle.f77_check.specs.Slots.{slot_count}
-use Rattle.f77_legal.specs.Heading.{dummies}
-use Rattle.f77_legal.specs.Names.{Symbol, kind_of, bounds_of}
-use Rattle.f77_legal.specs.InitialValues.{element_count}
-use Rattle.f77_meaning.specs.declared.argument.Arg.{Arg}
 use Rattle.f77_meaning.specs.declared.argument.Arg.TheVariants.{Int, Truth, Ints, Truths}
 use Rattle.f77_actions.specs.declared.finish.Fault.{Fault}
-use Rattle.f77_actions.specs.declared.finish.Fault.TheVariants as faults
-use Rattle.f77_actions.specs.declared.finish.Finish.{Finish}
-use Rattle.f77_actions.specs.declared.finish.Finish.TheVariants as finish
-use Rattle.f77_meaning.specs.declared.outcome.Outcome.{Outcome}
-use Rattle.f77_meaning.specs.declared.outcome.Outcome.TheVariants as outcome
-use Rattle.f77_actions.specs.declared.value.Value.{Value}
-use Rattle.f77_actions.specs.declared.value.Value.TheVariants as held_value
-use Rattle.f77_run.specs.code.Ending.{outcome_values}
-use Rattle.f77_run.specs.code.Holding.{AreHeld}
-use Rattle.f77_meaning.specs.Interpreter.{values_in, has_shape, fault_outcome, AreFitting, AreArguments, IsOutcomeOf, Reports}
-use Rattle.f77_code.specs.Moves.{Cells}
-use Rattle.f77_meaning.proofs.InRun.{ComesToEnd}
-use Rattle.f77_meaning.specs.Site.{held}
-use Rattle.f77_meaning.specs.code.Spans.{HaveRoom, span}
-use Rattle.f77_meaning.specs.Spans.{size_of}
-use Rattle.f77_meaning.specs.Start.{IsStart}
 use Rattle.f77_meaning.specs.Step.{Config}
-use Rattle.f77_meaning.specs.code.Typed.{has_kind, HasValues, IsTyped}
-use Rattle.f77_meaning.specs.Value.{Store}
-use Rattle.f77_meaning.proofs.Beginning.{dummies_read, room_of}
 use Rattle.f77_meaning.proofs.Dummies.{or_later}
 use Rattle.f77_meaning.proofs.Filling.{arguments_within}
-use Rattle.f77_run.proofs.Held.{decided_of, decided_not, held_values, values_held}
-use Rattle.f77_meaning.proofs.OneAnswer.{outcome_once}
 use Rattle.f77_meaning.proofs.Reading.{as_many, size_is, spans_read}
+use Rattle.f77_actions.specs.declared.finish.Fault.TheVariants as faults
+use Rattle.f77_actions.specs.declared.finish.Finish.TheVariants as finish
+use Rattle.f77_meaning.specs.declared.outcome.Outcome.TheVariants as outcome
+use Rattle.f77_actions.specs.declared.value.Value.TheVariants as held_value
+use Rattle.f77_run.proofs.Held.{decided_of, decided_not, held_values, values_held}
 
 -- the numbers, and the truth values, in slots that hold such alone
 numbers_in : (cells : Cells) → list_all (has_kind Integer) cells ≡ true → (zs : List ℤ) × (cells ≡ map (λ v. Some v) (map (λ z. held_value.Number z) zs))

@@ -1,10 +1,7 @@
 -- A legal program is short.
-use Rattle.std.proofs.Common.{arith, ◌≡◌, ◌≤◌, Bool, true, false, List, [], length, refl}
-use Rattle.std.specs.Prelude.{nat_lt}
-use Rattle.std.proofs.lemmas.Bool.{or_parts}
+use Rattle.f77_run.proofs.Common.{◌≡◌, length, List, arith, refl, true, [], ◌≤◌, Bool, false, nat_lt, or_parts, IsLegal, is_too_large, too_large_faults}
+use Rattle.f77_run.proofs.Common.{LineFields}
 use Rattle.std.proofs.lemmas.Bool.Decides.{nat_tests}
-use Rattle.f77_program.specs.Program.{LineFields}
-use Rattle.f77_legal.specs.Legal.{IsLegal, is_too_large, too_large_faults}
 use Rattle.f77_legal.proofs.LegalGives.{kept_by}
 
 pub few_lines : (p : List LineFields) → IsLegal p → length p ≤ 500

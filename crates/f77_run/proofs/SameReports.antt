@@ -1,25 +1,12 @@
 -- The outcome of an end, and the kinds of values, are the same for two stores in which the dummy arguments have the same values.
-use Rattle.std.proofs.Common.{◌≡◌, ◌||◌, ℕ, Bool, true, List, [], ◌∷◌, map, refl, sym, ap, subst, ◌∙◌}
-use Rattle.std.specs.Bool.{Decides}
-use Rattle.std.specs.List.{list_any}
-use Rattle.std.specs.Str.{bytes_eq}
+use Rattle.f77_run.proofs.Common.{◌≡◌, sym, ◌∙◌, ap, subst, List, refl, ℕ, true, [], map, ◌∷◌, Bool, ◌||◌, Decides, list_any, bytes_eq, Finish, dummies}
+use Rattle.f77_run.proofs.Common.{element_count, kind_of, Symbol, AgreeOnDummies, ComesToEnd, values_in, IsOutcomeOf, Reports, AreArguments, IsStart, Store}
+use Rattle.f77_run.proofs.Common.{IsTyped, HasValues, Arg, Outcome, LineFields}
 use Rattle.std.proofs.lemmas.Cmp.{nat_list_eq_equiv}
-use Rattle.f77_program.specs.Program.{LineFields}
-use Rattle.f77_legal.specs.Heading.{dummies}
-use Rattle.f77_legal.specs.Names.{Symbol, kind_of}
-use Rattle.f77_legal.specs.InitialValues.{element_count}
-use Rattle.f77_meaning.specs.declared.argument.Arg.{Arg}
-use Rattle.f77_actions.specs.declared.finish.Finish.{Finish}
-use Rattle.f77_actions.specs.declared.finish.Finish.TheVariants as finish
-use Rattle.f77_meaning.specs.declared.outcome.Outcome.{Outcome}
-use Rattle.f77_meaning.specs.declared.outcome.Outcome.TheVariants as outcome
-use Rattle.f77_meaning.specs.Interpreter.{values_in, AreArguments, IsOutcomeOf, Reports}
-use Rattle.f77_meaning.proofs.InRun.{AgreeOnDummies, ComesToEnd}
-use Rattle.f77_meaning.specs.Start.{IsStart}
 use Rattle.f77_meaning.specs.Step.{Config}
-use Rattle.f77_meaning.specs.code.Typed.{HasValues, IsTyped}
-use Rattle.f77_meaning.specs.Value.{Store}
 use Rattle.f77_meaning.proofs.Dummies.{or_later}
+use Rattle.f77_actions.specs.declared.finish.Finish.TheVariants as finish
+use Rattle.f77_meaning.specs.declared.outcome.Outcome.TheVariants as outcome
 use Rattle.f77_run.proofs.Held.{decided_of}
 use Rattle.f77_run.proofs.Reporting.{outcome_decided}
 

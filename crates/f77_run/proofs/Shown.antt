@@ -1,27 +1,11 @@
 -- What is shown of the registers is what the dummy arguments hold.
-use Rattle.std.proofs.Common.{◌≡◌, ◌<◌, ℕ, ◌+◌, true, List, Option, Some, None, refl, sym, ap, ◌∙◌, ℤ}
-use Rattle.std.specs.Prelude.{slice_get}
-use Rattle.std.specs.List.{list_any}
-use Rattle.std.specs.Str.{bytes_eq}
-use Rattle.f77_program.specs.Program.{LineFields}
-use Rattle.f77_tree.specs.declared.tree.Kind.{Kind}
-use Rattle.f77_legal.specs.Heading.{dummies}
-use Rattle.f77_legal.specs.Names.{Symbol, kind_of, bounds_of}
-use Rattle.f77_legal.specs.InitialValues.{element_count}
-use Rattle.f77_check.specs.Slots.{first_slot, slot_kinds}
-use Rattle.f77_code.specs.declared.constants.Constants.{Constants}
-use Rattle.f77_code.specs.Evaluation.{held_in}
-use Rattle.f77_code.specs.Holds.{HoldsRegisters}
-use Rattle.f77_code.specs.Moves.{Cells}
-use Rattle.f77_code.proofs.Listed.{all_at}
+use Rattle.f77_run.proofs.Common.{◌≡◌, sym, ◌∙◌, ap, List, refl, ◌<◌, ℕ, Some, true, None, ℤ, ◌+◌, Option, slice_get, list_any, bytes_eq, slot_kinds}
+use Rattle.f77_run.proofs.Common.{first_slot, all_at, held_in, HoldsRegisters, Cells, Constants, dummies, element_count, kind_of, bounds_of, Symbol}
+use Rattle.f77_run.proofs.Common.{AgreeOnDummies, kind_read, IsTyped, has_kind, LineFields, shown_cells, plan_of, Kind}
 use Rattle.f77_meaning.specs.States.{values_of}
-use Rattle.f77_run.specs.code.Registers.{plan_of, shown_cells}
-use Rattle.f77_meaning.proofs.InRun.{AgreeOnDummies}
-use Rattle.f77_meaning.specs.code.Typed.{has_kind, IsTyped}
 use Rattle.f77_meaning.proofs.Cells.{read_table}
-use Rattle.f77_run.proofs.Loaded.{shown_is}
-use Rattle.f77_meaning.proofs.SlotKinds.{kind_read}
 use Rattle.f77_meaning.proofs.Stored.{held_from, same_table}
+use Rattle.f77_run.proofs.Loaded.{shown_is}
 
 module _ (p : List LineFields) (names : List Symbol) (table : Constants) (registers : List ℤ) (cells : Cells) where
   abbrev kinds : List Kind

@@ -1,30 +1,9 @@
 -- Registers and counters at the start of a run, and the run of a checked program itself.
-use Rattle.std.proofs.Common.{arith, ◌≡◌, ◌∙◌, ◌+◌, ℕ, zero, suc, ℤ, Bool, true, false, List, [], ◌∷◌, ◌++◌, length, map, None, refl, sym, ap, subst}
-use Rattle.std.specs.Prelude.{replicate, if◌then◌else◌, option_map}
-use Rattle.std.specs.List.{zip}
-use Rattle.f77_tree.specs.declared.tree.Kind.{Kind}
-use Rattle.f77_program.specs.Program.{line_of}
-use Rattle.f77_legal.specs.Names.{kind_of, bounds_of}
-use Rattle.f77_check.specs.Checked.{CheckedFields, IsChecked}
-use Rattle.f77_actions.specs.declared.resolved.Resolved.{Resolved}
-use Rattle.f77_code.specs.declared.code.Code.{Code}
-use Rattle.f77_code.specs.declared.control.Turn.{Turn}
-use Rattle.f77_code.specs.Holds.{loop_count}
-use Rattle.f77_code.specs.Moves.{Cells, is_loop}
-use Rattle.f77_code.specs.Program.{IsCode}
+use Rattle.f77_run.proofs.Common.{◌≡◌, length, sym, ◌∙◌, ap, subst, List, arith, refl, ℕ, true, [], map, ◌∷◌, ◌++◌, None, ℤ, ◌+◌, Bool, suc, zero, false}
+use Rattle.f77_run.proofs.Common.{option_map, if◌then◌else◌, replicate, zip, Resolved, CheckedFields, IsChecked, one_if, loop_count, Cells, is_loop, IsCode}
+use Rattle.f77_run.proofs.Common.{Code, Turn, kind_of, bounds_of, empty_size, kinds_count, AreFitting, all_filled, constant_value, Arg, line_of, AreAtStart}
+use Rattle.f77_run.proofs.Common.{counters_of, AreLoaded, cells_at_start, IsImage, RunOf, HasCode, Registers, Kind}
 use Rattle.f77_code.proofs.Counters.{more}
-use Rattle.f77_code.proofs.Listed.{one_if}
-use Rattle.f77_meaning.specs.declared.argument.Arg.{Arg}
-use Rattle.f77_meaning.specs.Interpreter.{AreFitting}
-use Rattle.f77_meaning.specs.Spans.{all_filled}
-use Rattle.f77_meaning.specs.Start.{constant_value}
-use Rattle.f77_meaning.proofs.Beginning.{empty_size}
-use Rattle.f77_meaning.proofs.SlotKinds.{kinds_count}
-use Rattle.f77_run.specs.declared.registers.Registers.{Registers}
-use Rattle.f77_run.specs.Registers.{AreLoaded, IsImage, counters_of}
-use Rattle.f77_run.specs.Visits.{AreAtStart, cells_at_start}
-use Rattle.f77_run.specs.code.Ends.{RunOf}
-use Rattle.f77_run.specs.code.Runs.{HasCode}
 use Rattle.f77_run.proofs.Loaded.{idle}
 
 -- one more counter that is idle, where the statement is a DO

@@ -1,8 +1,5 @@
 -- The DO that is incremented in a step that can be made is among the statements.
-use Rattle.std.proofs.Common.{◌<◌, ℕ, zero, suc, List, [], ◌∷◌, Option, IsSome, arith, length}
-use Rattle.std.specs.Prelude.{slice_get}
-use Rattle.std.specs.Option.{option_and_then}
-use Rattle.std.proofs.lemmas.Bool.{false≢true}
+use Rattle.f77_run.proofs.Common.{length, List, arith, ◌<◌, ℕ, [], ◌∷◌, Option, slice_get, suc, zero, IsSome, false≢true, option_and_then}
 
 among : {A B : Type 0} (f : A → Option B) (xs : List A) (i : ℕ) → IsSome (option_and_then f (slice_get xs i)) → i < length xs
 among f [] i some = absurd (false≢true some)

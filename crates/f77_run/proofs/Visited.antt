@@ -1,50 +1,23 @@
 -- What was noted of a run of a program serves for its code beside that of a changed program.
-use Rattle.std.proofs.Common.{arith, ◌≡◌, ◌∙◌, ◌≤◌, ◌<◌, ◌++◌, ◌&&◌, ℕ, zero, suc, ℤ, Bool, true, List, drop, take, length, refl, sym, ap, subst, slice_set}
-use Rattle.std.specs.Prelude.{Option, Some, None, IfSome, replicate, slice_get}
-use Rattle.std.specs.List.{All, list_all}
-use Rattle.std.proofs.lemmas.Bool.{and_parts}
-use Rattle.std.proofs.lemmas.List.{length-set, length-take-le, take-append-drop}
-use Rattle.std.proofs.lemmas.List.Folds.{list_all-append}
-use Rattle.std.proofs.lemmas.Option.{same_Some, get_or_from_slice_get, slice_get_within}
-use Rattle.f77_tree.specs.declared.tree.Kind.{Kind}
-use Rattle.f77_check.specs.Checked.{CheckedFields, IsChecked}
-use Rattle.f77_actions.specs.Number.{fits}
-use Rattle.f77_code.specs.declared.code.Code.{Code}
+use Rattle.f77_run.proofs.Common.{◌≡◌, length, sym, ◌∙◌, ap, subst, List, arith, refl, ◌<◌, ℕ, Some, true, ◌++◌, None, ◌≤◌, ℤ, Bool, drop, Option, slice_get}
+use Rattle.f77_run.proofs.Common.{suc, take, zero, replicate, slice_set, ◌&&◌, IfSome, length-set, take-append-drop, length-take-le, and_parts, list_all-append}
+use Rattle.f77_run.proofs.Common.{same_Some, slice_get_within, get_or_from_slice_get, list_all, All, fits, CheckedFields, IsChecked, code_after, HasSizes}
+use Rattle.f77_run.proofs.Common.{first_time, IsPassed, AreCode, State, Point, point, are_held, is_held, own_instructions, put_back, KeptTime, Code}
+use Rattle.f77_run.proofs.Common.{Instruction, IsRunningIn, AreFitting, Arg, loaded, counters_of, cells_at_start, IsFollowed, IsChanged, changed_fields}
+use Rattle.f77_run.proofs.Common.{IsAtStart, IsChangeMade, RunOf, plan_of, IsDivergence, divergence_of, IsRun, site_in, Change, Registers, Visits, Kind}
 use Rattle.f77_code.specs.declared.replacing.ChangedCode.{ChangedCode}
 use Rattle.f77_code.specs.declared.replacing.OwnInstruction.{OwnInstruction}
-use Rattle.f77_code.specs.declared.instruction.Instruction.{Instruction}
 use Rattle.f77_code.specs.declared.kept_step.KeptStep.{KeptStep}
 use Rattle.f77_code.specs.declared.noting.Passed.{Passed}
-use Rattle.f77_code.specs.Block.{code_after}
-use Rattle.f77_code.specs.Replacing.{own_instructions, put_back}
-use Rattle.f77_code.specs.Follow.{HasSizes, IsPassed, first_time}
 use Rattle.f77_code.specs.KeptStep.{kept_time}
-use Rattle.f77_code.specs.Instructions.{AreCode}
-use Rattle.f77_code.specs.Moves.{State}
-use Rattle.f77_code.specs.Operation.{Point, point}
-use Rattle.f77_code.specs.Registers.{are_held, is_held}
 use Rattle.f77_code.specs.Simulation.{IsAt}
-use Rattle.f77_code.specs.Together.{KeptTime}
 use Rattle.f77_code.specs.Twins.{AreTwins, HaveSlots, SameSlots, Twins}
 use Rattle.f77_code.proofs.Twins.{times_of_twins, twins_equal}
-use Rattle.f77_meaning.specs.declared.argument.Arg.{Arg}
-use Rattle.f77_meaning.specs.Interpreter.{AreFitting}
-use Rattle.f77_meaning.proofs.InRun.{IsRunningIn}
 use Rattle.f77_meaning.proofs.Moving.{all_nested, moves_by}
-use Rattle.f77_run.specs.declared.changed.Change.{Change}
-use Rattle.f77_run.specs.declared.registers.Registers.{Registers}
-use Rattle.f77_run.specs.declared.visits.Visits.{Visits}
-use Rattle.f77_run.specs.Changed.{IsChanged, IsChangeMade, changed_fields}
-use Rattle.f77_run.specs.Registers.{counters_of, loaded}
-use Rattle.f77_run.specs.code.Registers.{plan_of}
-use Rattle.f77_run.specs.Visits.{IsAtStart, IsFollowed, cells_at_start}
-use Rattle.f77_run.specs.code.Ends.{RunOf}
-use Rattle.f77_run.specs.code.Diverging.{IsDivergence, divergence_of}
-use Rattle.f77_run.specs.code.Runs.{IsRun, site_in}
 use Rattle.f77_run.proofs.Alongside.{loaded_constants}
+use Rattle.f77_run.proofs.Starting.{initial_cells, own_run, slots_counted}
 use Rattle.f77_run.proofs.Ends as ends
 use Rattle.f77_run.proofs.Going as going
-use Rattle.f77_run.proofs.Starting.{initial_cells, own_run, slots_counted}
 
 -- what holds of each item holds of this one
 all_there : {A : Type 0} (P : A → Type 0) (xs : List A) (k : ℕ) (x : A) → All P xs → slice_get xs k ≡ Some x → P x

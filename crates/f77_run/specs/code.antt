@@ -7,3 +7,12 @@ pub mod Registers
 pub mod Running
 pub mod Runs
 pub mod Site
+pub use Changing.*
+pub use Diverging.*
+pub use Ending.*
+pub use Ends.*
+pub use Holding.*
+pub use Registers.*
+pub use Running.*
+pub use Runs.*
+pub use Site.*

@@ -6,9 +6,7 @@ ghost use Rattle.f77_program.specs.Program.{line_of};
 ghost use Rattle.f77_meaning.specs.Interpreter as meaning;
 ghost use Rattle.f77_meaning.specs.Interpreter.{AreArguments, AreFitting};
 ghost use Rattle.f77_meaning.specs.Site.{held};
-ghost use Rattle.f77_run.specs.code.Ending.{outcome_values};
-ghost use Rattle.f77_run.specs.code.Ends.{ReportsOf};
-ghost use Rattle.f77_run.specs.code.Site.{HoldDummies, shown_by};
+ghost use Rattle.f77_run.specs.code.{outcome_values, ReportsOf, HoldDummies, shown_by};
 
 use crate::entering::have_arguments;
 use crate::fitting::are_fitting;

@@ -5,12 +5,11 @@ ghost use Rattle.std.specs.Bool.{Decides};
 ghost use Rattle.std.specs.List.{zip};
 ghost use Rattle.f77_code.specs.Moves.{Cells};
 ghost use Rattle.f77_code.specs.Registers.{are_held};
-ghost use Rattle.f77_run.specs.code.Holding.{AreHeld, IsHeld};
-ghost use Rattle.f77_run.specs.Registers.{AreLoaded};
-ghost use Rattle.f77_run.specs.code.Registers.{shown_cells};
 ghost use Rattle.f77_meaning.specs.code.Spans.{HaveRoom};
 ghost use Rattle.f77_meaning.specs.Interpreter.{values_in};
 ghost use Rattle.f77_meaning.specs.Spans.{all_filled, filled};
+ghost use Rattle.f77_run.specs.{AreLoaded};
+ghost use Rattle.f77_run.specs.code.{AreHeld, IsHeld, shown_cells};
 
 use crate::registers::{is_value, number};
 use f77_actions::Value;

@@ -1,6 +1,7 @@
 //! The registers and counters of a run.
 
-ghost use Rattle.std.specs.Prelude.{◌≡◌, ◌≢◌, ◌≤◌, ◌++◌, drop, length, map, option_map, take, true, Some};
+ghost use Rattle.std.specs.Prelude.{◌≡◌, ◌≢◌, ◌≤◌, ◌++◌, drop, length, map, option_map, take};
+ghost use Rattle.std.specs.Prelude.{true, Some};
 ghost use Rattle.std.specs.Prelude.{IfOk, OnOk, IfNone, IfSome};
 ghost use Rattle.std.specs.Bool.{Decides};
 ghost use Rattle.std.specs.List.{list_all};
@@ -8,12 +9,11 @@ ghost use Rattle.f77_code.specs.Holds.{read_as};
 ghost use Rattle.f77_code.specs.Program.{IsCode};
 ghost use Rattle.f77_code.specs.Registers.{are_held, is_held, decoded};
 ghost use Rattle.f77_run.specs.code.Registers as meaning;
-ghost use Rattle.f77_run.specs.Registers.{IsImage, loaded, values_fit};
-ghost use Rattle.f77_run.specs.code.Registers.{shown_cells};
-ghost use Rattle.f77_run.specs.code.Running.{stands_at};
 ghost use Rattle.f77_meaning.specs.Start.{constant_value};
 ghost use Rattle.f77_actions.specs.Number.{fits};
 ghost use Rattle.f77_actions.specs.Encoded.{coded, is_fitting};
+ghost use Rattle.f77_run.specs.{IsImage, loaded, values_fit};
+ghost use Rattle.f77_run.specs.code.{shown_cells, stands_at};
 
 use f77_actions::Value;
 use f77_actions::encoded::UNDEFINED;

@@ -1,9 +1,10 @@
 //! Steps up to a limit, with cycle detection (Brent's): a run that comes back to a state that was kept never ends.
 
-ghost use Rattle.std.specs.Prelude.{◌≡◌, ◌⊎◌, ◌≤◌, ◌<◌, ℕ, length, true, IfNone, IfOk, IfSome, OnOk};
+ghost use Rattle.std.specs.Prelude.{◌≡◌, ◌⊎◌, ◌≤◌, ◌<◌, ℕ, length, true, IfNone, IfOk, IfSome};
+ghost use Rattle.std.specs.Prelude.{OnOk};
 ghost use Rattle.f77_code.specs.Block.{code_after};
 ghost use Rattle.f77_code.specs.Registers.{are_held};
-ghost use Rattle.f77_run.specs.code.Running.{CameBack, Leads, stands_at, within_registers};
+ghost use Rattle.f77_run.specs.code.{CameBack, Leads, stands_at, within_registers};
 
 use crate::registers::Registers;
 use f77_code::{Instruction, Stand, block, block_to};

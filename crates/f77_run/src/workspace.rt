@@ -7,10 +7,8 @@ ghost use Rattle.f77_actions.specs.declared.resolved.Resolved.{Resolved};
 ghost use Rattle.f77_code.specs.Program.{IsCode};
 ghost use Rattle.f77_code.specs.Registers.{are_held};
 ghost use Rattle.f77_meaning.specs.Interpreter.{AreFitting};
-ghost use Rattle.f77_run.specs.Registers.{IsImage};
-ghost use Rattle.f77_run.specs.Visits.{AreAtStart};
-ghost use Rattle.f77_run.specs.code.Ends.{HasEnded, RunOf};
-ghost use Rattle.f77_run.specs.code.Runs.{HasCode};
+ghost use Rattle.f77_run.specs.{IsImage, AreAtStart};
+ghost use Rattle.f77_run.specs.code.{HasEnded, RunOf, HasCode};
 
 use crate::entering::put_arguments;
 use crate::registers::Registers;

@@ -1,18 +1,11 @@
 -- Columns read one after another: the number of a label, and the text of a statement.
-use Rattle.std.proofs.Common.{refl, ◌≡◌, ℕ, ◌+◌, ◌-◌, ◌*◌, ◌^◌, ◌<◌, ◌≤◌, Bool, true, false, not, List, [], ◌∷◌, ◌++◌, length}
-use Rattle.std.proofs.Common.{get_or, take, drop, map, filter, append_assoc, length-drop, arith, lit<, ap, ◌∙◌, append-nil}
-use Rattle.std.proofs.lemmas.List.{map-append}
+use Rattle.f77_source.proofs.Common.{◌≡◌, ℕ, List, ap, ◌∙◌, refl, length, arith, false, true, ◌+◌, [], ◌++◌, ◌<◌, ◌∷◌, Bool, get_or, take, ◌≤◌, not}
+use Rattle.f77_source.proofs.Common.{append_assoc, drop, append-nil, map, ◌-◌, ◌*◌, filter, length-drop, ◌^◌, get_or-drop, lit<, nat_tests, map-append}
+use Rattle.f77_source.proofs.Common.{filter_more, list_all_at, list_any_at, to_ascii_uppercase, digit_value, list_all, list_any, digits_value}
+use Rattle.f77_source.proofs.Common.{is_label_character, is_blank, is_foreign}
 use Rattle.std.proofs.lemmas.Str.Ascii.{encode_ascii, uppercase_ascii}
-use Rattle.std.specs.List.{list_all, list_any}
-use Rattle.std.specs.Str.Parse.{digits_value}
-use Rattle.std.specs.Char.{digit_value, to_ascii_uppercase}
-use Rattle.std.proofs.lemmas.List.Elements.{filter_more}
-use Rattle.std.proofs.lemmas.List.Folds.{list_all_at, list_any_at}
-use Rattle.std.proofs.lemmas.List.{get_or-drop}
-use lib.Utf8.{encode}
 use Rattle.std.proofs.lemmas.Int.Digits.{digits_value_push}
-use Rattle.std.proofs.lemmas.Bool.Decides.{nat_tests}
-use Rattle.f77_source.specs.Line.{is_blank, is_label_character, is_foreign}
+use lib.Utf8.{encode}
 
 abbrev pub dense : List ℕ → List ℕ
 dense xs = filter (λ c. not (is_blank c)) xs

@@ -1,15 +1,8 @@
 -- From the cards of the lines to the reader's run.
-use Rattle.std.proofs.Common.{◌≡◌, ℕ, suc, ◌+◌, ◌≤◌, ◌==◌, List, [], ◌∷◌, ◌++◌, Some, None, Ok, true, false, refl, ◌∙◌, sym, length, append_assoc, append-nil, arith}
-use Rattle.std.specs.List.{All}
-use Rattle.std.proofs.lemmas.List.Elements.{All-head, All-tail}
-use Rattle.std.proofs.lemmas.Bool.Decides.{nat_tests}
-use Rattle.f77_source.specs.declared.line.LineKind.{LineKind}
-use Rattle.f77_source.specs.declared.line.LineKind.TheVariants.{Comment, Initial, Continuation}
-use Rattle.f77_source.specs.Card.{CardFields}
-use Rattle.f77_source.specs.code.Card.{extended}
-use Rattle.f77_source.specs.Line.{kind, own_fault}
-use Rattle.f77_source.specs.Read.{AreCards, no_lines, comment, statement, MayGoOn, is_initial, continuations}
-use Rattle.f77_source.specs.code.Reader.{Progress, all_cards, initial_card}
+use Rattle.f77_source.proofs.Common.{◌≡◌, ℕ, List, ◌∙◌, refl, length, arith, false, true, ◌+◌, [], ◌++◌, None, Some, sym, ◌∷◌, ◌≤◌, ◌==◌, Ok, append_assoc}
+use Rattle.f77_source.proofs.Common.{append-nil, suc, nat_tests, All-head, All-tail, All, kind, CardFields, own_fault, continuations, AreCards, is_initial}
+use Rattle.f77_source.proofs.Common.{MayGoOn, no_lines, statement, comment, Progress, all_cards, extended, initial_card, LineKind, Continuation, Initial}
+use Rattle.f77_source.proofs.Common.{Comment}
 use Rattle.f77_source.proofs.Faults.{no_own_fault, comment_has_no_fault}
 use Rattle.f77_source.proofs.Runs.{taken_by, run}
 use Rattle.f77_source.proofs.Statements.{with_following}

@@ -1,12 +1,10 @@
 -- The lines of a source, one after another.
-use Rattle.std.proofs.Common.{take_all, add-one, ◌≡◌, ◌≢◌, ℕ, ◌+◌, ◌<◌, ◌≤◌, List, [], ◌∷◌, Bool, true, false, map, refl, ap, ◌∙◌, sym, length, take, drop, get_or, arith}
-use Rattle.std.specs.List.{All, slice_split, position_or_len, before_first, after_first, onto_first}
+use Rattle.f77_source.proofs.Common.{◌≡◌, ℕ, List, ap, ◌∙◌, refl, length, arith, false, true, ◌+◌, [], sym, ◌<◌, ◌∷◌, Bool, get_or, take, ◌≤◌, drop, map}
+use Rattle.f77_source.proofs.Common.{take_all, add-one, ◌≢◌, nat_tests, All-from_get_or, All, slice_split, after_first, before_first, onto_first}
+use Rattle.f77_source.proofs.Common.{position_or_len, lines, is_line_end, terminated}
 use Rattle.std.specs.Str.Lines.{strip_carriage_return}
 use Rattle.std.proofs.lemmas.List.Splits.{slice_split_first, slice_split_none, slice_split-cons_yes, slice_split-cons_no}
-use Rattle.std.proofs.lemmas.List.Elements.{All-from_get_or}
 use Rattle.std.proofs.lemmas.List.Sums.{fails_before_first, position_or_len_is}
-use Rattle.std.proofs.lemmas.Bool.Decides.{nat_tests}
-use Rattle.f77_source.specs.Read.{is_line_end, lines, terminated}
 
 -- a part with parts behind it is a line
 pub terminated_more : (part : List ℕ) (parts : List (List ℕ)) → parts ≢ [] → terminated (part ∷ parts) ≡ part ∷ terminated parts

@@ -1,10 +1,7 @@
 -- What a line with no fault of its own is like.
-use Rattle.std.proofs.Common.{◌≡◌, ℕ, Bool, true, false, cond, not, ◌&&◌, ◌||◌, List, Some, None, refl, arith, ◌==◌}
-use Rattle.std.specs.List.{list_all}
-use Rattle.f77_source.specs.declared.fault.FormFault.{FormFault}
-use Rattle.f77_source.specs.declared.fault.FormFault.TheVariants.{NotAscii, Tab, BadLabel}
-use Rattle.f77_source.specs.declared.line.LineKind.TheVariants.{Comment, Initial, Continuation}
-use Rattle.f77_source.specs.Line.{is_comment, kind, is_blank, column, has_foreign, has_tab, fits_label_field, is_label_field, is_label_character, label_field, field_number, is_well_formed, own_fault}
+use Rattle.f77_source.proofs.Common.{◌≡◌, ℕ, List, refl, arith, false, true, None, Some, Bool, ◌==◌, not, cond, ◌||◌, ◌&&◌, list_all, kind, own_fault}
+use Rattle.f77_source.proofs.Common.{is_label_character, is_blank, field_number, fits_label_field, is_comment, label_field, column, has_foreign, has_tab}
+use Rattle.f77_source.proofs.Common.{is_label_field, is_well_formed, FormFault, BadLabel, NotAscii, Tab, Continuation, Initial, Comment}
 
 pub record Sound (line : List ℕ) : Type 0 where
   pub printable : has_foreign line ≡ false

@@ -1,22 +1,11 @@
 -- The first fault of the lines, and where the reader's run stops.
-use Rattle.std.proofs.Common.{◌≡◌, ℕ, zero, suc, ◌+◌, ◌<◌, ◌==◌, ◌||◌, not, List, [], ◌∷◌, ◌++◌, Option, Some, None, Result, Ok, Err, Bool}
-use Rattle.std.proofs.Common.{true, false, cond, ltb, refl, ap, ◌∙◌, sym, subst, length, get_or, take, reverse, append_assoc, append-nil, arith}
-use Rattle.std.specs.Option.{is_some, IfSome}
-use Rattle.std.specs.List.{list_any, take_while}
-use Rattle.std.proofs.lemmas.List.{reverse-append}
-use Rattle.std.proofs.lemmas.List.Folds.{list_any-append}
-use Rattle.std.proofs.lemmas.Bool.Decides.{nat_tests}
-use Rattle.f77_source.specs.declared.fault.FormFault.{FormFault}
-use Rattle.f77_source.specs.declared.fault.FormFault.TheVariants.{TooManyContinuations}
-use Rattle.f77_source.specs.declared.line.LineKind.{LineKind}
-use Rattle.f77_source.specs.declared.line.LineKind.TheVariants.{Comment, Initial, Continuation}
-use Rattle.f77_source.specs.Card.{CardFields}
-use Rattle.f77_source.specs.code.Card.{extended}
-use Rattle.f77_source.specs.Line.{kind, own_fault}
-use Rattle.f77_source.specs.Read.{is_initial, is_initial_kind, continuations, since_initial, place_fault, line_fault, fault_of_card, IsFirstFormFault}
-use Rattle.f77_source.specs.code.Reader.{Progress, taken, current_gone_on}
-use Rattle.f77_source.proofs.Runs as runs
+use Rattle.f77_source.proofs.Common.{◌≡◌, ℕ, List, ap, ◌∙◌, refl, length, arith, false, true, ◌+◌, [], ◌++◌, None, Some, sym, ◌<◌, ◌∷◌, Bool, get_or, take}
+use Rattle.f77_source.proofs.Common.{◌==◌, Ok, Option, not, Err, append_assoc, cond, subst, Result, append-nil, suc, zero, ◌||◌, ltb, reverse, nat_tests}
+use Rattle.f77_source.proofs.Common.{reverse-append, list_any-append, list_any, take_while, is_some, IfSome, kind, CardFields, own_fault, continuations}
+use Rattle.f77_source.proofs.Common.{is_initial, IsFirstFormFault, line_fault, place_fault, since_initial, fault_of_card, is_initial_kind, Progress, taken}
+use Rattle.f77_source.proofs.Common.{extended, current_gone_on, FormFault, TooManyContinuations, LineKind, Continuation, Initial, Comment}
 use Rattle.f77_source.proofs.Runs.{Took, took, and_then, run}
+use Rattle.f77_source.proofs.Runs as runs
 
 -- the progress that the lines before have made
 pub record Matches (before : List (List ℕ)) (p : Progress) : Type 0 where

@@ -1,18 +1,10 @@
 -- The columns of a written label, and texts that are printable.
-use Rattle.std.proofs.Common.{◌≡◌, ℕ, zero, suc, ◌-◌, ◌<◌, ◌≤◌, ◌==◌, ◌&&◌, ◌||◌, not, nat_lt, Bool, true, false, List, []}
-use Rattle.std.proofs.Common.{◌∷◌, length, get_or, filter, replicate, Option, Some, None, refl, ap, arith, length-append}
-use Rattle.std.proofs.lemmas.List.{length-replicate}
-use Rattle.std.specs.List.{list_all, list_any}
-use Rattle.std.specs.Option.{is_some}
-use Rattle.std.specs.Fmt.{decimal}
-use Rattle.std.specs.Str.Parse.{digits_value, AllDigits}
-use Rattle.std.proofs.lemmas.List.Elements.{filter-append}
-use Rattle.std.proofs.lemmas.List.Folds.{list_all-append, list_all_at}
+use Rattle.f77_source.proofs.Common.{◌≡◌, ℕ, List, ap, refl, length, arith, false, true, [], None, Some, ◌<◌, ◌∷◌, Bool, get_or, ◌≤◌, ◌==◌, Option, not, suc}
+use Rattle.f77_source.proofs.Common.{◌-◌, zero, ◌||◌, filter, nat_lt, ◌&&◌, length-append, replicate, nat_tests, length-replicate, filter-append}
+use Rattle.f77_source.proofs.Common.{list_all-append, list_all_at, decimal, list_all, list_any, is_some, digits_value, AllDigits, is_label_character, is_blank}
+use Rattle.f77_source.proofs.Common.{is_bad_label, is_foreign, is_printable, label_text}
 use Rattle.std.proofs.lemmas.Fmt.{decimal_is_IsNumeral, length-decimal-le}
 use Rattle.std.proofs.lemmas.Str.Parse.{digit_from_value}
-use Rattle.std.proofs.lemmas.Bool.Decides.{nat_tests}
-use Rattle.f77_source.specs.Line.{is_blank, is_label_character, is_foreign}
-use Rattle.f77_source.specs.Write.{label_text, is_printable, is_bad_label}
 
 -- a character that passes a test, at the front
 both : (a b : Bool) → a ≡ true → b ≡ true → (a && b) ≡ true

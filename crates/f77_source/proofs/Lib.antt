@@ -1,3 +1,4 @@
+pub mod Common
 mod Columns
 mod Faults
 mod Runs

@@ -1,18 +1,13 @@
 -- What the run over the lines of a source says of its cards and of its first fault.
-use Rattle.std.proofs.Common.{◌≡◌, ℕ, ◌≤◌, ◌==◌, not, List, [], Option, Some, None, Result, Ok, Err, Bool, true, false, cond, ◌⊎◌, inl, inr, refl, ap, ◌∙◌, sym, subst, length}
-use Rattle.std.specs.List.{list_any}
-use Rattle.std.specs.Option.{option_or}
-use Rattle.f77_source.specs.declared.fault.FormFault.{FormFault}
-use Rattle.f77_source.specs.declared.fault.FormFault.TheVariants.{Memory, TooLarge, NotAscii, Tab, BadLabel, LooseContinuation, TooManyContinuations}
-use Rattle.f77_source.specs.Card.{CardFields}
-use Rattle.f77_source.specs.Line.{kind, is_comment, own_fault, has_foreign, has_tab, fits_label_field}
-use Rattle.f77_source.specs.Law.{HasCardsOrFault}
-use Rattle.f77_source.specs.Read.{lines, AreCards, IsFirstFormFault, IsRefusedBy, is_continuation, is_initial, continuations, since_initial, place_fault, line_fault}
-use Rattle.f77_source.specs.code.Reader.{Progress, nothing_read, all_cards, Steps}
+use Rattle.f77_source.proofs.Common.{◌≡◌, ℕ, List, ap, ◌∙◌, refl, length, false, true, [], None, Some, sym, Bool, ◌≤◌, ◌==◌, Ok, Option, not, Err, cond, subst}
+use Rattle.f77_source.proofs.Common.{Result, inl, inr, ◌⊎◌, list_any, option_or, kind, CardFields, own_fault, continuations, lines, AreCards, is_initial}
+use Rattle.f77_source.proofs.Common.{fits_label_field, is_comment, IsFirstFormFault, has_foreign, has_tab, line_fault, place_fault, since_initial}
+use Rattle.f77_source.proofs.Common.{HasCardsOrFault, IsRefusedBy, is_continuation, Progress, Steps, all_cards, nothing_read, FormFault, TooManyContinuations}
+use Rattle.f77_source.proofs.Common.{BadLabel, NotAscii, Memory, Tab, LooseContinuation, TooLarge}
 use Rattle.f77_source.proofs.Runs.{run}
-use Rattle.f77_source.proofs.Statements as statements
 use Rattle.f77_source.proofs.Completeness.{complete}
 use Rattle.f77_source.proofs.FirstFaults.{ran, Ran, first_fault, no_first_fault, one_first}
+use Rattle.f77_source.proofs.Statements as statements
 
 -- the faults that a line can have
 abbrev of_a_line : FormFault → Bool

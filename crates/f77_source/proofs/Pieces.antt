@@ -1,17 +1,12 @@
 -- The parts of a written card.
-use Rattle.std.proofs.Common.{◌≡◌, ℕ, zero, suc, ◌+◌, ◌-◌, ◌*◌, ◌<◌, ◌≤◌, min, List, [], ◌∷◌, ◌++◌, length, get_or, take, drop, replicate}
-use Rattle.std.proofs.Common.{refl, ap, ◌∙◌, arith, add-one, length-drop, append-nil, Option, Some, None, Bool, true, false, cond, not, nat_lt}
-use Rattle.std.proofs.lemmas.Bool.Decides.{nat_tests}
-use Rattle.std.specs.List.{repeat, flat_map, range_with_len, slice_range}
-use lib.Utf8.{encode}
-use Rattle.std.specs.Fmt.{decimal, styled_decimal, format_spec, padded_integral, char_count}
-use Rattle.std.proofs.lemmas.List.{take_min}
+use Rattle.f77_source.proofs.Common.{◌≡◌, ℕ, List, ap, ◌∙◌, refl, length, arith, false, true, ◌+◌, [], ◌++◌, None, Some, ◌<◌, ◌∷◌, Bool, get_or, take, ◌≤◌}
+use Rattle.f77_source.proofs.Common.{Option, not, cond, drop, append-nil, suc, ◌-◌, zero, ◌*◌, add-one, length-drop, nat_lt, replicate, min, nat_tests}
+use Rattle.f77_source.proofs.Common.{take_min, decimal, styled_decimal, format_spec, list_all, flat_map, range_with_len, repeat, slice_range, CardFields}
+use Rattle.f77_source.proofs.Common.{continuation_line, card_faults, is_bad_label, is_printable, continuation_count, piece, card_fault, FormFault}
+use Rattle.f77_source.proofs.Common.{TooManyContinuations, BadLabel, NotAscii}
+use Rattle.std.specs.Fmt.{padded_integral, char_count}
 use Rattle.std.proofs.lemmas.Grind.{flat_map-append}
-use Rattle.std.specs.List.{list_all}
-use Rattle.f77_source.specs.declared.fault.FormFault.{FormFault}
-use Rattle.f77_source.specs.declared.fault.FormFault.TheVariants.{NotAscii, BadLabel, TooManyContinuations}
-use Rattle.f77_source.specs.Card.{CardFields}
-use Rattle.f77_source.specs.Write.{piece, continuation_line, continuation_count, is_printable, is_bad_label, card_fault, card_faults}
+use lib.Utf8.{encode}
 
 repeat_one : (n c : ℕ) → repeat n (c ∷ []) ≡ replicate n c
 repeat_one zero c = refl

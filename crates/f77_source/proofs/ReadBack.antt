@@ -1,32 +1,21 @@
 -- Written cards are read again.
-use Rattle.std.proofs.Common.{◌≡◌, ℕ, zero, suc, ◌+◌, ◌-◌, ◌*◌, ◌/◌, ◌≤◌, ◌==◌, ◌&&◌, ◌||◌, not, cond, nat_lt, Bool, true, false, List, [], ◌∷◌, ◌++◌}
-use Rattle.std.proofs.Common.{length, get_or, take, drop, map, filter, Option, Some, None, refl, ap, ◌∙◌, sym, arith, append_assoc, take_all, length-append}
-use Rattle.std.specs.List.{All, list_all, flat_map, range_with_len, slice_split}
-use Rattle.std.specs.Option.{is_some}
-use Rattle.std.specs.Char.{to_ascii_uppercase}
+use Rattle.f77_source.proofs.Common.{◌≡◌, ℕ, List, ap, ◌∙◌, refl, length, arith, false, true, ◌+◌, [], ◌++◌, None, Some, sym, ◌∷◌, Bool, get_or, take, ◌≤◌}
+use Rattle.f77_source.proofs.Common.{◌==◌, Option, not, append_assoc, cond, drop, map, suc, ◌-◌, take_all, zero, ◌*◌, ◌||◌, filter, nat_lt, ◌&&◌, length-append}
+use Rattle.f77_source.proofs.Common.{drop-drop, drop_at, length-take, take_at, ◌/◌, nat_tests, map-append, get_or_append_left, get_or_at, get_or_default}
+use Rattle.f77_source.proofs.Common.{get_or_past, length-map, All-cons, All-from_get_or, All-head, All-nil, All-tail, filter-append, list_all-append}
+use Rattle.f77_source.proofs.Common.{to_ascii_uppercase, list_all, flat_map, All, range_with_len, slice_split, is_some, digits_value, kind, CardFields}
+use Rattle.f77_source.proofs.Common.{continuations, lines, AreCards, continuation_line, is_blank, is_initial, MayGoOn, card_faults, field_number, is_bad_label}
+use Rattle.f77_source.proofs.Common.{is_comment, is_printable, label_field, label_text, line_part, no_lines, statement, column, continuation_count, counted}
+use Rattle.f77_source.proofs.Common.{is_label_field, is_line_end, is_well_formed, piece, statement_card, terminated, written, written_card, HasInitialLine}
+use Rattle.f77_source.proofs.Common.{IsReadAs, label, squeezed, statement_field, Continuation, Initial}
 use Rattle.std.specs.Str.Lines.{strip_carriage_return}
-use Rattle.std.specs.Str.Parse.{digits_value}
-use Rattle.std.proofs.lemmas.List.{take_at, drop_at, drop-drop, map-append}
-use Rattle.std.proofs.lemmas.List.Elements.{All-cons, All-nil, All-head, All-tail, filter-append}
-use Rattle.std.proofs.lemmas.List.Folds.{list_all-append}
 use Rattle.std.proofs.lemmas.List.Splits.{slice_split_at}
-use Rattle.std.proofs.lemmas.Bool.Decides.{nat_tests}
 use Rattle.std.proofs.Math.Seq.{take-add}
-use Rattle.std.proofs.Common.{length-take}
-use Rattle.std.proofs.lemmas.List.{length-map, get_or_default}
 use Rattle.std.proofs.lemmas.List.FromFn.{length-range_with_len}
-use Rattle.f77_source.specs.Card.{CardFields}
-use Rattle.f77_source.specs.Line.{is_blank, counted, label_field, statement_field, column, is_comment, kind, label, field_number, is_label_field, line_part, is_well_formed}
-use Rattle.f77_source.specs.Read.{AreCards, no_lines, statement, MayGoOn, statement_card, is_initial, continuations, lines, is_line_end, terminated}
-use Rattle.f77_source.specs.Write.{label_text, piece, continuation_count, continuation_line, written_card, written, is_printable, is_bad_label, card_faults}
-use Rattle.f77_source.specs.Law.{squeezed, HasInitialLine, IsReadAs}
-use Rattle.f77_source.specs.declared.line.LineKind.TheVariants.{Initial, Continuation}
 use Rattle.f77_source.proofs.Pieces.{Writable, writable, no_fault_at}
 use Rattle.f77_source.proofs.Cuts.{terminated_more, parts_some, no_lines_left}
-use Rattle.f77_source.proofs.LabelTexts.{printable_at, printable_clean, label_text_length, label_text_blank, label_text_characters}
-use Rattle.f77_source.proofs.LabelTexts.{label_text_printable, label_text_number, label_above_zero, label_character_at}
-use Rattle.std.proofs.lemmas.List.{get_or_past, get_or_at, get_or_append_left}
-use Rattle.std.proofs.lemmas.List.Elements.{All-from_get_or}
+use Rattle.f77_source.proofs.LabelTexts.{printable_at, printable_clean, label_text_length, label_text_blank, label_text_characters, label_text_printable}
+use Rattle.f77_source.proofs.LabelTexts.{label_text_number, label_above_zero, label_character_at}
 
 -- the lines of a written card, without their ends
 abbrev pub initial_of : CardFields → List ℕ

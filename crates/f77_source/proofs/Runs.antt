@@ -1,10 +1,6 @@
 -- The reader over lines: what it makes of one line, by cases, and of several.
-use Rattle.std.proofs.Common.{◌≡◌, ℕ, ◌+◌, List, [], ◌∷◌, Option, Some, None, Result, Ok, Err, refl, sym, subst}
-use Rattle.f77_source.specs.declared.fault.FormFault.{FormFault}
-use Rattle.f77_source.specs.declared.line.LineKind.{LineKind}
-use Rattle.f77_source.specs.declared.line.LineKind.TheVariants.{Comment, Initial, Continuation}
-use Rattle.f77_source.specs.Line.{kind, own_fault}
-use Rattle.f77_source.specs.code.Reader.{Progress, taken, taken_by_kind, card_begun, gone_on}
+use Rattle.f77_source.proofs.Common.{◌≡◌, ℕ, List, refl, ◌+◌, [], None, Some, sym, ◌∷◌, Ok, Option, Err, subst, Result, kind, own_fault, Progress, taken}
+use Rattle.f77_source.proofs.Common.{card_begun, taken_by_kind, gone_on, FormFault, LineKind, Continuation, Initial, Comment}
 
 -- what one line can do
 pub data Took (n : ℕ) (line : List ℕ) (p : Progress) : Result Progress FormFault → Type 0 where

@@ -1,20 +1,12 @@
 -- From the reader's run to the cards of the lines, and back.
-use Rattle.std.proofs.Common.{◌≡◌, ℕ, ◌+◌, ◌≤◌, ◌==◌, List, [], ◌∷◌, ◌++◌, Option, Some, None, Result, Ok, Err, Bool}
-use Rattle.std.proofs.Common.{true, false, cond, refl, ap, ◌∙◌, sym, subst, length, append_assoc, append-nil, arith}
-use Rattle.std.specs.List.{All, flat_map}
-use Rattle.std.proofs.lemmas.List.Elements.{All-cons, All-nil}
-use Rattle.f77_source.specs.declared.fault.FormFault.{FormFault}
-use Rattle.f77_source.specs.declared.fault.FormFault.TheVariants.{TooManyContinuations}
-use Rattle.std.proofs.lemmas.Bool.Decides.{nat_tests}
-use Rattle.f77_source.specs.declared.line.LineKind.TheVariants.{Comment, Initial, Continuation}
-use Rattle.f77_source.specs.Card.{CardFields}
-use Rattle.f77_source.specs.code.Card.{extended}
-use Rattle.f77_source.specs.Line.{kind, line_part, own_fault}
-use Rattle.f77_source.specs.Read.{AreCards, no_lines, comment, statement, MayGoOn, statement_card, continuations}
-use Rattle.f77_source.specs.code.Reader.{Progress, taken, card_begun, current_gone_on, all_cards, current_card, initial_card}
+use Rattle.f77_source.proofs.Common.{◌≡◌, ℕ, List, ap, ◌∙◌, refl, length, arith, false, true, ◌+◌, [], ◌++◌, None, Some, sym, ◌∷◌, Bool, ◌≤◌, ◌==◌, Ok, Option}
+use Rattle.f77_source.proofs.Common.{Err, append_assoc, cond, subst, Result, append-nil, nat_tests, All-cons, All-nil, flat_map, All, kind, CardFields}
+use Rattle.f77_source.proofs.Common.{own_fault, continuations, AreCards, MayGoOn, line_part, no_lines, statement, comment, statement_card, Progress, taken}
+use Rattle.f77_source.proofs.Common.{all_cards, extended, card_begun, current_gone_on, initial_card, current_card, FormFault, TooManyContinuations}
+use Rattle.f77_source.proofs.Common.{Continuation, Initial, Comment}
 use Rattle.f77_source.proofs.Faults.{well_formed}
-use Rattle.f77_source.proofs.Runs as runs
 use Rattle.f77_source.proofs.Runs.{Took, took, and_then, run}
+use Rattle.f77_source.proofs.Runs as runs
 
 -- the card with the lines that follow it
 abbrev pub with_following : CardFields → List (List ℕ) → CardFields

@@ -1,2 +1,4 @@
 pub mod Card
 pub mod Reader
+pub use Card.*
+unfoldable pub use Reader.*

@@ -2,11 +2,9 @@
 
 ghost use Rattle.std.specs.Prelude.{◌≡◌, ◌↔◌, ℕ, true, [], List};
 ghost use Rattle.std.specs.List.{All};
-ghost use Rattle.f77_source.specs.Card.{CardFields, same_card};
-ghost use Rattle.f77_source.specs.Law.{HasInitialLine, HasCardsOrFault, IsReadAs};
-ghost use Rattle.f77_source.specs.Read.{lines, AreCards, IsFirstFormFault};
-ghost use Rattle.f77_source.specs.Write.{card_faults, written};
 ghost use Rattle.f77_source.specs.declared.fault.FormFault.{FormFault};
+ghost use Rattle.f77_source.specs.{CardFields, same_card, HasInitialLine, HasCardsOrFault, IsReadAs, lines, AreCards};
+ghost use Rattle.f77_source.specs.{IsFirstFormFault, card_faults, written};
 
 /// Cards that were written are read again, if each has a label or a first line that is not blank.
 #[tactic(auto, using(crate::proofs::ReadBack::read_back))]

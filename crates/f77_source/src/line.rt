@@ -2,26 +2,9 @@
 
 ghost use Rattle.std.specs.Prelude.{◌≡◌, ◌<◌, ◌++◌, Option, None, true, false, take, OnOk, string_bytes};
 ghost use Rattle.std.specs.List.{list_all, list_any};
-ghost use Rattle.f77_source.specs.Line.{
-  column,
-  is_label_character,
-  counted,
-  label_field,
-  statement_field,
-  is_comment,
-  kind,
-  field_number,
-  label,
-  is_label_field,
-  line_part,
-  is_foreign,
-  has_foreign,
-  has_tab,
-  fits_label_field,
-  is_well_formed,
-  own_fault,
-  is_blank,
-};
+ghost use Rattle.f77_source.specs.{column, is_label_character, counted, label_field, statement_field, is_comment, kind};
+ghost use Rattle.f77_source.specs.{field_number, label, is_label_field, line_part, is_foreign, has_foreign, has_tab};
+ghost use Rattle.f77_source.specs.{fits_label_field, is_well_formed, own_fault, is_blank};
 
 use crate::fault::FormFault;
 use std::alloc::AllocError;

@@ -4,8 +4,7 @@ ghost use Rattle.std.specs.Prelude.{◌≡◌, ◌≤◌, ◌<◌, ◌⊎◌, Li
 ghost use Rattle.std.specs.Prelude.{IfOk, IfErr, MatchOption, MatchResult};
 ghost use Rattle.std.specs.List.{position_or_len};
 ghost use Rattle.std.specs.Str.Lines.{strip_carriage_return};
-ghost use Rattle.f77_source.specs.Card.{CardFields};
-ghost use Rattle.f77_source.specs.Read.{is_line_end, lines, AreCards, IsFirstFormFault, IsRefusedBy};
+ghost use Rattle.f77_source.specs.{CardFields, is_line_end, lines, AreCards, IsFirstFormFault, IsRefusedBy};
 
 use crate::card::Card;
 use crate::fault::FormFault;

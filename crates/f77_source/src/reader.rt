@@ -2,10 +2,10 @@
 
 ghost use Rattle.std.specs.Prelude.{◌≡◌, OnOk, IfOk, true, false};
 ghost use Rattle.std.specs.List.{list_all};
-ghost use Rattle.f77_source.specs.Line.{has_foreign, label_field, is_label_character};
-ghost use Rattle.f77_source.specs.code.Reader.{progress_of, nothing_read, all_cards};
-ghost use Rattle.f77_source.specs.code.Reader.{initial_card, card_begun, gone_on, taken, Steps};
 ghost use Rattle.f77_source.specs.declared.line.LineKind.TheVariants.{Initial, Continuation};
+ghost use Rattle.f77_source.specs.{has_foreign, label_field, is_label_character};
+ghost use Rattle.f77_source.specs.code.{progress_of, nothing_read, all_cards, initial_card, card_begun, gone_on, taken};
+ghost use Rattle.f77_source.specs.code.{Steps};
 
 use crate::card::Card;
 use crate::fault::FormFault;

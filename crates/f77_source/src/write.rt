@@ -1,38 +1,10 @@
 //! Cards written as lines.
 
-ghost use Rattle.std.specs.Prelude.{
-  ◌≡◌,
-  ◌≤◌,
-  ◌<◌,
-  ◌*◌,
-  ◌++◌,
-  ◌⊎◌,
-  [],
-  Some,
-  None,
-  true,
-  false,
-  length,
-  IfOk,
-  IfErr,
-  MatchOption,
-  OnOk,
-  string_bytes,
-};
+ghost use Rattle.std.specs.Prelude.{◌≡◌, ◌≤◌, ◌<◌, ◌*◌, ◌++◌, ◌⊎◌, [], Some, None, true};
+ghost use Rattle.std.specs.Prelude.{false, length, IfOk, IfErr, MatchOption, OnOk, string_bytes};
 ghost use Rattle.std.specs.List.{list_all, slice_get};
-ghost use Rattle.f77_source.specs.Write.{
-  label_text,
-  piece,
-  continuation_count,
-  initial_line,
-  continuation_line,
-  written_card,
-  written,
-  is_printable,
-  is_bad_label,
-  card_fault,
-  card_faults,
-};
+ghost use Rattle.f77_source.specs.{label_text, piece, continuation_count, initial_line, continuation_line};
+ghost use Rattle.f77_source.specs.{written_card, written, is_printable, is_bad_label, card_fault, card_faults};
 
 use crate::card::Card;
 use crate::fault::FormFault;

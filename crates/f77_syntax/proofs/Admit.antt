@@ -1,15 +1,8 @@
 -- What the limits say of the text and of the statement that is kept, they say of the one that the text spells.
-use Rattle.std.proofs.Common.{◌≡◌, ◌⊎◌, inl, inr, ◌≤◌, ◌<◌, ℕ, List, true, refl, ap, sym, ◌∙◌, subst}
-use Rattle.f77_program.specs.declared.fault.SyntaxFault.{SyntaxFault}
-use Rattle.f77_program.specs.declared.fault.SyntaxFault.TheVariants.{Memory, Unknown, BadName}
-use Rattle.f77_tree.specs.Statement.{Statement}
-use Rattle.f77_tree.specs.StatementGrammar.{SpellsStatement, IsFormed}
-use Rattle.f77_syntax.specs.code.StatementView.{clip_statement}
-use Rattle.f77_syntax.specs.TextLimits.{character_count, most_characters, IsTooDeep}
-use Rattle.f77_tree.specs.Names.{statement_names}
-use Rattle.f77_tree.specs.Limits.{most_nodes, statement_constants, statement_nodes}
-use Rattle.f77_syntax.specs.Parsing.{IsAdmitted, IsCardRefused}
-use Rattle.f77_syntax.specs.code.Parsing.{IsOutside}
+use Rattle.f77_syntax.proofs.Common.{refl, ◌∙◌, sym, ap, ◌≡◌, List, ℕ, true, subst, ◌≤◌, inr, ◌<◌, inl, ◌⊎◌, SyntaxFault, Memory, BadName, IsAdmitted}
+use Rattle.f77_syntax.proofs.Common.{IsCardRefused, character_count, IsTooDeep, most_characters, clip_statement, IsOutside, statement_constants}
+use Rattle.f77_syntax.proofs.Common.{statement_nodes, most_nodes, statement_names, Statement, SpellsStatement, IsFormed}
+use Rattle.f77_program.specs.declared.fault.SyntaxFault.TheVariants.{Unknown}
 use Rattle.f77_syntax.proofs.FormedClip.{formed_short, unformed_long}
 use Rattle.f77_syntax.proofs.StatementClip.{statement_kept}
 use Rattle.f77_syntax.proofs.NodeClip.{statement_constants_clip, statement_nodes_clip}

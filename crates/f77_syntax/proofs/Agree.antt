@@ -1,16 +1,12 @@
 -- More calls read the same once they are enough, so the readers satisfy their own equations.
-use Rattle.std.proofs.Common.{arith, ◌-◌, zero-add, ◌≡◌, ◌<◌, ◌≤◌, ◌+◌, ℕ, zero, suc, length, length-append, List, [], ◌∷◌, Bool, true, false, cond, refl, Option, Some, None, ap, sym, ◌∙◌}
-use Rattle.std.specs.Prelude.{codes, ◌==◌, ◌&&◌, nat_le}
-use Rattle.f77_tree.specs.declared.operator.Operator.{Operator}
-use Rattle.f77_tree.specs.Operator.{level, left_level, right_level}
-use Rattle.f77_tree.specs.Tree.{Tree}
-use Rattle.f77_tree.specs.Grammar.{is_name, is_number, word, past_word}
-use Rattle.f77_syntax.specs.Reading.{◌>>=◌, strip}
-use Rattle.f77_syntax.specs.code.Reading.{operator_at, Readers, dotted_by, dotted_at, named_at, word_tree_at, start_at, expr_at, climb_on, climb_at, more_at, trees_at, within, reading}
+use Rattle.f77_syntax.proofs.Common.{refl, ◌∙◌, sym, ap, ◌≡◌, List, ℕ, true, [], ◌∷◌, Some, None, false, length, arith, Option, Bool, ◌≤◌, ◌==◌, codes, ◌<◌}
+use Rattle.f77_syntax.proofs.Common.{cond, suc, ◌+◌, zero, ◌&&◌, nat_le, length-append, ◌-◌, zero-add, ◌>>=◌, strip, reading, operator_at, start_at, expr_at}
+use Rattle.f77_syntax.proofs.Common.{climb_at, climb_on, named_at, trees_at, word_tree_at, Readers, dotted_at, more_at, dotted_by, within, is_name, is_number}
+use Rattle.f77_syntax.proofs.Common.{past_word, word, left_level, level, right_level, Tree, Operator}
 use Rattle.f77_syntax.proofs.Steps.{strip_is}
 use Rattle.f77_syntax.proofs.Sound.{Sound, sound_within}
-use Rattle.f77_syntax.proofs.Sound as sound
 use Rattle.f77_syntax.proofs.Shorter.{Shorter, shorter, operator_shorter, past_word_short, spelled_long}
+use Rattle.f77_syntax.proofs.Sound as sound
 
 -- two readers agree on each text of at most this length
 pub record Agree (n : ℕ) (R Q : Readers) : Type 0 where

@@ -1,13 +1,7 @@
 -- An assignment that is read is spelled so.
-use Rattle.std.proofs.Common.{◌≡◌, ℕ, List, [], ◌∷◌, ◌++◌, true, subst, refl, Option, Some, None, ap, sym, ◌∙◌, append_assoc}
-use Rattle.f77_tree.specs.Tree.{Trees}
-use Rattle.f77_tree.specs.Statement.{Statement}
-use Rattle.f77_tree.specs.Grammar.{SpellsReference, is_name}
-use Rattle.f77_tree.specs.StatementGrammar.{SpellsAction}
-use Rattle.f77_syntax.specs.Reading.{◌>>=◌}
-use Rattle.f77_syntax.specs.code.Reading.{tree_after, close_at, reading, whole_at}
-use Rattle.f77_syntax.specs.code.Assignment.{reference_behind, reference_at, assign_at}
-use Rattle.f77_syntax.specs.code.Names.{name_at}
+use Rattle.f77_syntax.proofs.Common.{refl, ◌∙◌, sym, ap, ◌≡◌, List, ℕ, true, [], ◌∷◌, Some, None, subst, Option, ◌++◌, append_assoc, ◌>>=◌, tree_after, reading}
+use Rattle.f77_syntax.proofs.Common.{name_at, close_at, whole_at, reference_at, assign_at, reference_behind, is_name, SpellsReference, Statement, SpellsAction}
+use Rattle.f77_syntax.proofs.Common.{Trees}
 use Rattle.f77_syntax.proofs.Steps.{along, bind_ok, after_is, name_front}
 use Rattle.f77_syntax.proofs.Sound.{sound_reading, whole_is}
 

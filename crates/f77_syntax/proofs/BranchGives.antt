@@ -1,27 +1,12 @@
 -- What the readers of statements, of labels and of what stands behind a character give, from what they call.
-use Rattle.std.proofs.Common.{arith, ◌≡◌, ◌≤◌, ◌<◌, ◌+◌, ◌-◌, ◌^◌, ℕ, length, List, [], ◌∷◌, Bool, true, false, cond, refl, Option, Some, None, ap, sym, ◌∙◌, take, drop, get_or}
-use Rattle.std.specs.Prelude.{◌==◌, codes, option_map, ok_or}
-use Rattle.std.specs.Str.{bytes_eq}
-use Rattle.std.specs.List.{list_all}
-use Rattle.std.specs.Str.Parse.{AllDigits, digits_value}
+use Rattle.f77_syntax.proofs.Common.{refl, ◌∙◌, sym, ap, ◌≡◌, List, ℕ, true, [], ◌∷◌, Some, None, false, length, arith, Option, Bool, ◌≤◌, ◌==◌, codes, ◌<◌}
+use Rattle.f77_syntax.proofs.Common.{cond, ◌+◌, drop, take, option_map, ◌-◌, get_or, le-leb, ok_or, ◌^◌, nat_tests, drop_more, take_rest, none-some, list_all}
+use Rattle.f77_syntax.proofs.Common.{bytes_eq, digits_value, AllDigits, is_action, behind_character, clipped, clip_statement, Gives, IsStatement}
+use Rattle.f77_syntax.proofs.Common.{word_statement, Unknown, and_true, is_number, is_digit, Statement, statement_of, label_number}
 use Rattle.std.specs.Char.{digit_value}
-use Rattle.std.proofs.lemmas.Option.{none-some}
-use Rattle.std.proofs.lemmas.Bool.{le-leb}
-use Rattle.std.proofs.lemmas.Bool.Decides.{nat_tests}
 use Rattle.std.proofs.lemmas.Int.Digits.{digits_value-lt}
-use Rattle.std.proofs.lemmas.List.{drop_more, take_rest}
 use Rattle.std.proofs.Math.Nat.{pow-le-pow_right}
-use Rattle.f77_syntax.specs.declared.fault.ReadError.TheVariants.{Unknown}
 use Rattle.f77_tree.specs.declared.statement.Stmt.{Stmt}
-use Rattle.f77_tree.specs.Statement.{Statement, statement_of}
-use Rattle.f77_tree.specs.Grammar.{is_digit, is_number}
-use Rattle.f77_tree.specs.StatementGrammar.{label_number}
-use Rattle.f77_syntax.specs.Classification.{behind_character}
-use Rattle.f77_program.specs.Formed.{is_action}
-use Rattle.f77_syntax.specs.code.Statement.{word_statement}
-use Rattle.f77_syntax.specs.code.View.{clipped, Gives}
-use Rattle.f77_syntax.specs.code.StatementView.{clip_statement, IsStatement}
-use Rattle.f77_tree.proofs.Tests.{and_true}
 use Rattle.f77_syntax.proofs.Steps.{along}
 use Rattle.f77_syntax.proofs.WordTexts.{number_digits}
 

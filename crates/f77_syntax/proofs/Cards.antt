@@ -1,18 +1,9 @@
 -- Cards that are read one by one.
-use Rattle.std.proofs.Common.{◌≡◌, ◌≢◌, ◌⊎◌, inl, inr, List, [], ◌∷◌, ◌++◌, true, ap, sym, ◌∙◌, subst, Option, Some, None, Ok, Err, append_assoc}
-use Rattle.std.specs.Prelude.{Result, MatchResult, IfOk, IfErr, map}
-use Rattle.std.proofs.lemmas.List.{append-nil, map-append}
-use Rattle.f77_source.specs.Card.{CardFields}
-use Rattle.f77_program.specs.declared.fault.SyntaxFault.{SyntaxFault}
-use Rattle.f77_program.specs.declared.fault.SyntaxFault.TheVariants.{Memory}
-use Rattle.f77_program.specs.declared.group.Group.{Group}
-use Rattle.f77_program.specs.declared.group.Group.TheVariants.{End}
+use Rattle.f77_syntax.proofs.Common.{◌∙◌, sym, ap, ◌≡◌, List, true, [], ◌∷◌, Some, None, subst, Option, ◌++◌, map, append_assoc, inr, inl, append-nil, ◌⊎◌, Err}
+use Rattle.f77_syntax.proofs.Common.{Ok, IfOk, MatchResult, Result, ◌≢◌, IfErr, map-append, spelled_is_formed, may_stand, group_of, LineFields, IsProgram}
+use Rattle.f77_syntax.proofs.Common.{line_of, SyntaxFault, Memory, Group, End, CardFields, IsAdmitted, AreLines, IsFirstSyntaxFault, line_with, unfinished}
+use Rattle.f77_syntax.proofs.Common.{Statement, statement_of}
 use Rattle.f77_program.specs.declared.program.Line.{Line}
-use Rattle.f77_tree.specs.Statement.{statement_of, Statement}
-use Rattle.f77_program.specs.Group.{group_of, may_stand}
-use Rattle.f77_syntax.specs.Parsing.{IsAdmitted, line_with, AreLines, IsFirstSyntaxFault, unfinished}
-use Rattle.f77_program.specs.Program.{LineFields, line_of, IsProgram}
-use Rattle.f77_program.proofs.StatementForming.{spelled_is_formed}
 use Rattle.f77_syntax.proofs.Exact.{either_lines_or_fault, one_fault, one_program}
 
 -- the line of one more card

@@ -1,7 +1,6 @@
 -- A text has no more characters than bytes.
-use Rattle.std.proofs.Common.{arith, ◌≤◌, ◌+◌, ◌-◌, ◌*◌, ℕ, zero, suc, List, [], ◌∷◌, length}
-use Rattle.std.specs.Str.{chars, chars_after, continuation_len, lead_bits}
-use Rattle.f77_syntax.specs.TextLimits.{character_count}
+use Rattle.f77_syntax.proofs.Common.{List, ℕ, [], ◌∷◌, length, arith, ◌≤◌, suc, ◌+◌, zero, ◌-◌, ◌*◌, chars_after, continuation_len, lead_bits, character_count}
+use Rattle.std.specs.Str.{chars}
 
 -- the characters of the bytes behind the first byte of a character, which counts as one
 after_few : (bytes : List ℕ) (n c : ℕ) → length (chars_after n c bytes) ≤ length bytes + 1

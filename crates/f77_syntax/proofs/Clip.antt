@@ -1,22 +1,11 @@
 -- Keeping trees, declared names and initial values changes no limit, and within the limits it changes nothing.
-use Rattle.std.proofs.Common.{arith, ◌≡◌, ◌≤◌, ℕ, zero, suc, List, [], ◌∷◌, length, Bool, true, false, cond, refl, ap}
-use Rattle.std.specs.Prelude.{ℤ, negsuc, ◌&&◌, nat_le, map}
-use Rattle.std.specs.List.{list_all}
-use Rattle.std.proofs.lemmas.Bool.Decides.{nat_tests}
-use Rattle.std.proofs.lemmas.List.{take_all, length-map}
-use Rattle.f77_tree.specs.Tree.{Tree, Trees, DeclFields, GroupFields}
-use Rattle.f77_syntax.specs.code.View.{clipped, clip, clip_all}
-use Rattle.f77_tree.specs.Name.{is_short, cut}
-use Rattle.f77_tree.specs.Names.{short_names, all_short_names, decl_name, declaration_names, has_short_group_names, data_names}
-use Rattle.f77_tree.specs.declared.data.Constant.{Constant}
+use Rattle.f77_syntax.proofs.Common.{refl, ap, ◌≡◌, List, ℕ, true, [], ◌∷◌, false, length, arith, Bool, ◌≤◌, map, cond, suc, zero, ◌&&◌, nat_le, take_all, ℤ}
+use Rattle.f77_syntax.proofs.Common.{negsuc, nat_tests, length-map, list_all, clipped, clip, clip_value, clip_all, clip_decl, clip_group, clip_constant}
+use Rattle.f77_syntax.proofs.Common.{clipped_constant, all_small_constants, small_bound, small_constants, data_constants, decl_constants, declaration_constants}
+use Rattle.f77_syntax.proofs.Common.{group_constants, small_value, and_true, all_bounded, has_bounds, largest_integer, magnitude, small_constant, cut, is_short}
+use Rattle.f77_syntax.proofs.Common.{all_short_names, short_names, data_names, decl_name, declaration_names, has_short_group_names, Tree, Trees, GroupFields}
+use Rattle.f77_syntax.proofs.Common.{DeclFields, Constant, Value}
 use Rattle.f77_tree.specs.declared.data.Constant.TheVariants.{Number, Truth}
-use Rattle.f77_tree.specs.declared.data.Value.{Value}
-use Rattle.f77_tree.specs.Limits.{largest_integer, magnitude, small_constant}
-use Rattle.f77_tree.specs.Declaration.{has_bounds, all_bounded}
-use Rattle.f77_syntax.specs.code.Declaration.{clip_decl}
-use Rattle.f77_syntax.specs.code.Data.{clipped_constant, clip_constant, clip_value, clip_group}
-use Rattle.f77_tree.proofs.Constants.{small_constants, all_small_constants, small_bound, decl_constants, declaration_constants, small_value, group_constants, data_constants}
-use Rattle.f77_tree.proofs.Tests.{and_true}
 
 pub constant_clip : (n : ℕ) → nat_le (clipped n) 2147483647 ≡ nat_le n 2147483647
 constant_clip n = either (nat_le n 2147483647) refl

@@ -1,26 +1,12 @@
 -- What is spelled is read, whatever follows that does not go on with it.
-use Rattle.std.proofs.Common.{arith, ◌≡◌, ◌⊎◌, inl, inr, ◌<◌, ◌≤◌, ◌+◌, ℕ, length, List, [], ◌∷◌, ◌++◌, Bool, true, false, cond, refl, Option, Some, None, ap, sym, ◌∙◌, append_assoc, subst}
-use Rattle.std.proofs.lemmas.List.{append-nil}
-use Rattle.std.specs.Prelude.{codes, ◌==◌, ◌||◌, nat_le, nat_lt, if◌then◌else◌}
-use Rattle.std.specs.List.{list_all}
-use Rattle.std.specs.Str.Parse.{digits_value}
-use Rattle.std.proofs.lemmas.Bool.{le-leb}
-use Rattle.std.proofs.lemmas.Bool.Decides.{nat_tests}
-use Rattle.std.proofs.lemmas.Option.{same_Some}
-use Rattle.f77_tree.specs.declared.operator.Operator.{Operator}
-use Rattle.f77_tree.specs.declared.operator.Operator.TheVariants.{Equivalent}
-use Rattle.f77_tree.specs.declared.operator.Operator.TheVariants.{Multiply}
-use Rattle.f77_tree.specs.declared.operator.Sign.{Sign}
-use Rattle.f77_tree.specs.declared.operator.Sign.TheVariants.{Plus, Minus}
-use Rattle.f77_tree.specs.Operator.{symbol, sign_symbol, level, left_level, right_level}
-use Rattle.f77_tree.specs.Tree.{Tree, Trees}
-use Rattle.f77_tree.specs.Intrinsic.{function_name, function_named}
+use Rattle.f77_syntax.proofs.Common.{refl, ◌∙◌, sym, ap, ◌≡◌, List, ℕ, true, [], ◌∷◌, Some, None, false, length, arith, subst, Option, ◌++◌, Bool, ◌≤◌, ◌==◌}
+use Rattle.f77_syntax.proofs.Common.{append_assoc, codes, inr, ◌<◌, cond, ◌+◌, inl, append-nil, ◌⊎◌, nat_le, le-leb, nat_lt, ◌||◌, if◌then◌else◌, nat_tests}
+use Rattle.f77_syntax.proofs.Common.{same_Some, list_all, digits_value, ◌>>=◌, reading, operator_at, start_at, expr_at, whole_at, climb_at, climb_on, listed_by}
+use Rattle.f77_syntax.proofs.Common.{named_at, trees_at, word_tree_at, function_listed, and_true, name_words, past_word_front, word_front, EndsWord}
+use Rattle.f77_syntax.proofs.Common.{letter_word, is_name, is_number, past_word, is_digit, word, Spells, SpellsReference, SpellsAll, is_word}
+use Rattle.f77_syntax.proofs.Common.{truth_constant_text, is_call, is_letter, function_name, function_named, left_level, level, symbol, right_level}
+use Rattle.f77_syntax.proofs.Common.{sign_symbol, Tree, Trees, Operator, Equivalent, Multiply, Sign, Minus, Plus}
 use Rattle.f77_syntax.proofs.Functions.{function_found, function_is_name, not_function}
-use Rattle.f77_tree.specs.Grammar.{Spells, SpellsReference, SpellsAll, is_call, truth_constant_text, is_letter, is_digit, is_word, is_name, is_number, word, past_word}
-use Rattle.f77_syntax.specs.Reading.{◌>>=◌}
-use Rattle.f77_syntax.specs.code.Reading.{operator_at, listed_by, function_listed, named_at, word_tree_at, start_at, expr_at, climb_on, climb_at, trees_at, reading, whole_at}
-use Rattle.f77_tree.proofs.Tests.{and_true}
-use Rattle.f77_tree.proofs.Words.{EndsWord, word_front, past_word_front, letter_word, name_words}
 use Rattle.f77_syntax.proofs.Shorter.{name_long, number_long}
 use Rattle.f77_syntax.proofs.WordTexts.{digit_word, number_words}
 use Rattle.f77_syntax.proofs.Agree.{reading_expr, reading_climb, reading_items}

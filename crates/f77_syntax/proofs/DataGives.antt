@@ -1,22 +1,10 @@
 -- What the readers of initial values give, from what they call.
-use Rattle.std.proofs.Common.{arith, ◌≡◌, ◌<◌, ◌≤◌, ℕ, zero, suc, length, length-append, List, [], ◌∷◌, ◌++◌, true, false, refl, Option, Some, None, ap, sym, ◌∙◌, append_assoc, subst}
-use Rattle.std.specs.Prelude.{◌==◌, map, option_map, unwrap_or, ok_or}
-use Rattle.std.specs.Borrow.{Bor}
-use Rattle.std.proofs.lemmas.Option.{same_Some, none-some}
-use Rattle.f77_syntax.specs.declared.fault.ReadError.{ReadError}
+use Rattle.f77_syntax.proofs.Common.{refl, ◌∙◌, sym, ap, ◌≡◌, List, ℕ, true, [], ◌∷◌, Some, None, false, length, arith, subst, Option, ◌++◌, ◌≤◌, ◌==◌, map}
+use Rattle.f77_syntax.proofs.Common.{append_assoc, ◌<◌, suc, zero, option_map, length-append, unwrap_or, ok_or, none-some, same_Some, Bor, ◌>>=◌, tree_after}
+use Rattle.f77_syntax.proofs.Common.{clipped, bound_at, past_comma, Fails, clip_value, Gives, clip_group, clip_constant, constant_at, data_value_at, group_at}
+use Rattle.f77_syntax.proofs.Common.{groups_at, repeat_at, groups_within, with_groups, Finds, ReadError, Unknown, data_group_of, GroupFields, Constant, Value}
 use Rattle.f77_tree.specs.declared.data.DataGroup.{DataGroup}
-use Rattle.f77_syntax.specs.Reading.{◌>>=◌}
-use Rattle.f77_syntax.specs.code.Reading.{tree_after, past_comma}
-use Rattle.f77_syntax.specs.code.View.{clipped, Fails, Gives}
-use Rattle.f77_tree.specs.Tree.{GroupFields}
-use Rattle.f77_tree.specs.Data.{data_group_of}
-use Rattle.f77_tree.specs.declared.data.Constant.{Constant}
-use Rattle.f77_tree.specs.declared.data.Value.{Value}
-use Rattle.f77_syntax.specs.declared.fault.ReadError.TheVariants.{Unknown}
-use Rattle.f77_syntax.specs.code.Declaration.{bound_at}
 use Rattle.f77_syntax.proofs.DataTexts.{value_is, group_is, group_long}
-use Rattle.f77_syntax.specs.code.Data.{constant_at, data_value_at, clip_constant, clip_value}
-use Rattle.f77_syntax.specs.code.Data.{repeat_at, group_at, with_groups, groups_within, groups_at, clip_group, Finds}
 use Rattle.f77_syntax.proofs.Gives.{fails_bind}
 use Rattle.f77_syntax.proofs.JoinedTexts.{kept_more, fronts_short}
 

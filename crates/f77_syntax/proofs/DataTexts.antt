@@ -1,34 +1,16 @@
 -- Initial values: what is read is spelled so, and what is spelled is read so.
-use Rattle.std.proofs.Common.{arith, ◌≡◌, inl, inr, ◌<◌, ℕ, zero, suc, length, length-append, List, [], ◌∷◌, ◌++◌, Bool, true}
-use Rattle.std.proofs.Common.{false, refl, Option, Some, None, ap, sym, ◌∙◌, append_assoc, append-nil, subst}
-use Rattle.std.specs.Prelude.{ℤ, pos, ◌==◌, codes, unwrap_or}
-use Rattle.std.specs.List.{list_all, list_any}
-use Rattle.std.specs.Str.Parse.{digits_value}
-use Rattle.std.proofs.lemmas.Bool.Decides.{nat_tests}
-use Rattle.std.proofs.lemmas.Bool.{eqb-true}
-use Rattle.std.proofs.lemmas.Option.{none-some}
-use Rattle.std.proofs.lemmas.List.{nil_from_length}
-use Rattle.f77_tree.specs.declared.data.Constant.{Constant}
+use Rattle.f77_syntax.proofs.Common.{refl, ◌∙◌, sym, ap, ◌≡◌, List, ℕ, true, [], ◌∷◌, Some, None, false, length, arith, subst, Option, ◌++◌, Bool, ◌==◌}
+use Rattle.f77_syntax.proofs.Common.{append_assoc, codes, inr, ◌<◌, suc, inl, append-nil, zero, eqb-true, length-append, unwrap_or, ℤ, pos, nat_tests}
+use Rattle.f77_syntax.proofs.Common.{nil_from_length, list_any-append, none-some, list_all, list_any, digits_value, ◌>>=◌, strip, tree_after, name_at, bound_at}
+use Rattle.f77_syntax.proofs.Common.{past_comma, names_at, constant_at, data_value_at, group_at, groups_at, repeat_at, data_values_at, groups_within}
+use Rattle.f77_syntax.proofs.Common.{with_groups, initial_constant_at, times_at, and_true, past_word_front, word_front, SpellsGroups, SpellsConstant}
+use Rattle.f77_syntax.proofs.Common.{SpellsGroup, SpellsValue, negative, SpellsNumber, is_number, is_digit, truth_constant_text, Joined, GroupFields, Constant}
+use Rattle.f77_syntax.proofs.Common.{Value}
 use Rattle.f77_tree.specs.declared.data.Constant.TheVariants.{Number, Truth}
-use Rattle.f77_tree.specs.Grammar.{is_digit, is_number, truth_constant_text}
-use Rattle.f77_syntax.specs.Reading.{◌>>=◌, strip}
-use Rattle.f77_syntax.specs.code.Reading.{tree_after, past_comma}
-use Rattle.f77_tree.specs.Joined.{Joined}
-use Rattle.f77_tree.specs.Declaration.{SpellsNumber}
-use Rattle.f77_syntax.specs.code.Names.{name_at, names_at}
-use Rattle.f77_syntax.specs.code.Declaration.{bound_at}
-use Rattle.f77_tree.specs.Tree.{GroupFields}
-use Rattle.f77_tree.specs.Data.{negative, SpellsConstant, SpellsValue, SpellsGroup, SpellsGroups}
-use Rattle.f77_syntax.specs.code.Data.{initial_constant_at, constant_at, repeat_at, times_at, data_value_at}
-use Rattle.f77_syntax.specs.code.Data.{data_values_at, group_at, with_groups, groups_within, groups_at}
+use Rattle.f77_program.proofs.DataForms.{unsigned_spelled, minus_spelled, repeated_spelled}
 use Rattle.f77_syntax.proofs.Steps.{along, bind_ok, behind_is, chosen, strip_is, after_is}
-use Rattle.f77_tree.proofs.Tests.{and_true}
-use Rattle.f77_tree.proofs.Words.{word_front, past_word_front}
 use Rattle.f77_syntax.proofs.JoinedTexts.{Fronts, IsSound, IsRead, Stops, items_is, items_read, joined_no_equals}
 use Rattle.f77_syntax.proofs.DeclarationTexts.{names_is, name_read, number_is, number_read, name_no_equals}
-use Rattle.f77_program.proofs.DataForms.{unsigned_spelled, minus_spelled, repeated_spelled}
-use Rattle.std.proofs.lemmas.List.Folds.{list_any-append}
-use Rattle.f77_tree.specs.declared.data.Value.{Value}
 use Rattle.f77_syntax.proofs.WordTexts.{is_equals, words_no_equals, number_words, names_begin, letter_no_comma}
 
 positive_is : (s : List ℕ) (x : Constant × List ℕ) → initial_constant_at pos s ≡ Some x → Fronts SpellsConstant s x

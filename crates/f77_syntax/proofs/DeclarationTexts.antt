@@ -1,22 +1,11 @@
 -- Declared names: what is read is spelled so, and what is spelled is read so.
-use Rattle.std.proofs.Common.{arith, ◌≡◌, ℕ, List, [], ◌∷◌, ◌++◌, true, false, refl, Option, Some, None, ap, sym, ◌∙◌, append_assoc, append-nil, subst}
-use Rattle.std.specs.Prelude.{◌==◌}
-use Rattle.std.specs.List.{list_any}
-use Rattle.std.specs.Str.Parse.{digits_value}
-use Rattle.std.proofs.lemmas.Bool.Decides.{nat_tests}
-use Rattle.f77_tree.specs.Grammar.{is_name, is_number, word, past_word}
-use Rattle.f77_syntax.specs.Reading.{◌>>=◌}
-use Rattle.f77_syntax.specs.code.Reading.{tree_after, close_at, value_ended}
-use Rattle.f77_tree.specs.Joined.{Joined}
-use Rattle.f77_syntax.specs.code.Joined.{items_at}
-use Rattle.f77_tree.specs.Tree.{DeclFields}
-use Rattle.f77_tree.specs.Declaration.{SpellsName, SpellsNumber, SpellsDecl, SpellsDecls}
-use Rattle.f77_syntax.specs.code.Names.{name_at, names_at}
-use Rattle.f77_syntax.specs.code.Declaration.{bound_at, bounds_at, read_bounds, decl_at, declarations_at}
+use Rattle.f77_syntax.proofs.Common.{refl, ◌∙◌, sym, ap, ◌≡◌, List, ℕ, true, [], ◌∷◌, Some, None, false, arith, subst, Option, ◌++◌, ◌==◌, append_assoc}
+use Rattle.f77_syntax.proofs.Common.{append-nil, nat_tests, list_any-append, list_any, digits_value, ◌>>=◌, tree_after, value_ended, name_at, bound_at}
+use Rattle.f77_syntax.proofs.Common.{close_at, items_at, names_at, decl_at, declarations_at, bounds_at, read_bounds, name_words, past_word_front, word_front}
+use Rattle.f77_syntax.proofs.Common.{word_whole, EndsWord, SpellsName, SpellsDecls, SpellsNumber, SpellsDecl, is_name, is_number, past_word, word, Joined}
+use Rattle.f77_syntax.proofs.Common.{DeclFields}
 use Rattle.f77_syntax.proofs.Steps.{along, bind_ok, guarded, after_is, ended_is, name_front, name_found}
-use Rattle.f77_tree.proofs.Words.{EndsWord, word_whole, word_front, past_word_front, name_words}
 use Rattle.f77_syntax.proofs.JoinedTexts.{Fronts, IsSound, IsRead, Stops, items_is, items_read, joined_no_equals}
-use Rattle.std.proofs.lemmas.List.Folds.{list_any-append}
 use Rattle.f77_syntax.proofs.WordTexts.{is_equals, words_no_equals, number_words}
 
 -- declared names that are read are spelled so

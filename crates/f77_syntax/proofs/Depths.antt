@@ -1,11 +1,7 @@
 -- How many parentheses are open, character by character.
-use Rattle.std.proofs.Common.{arith, ◌≡◌, ◌⊎◌, inl, inr, ◌≤◌, ◌<◌, ◌+◌, ℕ, zero, suc, length, List, take, get_or, Bool, true, false, refl, subst, sym}
-use Rattle.std.specs.Prelude.{◌==◌}
-use Rattle.std.proofs.lemmas.Bool.{eqb-true}
-use Rattle.std.proofs.lemmas.Bool.Decides.{nat_tests}
+use Rattle.f77_syntax.proofs.Common.{refl, sym, ◌≡◌, List, ℕ, true, false, length, arith, subst, Bool, ◌≤◌, ◌==◌, inr, ◌<◌, suc, ◌+◌, inl, zero, take, ◌⊎◌}
+use Rattle.f77_syntax.proofs.Common.{eqb-true, get_or, nat_tests, most_open, open_behind, deeper}
 use Rattle.std.proofs.lemmas.List.Sums.{fold_more}
-use Rattle.f77_syntax.specs.Classification.{deeper}
-use Rattle.f77_syntax.specs.TextLimits.{open_behind, most_open}
 
 pub open_step : (text : List ℕ) (i c depth behind : ℕ) → i < length text → c ≡ get_or text i 0 → depth ≡ open_behind (take i text) → behind ≡ deeper depth c
     → behind ≡ open_behind (take (i + 1) text)

@@ -1,16 +1,8 @@
 -- Cards are at most one program, or have one first fault.
-use Rattle.std.proofs.Common.{arith, ◌≡◌, ◌≢◌, ◌⊎◌, inl, inr, ℕ, List, ◌∷◌, Bool, true, false, refl, ap, sym, ◌∙◌, subst, Option, Some}
-use Rattle.f77_source.specs.Card.{CardFields}
-use Rattle.f77_program.specs.declared.fault.SyntaxFault.{SyntaxFault}
-use Rattle.f77_program.specs.declared.group.Group.{Group}
-use Rattle.f77_program.specs.declared.group.Group.TheVariants.{Subroutine, End}
-use Rattle.f77_tree.specs.Statement.{Statement}
-use Rattle.f77_program.specs.Group.{group_of, may_stand}
-use Rattle.f77_tree.specs.Names.{statement_names}
-use Rattle.f77_tree.specs.Limits.{statement_constants, statement_nodes}
-use Rattle.f77_program.specs.declared.fault.SyntaxFault.TheVariants.{Memory, AfterEnd}
-use Rattle.f77_syntax.specs.Parsing.{IsAdmitted, IsCardRefused, line_with, AreLines, IsFirstSyntaxFault, misplaced_statement}
-use Rattle.f77_program.specs.Program.{LineFields}
+use Rattle.f77_syntax.proofs.Common.{refl, ◌∙◌, sym, ap, ◌≡◌, List, ℕ, true, ◌∷◌, Some, false, arith, subst, Option, Bool, inr, inl, ◌⊎◌, ◌≢◌, may_stand}
+use Rattle.f77_syntax.proofs.Common.{group_of, LineFields, SyntaxFault, Memory, AfterEnd, Group, End, Subroutine, CardFields, IsAdmitted, AreLines}
+use Rattle.f77_syntax.proofs.Common.{IsCardRefused, IsFirstSyntaxFault, line_with, misplaced_statement, statement_constants, statement_nodes, statement_names}
+use Rattle.f77_syntax.proofs.Common.{Statement}
 use Rattle.f77_syntax.proofs.StatementComplete.{one_statement}
 
 pub same_admitted : {text : List ℕ} {s t : Statement} → IsAdmitted text s → IsAdmitted text t → s ≡ t

@@ -1,23 +1,12 @@
 -- Keeping a statement makes it neither formed nor unformed: a name that is too long is too long as it is kept.
-use Rattle.std.proofs.Common.{arith, ◌≡◌, ℕ, List, [], ◌∷◌, Bool, true, false, refl, ap, sym, ◌∙◌}
-use Rattle.std.specs.Prelude.{◌&&◌, not, map, Option, Some, None, option_map}
-use Rattle.std.proofs.lemmas.Bool.Decides.{nat_tests}
-use Rattle.std.proofs.lemmas.List.{length-take}
-use Rattle.f77_tree.specs.Grammar.{is_call, is_name}
-use Rattle.f77_tree.specs.Name.{cut, is_short, is_symbolic}
-use Rattle.f77_tree.specs.Names.{statement_names}
-use Rattle.f77_tree.specs.Statement.{Statement}
-use Rattle.f77_tree.specs.StatementGrammar.{IsFormed, SpellsStatement}
-use Rattle.f77_tree.specs.Tree.{Tree, Trees, GroupFields}
+use Rattle.f77_syntax.proofs.Common.{refl, ◌∙◌, sym, ap, ◌≡◌, List, ℕ, true, [], ◌∷◌, Some, None, false, arith, Option, Bool, map, ◌&&◌, option_map, not}
+use Rattle.f77_syntax.proofs.Common.{length-take, nat_tests, spelled_is_formed, formed_spelled, is_symbolic_formed, clip, clip_statement, clip_value, clip_all}
+use Rattle.f77_syntax.proofs.Common.{clip_decl, clip_group, is_name, is_call, cut, is_short, is_symbolic, statement_names, Statement, SpellsStatement, IsFormed}
+use Rattle.f77_syntax.proofs.Common.{Tree, Trees, GroupFields}
 use Rattle.f77_tree.specs.code.Joined.{some_all}
 use Rattle.f77_program.specs.code.Data.{any_value, is_group}
 use Rattle.f77_program.specs.code.Declaration.{is_decl}
 use Rattle.f77_program.specs.code.Formed.{is_some_list, is_reference, formed, all_formed, value_formed, statement_formed}
-use Rattle.f77_program.proofs.StatementForming.{formed_spelled, is_symbolic_formed, spelled_is_formed}
-use Rattle.f77_syntax.specs.code.Data.{clip_group, clip_value}
-use Rattle.f77_syntax.specs.code.Declaration.{clip_decl}
-use Rattle.f77_syntax.specs.code.StatementView.{clip_statement}
-use Rattle.f77_syntax.specs.code.View.{clip, clip_all}
 use Rattle.f77_syntax.proofs.BranchGives.{action_clip}
 use Rattle.f77_syntax.proofs.Clip.{short_cut, each_clip, all_bounded_clip}
 

@@ -1,13 +1,7 @@
 -- The names of the intrinsic functions.
-use Rattle.std.proofs.Common.{◌≡◌, ℕ, List, Bool, true, false, cond, Option, Some, None, refl, ◌∙◌, ap}
-use Rattle.std.specs.Prelude.{codes, is_some}
-use Rattle.std.specs.Str.{bytes_eq}
-use Rattle.std.proofs.lemmas.Slice.Eq.{bytes_eq-Decides}
-use Rattle.f77_tree.specs.declared.intrinsic.Intrinsic.{Intrinsic}
+use Rattle.f77_syntax.proofs.Common.{refl, ◌∙◌, ap, ◌≡◌, List, ℕ, true, Some, None, false, Option, Bool, codes, cond, is_some, bytes_eq-Decides, bytes_eq}
+use Rattle.f77_syntax.proofs.Common.{is_name, is_call, function_name, function_named, Tree, Trees, Intrinsic}
 use Rattle.f77_tree.specs.declared.intrinsic.Intrinsic.TheVariants.{Mod, Iabs, Min0, Max0}
-use Rattle.f77_tree.specs.Intrinsic.{function_name, function_named}
-use Rattle.f77_tree.specs.Tree.{Tree, Trees}
-use Rattle.f77_tree.specs.Grammar.{is_name, is_call}
 
 -- a function is found by its own name alone
 pub named_is : (name : List ℕ) (f : Intrinsic) → function_named name ≡ Some f → name ≡ function_name f

@@ -1,38 +1,22 @@
 -- What the parser's functions give, from what they call.
-use Rattle.std.proofs.Common.{arith, ◌≡◌, ◌<◌, ℕ, length, length-append, List, [], ◌∷◌, ◌++◌, Bool, true, false, cond, refl, Option, Some, None, ap, sym, ◌∙◌, subst, Result, Ok, Err}
-use Rattle.std.specs.Prelude.{codes, ◌==◌, ◌&&◌, nat_le, IfOk, MatchResult, Box, map}
-use Rattle.std.specs.Borrow.{Bor}
+use Rattle.f77_syntax.proofs.Common.{refl, ◌∙◌, sym, ap, ◌≡◌, List, ℕ, true, [], ◌∷◌, Some, None, false, length, arith, subst, Option, ◌++◌, Bool, ◌==◌, map}
+use Rattle.f77_syntax.proofs.Common.{codes, ◌<◌, cond, ◌&&◌, nat_le, length-append, Err, Ok, IfOk, MatchResult, Result, Box, map-append, none-some, Bor}
+use Rattle.f77_syntax.proofs.Common.{digits_value, ◌>>=◌, strip, tree_after, clipped, reading, value_ended, operator_at, clip, close_at, start_at, Fails}
+use Rattle.f77_syntax.proofs.Common.{expr_at, Gives, climb_at, climb_on, clip_all, listed_by, named_at, reference_at, trees_at, word_tree_at, dotted_at}
+use Rattle.f77_syntax.proofs.Common.{function_listed, more_at, closed, enclosed_at, negated_at, signed_tree_at, IsTreeStart, ReadError, Unknown, reference_view}
+use Rattle.f77_syntax.proofs.Common.{binary_view, not_view, number_view, ref_view, signed_view, truth_view, is_name, is_number, past_word, word, function_named}
+use Rattle.f77_syntax.proofs.Common.{cut, left_level, level, right_level, Tree, Trees, tree_of, trees, reference_fields, Intrinsic, Operator, Sign, Minus, Plus}
+use Rattle.f77_syntax.proofs.Common.{Expr}
 use Rattle.std.specs.declared.alloc.Global.{Global}
-use Rattle.std.proofs.lemmas.Option.{none-some}
-use Rattle.f77_syntax.specs.declared.fault.ReadError.{ReadError}
-use Rattle.f77_syntax.specs.declared.fault.ReadError.TheVariants.{Memory, Unknown}
-use Rattle.f77_tree.specs.declared.operator.Operator.{Operator}
-use Rattle.f77_tree.specs.declared.operator.Sign.{Sign}
-use Rattle.f77_tree.specs.declared.operator.Sign.TheVariants.{Plus, Minus}
-use Rattle.f77_tree.specs.declared.tree.Expr.{Expr}
-use Rattle.f77_tree.specs.declared.tree.Expr.TheViews as views
-use Rattle.f77_tree.specs.Operator.{level, left_level, right_level}
-use Rattle.std.specs.Str.Parse.{digits_value}
-use Rattle.std.proofs.lemmas.List.{map-append}
 use Rattle.f77_tree.specs.declared.tree.Ref.{Ref}
 use Rattle.f77_tree.specs.declared.tree.Expr.TheVariants.{Number, Truth}
-use Rattle.f77_tree.specs.declared.intrinsic.Intrinsic.{Intrinsic}
-use Rattle.f77_tree.specs.Intrinsic.{function_named}
-use Rattle.f77_tree.specs.Grammar.{is_name, is_number, word, past_word}
-use Rattle.f77_tree.specs.Name.{cut}
-use Rattle.f77_tree.specs.Tree.{Tree, Trees}
-use Rattle.f77_tree.specs.View.{tree_of, trees, reference_fields}
-use Rattle.f77_syntax.specs.code.View.{clip, clip_all, clipped, Fails, Gives, IsTreeStart}
-use Rattle.f77_syntax.specs.Reading.{◌>>=◌, strip}
-use Rattle.f77_syntax.specs.code.Reading.{operator_at, tree_after, value_ended, close_at, closed, enclosed_at, signed_tree_at, negated_at, dotted_at, listed_by}
-use Rattle.f77_syntax.specs.code.Reading.{function_listed, named_at, word_tree_at, start_at, expr_at, climb_on, climb_at, more_at, trees_at, reading}
+use Rattle.f77_tree.specs.declared.tree.Expr.TheViews as views
+use Rattle.f77_syntax.specs.declared.fault.ReadError.TheVariants.{Memory}
 use Rattle.f77_syntax.proofs.Sound.{sound_reading}
-use Rattle.f77_syntax.proofs.Sound as sound
 use Rattle.f77_syntax.proofs.Shorter.{spelled_long}
 use Rattle.f77_syntax.proofs.Agree.{reading_expr, reading_climb, reading_items}
-use Rattle.f77_tree.proofs.Views.{number_view, truth_view, signed_view, not_view, binary_view, reference_view, ref_view}
-use Rattle.f77_syntax.specs.code.Assignment.{reference_at}
 use Rattle.f77_syntax.proofs.Loops.{Climbing, Listing, before}
+use Rattle.f77_syntax.proofs.Sound as sound
 
 -- a fault of the first step is that of the whole
 pub fails_bind : {A B : Type 0} (e : ReadError) (o : Option A) (f : A → Option B) → Fails e o → Fails e (o >>= f)

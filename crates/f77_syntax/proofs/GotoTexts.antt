@@ -1,24 +1,10 @@
 -- GO TO statements: what is read is spelled so, what is spelled is read so, and their class.
-use Rattle.std.proofs.Common.{arith, ◌≡◌, ℕ, List, [], ◌∷◌, ◌++◌, Bool, true, false, cond, subst, refl, Option, Some, None, ap, sym, ◌∙◌, append_assoc, append-nil}
-use Rattle.std.specs.Prelude.{◌==◌, codes, unwrap_or}
-use Rattle.std.proofs.lemmas.Option.{none-some}
-use Rattle.std.specs.List.{list_all}
-use Rattle.std.proofs.lemmas.Bool.{eqb-true}
-use Rattle.std.proofs.lemmas.Bool.Decides.{nat_tests}
-use Rattle.f77_tree.specs.Tree.{Tree}
-use Rattle.f77_tree.specs.Statement.{Statement}
-use Rattle.f77_tree.specs.Grammar.{Spells, is_digit, is_number}
-use Rattle.f77_tree.specs.StatementGrammar.{SpellsLabel, SpellsAction, optional_comma, label_number}
-use Rattle.f77_syntax.specs.Reading.{◌>>=◌}
-use Rattle.f77_syntax.specs.code.Reading.{tree_after, close_at, past_comma, start_at, expr_at, whole_at}
-use Rattle.f77_tree.specs.Joined.{Joined}
-use Rattle.f77_syntax.specs.code.Joined.{items_at}
-use Rattle.f77_syntax.specs.code.Label.{label_at, last_label}
-use Rattle.f77_syntax.specs.code.Goto.{computed_at, goto_by, goto_at}
-use Rattle.f77_syntax.specs.Classification.{behind_character, class_of}
-use Rattle.f77_syntax.specs.declared.classification.Class.TheVariants.{Keyword}
+use Rattle.f77_syntax.proofs.Common.{refl, ◌∙◌, sym, ap, ◌≡◌, List, ℕ, true, [], ◌∷◌, Some, None, false, arith, subst, Option, ◌++◌, Bool, ◌==◌, append_assoc}
+use Rattle.f77_syntax.proofs.Common.{codes, cond, append-nil, eqb-true, unwrap_or, nat_tests, none-some, list_all, ◌>>=◌, behind_character, class_of}
+use Rattle.f77_syntax.proofs.Common.{tree_after, close_at, items_at, past_comma, start_at, expr_at, label_at, whole_at, goto_at, last_label, computed_at}
+use Rattle.f77_syntax.proofs.Common.{goto_by, Keyword, and_true, is_number, is_digit, Spells, Joined, Statement, label_number, optional_comma, SpellsAction}
+use Rattle.f77_syntax.proofs.Common.{SpellsLabel, Tree}
 use Rattle.f77_syntax.proofs.Steps.{along, bind_ok, after_is}
-use Rattle.f77_tree.proofs.Tests.{and_true}
 use Rattle.f77_syntax.proofs.Sound.{whole_is}
 use Rattle.f77_syntax.proofs.Agree.{reading_expr}
 use Rattle.f77_syntax.proofs.Complete.{whole}

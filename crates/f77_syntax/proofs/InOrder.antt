@@ -1,10 +1,6 @@
 -- The groups of a program's statements, one after another.
-use Rattle.std.proofs.Common.{◌≡◌, ℕ, suc, List, [], ◌∷◌, true, refl, ap, Some, None}
-use Rattle.std.specs.Prelude.{map}
-use Rattle.f77_program.specs.declared.group.Group.{Group}
-use Rattle.f77_program.specs.declared.group.Group.TheVariants.{Subroutine, Declaration, Data, Executable, End}
-use Rattle.f77_program.specs.Group.{group_of, may_stand, behind_heading, AreInOrder}
-use Rattle.f77_program.specs.Program.{LineFields, IsProgram}
+use Rattle.f77_syntax.proofs.Common.{refl, ap, ◌≡◌, List, ℕ, true, [], ◌∷◌, Some, None, map, suc, may_stand, group_of, AreInOrder, behind_heading, LineFields}
+use Rattle.f77_syntax.proofs.Common.{IsProgram, Group, End, Subroutine, Data, Declaration, Executable}
 
 -- what stands behind a statement of this group
 abbrev Behind : Group → List Group → Type 0

@@ -1,14 +1,8 @@
 -- What a function reads of items joined by commas is what the definition reads, where each item is.
-use Rattle.std.proofs.Common.{◌≡◌, ◌≤◌, ℕ, length, List, [], ◌∷◌, ◌++◌, Option, Some, Result, Ok, Err, refl, sym, ◌∙◌, ap, append_assoc, subst}
-use Rattle.std.specs.Prelude.{map, MatchResult, Vec}
-use Rattle.std.specs.Borrow.{Bor}
+use Rattle.f77_syntax.proofs.Common.{refl, ◌∙◌, sym, ap, ◌≡◌, List, ℕ, [], ◌∷◌, Some, length, subst, Option, ◌++◌, ◌≤◌, map, append_assoc, Err, Ok, MatchResult}
+use Rattle.f77_syntax.proofs.Common.{Result, Vec, Bor, tree_after, items_at, Fails, Gives, Breaks, JoinsItems, Reads, Shortens, ReadError}
 use Rattle.std.specs.declared.alloc.Global.{Global}
-use Rattle.f77_syntax.specs.declared.fault.ReadError.{ReadError}
-use Rattle.f77_syntax.specs.code.Reading.{tree_after}
-use Rattle.f77_syntax.specs.code.Joined.{items_at}
-use Rattle.f77_syntax.specs.code.View.{Gives, Fails}
 use Rattle.f77_syntax.proofs.JoinedTexts.{Listing, listing_starts, listing_fails, listing_goes_on, listing_ends}
-use Rattle.f77_syntax.specs.code.Joined.{Reads, Shortens, JoinsItems, Breaks}
 
 module _ {X A B : Type 0} (view : X → B) (kept : A → B) (item : List ℕ → Option (A × List ℕ)) where
   -- an item as it is kept, and what follows it

@@ -1,17 +1,8 @@
 -- Items joined by commas: what is read is spelled so, and what is spelled is read so.
-use Rattle.std.proofs.Common.{arith, ◌≡◌, ◌<◌, ◌≤◌, ℕ, zero, suc, length, length-append, List, [], ◌∷◌, ◌++◌, Bool, true, false, refl, Option, Some, None, ap, sym, ◌∙◌, append_assoc, subst}
-use Rattle.std.specs.Prelude.{◌==◌, ◌||◌, map}
-use Rattle.std.specs.List.{list_any}
-use Rattle.std.proofs.lemmas.Option.{none-some}
-use Rattle.std.proofs.lemmas.List.{map-append}
-use Rattle.std.proofs.lemmas.List.Folds.{list_any-append}
-use Rattle.f77_syntax.specs.declared.fault.ReadError.{ReadError}
-use Rattle.f77_syntax.specs.Reading.{◌>>=◌}
-use Rattle.f77_syntax.specs.code.Reading.{tree_after}
+use Rattle.f77_syntax.proofs.Common.{refl, ◌∙◌, sym, ap, ◌≡◌, List, ℕ, true, [], ◌∷◌, Some, None, false, length, arith, subst, Option, ◌++◌, Bool, ◌≤◌, ◌==◌}
+use Rattle.f77_syntax.proofs.Common.{map, append_assoc, ◌<◌, suc, zero, length-append, ◌||◌, map-append, list_any-append, none-some, list_any, ◌>>=◌}
+use Rattle.f77_syntax.proofs.Common.{tree_after, items_at, Fails, items_within, with_others, ReadError, Joined}
 use Rattle.f77_syntax.proofs.WordTexts.{is_equals}
-use Rattle.f77_syntax.specs.code.View.{Fails}
-use Rattle.f77_tree.specs.Joined.{Joined}
-use Rattle.f77_syntax.specs.code.Joined.{with_others, items_within, items_at}
 use Rattle.f77_syntax.proofs.Steps.{along, bind_ok, after_is}
 use Rattle.f77_syntax.proofs.Gives.{fails_bind}
 

@@ -1,17 +1,9 @@
 -- Labels: what is read is spelled so, and what is spelled is read so.
-use Rattle.std.proofs.Common.{arith, ◌≡◌, ℕ, List, [], ◌∷◌, ◌++◌, Bool, true, false, cond, subst, refl, Some, None, ap, sym, ◌∙◌, append-nil}
-use Rattle.std.specs.Prelude.{◌==◌, unwrap_or}
-use Rattle.std.specs.List.{list_all}
-use Rattle.std.proofs.lemmas.Bool.{eqb-true}
-use Rattle.std.proofs.lemmas.Bool.Decides.{nat_tests}
-use Rattle.f77_tree.specs.Grammar.{is_digit, is_number}
-use Rattle.f77_tree.specs.StatementGrammar.{SpellsLabel, optional_comma, label_number}
-use Rattle.f77_syntax.specs.Reading.{◌>>=◌}
-use Rattle.f77_syntax.specs.code.Reading.{digits, past_digits, tree_after, past_comma, value_ended}
-use Rattle.f77_syntax.specs.code.Label.{label_at, last_label, label_comma}
+use Rattle.f77_syntax.proofs.Common.{refl, ◌∙◌, sym, ap, ◌≡◌, List, ℕ, true, [], ◌∷◌, Some, None, false, arith, subst, ◌++◌, Bool, ◌==◌, cond, append-nil}
+use Rattle.f77_syntax.proofs.Common.{eqb-true, unwrap_or, nat_tests, list_all, ◌>>=◌, tree_after, value_ended, past_comma, label_at, digits, label_comma}
+use Rattle.f77_syntax.proofs.Common.{last_label, past_digits, and_true, is_number, is_digit, label_number, optional_comma, SpellsLabel}
 use Rattle.f77_syntax.proofs.Steps.{along, bind_ok, guarded, after_is, ended_is}
 use Rattle.f77_syntax.proofs.WordTexts.{number_digits}
-use Rattle.f77_tree.proofs.Tests.{and_true}
 use Rattle.f77_syntax.proofs.JoinedTexts.{IsSound, IsRead, Stops}
 
 -- labels that are read are spelled so

@@ -1,3 +1,4 @@
+pub mod Common
 pub mod Steps
 pub mod WordTexts
 pub mod JoinedTexts

@@ -1,12 +1,5 @@
 -- What the loops of the parser keep.
-use Rattle.std.proofs.Common.{◌≡◌, ◌<◌, ◌≤◌, ℕ, length, List, [], ◌∷◌, Some}
-use Rattle.std.specs.Prelude.{map}
-use Rattle.f77_tree.specs.declared.tree.Expr.{Expr}
-use Rattle.f77_syntax.specs.code.Reading.{reading}
-use Rattle.f77_syntax.specs.Reading.{◌>>=◌}
-use Rattle.f77_tree.specs.Tree.{Tree, Trees}
-use Rattle.f77_tree.specs.View.{tree_of}
-use Rattle.f77_syntax.specs.code.View.{clip}
+use Rattle.f77_syntax.proofs.Common.{◌≡◌, List, ℕ, [], ◌∷◌, Some, length, ◌≤◌, map, ◌<◌, ◌>>=◌, reading, clip, Tree, Trees, tree_of, Expr}
 
 -- what was read so far is a tree of level own, and what is behind it ends the reading as it has to
 pub record Climbing (wanted own : ℕ) (left : Expr) (rest text : List ℕ) : Type 0 where

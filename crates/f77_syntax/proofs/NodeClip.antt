@@ -1,18 +1,8 @@
 -- The nodes of a statement as it is kept are the nodes of the statement, each as it is kept.
-use Rattle.std.proofs.Common.{◌≡◌, ℕ, List, [], ◌∷◌, ◌++◌, length, refl, ap, sym, ◌∙◌, Option, Some, None}
-use Rattle.std.specs.Prelude.{map, option_map}
-use Rattle.std.specs.List.{flat_map, list_all}
-use Rattle.std.proofs.lemmas.List.{map-append, length-map}
-use Rattle.f77_tree.specs.Name.{cut}
-use Rattle.f77_tree.specs.Tree.{Tree, Trees, GroupFields}
-use Rattle.f77_tree.specs.Statement.{Statement}
-use Rattle.f77_tree.specs.Limits.{is_small_node, statement_constants, statement_nodes}
+use Rattle.f77_syntax.proofs.Common.{refl, ◌∙◌, sym, ap, ◌≡◌, List, ℕ, [], ◌∷◌, Some, None, length, Option, ◌++◌, map, option_map, map-append, length-map}
+use Rattle.f77_syntax.proofs.Common.{list_all, flat_map, clipped, clip, clip_statement, clip_value, clip_all, clip_decl, clip_group, small_bound}
+use Rattle.f77_syntax.proofs.Common.{statement_constants, statement_nodes, is_small_node, cut, Statement, Tree, Trees, GroupFields}
 use Rattle.f77_tree.specs.Node.{NodeOf, parts, all_parts, tree_nodes, value_nodes, group_nodes, nodes_behind, nodes_of}
-use Rattle.f77_tree.proofs.Constants.{small_bound}
-use Rattle.f77_syntax.specs.code.View.{clipped, clip, clip_all}
-use Rattle.f77_syntax.specs.code.Declaration.{clip_decl}
-use Rattle.f77_syntax.specs.code.Data.{clip_value, clip_group}
-use Rattle.f77_syntax.specs.code.StatementView.{clip_statement}
 use Rattle.f77_syntax.proofs.Clip.{constant_clip, each_clip, constant_limit, least_clip}
 
 abbrev clip_node : NodeOf → NodeOf

@@ -1,14 +1,8 @@
 -- One more digit of a number that is kept below a bound.
-use Rattle.std.proofs.Common.{arith, ◌≡◌, ◌≤◌, ◌<◌, ◌+◌, ◌*◌, ◌-◌, ℕ, zero, suc, length, List, [], ◌∷◌, take, get_or, true}
-use Rattle.std.specs.Prelude.{min}
-use Rattle.std.specs.List.{list_all}
-use Rattle.std.specs.Str.Parse.{digits_value}
+use Rattle.f77_syntax.proofs.Common.{◌≡◌, List, ℕ, true, [], ◌∷◌, length, arith, ◌≤◌, ◌<◌, suc, ◌+◌, zero, take, ◌-◌, get_or, ◌*◌, min, nat_tests, list_all}
+use Rattle.f77_syntax.proofs.Common.{digits_value, clipped, and_true, is_number, is_digit}
 use Rattle.std.specs.Char.{digit_value}
 use Rattle.std.proofs.lemmas.Int.Digits.{digits_value_more}
-use Rattle.std.proofs.lemmas.Bool.Decides.{nat_tests}
-use Rattle.f77_tree.specs.Grammar.{is_digit, is_number}
-use Rattle.f77_syntax.specs.code.View.{clipped}
-use Rattle.f77_tree.proofs.Tests.{and_true}
 
 digit_at : (ds : List ℕ) (i : ℕ) → list_all is_digit ds ≡ true → i < length ds → is_digit (get_or ds i 0) ≡ true
 digit_at [] i e h = absurd (omega arith)

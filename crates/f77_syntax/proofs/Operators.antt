@@ -1,11 +1,6 @@
 -- Trying operators in turn.
-use Rattle.std.proofs.Common.{◌≡◌, ◌<◌, ◌+◌, ℕ, length, List, drop, get_or, refl, Option, Some, None, sym, add-one, drop-cons}
-use Rattle.std.specs.Prelude.{option_map, IfSome}
-use Rattle.std.specs.Borrow.{Bor}
-use Rattle.f77_tree.specs.declared.operator.Operator.{Operator}
-use Rattle.f77_tree.specs.Operator.{symbol}
-use Rattle.f77_syntax.specs.Reading.{strip}
-use Rattle.f77_syntax.specs.code.Reading.{first_operator, operator_at}
+use Rattle.f77_syntax.proofs.Common.{refl, sym, ◌≡◌, List, ℕ, Some, None, length, Option, ◌<◌, ◌+◌, drop, option_map, get_or, IfSome, add-one, drop-cons, Bor}
+use Rattle.f77_syntax.proofs.Common.{strip, operator_at, first_operator, symbol, Operator}
 use Rattle.f77_syntax.proofs.Shorter.{operator_shorter}
 
 pub found_at : (ops : List Operator) (i : ℕ) (d : Operator) (s r : List ℕ) → i < length ops → strip (symbol (get_or ops i d)) s ≡ Some r → first_operator (drop i ops) s ≡ Some (get_or ops i d, r)

@@ -1,26 +1,12 @@
 -- What stands outside parentheses. Expressions hide no equals sign and, outside parentheses, no comma, so the text of a statement decides its class.
-use Rattle.std.proofs.Common.{arith, ◌≡◌, ℕ, suc, ◌-◌, List, [], ◌∷◌, ◌++◌, Bool, true, false, refl, ap, sym, ◌∙◌, Option, Some, None, append_assoc, append-nil}
-use Rattle.std.specs.Prelude.{◌==◌, ◌&&◌, not, codes}
-use Rattle.std.specs.List.{list_all, list_any}
-use Rattle.std.proofs.lemmas.Bool.Decides.{nat_tests}
-use Rattle.f77_tree.specs.declared.operator.Operator.{Operator}
-use Rattle.f77_tree.specs.declared.operator.Operator.TheVariants.{Equivalent}
-use Rattle.f77_tree.specs.declared.operator.Sign.{Sign}
-use Rattle.f77_tree.specs.declared.operator.Sign.TheVariants.{Plus, Minus}
-use Rattle.f77_tree.specs.declared.intrinsic.Intrinsic.{Intrinsic}
+use Rattle.f77_syntax.proofs.Common.{refl, ◌∙◌, sym, ap, ◌≡◌, List, ℕ, true, [], ◌∷◌, Some, None, false, arith, Option, ◌++◌, Bool, ◌==◌, append_assoc, codes}
+use Rattle.f77_syntax.proofs.Common.{suc, append-nil, ◌&&◌, ◌-◌, not, nat_tests, list_all, list_any, ◌>>=◌, strip, behind_character, class_of, begins_if}
+use Rattle.f77_syntax.proofs.Common.{begins_with, deeper, no_equals, Keyword, Assignment, If, Loop, and_true, name_words, past_word_front, is_name, is_number}
+use Rattle.f77_syntax.proofs.Common.{past_word, Spells, SpellsReference, SpellsAll, is_word, truth_constant_text, function_name, symbol, sign_symbol}
+use Rattle.f77_syntax.proofs.Common.{optional_comma, Tree, Trees, Intrinsic, Operator, Equivalent, Sign, Minus, Plus}
 use Rattle.f77_tree.specs.declared.intrinsic.Intrinsic.TheVariants.{Mod}
-use Rattle.f77_tree.specs.Operator.{symbol, sign_symbol}
-use Rattle.f77_tree.specs.Intrinsic.{function_name}
-use Rattle.f77_tree.specs.Tree.{Tree, Trees}
-use Rattle.f77_tree.specs.Grammar.{Spells, SpellsReference, SpellsAll, is_word, is_name, is_number, truth_constant_text, past_word}
-use Rattle.f77_tree.specs.StatementGrammar.{optional_comma}
-use Rattle.f77_syntax.specs.Reading.{◌>>=◌, strip}
-use Rattle.f77_syntax.specs.Classification.{deeper, behind_character, begins_with, no_equals, begins_if, class_of}
-use Rattle.f77_syntax.specs.declared.classification.Class.TheVariants.{If, Loop, Assignment, Keyword}
-use Rattle.f77_tree.proofs.Tests.{and_true}
 use Rattle.f77_syntax.proofs.Steps.{strip_is}
 use Rattle.f77_syntax.proofs.WordTexts.{number_words}
-use Rattle.f77_tree.proofs.Words.{past_word_front, name_words}
 
 -- no parenthesis, no comma and no equals sign
 abbrev pub is_quiet : ℕ → Bool

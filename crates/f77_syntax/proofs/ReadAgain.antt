@@ -1,27 +1,18 @@
 -- What is read of a program that was printed.
-use Rattle.std.proofs.Common.{arith, ◌≡◌, ◌≤◌, ℕ, length, List, [], ◌∷◌, Bool, true, false, cond, refl, ap, sym, ◌∙◌, subst, Option, Some, None}
-use Rattle.std.specs.Prelude.{map, ◌||◌, is_some, nat_lt}
-use Rattle.std.specs.List.{All, list_all, cons_option}
+use Rattle.f77_syntax.proofs.Common.{refl, ◌∙◌, sym, ap, ◌≡◌, List, ℕ, true, [], ◌∷◌, Some, None, false, length, arith, subst, Option, Bool, ◌≤◌, map, cond}
+use Rattle.f77_syntax.proofs.Common.{nat_lt, ◌||◌, is_some, ltb-false, list_all, All, cons_option, is_formed, LineFields, IsProgram, Group, CardFields}
+use Rattle.f77_syntax.proofs.Common.{IsAdmitted, AreLines, line_with, KeepsLimits, ReadsBack, is_name, IsFormed}
 use Rattle.std.proofs.lemmas.List.Elements.{All-head, All-tail, All-cons}
-use Rattle.std.proofs.lemmas.Bool.{ltb-false}
-use Rattle.f77_source.specs.Card.{CardFields}
 use Rattle.f77_source.specs.Law.{squeezed, HasInitialLine, IsReadAs}
 use Rattle.f77_source.specs.Write.{written, is_printable, is_bad_label, continuation_count, card_fault, card_faults}
 use Rattle.f77_source.specs.declared.fault.FormFault.{FormFault}
 use Rattle.f77_source.specs.declared.fault.FormFault.TheVariants.{BadLabel, TooManyContinuations}
-use Rattle.f77_tree.specs.Grammar.{is_name}
-use Rattle.f77_tree.specs.StatementGrammar.{IsFormed}
 use Rattle.f77_program.specs.Canonical.{statement_text}
 use Rattle.f77_program.specs.code.Formed.{statement_formed}
 use Rattle.f77_program.specs.Printing.{card_of, printed, AreEqualUnnumbered, unnumbered}
-use Rattle.f77_program.specs.Program.{LineFields, IsProgram}
-use Rattle.f77_program.specs.declared.group.Group.{Group}
 use Rattle.f77_program.proofs.Plain.{squeezed_short}
-use Rattle.f77_program.proofs.StatementForming.{is_formed}
 use Rattle.f77_program.proofs.StatementPlain.{printable_statement, statement_starts, reads_back}
 use Rattle.f77_program.proofs.Reported.{AreFormed, program_formed}
-use Rattle.f77_syntax.specs.Parsing.{IsAdmitted, AreLines, line_with}
-use Rattle.f77_syntax.specs.Printing.{KeepsLimits, ReadsBack}
 use Rattle.f77_syntax.proofs.CharacterCounts.{characters_few}
 
 -- no line of the cards is a comment

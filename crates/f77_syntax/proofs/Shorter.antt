@@ -1,14 +1,7 @@
 -- What follows an expression, an operator or a list is shorter than what it was read from.
-use Rattle.std.proofs.Common.{arith, ◌≡◌, ◌<◌, ◌≤◌, ℕ, length, length-append, List, [], ◌∷◌, ◌++◌, true, false, Some, ap}
-use Rattle.std.specs.Prelude.{codes}
-use Rattle.f77_tree.specs.declared.operator.Operator.{Operator}
-use Rattle.f77_tree.specs.declared.operator.Operator.TheVariants.{Equivalent}
-use Rattle.f77_tree.specs.Operator.{symbol}
-use Rattle.f77_tree.specs.Tree.{Tree, Trees}
-use Rattle.f77_tree.specs.Intrinsic.{function_name}
-use Rattle.f77_tree.specs.Grammar.{Spells, SpellsReference, SpellsAll, is_name, is_number, word, past_word}
-use Rattle.f77_syntax.specs.code.Reading.{Readers, operator_at}
-use Rattle.f77_tree.proofs.Words.{word_whole}
+use Rattle.f77_syntax.proofs.Common.{ap, ◌≡◌, List, ℕ, true, [], ◌∷◌, Some, false, length, arith, ◌++◌, ◌≤◌, codes, ◌<◌, length-append, operator_at, Readers}
+use Rattle.f77_syntax.proofs.Common.{word_whole, is_name, is_number, past_word, word, Spells, SpellsReference, SpellsAll, function_name, symbol, Tree, Trees}
+use Rattle.f77_syntax.proofs.Common.{Operator, Equivalent}
 use Rattle.f77_syntax.proofs.Sound.{Sound, operator_is}
 
 pub symbol_long : (op : Operator) → 0 < length (symbol op)

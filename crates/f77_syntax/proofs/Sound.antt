@@ -1,24 +1,13 @@
 -- Expressions: what is read is spelled so.
-use Rattle.std.proofs.Common.{arith, ◌≡◌, inl, inr, ℕ, zero, suc, length, ◌≤◌, List, [], ◌∷◌, ◌++◌, Bool, true, false, cond, subst, refl, Option, Some, None, ap, sym, ◌∙◌, append_assoc, append-nil}
-use Rattle.std.specs.Prelude.{◌==◌, ◌&&◌, nat_le, codes}
-use Rattle.std.proofs.lemmas.Option.{none-some}
-use Rattle.std.proofs.lemmas.Bool.{eqb-true, leb-true}
-use Rattle.std.specs.Str.Parse.{digits_value}
-use Rattle.f77_tree.specs.declared.operator.Operator.{Operator}
-use Rattle.f77_tree.specs.declared.operator.Sign.{Sign}
-use Rattle.f77_tree.specs.declared.operator.Sign.TheVariants.{Plus, Minus}
-use Rattle.f77_tree.specs.Operator.{symbol, sign_symbol, level, left_level, right_level}
-use Rattle.f77_tree.specs.Tree.{Tree, Trees}
-use Rattle.f77_tree.specs.declared.intrinsic.Intrinsic.{Intrinsic}
-use Rattle.f77_tree.specs.Intrinsic.{function_named}
-use Rattle.f77_tree.specs.Grammar.{Spells, SpellsReference, SpellsAll, is_name, is_number, truth_constant_text, word, past_word}
+use Rattle.f77_syntax.proofs.Common.{refl, ◌∙◌, sym, ap, ◌≡◌, List, ℕ, true, [], ◌∷◌, Some, None, false, length, arith, subst, Option, ◌++◌, Bool, ◌≤◌, ◌==◌}
+use Rattle.f77_syntax.proofs.Common.{append_assoc, codes, inr, cond, suc, inl, append-nil, zero, ◌&&◌, eqb-true, nat_le, leb-true, none-some, digits_value}
+use Rattle.f77_syntax.proofs.Common.{◌>>=◌, strip, reading, value_ended, operator_at, close_at, start_at, expr_at, whole_at, climb_at, climb_on, listed_by}
+use Rattle.f77_syntax.proofs.Common.{named_at, trees_at, word_tree_at, Readers, dotted_at, first_operator, function_listed, more_at, closed, dotted_by}
+use Rattle.f77_syntax.proofs.Common.{enclosed_at, negated_at, signed_tree_at, within, operators, or_operator, and_true, word_whole, is_name, is_number}
+use Rattle.f77_syntax.proofs.Common.{past_word, word, Spells, SpellsReference, SpellsAll, truth_constant_text, function_named, left_level, level, symbol}
+use Rattle.f77_syntax.proofs.Common.{right_level, sign_symbol, Tree, Trees, Intrinsic, Operator, Sign, Minus, Plus}
 use Rattle.f77_syntax.proofs.Functions.{named_is, no_call}
-use Rattle.f77_syntax.specs.Reading.{◌>>=◌, strip}
-use Rattle.f77_syntax.specs.code.Reading.{or_operator, first_operator, operators, operator_at, Readers, close_at, value_ended, closed, enclosed_at, signed_tree_at, negated_at, dotted_by}
-use Rattle.f77_syntax.specs.code.Reading.{dotted_at, listed_by, function_listed, named_at, word_tree_at, start_at, expr_at, climb_on, climb_at, more_at, trees_at, within, reading, whole_at}
 use Rattle.f77_syntax.proofs.Steps.{along, bind_ok, chosen, guarded, strip_is, after_is, ended_is}
-use Rattle.f77_tree.proofs.Tests.{and_true}
-use Rattle.f77_tree.proofs.Words.{word_whole}
 
 -- a front of s spells the tree, and rest follows it
 pub record Fronts (w : ℕ) (s : List ℕ) (t : Tree) (rest : List ℕ) : Type 0 where

@@ -1,16 +1,7 @@
 -- Within the limits keeping a statement changes nothing.
-use Rattle.std.proofs.Common.{◌≡◌, true, refl, ap, sym, ◌∙◌}
-use Rattle.std.specs.Prelude.{◌&&◌, Option, Some, None, option_map}
-use Rattle.std.specs.List.{list_all}
-use Rattle.f77_tree.specs.Tree.{Tree}
-use Rattle.f77_tree.specs.Statement.{Statement}
-use Rattle.f77_syntax.specs.code.View.{clip}
-use Rattle.f77_syntax.specs.code.StatementView.{clip_statement}
-use Rattle.f77_tree.specs.Limits.{is_label, statement_constants}
-use Rattle.f77_tree.specs.Names.{of_value, statement_names, short_names, all_short_names}
-use Rattle.f77_tree.specs.Name.{is_short}
-use Rattle.f77_tree.proofs.Constants.{small_constants, all_small_constants, by_part, decided_by_part}
-use Rattle.f77_tree.proofs.Tests.{and_true}
+use Rattle.f77_syntax.proofs.Common.{refl, ◌∙◌, sym, ap, ◌≡◌, true, Some, None, Option, ◌&&◌, option_map, list_all, clip, clip_statement, all_small_constants}
+use Rattle.f77_syntax.proofs.Common.{small_constants, by_part, decided_by_part, and_true, statement_constants, is_label, is_short, statement_names}
+use Rattle.f77_syntax.proofs.Common.{all_short_names, short_names, of_value, Statement, Tree}
 use Rattle.f77_syntax.proofs.Clip.{short_cut, short_cuts, kept, all_kept, declaration_kept, data_kept}
 
 step_kept : (c : Option Tree) → of_value short_names c ≡ true → of_value small_constants c ≡ true → option_map clip c ≡ c

@@ -1,37 +1,19 @@
 -- A statement that is spelled is read so, and a text spells at most one statement.
-use Rattle.std.proofs.Common.{arith, ◌≡◌, inl, inr, subst, ℕ, length, List, [], ◌∷◌, ◌++◌, Bool, true, false, refl, Some, ap, sym, ◌∙◌, append_assoc, append-nil}
-use Rattle.std.specs.Prelude.{◌==◌, codes, None}
-use Rattle.std.specs.List.{list_all, list_any, join_with_byte}
-use Rattle.std.proofs.lemmas.Option.{same_Some, none-some}
-use Rattle.std.specs.Str.{bytes_eq}
-use Rattle.std.proofs.lemmas.Slice.Eq.{bytes_eq-Decides}
-use Rattle.std.proofs.lemmas.Bool.Decides.{nat_tests}
-use Rattle.std.proofs.lemmas.List.Folds.{list_any-append}
-use Rattle.f77_tree.specs.Tree.{Tree, Trees, DeclFields, GroupFields}
-use Rattle.f77_tree.specs.Statement.{Statement}
-use Rattle.f77_tree.specs.Grammar.{Spells, SpellsReference, is_letter, is_digit, is_word, is_number, is_name}
-use Rattle.f77_tree.specs.StatementGrammar.{SpellsAction, SpellsStatement, optional_comma, label_number, kind_keyword}
-use Rattle.f77_syntax.specs.code.Reading.{tree_after, reading, past_comma}
-use Rattle.f77_syntax.specs.code.Assignment.{reference_at, assign_at}
-use Rattle.f77_syntax.specs.code.Names.{name_at, names_at}
-use Rattle.f77_tree.specs.Joined.{Joined}
+use Rattle.f77_syntax.proofs.Common.{refl, ◌∙◌, sym, ap, ◌≡◌, List, ℕ, true, [], ◌∷◌, Some, None, false, length, arith, subst, ◌++◌, Bool, ◌==◌, append_assoc}
+use Rattle.f77_syntax.proofs.Common.{codes, inr, inl, append-nil, nat_tests, list_any-append, none-some, same_Some, bytes_eq-Decides, list_all, list_any}
+use Rattle.f77_syntax.proofs.Common.{join_with_byte, bytes_eq, class_of, begins_if, begins_with, statement_class, tree_after, reading, name_at, past_comma}
+use Rattle.f77_syntax.proofs.Common.{names_at, reference_at, simple_action_at, statement_at, word_statement, action_at, arithmetic_at, assign_at, begins_digit}
+use Rattle.f77_syntax.proofs.Common.{branch_at, condition_at, control_at, dummies_at, else_at, loop_at, simple_at, step_at, subroutine_at, keyword_at}
+use Rattle.f77_syntax.proofs.Common.{parameters_at, Keyword, and_true, name_words, SpellsGroups, SpellsName, all_bounded, SpellsDecls, is_name, is_number}
+use Rattle.f77_syntax.proofs.Common.{is_digit, Spells, SpellsReference, is_word, is_letter, Joined, Statement, label_number, SpellsStatement, optional_comma}
+use Rattle.f77_syntax.proofs.Common.{SpellsAction, kind_keyword, Tree, Trees, GroupFields, DeclFields}
+use Rattle.f77_tree.specs.declared.tree.Kind.{Kind}
+use Rattle.f77_tree.specs.declared.tree.Kind.TheVariants.{Integer, Logical}
 use Rattle.f77_syntax.proofs.JoinedTexts.{items_read, joined_no_equals}
-use Rattle.f77_syntax.specs.code.Subroutine.{dummies_at, subroutine_at}
-use Rattle.f77_syntax.specs.code.Condition.{arithmetic_at, condition_at}
-use Rattle.f77_syntax.specs.code.DoLoop.{control_at, step_at, parameters_at, loop_at}
-use Rattle.f77_syntax.specs.Classification.{begins_with, begins_if, class_of, statement_class}
-use Rattle.f77_syntax.specs.code.Statement.{word_statement, simple_at, simple_action_at, action_at, begins_digit, branch_at, else_at, keyword_at, statement_at}
-use Rattle.f77_syntax.specs.declared.classification.Class.TheVariants.{Keyword}
-use Rattle.f77_tree.proofs.Tests.{and_true}
-use Rattle.f77_tree.proofs.Words.{name_words}
 use Rattle.f77_syntax.proofs.Complete.{complete, complete_all, operand_read, ends_item, whole, whole_read}
 use Rattle.f77_syntax.proofs.Outside.{pass, no_equals_sign, if_class, assign_class, loop_class, keyword_class, equals_other}
 use Rattle.f77_syntax.proofs.WordTexts.{is_equals, words_no_equals, BeginsLetter, name_begins, names_begin, letter_no_comma}
 use Rattle.f77_syntax.proofs.Steps.{name_found}
-use Rattle.f77_tree.specs.Declaration.{SpellsName, SpellsDecls, all_bounded}
-use Rattle.f77_tree.specs.Data.{SpellsGroups}
-use Rattle.f77_tree.specs.declared.tree.Kind.{Kind}
-use Rattle.f77_tree.specs.declared.tree.Kind.TheVariants.{Integer, Logical}
 use Rattle.f77_syntax.proofs.LabelTexts.{EndsDigits, label_read, last_label_read, label_comma_read}
 use Rattle.f77_syntax.proofs.GotoTexts.{goto_read, goto_class, computed_read, computed_class}
 use Rattle.f77_syntax.proofs.DeclarationTexts.{name_read, name_no_equals, declarations_read, declaration_no_equals}

@@ -1,40 +1,19 @@
 -- A statement that is read is spelled so.
-use Rattle.std.proofs.Common.{◌≡◌, ◌⊎◌, inl, inr, Bool, ℕ, length, List, [], ◌∷◌, ◌++◌, true, cond, subst, refl, Option, Some, None, ap, sym, ◌∙◌, append-nil}
-use Rattle.std.specs.Prelude.{◌==◌, codes}
-use Rattle.std.specs.Str.{bytes_eq}
-use Rattle.std.specs.List.{list_all, join_with_byte}
-use Rattle.std.proofs.lemmas.Option.{same_Some, none-some}
-use Rattle.std.proofs.lemmas.Bool.{eqb-true}
-use Rattle.std.proofs.lemmas.Slice.Eq.{bytes_eq-Decides}
-use Rattle.std.proofs.lemmas.List.{nil_from_length}
-use Rattle.f77_tree.specs.Tree.{Tree}
-use Rattle.f77_tree.specs.Statement.{Statement}
-use Rattle.f77_tree.specs.Grammar.{Spells, is_number, is_name}
-use Rattle.f77_tree.specs.StatementGrammar.{SpellsAction, SpellsStatement, optional_comma, label_number, kind_keyword}
-use Rattle.f77_syntax.specs.Reading.{◌>>=◌, strip}
-use Rattle.f77_syntax.specs.code.Reading.{tree_after, behind, close_at, value_ended, reading, past_comma, whole_at}
-use Rattle.f77_syntax.specs.code.Names.{name_at, names_at}
-use Rattle.f77_tree.specs.Joined.{Joined}
+use Rattle.f77_syntax.proofs.Common.{refl, ◌∙◌, sym, ap, ◌≡◌, List, ℕ, true, [], ◌∷◌, Some, None, length, subst, Option, ◌++◌, Bool, ◌==◌, codes, inr, cond}
+use Rattle.f77_syntax.proofs.Common.{inl, append-nil, ◌⊎◌, eqb-true, nil_from_length, none-some, same_Some, bytes_eq-Decides, list_all, join_with_byte}
+use Rattle.f77_syntax.proofs.Common.{bytes_eq, is_action, ◌>>=◌, strip, class_of, tree_after, reading, value_ended, name_at, close_at, past_comma, label_at}
+use Rattle.f77_syntax.proofs.Common.{names_at, whole_at, simple_action_at, statement_at, word_statement, action_at, arithmetic_at, begins_digit, branch_at}
+use Rattle.f77_syntax.proofs.Common.{condition_at, control_at, declarations_at, dummies_at, else_at, goto_at, groups_at, label_comma, last_label, loop_at}
+use Rattle.f77_syntax.proofs.Common.{simple_at, step_at, subroutine_at, behind, keyword_at, parameters_at, action_by, actions_only, arguments_at, data_at}
+use Rattle.f77_syntax.proofs.Common.{declared_at, dimension_at, statement_by, Keyword, Assignment, If, Loop, SpellsName, all_bounded, is_name, is_number}
+use Rattle.f77_syntax.proofs.Common.{Spells, Joined, Statement, label_number, SpellsStatement, optional_comma, SpellsAction, kind_keyword, Tree}
 use Rattle.f77_tree.specs.code.Joined.{some_all}
 use Rattle.f77_program.proofs.JoinedForms.{joined_all}
-use Rattle.f77_syntax.specs.code.Subroutine.{dummies_at, arguments_at, subroutine_at}
-use Rattle.f77_syntax.specs.code.Label.{label_at, last_label, label_comma}
-use Rattle.f77_syntax.specs.code.Condition.{arithmetic_at, condition_at}
-use Rattle.f77_syntax.specs.code.DoLoop.{control_at, step_at, parameters_at, loop_at}
-use Rattle.f77_program.specs.Formed.{is_action}
-use Rattle.f77_syntax.specs.Classification.{class_of}
-use Rattle.f77_syntax.specs.code.Statement.{word_statement, simple_at, actions_only, simple_action_at, action_by, action_at, begins_digit, branch_at, else_at}
-use Rattle.f77_syntax.specs.code.Statement.{keyword_at, statement_by, statement_at}
-use Rattle.f77_syntax.specs.code.Goto.{goto_at}
-use Rattle.f77_syntax.specs.declared.classification.Class.{Class}
-use Rattle.f77_syntax.specs.declared.classification.Class.TheVariants.{If, Loop, Assignment, Keyword}
-use Rattle.f77_syntax.proofs.Steps.{along, bind_ok, behind_is, chosen, guarded, strip_is, after_is, ended_is, name_front}
-use Rattle.f77_syntax.proofs.Sound.{sound_reading, whole_is}
-use Rattle.f77_tree.specs.Declaration.{SpellsName, all_bounded}
-use Rattle.f77_syntax.specs.code.Declaration.{declarations_at, declared_at, dimension_at}
-use Rattle.f77_syntax.specs.code.Data.{groups_at, data_at}
 use Rattle.f77_tree.specs.declared.tree.Kind.{Kind}
 use Rattle.f77_tree.specs.declared.tree.Kind.TheVariants.{Integer, Logical}
+use Rattle.f77_syntax.specs.declared.classification.Class.{Class}
+use Rattle.f77_syntax.proofs.Steps.{along, bind_ok, behind_is, chosen, guarded, strip_is, after_is, ended_is, name_front}
+use Rattle.f77_syntax.proofs.Sound.{sound_reading, whole_is}
 use Rattle.f77_syntax.proofs.LabelTexts.{label_is, last_label_is, label_comma_is, past_comma_is}
 use Rattle.f77_syntax.proofs.GotoTexts.{goto_is}
 use Rattle.f77_syntax.proofs.DeclarationTexts.{names_is, declarations_is}

@@ -1,16 +1,9 @@
 -- Taking apart a chain of steps that may fail.
-use Rattle.std.proofs.Common.{arith, ◌≡◌, ◌⊎◌, inl, inr, ℕ, List, [], ◌∷◌, ◌++◌, Bool, true, false, cond, subst, refl, Option, Some, None, ap, sym, ◌∙◌}
-use Rattle.std.proofs.lemmas.Option.{same_Some, none-some}
-use Rattle.std.proofs.lemmas.Bool.{eqb-true}
-use Rattle.f77_tree.specs.Grammar.{is_name, word, past_word}
-use Rattle.f77_tree.proofs.Words.{EndsWord, word_whole, word_front, past_word_front, name_words}
-use Rattle.f77_syntax.specs.Reading.{◌>>=◌, strip}
-use Rattle.f77_syntax.specs.code.Reading.{tree_after, behind, value_ended}
-use Rattle.f77_syntax.specs.code.Names.{name_at}
-use Rattle.std.specs.Prelude.{◌==◌, ◌&&◌, ◌+◌, nat_eq, length, take, drop, option_map, MatchOption}
-use Rattle.std.specs.Borrow.{Bor}
+use Rattle.f77_syntax.proofs.Common.{refl, ◌∙◌, sym, ap, ◌≡◌, List, ℕ, true, [], ◌∷◌, Some, None, false, length, arith, subst, Option, ◌++◌, Bool, ◌==◌, inr}
+use Rattle.f77_syntax.proofs.Common.{cond, ◌+◌, inl, ◌&&◌, drop, take, ◌⊎◌, eqb-true, option_map, MatchOption, nat_eq, none-some, same_Some, Bor, ◌>>=◌, strip}
+use Rattle.f77_syntax.proofs.Common.{tree_after, value_ended, name_at, behind, and_true, name_words, past_word_front, word_front, word_whole, EndsWord, is_name}
+use Rattle.f77_syntax.proofs.Common.{past_word, word}
 use lib.Pointwise.{pointwise}
-use Rattle.f77_tree.proofs.Tests.{and_true}
 
 -- what holds of the value that is given, holds of the value that is found
 pub along : {A : Type 0} (P : A → Type 0) (y x : A) → Some y ≡ Some x → P y → P x

@@ -1,21 +1,11 @@
 -- Cards are the lines of a program, or have a first fault.
-use Rattle.std.proofs.Common.{arith, ◌≡◌, ◌≢◌, ◌⊎◌, inl, inr, ◌≤◌, ◌+◌, ℕ, zero, suc, length, List, [], ◌∷◌, take, Bool, true, false, refl, sym, ◌∙◌, subst, Option, Some, None}
-use Rattle.std.specs.Prelude.{nat_le, nat_lt}
-use Rattle.std.proofs.lemmas.Bool.Decides.{nat_tests}
-use Rattle.std.proofs.lemmas.List.{take_all}
-use Rattle.f77_source.specs.Card.{CardFields}
-use Rattle.f77_program.specs.declared.fault.SyntaxFault.{SyntaxFault}
-use Rattle.f77_program.specs.declared.fault.SyntaxFault.TheVariants.{Unknown, BadName, BadConstant, TooDeep, TooLong, AfterEnd}
-use Rattle.f77_program.specs.declared.group.Group.{Group}
-use Rattle.f77_program.specs.declared.group.Group.TheVariants.{End}
-use Rattle.f77_tree.specs.Statement.{Statement}
-use Rattle.f77_program.specs.Group.{group_of, may_stand}
-use Rattle.f77_syntax.specs.TextLimits.{open_behind, most_open, character_count, most_characters, IsTooDeep}
-use Rattle.f77_tree.specs.Limits.{most_nodes, statement_constants, statement_nodes}
-use Rattle.f77_syntax.specs.Parsing.{IsAdmitted, IsCardRefused, line_with, AreLines, IsFirstSyntaxFault, HasLinesOrFault, misplaced_statement, unfinished}
-use Rattle.f77_syntax.specs.code.Statement.{statement_at}
-use Rattle.f77_tree.specs.StatementGrammar.{SpellsStatement}
-use Rattle.f77_tree.specs.Names.{statement_names}
+use Rattle.f77_syntax.proofs.Common.{refl, ◌∙◌, sym, ◌≡◌, List, ℕ, true, [], ◌∷◌, Some, None, false, length, arith, subst, Option, Bool, ◌≤◌, inr, suc, ◌+◌}
+use Rattle.f77_syntax.proofs.Common.{inl, zero, take, ◌⊎◌, nat_le, nat_lt, ◌≢◌, take_all, nat_tests, may_stand, group_of, SyntaxFault, AfterEnd, BadName}
+use Rattle.f77_syntax.proofs.Common.{BadConstant, TooDeep, TooLong, Group, End, CardFields, IsAdmitted, AreLines, IsCardRefused, IsFirstSyntaxFault}
+use Rattle.f77_syntax.proofs.Common.{character_count, line_with, IsTooDeep, most_characters, most_open, open_behind, misplaced_statement, unfinished}
+use Rattle.f77_syntax.proofs.Common.{HasLinesOrFault, statement_at, statement_constants, statement_nodes, most_nodes, statement_names, Statement}
+use Rattle.f77_syntax.proofs.Common.{SpellsStatement}
+use Rattle.f77_program.specs.declared.fault.SyntaxFault.TheVariants.{Unknown}
 use Rattle.f77_syntax.proofs.Depths.{flat_none, flat_step}
 use Rattle.f77_syntax.proofs.StatementComplete.{statement_read}
 use Rattle.f77_syntax.proofs.StatementSound.{statement_is}

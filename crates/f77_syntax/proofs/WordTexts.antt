@@ -1,13 +1,6 @@
 -- Texts of letters and digits: numbers are such, they have no equals sign, and a name begins with a letter.
-use Rattle.std.proofs.Common.{arith, ◌≡◌, ℕ, List, [], ◌∷◌, ◌++◌, Bool, true, false, refl, None, subst, sym, append_assoc}
-use Rattle.std.specs.Prelude.{◌==◌}
-use Rattle.std.specs.List.{list_all, list_any}
-use Rattle.std.proofs.lemmas.Bool.Decides.{nat_tests}
-use Rattle.f77_tree.specs.Grammar.{is_letter, is_word, is_digit, is_name, is_number}
-use Rattle.f77_tree.specs.Declaration.{SpellsName}
-use Rattle.f77_tree.specs.Joined.{Joined}
-use Rattle.f77_syntax.specs.code.Reading.{tree_after}
-use Rattle.f77_tree.proofs.Tests.{and_true}
+use Rattle.f77_syntax.proofs.Common.{refl, sym, ◌≡◌, List, ℕ, true, [], ◌∷◌, None, false, arith, subst, ◌++◌, Bool, ◌==◌, append_assoc, nat_tests, list_all}
+use Rattle.f77_syntax.proofs.Common.{list_any, tree_after, and_true, SpellsName, is_name, is_number, is_digit, is_word, is_letter, Joined}
 
 abbrev pub is_equals : ℕ → Bool
 is_equals c = c == 61

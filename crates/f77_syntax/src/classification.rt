@@ -3,8 +3,7 @@
 
 ghost use Rattle.f77_syntax.specs.Classification as classification;
 ghost use Rattle.std.specs.Prelude.{◌≡◌, ◌<◌, option_map, true, false};
-ghost use Rattle.f77_syntax.specs.Classification.{behind_character, class_of};
-ghost use Rattle.f77_syntax.specs.TextLimits.{IsTooDeep, character_count};
+ghost use Rattle.f77_syntax.specs.{behind_character, class_of, IsTooDeep, character_count};
 
 /// The class of a statement: which function reads it (ANSI X3.9-1978, 3.3).
 #[derive(Clone, Copy, Debug, PartialEq, Eq)]

@@ -2,12 +2,9 @@
 
 ghost use Rattle.f77_tree.specs.Data as initial;
 ghost use Rattle.std.specs.Prelude.{◌≡◌, ◌≤◌, length, pos, IfSome, ◌<◌, IfOk};
-ghost use Rattle.f77_syntax.specs.code.Declaration.{bound_at};
-ghost use Rattle.f77_syntax.specs.code.Data.{initial_constant_at, constant_at, clip_constant, clipped_constant, Finds};
-ghost use Rattle.f77_syntax.specs.code.Data.{repeat_at, data_value_at, data_values_at, group_at, groups_at, data_at};
-ghost use Rattle.f77_syntax.specs.code.Data.{IsValue, AreDataValues, IsGroup, AreGroups};
-ghost use Rattle.f77_syntax.specs.code.View.{clipped, Gives};
-ghost use Rattle.f77_syntax.specs.code.StatementView.{IsStatement};
+ghost use Rattle.f77_syntax.specs.code.{bound_at, initial_constant_at, constant_at, clip_constant, clipped_constant};
+ghost use Rattle.f77_syntax.specs.code.{Finds, repeat_at, data_value_at, data_values_at, group_at, groups_at, data_at};
+ghost use Rattle.f77_syntax.specs.code.{IsValue, AreDataValues, IsGroup, AreGroups, clipped, Gives, IsStatement};
 
 use crate::expression::{after_byte, expect_byte, past_comma};
 use crate::fault::ReadError;

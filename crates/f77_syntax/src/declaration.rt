@@ -1,12 +1,9 @@
 //! Reading SUBROUTINE, INTEGER, LOGICAL and DIMENSION statements.
 
 ghost use Rattle.std.specs.Prelude.{◌≤◌, length, IfOk};
-ghost use Rattle.f77_syntax.specs.code.Declaration.{bound_at, bounds_at, decl_at, declarations_at, declared_at};
-ghost use Rattle.f77_syntax.specs.code.Declaration.{dimension_at, IsBound, AreBounds, IsDecl, AreDecls};
-ghost use Rattle.f77_syntax.specs.code.StatementView.{IsStatement};
-ghost use Rattle.f77_syntax.specs.code.View.{Gives};
-ghost use Rattle.f77_syntax.specs.code.Names.{AreNames};
-ghost use Rattle.f77_syntax.specs.code.Subroutine.{dummies_at, subroutine_at};
+ghost use Rattle.f77_syntax.specs.code.{bound_at, bounds_at, decl_at, declarations_at, declared_at, dimension_at};
+ghost use Rattle.f77_syntax.specs.code.{IsBound, AreBounds, IsDecl, AreDecls, IsStatement, Gives, AreNames, dummies_at};
+ghost use Rattle.f77_syntax.specs.code.{subroutine_at};
 
 use crate::data::digits;
 use crate::expression::{after_byte, ended, expect_byte};

@@ -1,16 +1,16 @@
 //! Reading expressions, by recursive descent.
 
-ghost use Rattle.std.specs.Prelude.{◌≡◌, ◌<◌, ◌≤◌, ◌==◌, true, false, length, map, IfOk, MatchResult, option_map};
+ghost use Rattle.std.specs.Prelude.{◌≡◌, ◌<◌, ◌≤◌, ◌==◌, true, false, length, map, IfOk};
+ghost use Rattle.std.specs.Prelude.{MatchResult, option_map};
 ghost use Rattle.f77_syntax.specs.declared.fault.ReadError.TheVariants.{Unknown};
-ghost use Rattle.f77_syntax.specs.code.Reading.{reading, whole_at, tree_after, past_comma};
 ghost use Rattle.f77_tree.specs.Grammar.{word, past_word};
-ghost use Rattle.f77_syntax.specs.code.Reading.{start_at, enclosed_at, signed_tree_at};
-ghost use Rattle.f77_syntax.specs.code.Reading.{negated_at, dotted_at, word_tree_at, listed_by};
 ghost use Rattle.f77_tree.specs.Grammar.{is_name};
 ghost use Rattle.f77_tree.specs.Intrinsic.{function_named};
 ghost use Rattle.f77_tree.specs.Name.{cut};
 ghost use Rattle.f77_tree.specs.View.{tree_of, trees};
-ghost use Rattle.f77_syntax.specs.code.View.{clip, Gives, IsTree, IsTreeStart, IsTreeList};
+ghost use Rattle.f77_syntax.specs.code.{reading, whole_at, tree_after, past_comma, start_at, enclosed_at};
+ghost use Rattle.f77_syntax.specs.code.{signed_tree_at, negated_at, dotted_at, word_tree_at, listed_by, clip, Gives};
+ghost use Rattle.f77_syntax.specs.code.{IsTree, IsTreeStart, IsTreeList};
 
 use crate::fault::ReadError;
 use crate::scan::{after, expect, next_operator, number};

@@ -1,10 +1,9 @@
 //! Reading items joined by commas, and names. Lists of expressions have a loop of their own (`expression::list`).
 
 ghost use Rattle.std.specs.Prelude.{MatchResult, ◌≡◌, ◌≤◌, true, length, IfOk};
-ghost use Rattle.f77_syntax.specs.code.Joined.{JoinsItems, Breaks, Shortens};
 ghost use Rattle.f77_tree.specs.Grammar.{is_name};
-ghost use Rattle.f77_syntax.specs.code.Names.{name_at, names_at, IsFront, IsName, AreNames};
-ghost use Rattle.f77_syntax.specs.code.View.{Gives};
+ghost use Rattle.f77_syntax.specs.code.{JoinsItems, Breaks, Shortens, name_at, names_at, IsFront, IsName, AreNames};
+ghost use Rattle.f77_syntax.specs.code.{Gives};
 
 use crate::expression::after_byte;
 use crate::fault::ReadError;

@@ -4,14 +4,10 @@
 ghost use Rattle.f77_tree.specs.Grammar as grammar;
 ghost use Rattle.f77_syntax.specs.code.Label as labels;
 ghost use Rattle.std.specs.Prelude.{◌≡◌, ◌≤◌, true, length, IfOk};
-ghost use Rattle.f77_syntax.specs.code.Label.{label_at, IsLabel};
 ghost use Rattle.f77_tree.specs.StatementGrammar.{label_number};
-ghost use Rattle.f77_syntax.specs.code.View.{Gives};
-ghost use Rattle.f77_syntax.specs.code.Goto.{computed_at, goto_at};
-ghost use Rattle.f77_syntax.specs.code.Joined.{items_at};
-ghost use Rattle.f77_syntax.specs.code.StatementView.{IsStatement, AreLabels, IsControl, IsIncrementationRead};
 ghost use Rattle.f77_tree.specs.Grammar.{is_name};
-ghost use Rattle.f77_syntax.specs.code.DoLoop.{control_at, step_at, loop_at};
+ghost use Rattle.f77_syntax.specs.code.{label_at, IsLabel, Gives, computed_at, goto_at, items_at, IsStatement};
+ghost use Rattle.f77_syntax.specs.code.{AreLabels, IsControl, IsIncrementationRead, control_at, step_at, loop_at};
 
 use crate::expression::{after_byte, ended, expect_byte, expression, past_comma, whole};
 use crate::fault::ReadError;

@@ -4,15 +4,14 @@ ghost use Rattle.std.specs.Prelude.{◌≡◌, ℕ, List, length, map, None};
 ghost use Rattle.f77_source.specs.Card.{CardFields};
 ghost use Rattle.f77_tree.specs.Grammar.{Spells};
 ghost use Rattle.f77_tree.specs.StatementGrammar.{SpellsStatement};
-ghost use Rattle.f77_syntax.specs.Classification.{class_of, statement_class};
 ghost use Rattle.f77_program.specs.Program.{LineFields, IsProgram};
-ghost use Rattle.f77_syntax.specs.Parsing.{AreLines, HasLinesOrFault, IsFirstSyntaxFault};
 ghost use Rattle.f77_program.specs.Group.{group_of, AreInOrder};
 ghost use Rattle.f77_tree.specs.Tree.{Tree};
 ghost use Rattle.f77_tree.specs.Statement.{Statement};
 ghost use Rattle.f77_tree.specs.Node.{nodes_of};
 ghost use Rattle.f77_tree.specs.Limits.{statement_nodes};
 ghost use Rattle.f77_program.specs.declared.fault.SyntaxFault.{SyntaxFault};
+ghost use Rattle.f77_syntax.specs.{class_of, statement_class, AreLines, HasLinesOrFault, IsFirstSyntaxFault};
 
 /// A text spells at most one expression.
 #[tactic(auto, using(crate::proofs::Complete::one_tree))]

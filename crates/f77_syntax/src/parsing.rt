@@ -6,13 +6,12 @@ ghost use Rattle.f77_source.specs.Card.{CardFields};
 ghost use Rattle.f77_tree.specs.StatementGrammar.{SpellsStatement};
 ghost use Rattle.f77_program.specs.Group.{group_of, may_stand};
 ghost use Rattle.f77_tree.specs.Limits.{most_nodes, statement_constants, statement_nodes};
-ghost use Rattle.f77_syntax.specs.Parsing.{IsAdmitted, IsCardRefused, IsFirstSyntaxFault};
-ghost use Rattle.f77_syntax.specs.Parsing.{AreLines, misplaced_statement, unfinished};
-ghost use Rattle.f77_syntax.specs.code.Parsing.{IsOutside};
 ghost use Rattle.f77_program.specs.Program.{IsProgram, LineFields, line_of};
 ghost use Rattle.f77_tree.specs.Statement.{Statement, statement_of};
-ghost use Rattle.f77_syntax.specs.code.StatementView.{clip_statement};
 ghost use Rattle.f77_program.specs.declared.group.Group.TheVariants.{End};
+ghost use Rattle.f77_syntax.specs.{IsAdmitted, IsCardRefused, IsFirstSyntaxFault, AreLines, misplaced_statement};
+ghost use Rattle.f77_syntax.specs.{unfinished};
+ghost use Rattle.f77_syntax.specs.code.{IsOutside, clip_statement};
 
 use crate::classification::{MOST_CHARACTERS, character_count, is_too_deep};
 use crate::fault::ReadError;

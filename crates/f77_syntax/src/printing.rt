@@ -4,7 +4,7 @@ ghost use Rattle.std.specs.Prelude.{◌≡◌, ◌⊎◌, [], Some, IfOk, IfErr,
 ghost use Rattle.std.specs.List.{All, slice_get};
 ghost use Rattle.f77_program.specs.Printing.{printed, print_faults};
 ghost use Rattle.f77_program.specs.Program.{line_of};
-ghost use Rattle.f77_syntax.specs.Printing.{KeepsLimits, ReadsBack};
+ghost use Rattle.f77_syntax.specs.{KeepsLimits, ReadsBack};
 
 use f77_program::{Program, SyntaxFault};
 use f77_source::law::written_cards_are_read;

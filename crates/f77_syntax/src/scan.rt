@@ -3,10 +3,9 @@
 ghost use Rattle.std.specs.Prelude.{◌≡◌, ◌<◌, ◌≤◌, length, true, option_map, IfSome};
 ghost use Rattle.std.specs.Str.Parse.{digits_value};
 ghost use Rattle.f77_tree.specs.Grammar as grammar;
-ghost use Rattle.f77_syntax.specs.Reading.{strip};
 ghost use Rattle.f77_syntax.specs.code.Reading as reading;
-ghost use Rattle.f77_syntax.specs.code.Reading.{digits, past_digits, operator_at};
-ghost use Rattle.f77_syntax.specs.code.View.{clipped, Gives};
+ghost use Rattle.f77_syntax.specs.{strip};
+ghost use Rattle.f77_syntax.specs.code.{digits, past_digits, operator_at, clipped, Gives};
 
 use crate::fault::ReadError;
 use f77_tree::Operator;

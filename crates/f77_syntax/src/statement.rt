@@ -1,16 +1,13 @@
 //! Reading a statement: by the class of its whole text, then by its keyword.
 
 ghost use Rattle.f77_syntax.specs.code.Statement as reading;
-ghost use Rattle.f77_syntax.specs.code.Condition.{arithmetic_at, condition_at};
 ghost use Rattle.std.specs.Prelude.{◌≡◌, option_map};
 ghost use Rattle.f77_tree.specs.Tree.{Tree};
 ghost use Rattle.f77_tree.specs.View.{tree_of};
-ghost use Rattle.f77_syntax.specs.code.View.{clip, Gives, IsTree};
-ghost use Rattle.f77_syntax.specs.code.StatementView.{IsStatement, IsReference};
-ghost use Rattle.f77_syntax.specs.code.Assignment.{reference_at, assign_at};
-ghost use Rattle.f77_syntax.specs.code.Statement.{simple_at, simple_action_at, action_at, branch_at, else_at};
-ghost use Rattle.f77_syntax.specs.code.Statement.{keyword_at, statement_at};
 ghost use Rattle.f77_tree.specs.Statement.{statement_of};
+ghost use Rattle.f77_syntax.specs.code.{arithmetic_at, condition_at, clip, Gives, IsTree, IsStatement, IsReference};
+ghost use Rattle.f77_syntax.specs.code.{reference_at, assign_at, simple_at, simple_action_at, action_at, branch_at};
+ghost use Rattle.f77_syntax.specs.code.{else_at, keyword_at, statement_at};
 
 use crate::classification::{Class, class_of};
 use crate::data::preset;

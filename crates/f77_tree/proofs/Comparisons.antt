@@ -1,19 +1,12 @@
 -- Comparing lists of expressions item by item, and lists of parts by what they stand for.
-use Rattle.std.proofs.Common.{◌≡◌, ◌≢◌, ℕ, suc, ◌+◌, ◌<◌, ◌≤◌, List, [], ◌∷◌, length, map, drop, get_or, Bool, true, false, refl, sym, ◌∙◌, ap, add-one, drop-cons, arith}
-use Rattle.std.proofs.lemmas.List.{drop_all}
-use Rattle.std.specs.Prelude.{◌&&◌}
+use Rattle.f77_tree.proofs.Common.{map, refl, ◌≡◌, drop, ℕ, sym, ◌∙◌, ap, arith, List, [], ◌∷◌, Bool, true, false, length, ◌<◌, ◌+◌, ◌≢◌, suc, ◌&&◌, ◌≤◌}
+use Rattle.f77_tree.proofs.Common.{get_or, add-one, drop-cons, drop_all, tree_of, data_group_of, decl_of, trees, same_trees, same_decl, same_group, same_tree}
+use Rattle.f77_tree.proofs.Common.{DataGroup, Decl, Expr}
 use Rattle.std.specs.Cmp.Lexicographic.{pointwise}
 use Rattle.std.specs.Ordering.{on}
-use Rattle.f77_tree.specs.declared.tree.Expr.{Expr}
-use Rattle.f77_tree.specs.declared.declaration.Decl.{Decl}
-use Rattle.f77_tree.specs.declared.data.DataGroup.{DataGroup}
-use Rattle.f77_tree.specs.Comparing.{same_tree, same_trees, same_decl, same_group}
-use Rattle.f77_tree.specs.Declaration.{decl_of}
-use Rattle.f77_tree.specs.Data.{data_group_of}
-use Rattle.f77_tree.specs.View.{trees, tree_of}
 use Rattle.f77_tree.proofs.Views.{subroutine_view, declare_view, dimension_view, preset_view, assign_view, goto_view, computed_view, arithmetic_view}
-use Rattle.f77_tree.proofs.Views.{logical_view, inner_view, block_view, else_if_view, else_view, end_if_view, loop_view, continue_view, return_view}
-use Rattle.f77_tree.proofs.Views.{stop_view, trap_view, end_view}
+use Rattle.f77_tree.proofs.Views.{logical_view, inner_view, block_view, else_if_view, else_view, end_if_view, loop_view, continue_view, return_view, stop_view}
+use Rattle.f77_tree.proofs.Views.{trap_view, end_view}
 
 abbrev pub same_lists : List Expr → List Expr → Bool
 same_lists xs ys = same_trees (trees (map tree_of xs)) (trees (map tree_of ys))

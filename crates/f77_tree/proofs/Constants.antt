@@ -1,15 +1,9 @@
 -- The limit on constants, said of a statement part by part.
-use Rattle.std.proofs.Common.{◌≡◌, ℕ, List, [], ◌∷◌, ◌++◌, Bool, true, refl, ◌∙◌, ap, Option, Some, None}
-use Rattle.std.specs.Prelude.{◌&&◌, map, nat_le}
-use Rattle.std.specs.List.{flat_map, list_all}
+use Rattle.f77_tree.proofs.Common.{map, refl, ◌≡◌, ℕ, ◌∙◌, ap, ◌++◌, List, [], ◌∷◌, Bool, true, Option, Some, ◌&&◌, None, nat_le, list_all, flat_map, NodeOf}
+use Rattle.f77_tree.proofs.Common.{Tree, GroupFields, Trees, all_parts, group_nodes, parts, tree_nodes, is_small_node, label_nodes, nodes_of, value_nodes}
+use Rattle.f77_tree.proofs.Common.{DeclFields, is_label, largest_integer, of_value, parameter_nodes, statement_constants, target_nodes, Statement, Value}
 use Rattle.std.proofs.lemmas.List.Folds.{list_all-append, list_all-map}
 use Rattle.std.proofs.Math.Bool.{and-true}
-use Rattle.f77_tree.specs.declared.data.Value.{Value}
-use Rattle.f77_tree.specs.Tree.{Tree, Trees, DeclFields, GroupFields}
-use Rattle.f77_tree.specs.Statement.{Statement}
-use Rattle.f77_tree.specs.Limits.{largest_integer, is_label, is_small_node, statement_constants}
-use Rattle.f77_tree.specs.Names.{of_value}
-use Rattle.f77_tree.specs.Node.{NodeOf, parts, all_parts, tree_nodes, value_nodes, group_nodes, target_nodes, label_nodes, parameter_nodes, nodes_of}
 
 -- a part of an expression, a bound, a declared name, a value of DATA
 abbrev pub small_tree : Tree → Bool

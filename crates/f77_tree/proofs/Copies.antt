@@ -1,18 +1,7 @@
 -- Lists that are copied item by item, and what holds such a list.
-use Rattle.std.proofs.Common.{◌≡◌, ℕ, List, [], ◌∷◌, map, refl, sym, ◌∙◌, ap}
-use Rattle.std.specs.Prelude.{Vec}
-use Rattle.std.specs.List.{AllZip}
-use Rattle.std.specs.declared.alloc.Global.{Global}
-use Rattle.f77_tree.specs.declared.statement.Stmt.{Stmt}
+use Rattle.f77_tree.proofs.Common.{map, refl, ◌≡◌, ℕ, sym, ◌∙◌, ap, List, [], ◌∷◌, Vec, AllZip, Global, tree_of, data_group_of, decl_of, Statement}
+use Rattle.f77_tree.proofs.Common.{statement_of, DataGroup, Decl, Stmt, Expr, Kind}
 use Rattle.f77_tree.specs.declared.statement.Stmt.TheVariants as forms
-use Rattle.f77_tree.specs.declared.tree.Expr.{Expr}
-use Rattle.f77_tree.specs.declared.tree.Kind.{Kind}
-use Rattle.f77_tree.specs.declared.declaration.Decl.{Decl}
-use Rattle.f77_tree.specs.declared.data.DataGroup.{DataGroup}
-use Rattle.f77_tree.specs.Statement.{Statement, statement_of}
-use Rattle.f77_tree.specs.View.{tree_of}
-use Rattle.f77_tree.specs.Declaration.{decl_of}
-use Rattle.f77_tree.specs.Data.{data_group_of}
 use Rattle.f77_tree.proofs.Views.{subroutine_view, declare_view, dimension_view, preset_view, computed_view}
 
 same_views : {X A : Type 0} (view : X → A) (xs ys : List X) → AllZip (λ x y. view y ≡ view x) xs ys → map view ys ≡ map view xs

@@ -1,5 +1,5 @@
 -- Texts of one length that are the same in each place.
-use Rattle.std.proofs.Common.{arith, ◌≡◌, ◌∙◌, ◌+◌, ◌&&◌, ◌<◌, ℕ, suc, true, List, [], ◌∷◌, length, nat_eq, refl, sym, ap, slice_index_or, inl, inr}
+use Rattle.f77_tree.proofs.Common.{refl, ◌≡◌, ℕ, sym, ◌∙◌, ap, arith, List, [], ◌∷◌, true, length, ◌<◌, ◌+◌, suc, ◌&&◌, inl, inr, slice_index_or, nat_eq}
 use Rattle.std.specs.Str.{bytes_eq}
 use Rattle.std.proofs.lemmas.Bool.{cases_lt}
 use Rattle.std.proofs.lemmas.Bool.Decides.{nat_tests}

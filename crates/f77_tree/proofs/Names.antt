@@ -1,19 +1,12 @@
 -- Names as they are kept.
-use Rattle.std.proofs.Common.{arith, ◌≡◌, ◌<◌, ◌≤◌, ◌-◌, ℕ, zero, suc, take, drop, List, [], ◌∷◌, ◌++◌, length, Bool, true, false, refl, ap, sym, ◌∙◌}
-use Rattle.std.specs.Prelude.{IsUtf8, min, nat_le, replicate}
-use Rattle.std.specs.List.{list_all}
+use Rattle.f77_tree.proofs.Common.{refl, ◌≡◌, drop, ℕ, sym, ◌∙◌, ap, arith, ◌++◌, List, [], ◌∷◌, Bool, true, take, false, length, ◌<◌, suc, ◌-◌, ◌≤◌, IsUtf8}
+use Rattle.f77_tree.proofs.Common.{nat_le, take_all, zero, min, replicate, drop-replicate, list_all, word, IsPadded, cut, is_letter, is_name, is_word, padded}
 use Rattle.std.specs.Str.{IsAscii}
 use Rattle.std.proofs.lemmas.Bool.Decides.{nat_tests}
-use Rattle.std.proofs.lemmas.List.{take_all, drop-replicate}
 use Rattle.std.proofs.lemmas.Str.{IsUtf8-from_ascii}
 use Rattle.std.proofs.lemmas.Str.Ascii.{IsAscii-nil, IsAscii-cons}
-use Rattle.f77_tree.specs.Grammar.{is_letter, is_word, is_name}
-use Rattle.f77_tree.specs.Name.{cut}
-use Rattle.f77_tree.specs.Name.{padded, IsPadded}
-use Rattle.f77_tree.specs.Grammar.{word}
-use Rattle.f77_tree.proofs.Words.{name_words}
+use Rattle.f77_tree.proofs.Words.{name_words, EndsWord, word_front}
 use Rattle.f77_tree.proofs.Tests.{and_true}
-use Rattle.f77_tree.proofs.Words.{EndsWord, word_front}
 
 words_ascii : (s : List ℕ) → list_all is_word s ≡ true → IsAscii s
 words_ascii [] e = IsAscii-nil

@@ -1,13 +1,8 @@
 -- The sites stand in the order of the nodes.
-use Rattle.std.proofs.Common.{◌≡◌, ℕ, List, [], ◌∷◌, ◌++◌, refl, ap, sym, ◌∙◌, Option, Some, None}
-use Rattle.std.specs.Prelude.{map}
-use Rattle.std.specs.List.{flat_map}
-use Rattle.std.proofs.lemmas.List.{map-append}
-use Rattle.f77_tree.specs.declared.data.Value.{Value}
-use Rattle.f77_tree.specs.Tree.{Tree, Trees, GroupFields}
-use Rattle.f77_tree.specs.Statement.{Statement}
-use Rattle.f77_tree.specs.Node.{NodeOf, parts, all_parts, tree_nodes, value_nodes, group_nodes, label_nodes, nodes_behind, nodes_of}
-use Rattle.f77_tree.specs.Sites.{Site, node_at, site_within, fixed, list_sites, item_sites, tree_sites, step_sites, target_sites, label_sites, value_sites, group_sites, sites_behind, sites}
+use Rattle.f77_tree.proofs.Common.{map, refl, ◌≡◌, ℕ, sym, ◌∙◌, ap, ◌++◌, List, [], ◌∷◌, Option, Some, None, map-append, flat_map, NodeOf, tree_sites}
+use Rattle.f77_tree.proofs.Common.{label_sites, Tree, group_sites, sites_behind, GroupFields, Site, Trees, all_parts, group_nodes, list_sites, site_within}
+use Rattle.f77_tree.proofs.Common.{value_sites, item_sites, parts, step_sites, target_sites, tree_nodes, fixed, label_nodes, nodes_of, sites, value_nodes}
+use Rattle.f77_tree.proofs.Common.{node_at, nodes_behind, Statement, Value}
 
 pub nodes_within : {X Y : Type 0} (f : X → Y) (xs : List (Site X)) → map node_at (map (site_within f) xs) ≡ map node_at xs
 nodes_within f [] = refl

@@ -1,16 +1,11 @@
 -- Nodes that change places in joined lists of sites.
-use Rattle.std.proofs.Common.{arith, ◌≡◌, ◌-◌, ◌<◌, ◌≤◌, ◌+◌, ℕ, zero, suc, length, length-append, List, [], ◌∷◌, ◌++◌, refl}
-use Rattle.std.proofs.Common.{Option, Some, None, ap, sym, ◌∙◌, subst, inl, inr, get_or, take, drop, set}
-use Rattle.std.specs.Prelude.{map, slice_get, option_map, ◌≢◌, Bool, true, false}
-use Rattle.std.proofs.lemmas.List.{map-append, length-map, map_push, append_assoc, append-nil, drop_more, drop_all, take_more_set, take_all, drop-set-lt, set_split}
-use Rattle.std.proofs.lemmas.Bool.{cases_lt, true≢false}
+use Rattle.f77_tree.proofs.Common.{map, refl, ◌≡◌, drop, ℕ, sym, ◌∙◌, ap, arith, ◌++◌, List, [], ◌∷◌, Bool, true, take, false, length, ◌<◌, Option, ◌+◌, ◌≢◌}
+use Rattle.f77_tree.proofs.Common.{Some, subst, suc, ◌-◌, ◌≤◌, None, get_or, append-nil, append_assoc, inl, inr, option_map, slice_get, take_all, true≢false}
+use Rattle.f77_tree.proofs.Common.{zero, drop-set-lt, length-append, set, map-append, drop_all, drop_more, length-map, map_push, set_split, take_more_set}
+use Rattle.f77_tree.proofs.Common.{NodeOf, tree_sites, trees, Tree, group_sites, GroupFields, Site, Trees, list_sites, site_within, value_sites, item_sites}
+use Rattle.f77_tree.proofs.Common.{fixed, put_node, Sought, PassedBy, Swapped, put_number, Value}
+use Rattle.std.proofs.lemmas.Bool.{cases_lt}
 use Rattle.std.proofs.lemmas.Option.{slice_get-map}
-use Rattle.f77_tree.specs.Node.{NodeOf}
-use Rattle.f77_tree.specs.declared.data.Value.{Value}
-use Rattle.f77_tree.specs.Tree.{Tree, Trees, GroupFields}
-use Rattle.f77_tree.specs.View.{trees}
-use Rattle.f77_tree.specs.Sites.{Site, site_within, fixed, put_node, list_sites, tree_sites, item_sites, value_sites, group_sites}
-use Rattle.f77_tree.specs.code.Swapping.{put_number, Swapped, PassedBy, Sought}
 
 -- one site replaced within something larger
 put_within : {X Y : Type 0} (f : X → Y) (o : Option (Site X)) (n : NodeOf) (x : X) → put_node (option_map (site_within f) o) n (f x) ≡ f (put_node o n x)

@@ -1,25 +1,16 @@
 -- Each form of expression with a part swapped for another.
-use Rattle.std.proofs.Common.{◌≡◌, ◌-◌, ℕ, List, length, ap, sym, ◌∙◌, subst, refl}
-use Rattle.std.specs.Prelude.{map, ◌≢◌, ◌↔◌, IsTrue, Bool, true, false, Box, Vec}
-use Rattle.std.proofs.lemmas.Bool.{true≢false}
+use Rattle.f77_tree.proofs.Common.{map, refl, ◌≡◌, ℕ, sym, ◌∙◌, ap, List, Bool, true, false, length, Vec, ◌≢◌, subst, ◌-◌, Box, true≢false, IsTrue, ◌↔◌}
+use Rattle.f77_tree.proofs.Common.{with_items_is, Global, NodeOf, tree_sites, tree_of, trees, Tree, Site, Trees, site_within, item_sites, target_sites}
+use Rattle.f77_tree.proofs.Common.{expr_step, ref_step, part_or, parts_behind, target_or, Sought, assigned_reference, Expr, rolls-Call, rolls-ZeroPush}
 use Rattle.std.specs.Vec.{with_items}
-use Rattle.std.proofs.lemmas.List.{with_items_is}
-use Rattle.std.specs.declared.alloc.Global.{Global}
 use Rattle.f77_tree.specs.declared.intrinsic.Intrinsic.{Intrinsic}
 use Rattle.f77_tree.specs.declared.operator.Operator.{Operator}
 use Rattle.f77_tree.specs.declared.operator.Sign.{Sign}
-use Rattle.f77_tree.specs.declared.tree.Expr.{Expr}
 use Rattle.f77_tree.specs.declared.tree.Ref.{Ref}
-use Rattle.f77_tree.specs.declared.tree.Expr.TheVariants.{rolls-Call, rolls-ZeroPush}
-use Rattle.f77_tree.specs.declared.tree.Expr.TheViews as views
 use Rattle.f77_tree.specs.declared.tree.Expr.TheOpen.{Expr-F}
 use Rattle.f77_tree.specs.declared.tree.Expr.TheFolds.{fold-roll-Expr}
-use Rattle.f77_tree.specs.Node.{NodeOf}
-use Rattle.f77_tree.specs.Tree.{Tree, Trees}
-use Rattle.f77_tree.specs.View.{trees, tree_of, expr_step, ref_step}
+use Rattle.f77_tree.specs.declared.tree.Expr.TheViews as views
 use Rattle.f77_tree.proofs.Views.{signed_view, not_view, binary_view, reference_view, ref_view}
-use Rattle.f77_tree.specs.Sites.{Site, site_within, part_or, target_or, parts_behind, item_sites, target_sites, tree_sites}
-use Rattle.f77_tree.specs.code.Swapping.{Sought, assigned_reference}
 use Rattle.f77_tree.proofs.Passes.{sought_one, sought_first, sought_second, sought_behind}
 
 call_view : (f : Intrinsic) (arguments : Vec Expr Global) → tree_of (views.Call f arguments) ≡ Tree.Call f (trees (map tree_of arguments.items))

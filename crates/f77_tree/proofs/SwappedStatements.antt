@@ -1,19 +1,9 @@
 -- Each form of statement with a node behind its own swapped for another.
-use Rattle.std.proofs.Common.{arith, ◌≡◌, ◌-◌, ℕ, List, ◌++◌, length, ap, sym, ◌∙◌, Option, refl}
-use Rattle.std.specs.Prelude.{map, Bool, false, Vec}
-use Rattle.std.proofs.lemmas.List.{length-map}
-use Rattle.std.specs.declared.alloc.Global.{Global}
-use Rattle.f77_tree.specs.declared.statement.Stmt.{Stmt}
-use Rattle.f77_tree.specs.declared.tree.Kind.{Kind}
-use Rattle.f77_tree.specs.declared.declaration.Decl.{Decl}
+use Rattle.f77_tree.proofs.Common.{map, refl, ◌≡◌, ℕ, sym, ◌∙◌, ap, arith, ◌++◌, List, Bool, false, length, Vec, Option, ◌-◌, length-map, Global, NodeOf}
+use Rattle.f77_tree.proofs.Common.{tree_sites, decl_of, label_sites, Tree, group_sites, sites_behind, GroupFields, Site, list_sites, site_within, step_sites}
+use Rattle.f77_tree.proofs.Common.{name_sites, Statement, statement_of, Sought, Decl, Stmt, Kind}
 use Rattle.f77_tree.specs.declared.statement.Stmt.TheVariants as forms
-use Rattle.f77_tree.specs.Declaration.{decl_of}
-use Rattle.f77_tree.specs.Node.{NodeOf}
-use Rattle.f77_tree.specs.Statement.{statement_of, Statement}
-use Rattle.f77_tree.specs.Tree.{Tree, GroupFields}
 use Rattle.f77_tree.proofs.Views.{subroutine_view, declare_view, dimension_view}
-use Rattle.f77_tree.specs.Sites.{Site, site_within, list_sites, tree_sites, step_sites, label_sites, name_sites, group_sites, sites_behind}
-use Rattle.f77_tree.specs.code.Swapping.{Sought}
 use Rattle.f77_tree.proofs.Passes.{sought_one, passed_fixed, pair_sites, within_pair}
 use Rattle.f77_tree.proofs.SwappedExpressions.{seen_as}
 

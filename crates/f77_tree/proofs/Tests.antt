@@ -1,6 +1,5 @@
 -- What follows for the parts of a test that holds.
-use Rattle.std.proofs.Common.{◌≡◌, Bool, true, false, refl}
-use Rattle.std.specs.Prelude.{◌&&◌, not}
+use Rattle.f77_tree.proofs.Common.{refl, ◌≡◌, Bool, true, false, ◌&&◌, not}
 
 pub and_true : (a b : Bool) → (a && b) ≡ true → (a ≡ true) × (b ≡ true)
 and_true true b e = (refl, e)

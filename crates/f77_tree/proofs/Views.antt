@@ -1,32 +1,21 @@
 -- The tree of each form of expression.
-use Rattle.std.specs.Prelude.{◌≡◌, ℕ, List, map, Bool, Option, option_map, Box, Vec}
-use Rattle.std.proofs.Common.{ap, sym, ◌∙◌}
-use Rattle.std.specs.declared.alloc.Global.{Global}
-use Rattle.f77_tree.specs.declared.tree.Expr.{Expr}
+use Rattle.f77_tree.proofs.Common.{map, ◌≡◌, ℕ, sym, ◌∙◌, ap, List, Bool, Vec, Option, Box, option_map, Global, tree_of, data_group_of, decl_of, trees, Tree}
+use Rattle.f77_tree.proofs.Common.{expr_step, ref_step, reference_fields, Statement, statement_of, stmt_step, DataGroup, Decl, Stmt, Expr, Number, Truth}
+use Rattle.f77_tree.proofs.Common.{rolls-Binary, rolls-Not, rolls-Number, rolls-Reference, rolls-Signed, rolls-Truth, Kind}
 use Rattle.f77_tree.specs.declared.tree.Ref.{Ref}
 use Rattle.f77_tree.specs.declared.operator.Operator.{Operator}
 use Rattle.f77_tree.specs.declared.operator.Sign.{Sign}
-use Rattle.f77_tree.specs.declared.tree.Expr.TheVariants.{Number, Truth, rolls-Number, rolls-Truth, rolls-Reference, rolls-Signed, rolls-Not, rolls-Binary}
-use Rattle.f77_tree.specs.declared.tree.Expr.TheViews as views
 use Rattle.f77_tree.specs.declared.tree.Expr.TheOpen.{Expr-F}
 use Rattle.f77_tree.specs.declared.tree.Expr.TheFolds.{fold-roll-Expr, fold_out-Ref}
-use Rattle.f77_tree.specs.declared.statement.Stmt.{Stmt}
 use Rattle.f77_tree.specs.declared.statement.Stmt.TheVariants.{rolls-Subroutine, rolls-Declare, rolls-Dimension, rolls-Preset, rolls-Assign, rolls-ComputedGoto}
 use Rattle.f77_tree.specs.declared.statement.Stmt.TheVariants.{rolls-ArithIf, rolls-LogicalIf, rolls-BlockIf, rolls-ElseIf, rolls-Else, rolls-Loop, rolls-Goto}
 use Rattle.f77_tree.specs.declared.statement.Stmt.TheVariants.{rolls-EndIf, rolls-Continue, rolls-Return, rolls-Stop, rolls-Trap, rolls-End}
+use Rattle.f77_tree.specs.declared.statement.Stmt.TheOpen.{Stmt-F}
+use Rattle.f77_tree.specs.declared.statement.Stmt.TheFolds.{fold-roll-Stmt, fold_out-Stmt}
+use Rattle.f77_tree.specs.declared.tree.Expr.TheViews as views
 use Rattle.f77_tree.specs.declared.statement.Stmt.TheVariants as forms
 use Rattle.f77_tree.specs.declared.statement.Stmt.TheViews as boxed
 use Rattle.f77_tree.specs.declared.statement.Stmt as inside
-use Rattle.f77_tree.specs.declared.statement.Stmt.TheOpen.{Stmt-F}
-use Rattle.f77_tree.specs.declared.statement.Stmt.TheFolds.{fold-roll-Stmt, fold_out-Stmt}
-use Rattle.f77_tree.specs.Tree.{Tree}
-use Rattle.f77_tree.specs.Statement.{Statement, stmt_step, statement_of}
-use Rattle.f77_tree.specs.View.{trees, expr_step, ref_step, tree_of, reference_fields}
-use Rattle.f77_tree.specs.declared.tree.Kind.{Kind}
-use Rattle.f77_tree.specs.declared.declaration.Decl.{Decl}
-use Rattle.f77_tree.specs.declared.data.DataGroup.{DataGroup}
-use Rattle.f77_tree.specs.Declaration.{decl_of}
-use Rattle.f77_tree.specs.Data.{data_group_of}
 
 pub number_view : (n : ℕ) → tree_of (Number n) ≡ Tree.Number n
 number_view n = ap tree_of (sym (rolls-Number n)) ∙ fold-roll-Expr Tree (List ℕ × List Tree) expr_step ref_step (Expr-F.Number n)

@@ -1,8 +1,7 @@
 -- Nodes that are listed item by item.
-use Rattle.std.proofs.Common.{◌≡◌, ◌<◌, ◌≤◌, ◌+◌, ℕ, List, [], ◌∷◌, ◌++◌, length, map, drop, get_or, sym, ap, ◌∙◌, append_assoc, append-nil}
+use Rattle.f77_tree.proofs.Common.{map, ◌≡◌, drop, ℕ, sym, ◌∙◌, ap, ◌++◌, List, [], ◌∷◌, length, ◌<◌, ◌+◌, ◌≤◌, get_or, append-nil, append_assoc, map-append}
+use Rattle.f77_tree.proofs.Common.{drop_more, NodeOf, node_of}
 use Rattle.std.proofs.Math.ListN.{drop_of_length-le}
-use Rattle.std.proofs.lemmas.List.{drop_more, map-append}
-use Rattle.f77_tree.specs.Node.{NodeOf, node_of}
 use Rattle.f77_tree.specs.declared.node.Node.{Node}
 
 -- items whose nodes are listed one item after another

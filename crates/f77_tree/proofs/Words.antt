@@ -1,8 +1,6 @@
 -- The letters and digits at the front of a text.
-use Rattle.std.proofs.Common.{cond, ◌≡◌, ℕ, List, [], ◌∷◌, ◌++◌, Bool, true, false, refl, ap}
-use Rattle.std.specs.List.{list_all}
+use Rattle.f77_tree.proofs.Common.{refl, ◌≡◌, ℕ, ap, ◌++◌, List, [], ◌∷◌, Bool, true, false, cond, list_all, word, is_letter, is_name, is_word, past_word}
 use Rattle.f77_tree.proofs.Tests.{and_true}
-use Rattle.f77_tree.specs.Grammar.{is_word, word, past_word, is_letter, is_name}
 
 pub letter_word : (c : ℕ) → is_letter c ≡ true → is_word c ≡ true
 letter_word c h = rw h refl

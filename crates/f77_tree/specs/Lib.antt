@@ -19,3 +19,20 @@ pub mod Names
 pub mod Sites
 pub mod Replacement
 pub mod code
+unfoldable pub use Intrinsic.*
+pub use Operator.*
+pub use Grammar.*
+pub use Form.*
+pub use View.*
+pub use Declaration.*
+pub use Data.*
+pub use Name.*
+pub use Comparing.*
+unfoldable pub use StatementGrammar.*
+pub use Deciding.*
+pub use SameTrees.*
+pub use Node.*
+pub use Limits.*
+pub use Names.*
+pub use Sites.*
+pub use Replacement.*

@@ -1,2 +1,4 @@
 pub mod Joined
 pub mod Swapping
+pub use Joined.*
+pub use Swapping.*

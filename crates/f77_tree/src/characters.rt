@@ -3,7 +3,7 @@
 ghost use Rattle.std.specs.Prelude.{◌≡◌, ◌≤◌, length};
 ghost use Rattle.std.specs.List.{list_all};
 ghost use Rattle.f77_tree.specs.Grammar as grammar;
-ghost use Rattle.f77_tree.specs.Grammar.{word, past_word};
+ghost use Rattle.f77_tree.specs.{word, past_word};
 
 /// An upper-case letter (3.1.1).
 pub fn is_letter(c: u8) -> bool

@@ -2,7 +2,7 @@
 
 ghost use Rattle.std.specs.Prelude.{◌≡◌, map};
 ghost use Rattle.f77_tree.specs.Declaration as declared;
-ghost use Rattle.f77_tree.specs.Declaration.{decl_of};
+ghost use Rattle.f77_tree.specs.{decl_of};
 
 use crate::name::Name;
 

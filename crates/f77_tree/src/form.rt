@@ -1,7 +1,7 @@
 //! The forms of statements.
 
 ghost use Rattle.std.specs.Prelude.{◌≡◌};
-ghost use Rattle.f77_tree.specs.Form.{acts, is_executable};
+ghost use Rattle.f77_tree.specs.{acts, is_executable};
 
 /// What a statement is, apart from what it names and computes (ANSI X3.9-1978, 7.1).
 #[derive(Clone, Copy, Debug, PartialEq, Eq)]

@@ -1,10 +1,8 @@
 //! Laws of expressions and statements.
 
 ghost use Rattle.std.specs.Prelude.{◌≡◌, ◌↔◌, ℕ, true, List, map};
-ghost use Rattle.f77_tree.specs.Comparing.{same_tree, same_place, same_decl, same_group};
-ghost use Rattle.f77_tree.specs.Node.{nodes_of};
-ghost use Rattle.f77_tree.specs.Sites.{node_at, sites};
 ghost use Rattle.f77_tree.specs.Statement.{same_statement, Statement};
+ghost use Rattle.f77_tree.specs.{same_tree, same_place, same_decl, same_group, nodes_of, node_at, sites};
 ghost use Rattle.f77_tree.specs.Tree.{Tree, DeclFields, GroupFields};
 
 /// Two expressions, or two references, are equal by `==` exactly where their trees are equal.

@@ -3,10 +3,8 @@
 
 ghost use Rattle.std.specs.Prelude.{◌≡◌, map};
 ghost use Rattle.std.specs.List.{list_all};
-ghost use Rattle.f77_tree.specs.Declaration.{decl_of};
-ghost use Rattle.f77_tree.specs.View.{tree_of};
 ghost use Rattle.f77_tree.specs.Limits as limits;
-ghost use Rattle.f77_tree.specs.Node.{NodeOf, node_of};
+ghost use Rattle.f77_tree.specs.{decl_of, tree_of, NodeOf, node_of};
 
 use crate::node::Node;
 use crate::{Constant, Decl, Expr, Value};

@@ -1,9 +1,8 @@
 //! The nodes of a statement, numbered from 0: the statement itself, then its parts from left to right.
 
 ghost use Rattle.std.specs.Prelude.{◌≡◌, option_map};
-ghost use Rattle.f77_tree.specs.View.{tree_of};
 ghost use Rattle.f77_tree.specs.Node as nodes;
-ghost use Rattle.f77_tree.specs.Node.{node_of};
+ghost use Rattle.f77_tree.specs.{tree_of, node_of};
 
 use crate::{Decl, Expr, Name, Ref, Stmt, Value};
 

@@ -2,11 +2,9 @@
 //! this list alone.
 
 ghost use Rattle.std.specs.Prelude.{◌≡◌, ◌++◌, IfOk, OnOk, map, flat_map, option_map};
-ghost use Rattle.f77_tree.specs.Data.{data_group_of};
-ghost use Rattle.f77_tree.specs.Declaration.{decl_of};
-ghost use Rattle.f77_tree.specs.Node.{NodeOf, node_of, nodes_of, tree_nodes, all_parts, value_nodes, group_nodes};
 ghost use Rattle.f77_tree.specs.Statement.{statement_of, jumps_of};
-ghost use Rattle.f77_tree.specs.View.{tree_of, trees};
+ghost use Rattle.f77_tree.specs.{data_group_of, decl_of, NodeOf, node_of, nodes_of, tree_nodes, all_parts, value_nodes};
+ghost use Rattle.f77_tree.specs.{group_nodes, tree_of, trees};
 
 use crate::node::Node;
 use crate::{DataGroup, Decl, Expr, Name, Stmt, Value};

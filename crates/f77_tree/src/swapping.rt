@@ -4,10 +4,8 @@
 
 ghost use Rattle.std.specs.Prelude.{◌≡◌, ◌+◌, ◌-◌, ◌<◌, ◌^◌, true, false, option_map};
 ghost use Rattle.f77_tree.specs.Statement.{Statement, statement_of};
-ghost use Rattle.f77_tree.specs.View.{tree_of};
-ghost use Rattle.f77_tree.specs.code.Swapping.{Sought, assigned_reference, assignment};
-ghost use Rattle.f77_tree.specs.Replacement.{replacement_of};
-ghost use Rattle.f77_tree.specs.Sites.{changed, label_sites, list_sites, sites, sites_behind};
+ghost use Rattle.f77_tree.specs.{tree_of, replacement_of, changed, label_sites, list_sites, sites, sites_behind};
+ghost use Rattle.f77_tree.specs.code.{Sought, assigned_reference, assignment};
 
 use crate::replacement::Replacement;
 use crate::swapping_data::swap_groups;

@@ -1,10 +1,8 @@
 //! Swapping a value of DATA. The names of DATA are passed by.
 
 ghost use Rattle.std.specs.Prelude.{map};
-ghost use Rattle.f77_tree.specs.Data.{data_group_of};
-ghost use Rattle.f77_tree.specs.code.Swapping.{Sought};
-ghost use Rattle.f77_tree.specs.Replacement.{replacement_of};
-ghost use Rattle.f77_tree.specs.Sites.{group_sites, list_sites, value_sites};
+ghost use Rattle.f77_tree.specs.{data_group_of, replacement_of, group_sites, list_sites, value_sites};
+ghost use Rattle.f77_tree.specs.code.{Sought};
 
 use crate::replacement::Replacement;
 use crate::swapping_node::swap_value;

@@ -1,10 +1,8 @@
 //! Swapping an expression or a part of one.
 
 ghost use Rattle.std.specs.Prelude.{map, option_map};
-ghost use Rattle.f77_tree.specs.View.{tree_of, trees};
-ghost use Rattle.f77_tree.specs.code.Swapping.{Sought, assigned_reference};
-ghost use Rattle.f77_tree.specs.Replacement.{replacement_of};
-ghost use Rattle.f77_tree.specs.Sites.{item_sites, step_sites, target_sites, tree_sites};
+ghost use Rattle.f77_tree.specs.{tree_of, trees, replacement_of, item_sites, step_sites, target_sites, tree_sites};
+ghost use Rattle.f77_tree.specs.code.{Sought, assigned_reference};
 
 use crate::replacement::Replacement;
 use crate::swapping_node::is_next;

@@ -1,9 +1,8 @@
 //! Swapping a node that has no parts: a label, a name or a value of DATA.
 
 ghost use Rattle.std.specs.Prelude.{◌≡◌, ◌-◌, ◌↔◌, IsTrue};
-ghost use Rattle.f77_tree.specs.code.Swapping.{Sought};
-ghost use Rattle.f77_tree.specs.Replacement.{replacement_of};
-ghost use Rattle.f77_tree.specs.Sites.{label_sites, name_sites, value_sites};
+ghost use Rattle.f77_tree.specs.{replacement_of, label_sites, name_sites, value_sites};
+ghost use Rattle.f77_tree.specs.code.{Sought};
 
 use crate::replacement::Replacement;
 use crate::{Name, Value};

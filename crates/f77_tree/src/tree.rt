@@ -1,7 +1,7 @@
 //! Expressions as trees. Parentheses leave no trace in them.
 
 ghost use Rattle.std.specs.Prelude.{◌≡◌};
-ghost use Rattle.f77_tree.specs.StatementGrammar.{kind_keyword};
+ghost use Rattle.f77_tree.specs.{kind_keyword};
 
 use crate::intrinsic::Intrinsic;
 use crate::name::Name;

@@ -1,26 +1,17 @@
 -- What was read and answered is what is served.
-use Rattle.std.proofs.Common.{arith, ◌≡◌, ◌≢◌, ◌∙◌, ℕ, ◌<◌, ◌≤◌, ◌++◌, Bool, true, false, sym, ap, refl, subst, inl, inr}
-use Rattle.std.proofs.Common.{List, [], Option, Some, None, Result, Ok, Err, IfOk, length, length-append, append-nil, nat_lt, string_bytes}
-use Rattle.std.proofs.lemmas.Bool.{ltb-true, ltb-false, lt-ltb}
+use Rattle.mothra_app.proofs.Common.{◌≡◌, sym, ℕ, subst, List, ◌∙◌, Err, Ok, ap, refl, string_bytes, [], ◌++◌, inr, arith, inl, Result, Some, length, ◌≤◌}
+use Rattle.mothra_app.proofs.Common.{false, true, None, ◌<◌, Bool, Option, append-nil, length-append, ◌≢◌, IfOk, lt-ltb, ltb-false, ltb-true, nat_lt, Text}
+use Rattle.mothra_app.proofs.Common.{fault_of, AsksFor, IsOutcomeAnswer, IsAnswer, MayBeWritten, IsAnswered, IsReadFor, IsRefusal, bad_operators}
+use Rattle.mothra_app.proofs.Common.{IsReportAnswer, IsReadyAnswer, IsReadyFor, IsReadyBy, Status, HasBadOperators, Request, job_of, job_faults, BenchFields}
 use Rattle.std.proofs.KnownBytes.{Keeps-refl}
-use Rattle.clap.specs.Words.{Text, fault_of}
 use Rattle.clap.specs.Kinds.{HasKind}
 use Rattle.clap.specs.Values.{kind_of}
 use Rattle.clap.specs.declared.error.Error.{Error}
-use Rattle.clap.specs.declared.error.kind.ErrorKind.TheVariants as kind
-use Rattle.mothra_app.specs.Answer.{IsOutcomeAnswer, IsAnswer, IsRefusal}
-use Rattle.mothra_app.specs.code.Answer.{IsReadyAnswer, IsReportAnswer}
 use Rattle.mothra_cli.specs.Command.{mothra}
 use Rattle.mothra_cli.specs.Input.{limit, AreAll, IsRead, ReadsUpTo}
-use Rattle.mothra_job.specs.Job.{job_faults, job_of}
-use Rattle.mothra_cli.specs.Request.{HasBadOperators}
-use Rattle.mothra_app.specs.Serving.{AsksFor, MayBeWritten, IsReadFor, IsAnswered, bad_operators}
-use Rattle.mothra_app.specs.code.Serving.{IsReadyBy, IsReadyFor}
+use Rattle.clap.specs.declared.error.kind.ErrorKind.TheVariants as kind
 use Rattle.mothra_app.specs.declared.answer.Ready.{Ready}
 use Rattle.mothra_app.specs.declared.answer.Ready.TheVariants as ready
-use Rattle.mothra_verdicts.specs.Bench.{BenchFields}
-use Rattle.mothra_cli.specs.declared.request.Request.{Request}
-use Rattle.mothra_app.specs.declared.status.Status.{Status}
 use Rattle.mothra_app.specs.declared.status.Status.TheVariants as status
 use Rattle.mothra_app.proofs.Outcomes.{report_answered, within}
 
@@ -58,7 +49,7 @@ read_for request bytes left now s t (IsAnswer.of_outcome (IsOutcomeAnswer.fault 
 read_for request bytes left now s t (IsAnswer.broken_off f is) read = read
 
 answered : (words : List Text) (left now : Option (List ℕ)) (request : Request) (bytes : List ℕ) (s : Status) (t : List ℕ) → AsksFor words request
-    → AreAll left bytes → IsAnswer request (job_of bytes) s t → IsRead limit left now → IsAnswered words left now s t
+    → AreAll left bytes → IsAnswer request (job_of bytes) s t → IsRead limit left now → IsAnswered (MayBeWritten words) left now s t
 answered words left now request bytes s t asks all is read = record {
   bytes = bytes;
   all = all;
@@ -73,7 +64,7 @@ ready_for words left now request (ready.Bench bench workers) asks by read = (req
 
 -- the report of a bench that is ready
 pub reported : (words : List Text) (left now : Option (List ℕ)) (bench : BenchFields) (workers : ℕ) (s : Status) (t : List ℕ)
-    → IsReadyFor words left now (ready.Bench bench workers) → IsReportAnswer bench s t → IsAnswered words left now s t
+    → IsReadyFor words left now (ready.Bench bench workers) → IsReportAnswer bench s t → IsAnswered (MayBeWritten words) left now s t
 reported words left now bench workers s t (request, asks, by, read) reports =
     answered words left now request by.bytes s t asks by.all (report_answered request (job_of by.bytes) bench workers s t by.is reports) read
 
@@ -108,31 +99,26 @@ unread_for e left status.Fault refusal = absurd refusal
 unread_for e left status.Words refusal = Keeps-refl left
 unread_for e left status.Help refusal = Keeps-refl left
 
-pub any_bytes : (left : Option (List ℕ)) → (bytes : List ℕ) × AreAll left bytes
+any_bytes : (left : Option (List ℕ)) → (bytes : List ℕ) × AreAll left bytes
 any_bytes None = ([], tt)
 any_bytes (Some xs) = (xs, refl)
 
-pub refused : (words : List Text) (left : Option (List ℕ)) (e : Error) (s : Status) (t : List ℕ) → HasKind (fault_of mothra words) e
-    → IsRefusal (kind_of e) s → IsAnswered words left left s t
-refused words left e s t kinds refusal =
+-- what may be for any bytes is an answer where nothing is read
+pub unread : (MayBe : List ℕ → Status → List ℕ → Type 0) (left : Option (List ℕ)) (s : Status) (t : List ℕ) → IsReadFor s left left
+    → ((bytes : List ℕ) → MayBe bytes s t) → IsAnswered MayBe left left s t
+unread MayBe left s t read may =
     let some = any_bytes left in
-    record {
-      bytes = some.0;
-      all = some.1;
-      may = refused_so words some.0 e s t kinds refusal;
-      read = unread_for e left s refusal;
-    }
+    record { bytes = some.0; all = some.1; may = may some.0; read = read }
+
+pub refused : (words : List Text) (left : Option (List ℕ)) (e : Error) (s : Status) (t : List ℕ) → HasKind (fault_of mothra words) e
+    → IsRefusal (kind_of e) s → IsAnswered (MayBeWritten words) left left s t
+refused words left e s t kinds refusal =
+    unread (MayBeWritten words) left s t (unread_for e left s refusal) (λ bytes. refused_so words bytes e s t kinds refusal)
 
 pub bad_list : (words : List Text) (left : Option (List ℕ)) (s : Status) (t : List ℕ) → HasBadOperators words → s ≡ status.Words → t ≡ bad_operators
-    → IsAnswered words left left s t
+    → IsAnswered (MayBeWritten words) left left s t
 bad_list words left s t bad is text =
-    let some = any_bytes left in
-    record {
-      bytes = some.0;
-      all = some.1;
-      may = subst (λ v. MayBeWritten words some.0 v t) (sym is) (subst (MayBeWritten words some.0 status.Words) (sym text) (MayBeWritten.bad_list bad));
-      read = subst (λ v. IsReadFor v left left) (sym is) (Keeps-refl left);
-    }
+    unread (MayBeWritten words) left s t (rw is (Keeps-refl left)) (λ bytes. rw (is, text) (MayBeWritten.bad_list bad))
 
 pub IfOk-both : {X E : Type 0} (r : Result X E) (P Q R : X → Type 0) → ((x : X) → P x → Q x → R x) → IfOk r P → IfOk r Q → IfOk r R
 IfOk-both (Ok x) P Q R f p q = f x p q

@@ -1,11 +1,8 @@
 -- Operators by their places, and those that are named.
-use Rattle.std.proofs.Common.{arith, ◌≡◌, ◌∙◌, ◌==◌, ◌||◌, ◌<◌, ◌⊎◌, ◌↔◌, ℕ, Bool, true, false, true≢false, zero, suc, inl, inr, List, [], ◌∷◌, sym, refl}
-use Rattle.std.specs.Prelude.{Contains}
-use Rattle.std.proofs.lemmas.Bool.{cases_order, eqb-true, or_cases}
+use Rattle.mothra_app.proofs.Common.{◌≡◌, sym, ℕ, List, ◌∙◌, refl, [], Contains, inr, ◌⊎◌, arith, inl, ◌∷◌, false, true, ◌<◌, Bool, ◌↔◌, suc, true≢false, zero}
+use Rattle.mothra_app.proofs.Common.{eqb-true, ◌==◌, ◌||◌, is_named, index, Op}
+use Rattle.std.proofs.lemmas.Bool.{cases_order, or_cases}
 use Rattle.std.proofs.lemmas.Bool.Decides.{nat_tests}
-use Rattle.mothra_app.specs.Listing.{is_named}
-use Rattle.mothra_codes.specs.Op.{index}
-use Rattle.mothra_codes.specs.declared.op.Op.{Op}
 use Rattle.mothra_codes.proofs.Operators.{same_op}
 
 -- two operators are the same, or one stands before the other

@@ -1,14 +1,8 @@
 -- Two plans of one program, for the same operators, have the same lists.
-use Rattle.std.proofs.Common.{◌≡◌, ◌∙◌, ◌↔◌, ℕ, Bool, true, false, true≢false, List, [], length, refl, sym, ap, subst, Option, Some, None}
-use Rattle.std.specs.Prelude.{Contains, IsTrue, is_some}
+use Rattle.mothra_app.proofs.Common.{◌≡◌, sym, ℕ, subst, List, ◌∙◌, ap, refl, [], Contains, Some, length, false, true, None, Bool, Option, ◌↔◌, IsTrue}
+use Rattle.mothra_app.proofs.Common.{true≢false, is_some, LineFields, IsPlanOf, Op, IsCountedList, program_of, PlanFields, asked, edits_of, ListFields}
+use Rattle.mothra_app.proofs.Common.{list_of_operator, whole_of, Edit}
 use Rattle.std.specs.Option.{option_map_or}
-use Rattle.f77_program.specs.Program.{LineFields}
-use Rattle.mothra_app.specs.Reporting.{IsPlanOf}
-use Rattle.mothra_codes.specs.declared.op.Op.{Op}
-use Rattle.mothra_ops.specs.Edits.{IsCountedList}
-use Rattle.mothra_ops.specs.Mutants.{program_of}
-use Rattle.mothra_ops.specs.Plan.{ListFields, PlanFields, asked, edits_of, list_of_operator, whole_of}
-use Rattle.mothra_ops.specs.declared.edit.Edit.{Edit}
 use Rattle.mothra_app.proofs.OneListing.{one_of}
 use Rattle.mothra_app.proofs.OneProgram.{Laws}
 

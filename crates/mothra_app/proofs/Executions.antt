@@ -1,20 +1,8 @@
 -- The outcome of a test of a job, concluded from the answers of the check and of the run.
-use Rattle.std.proofs.Common.{◌≡◌, ◌⊎◌, inl, inr, ℕ, List, refl, sym, subst, Option, Some, None, Result, Ok, Err, IfSome, MatchResult, String, Global, string_bytes}
-use Rattle.f77_program.specs.Program.{LineFields}
-use Rattle.f77_check.specs.Checked.{shapes}
-use Rattle.std.specs.Prelude.{Contains}
-use Rattle.f77_meaning.specs.Interpreter.{IsOutcomeOf, refusal}
-use Rattle.f77_meaning.specs.declared.argument.Arg.{Arg}
-use Rattle.f77_meaning.specs.declared.outcome.Outcome.{Outcome}
-use Rattle.f77_meaning.specs.declared.outcome.RunFault.{RunFault}
+use Rattle.mothra_app.proofs.Common.{◌≡◌, sym, ℕ, subst, List, Err, Ok, refl, string_bytes, Contains, inr, ◌⊎◌, inl, Result, Some, None, Option, MatchResult}
+use Rattle.mothra_app.proofs.Common.{Global, IfSome, String, shapes, refusal, IsOutcomeOf, Arg, Outcome, RunFault, LineFields, IsLegalProgramOf}
+use Rattle.mothra_app.proofs.Common.{of_legal_programs, of_runs, IsExecuted, IsRunLine, outcome_line, Fault, Run, JobFields, test_at}
 use Rattle.f77_meaning.specs.declared.outcome.RunFault.TheVariants as run
-use Rattle.mothra_app.specs.Executing.{IsRunLine, IsExecuted}
-use Rattle.mothra_app.specs.Fault.{of_legal_programs, of_runs}
-use Rattle.mothra_job.specs.Job.{JobFields, test_at}
-use Rattle.mothra_app.specs.OutcomeLine.{outcome_line}
-use Rattle.mothra_app.specs.Program.{IsLegalProgramOf}
-use Rattle.mothra_app.specs.declared.fault.Fault.{Fault}
-use Rattle.mothra_app.specs.declared.fault.Fault.TheVariants.{Run}
 use Rattle.mothra_app.proofs.Memory.{legal_in_runs, run_in}
 
 pub run_refused : (program : List LineFields) (arguments : List Arg) (steps : ℕ) (fault : RunFault)

@@ -1,8 +1,7 @@
 -- The first place where a property of lists no longer holds.
-use Rattle.std.proofs.Common.{arith, ◌≡◌, ◌∙◌, ◌+◌, ℕ, suc, List, [], ◌∷◌, ◌++◌, length, length-append, All, ap, refl, sym, subst}
+use Rattle.mothra_app.proofs.Common.{◌≡◌, sym, ℕ, subst, List, ◌∙◌, ap, refl, [], ◌++◌, arith, length, ◌∷◌, ◌+◌, All, suc, length-append, get_or_append_left}
+use Rattle.mothra_app.proofs.Common.{IsFirstNot}
 use Rattle.std.proofs.Math.Seq.{get_or-append_seam}
-use Rattle.std.proofs.lemmas.List.{get_or_append_left}
-use Rattle.mothra_verdicts.specs.Bench.{IsFirstNot}
 
 head_of : {X : Type 0} (x y : X) (xs ys : List X) → x ∷ xs ≡ y ∷ ys → x ≡ y
 head_of x y xs ys e = cc

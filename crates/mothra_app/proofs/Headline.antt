@@ -1,14 +1,7 @@
 -- The report with which a job is served is that of a bench of the job.
-use Rattle.std.proofs.Common.{ℕ, List, refl, Ok, Err}
-use Rattle.clap.specs.Words.{Text}
-use Rattle.mothra_codes.specs.declared.op.Op.{Op}
+use Rattle.mothra_app.proofs.Common.{ℕ, List, Err, Ok, refl, Text, AsksFor, IsOutcomeAnswer, IsReported, IsServed, ReportsJob, Job, Op, job_of, JobFields}
+use Rattle.mothra_app.proofs.Common.{JobRead}
 use Rattle.mothra_cli.specs.declared.request.Request.TheVariants as command
-use Rattle.mothra_app.specs.Answer.{IsOutcomeAnswer}
-use Rattle.mothra_job.specs.Job.{JobFields, JobRead, job_of}
-use Rattle.mothra_app.specs.Law.{ReportsJob}
-use Rattle.mothra_app.specs.Reporting.{IsReported}
-use Rattle.mothra_app.specs.Serving.{AsksFor, IsServed}
-use Rattle.mothra_app.specs.declared.fault.Fault.TheVariants.{Job}
 use Rattle.mothra_app.specs.declared.status.Status.TheVariants as status
 use Rattle.mothra_app.proofs.OneAnswer.{asked_answer, not_both}
 

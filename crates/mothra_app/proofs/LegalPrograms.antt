@@ -1,14 +1,9 @@
 -- The legal program of a source, concluded from the answers of the reading and of the check.
-use Rattle.std.proofs.Common.{◌≡◌, ◌⊎◌, inl, inr, ℕ, List, sym, subst, Some, Ok, Err}
-use Rattle.std.specs.Prelude.{Contains}
-use Rattle.f77_program.specs.Program.{LineFields}
+use Rattle.mothra_app.proofs.Common.{◌≡◌, sym, ℕ, subst, List, Err, Ok, Contains, inr, ◌⊎◌, inl, Some, LineFields, IsLegalProgramOf, of_legal_programs}
+use Rattle.mothra_app.proofs.Common.{of_programs, IsProgramOf, Fault, Check}
 use Rattle.f77_legal.specs.Legal.{IsLegal, first_fault}
 use Rattle.f77_legal.specs.declared.fault.CheckFault.{CheckFault}
 use Rattle.f77_legal.specs.declared.fault.CheckFault.TheVariants as check
-use Rattle.mothra_app.specs.Fault.{of_programs, of_legal_programs}
-use Rattle.mothra_app.specs.Program.{IsProgramOf, IsLegalProgramOf}
-use Rattle.mothra_app.specs.declared.fault.Fault.{Fault}
-use Rattle.mothra_app.specs.declared.fault.Fault.TheVariants.{Check}
 use Rattle.mothra_app.proofs.Memory.{check_in, program_in}
 
 pub program_refused : (source : List ℕ) (fault : Fault) → IsProgramOf source (Err fault) ⊎ Contains of_programs fault

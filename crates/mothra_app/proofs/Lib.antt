@@ -1,3 +1,4 @@
+pub mod Common
 mod Memory
 mod Sources
 mod LegalPrograms

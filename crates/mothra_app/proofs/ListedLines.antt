@@ -1,20 +1,11 @@
 -- The lines of a list are written one by one.
-use Rattle.std.proofs.Common.{arith, ◌≡◌, ◌∙◌, ◌<◌, inl, inr, ◌≤◌, ◌+◌, ◌++◌, ℕ, suc, true, false, cond, List, [], ◌∷◌}
-use Rattle.std.proofs.Common.{length, drop, map, get_or, drop-cons, add-one, append_assoc, sym, ap, refl, Some, codes}
-use Rattle.std.specs.Prelude.{Contains, IsTrue, ◌↔◌, filter, flat_map, slice_get, sum}
-use Rattle.std.specs.List.{enumerate_from}
-use Rattle.std.proofs.lemmas.List.{drop_all}
-use Rattle.std.proofs.lemmas.List.Elements.{filter_agree}
+use Rattle.mothra_app.proofs.Common.{◌≡◌, sym, ℕ, List, ◌∙◌, ap, refl, [], Contains, ◌++◌, inr, arith, inl, map, Some, length, ◌∷◌, ◌≤◌, false, true, ◌+◌, ◌<◌}
+use Rattle.mothra_app.proofs.Common.{append_assoc, codes, ◌↔◌, IsTrue, suc, drop, filter, flat_map, get_or, cond, sum, add-one, drop-cons, drop_all}
+use Rattle.mothra_app.proofs.Common.{filter_agree, enumerate_from, operators_chosen, asked_ops, listed_line, plan_lines, all_ops, op_at, Op, program_of}
+use Rattle.mothra_app.proofs.Common.{edit_text, mutant_text, PlanFields, asked, edits_of, Edit}
+use Rattle.std.proofs.Common.{slice_get}
 use Rattle.std.proofs.lemmas.List.Sums.{sum_by-cons, sum-map}
 use Rattle.std.proofs.lemmas.Option.{slice_get_cases}
-use Rattle.mothra_app.specs.Listing.{asked_ops, operators_chosen, listed_line}
-use Rattle.mothra_app.specs.code.Listing.{plan_lines}
-use Rattle.mothra_codes.specs.Op.{all_ops}
-use Rattle.mothra_codes.specs.code.Op.{op_at}
-use Rattle.mothra_codes.specs.declared.op.Op.{Op}
-use Rattle.mothra_ops.specs.Mutants.{edit_text, mutant_text, program_of}
-use Rattle.mothra_ops.specs.Plan.{PlanFields, asked, edits_of}
-use Rattle.mothra_ops.specs.declared.edit.Edit.{Edit}
 use Rattle.mothra_app.proofs.Chosen.{test_is_named}
 
 -- one more part of a text is written

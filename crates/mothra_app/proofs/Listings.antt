@@ -1,17 +1,7 @@
 -- How the mutants of a program are listed, concluded from the answer of its plan.
-use Rattle.std.proofs.Common.{◌≡◌, ◌∙◌, ◌⊎◌, inl, inr, ℕ, List, ap, sym, subst, Ok, Err}
-use Rattle.std.specs.Prelude.{Contains, IsTrue, ◌↔◌}
-use Rattle.f77_program.specs.Program.{LineFields}
-use Rattle.mothra_app.specs.Fault.{of_legal_programs, of_mutants}
-use Rattle.mothra_app.specs.Listing.{IsListed, operators_chosen, listing_text}
-use Rattle.mothra_app.specs.code.Listing.{plan_text}
-use Rattle.mothra_app.specs.Program.{IsLegalProgramOf}
-use Rattle.mothra_app.specs.declared.fault.Fault.{Fault}
-use Rattle.mothra_app.specs.declared.fault.Fault.TheVariants.{Ops}
-use Rattle.mothra_codes.specs.declared.op.Op.{Op}
-use Rattle.mothra_ops.specs.Edits.{IsList}
-use Rattle.mothra_ops.specs.Mutants.{program_of}
-use Rattle.mothra_ops.specs.Plan.{IsNoPlan, IsPlan, PlanFields, asked, edits_of}
+use Rattle.mothra_app.proofs.Common.{◌≡◌, sym, ℕ, subst, List, ◌∙◌, Err, Ok, ap, Contains, inr, ◌⊎◌, inl, ◌↔◌, IsTrue, LineFields, IsLegalProgramOf}
+use Rattle.mothra_app.proofs.Common.{of_legal_programs, of_mutants, IsListed, operators_chosen, listing_text, plan_text, Fault, Ops, Op, IsList, program_of}
+use Rattle.mothra_app.proofs.Common.{PlanFields, asked, edits_of, IsNoPlan, IsPlan}
 use Rattle.mothra_replacements.specs.declared.fault.OpsFault.{OpsFault}
 use Rattle.mothra_replacements.specs.declared.fault.OpsFault.TheVariants as ops
 use Rattle.mothra_app.proofs.ListedLines.{asked_are_chosen}

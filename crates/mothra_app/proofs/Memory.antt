@@ -1,18 +1,12 @@
 -- The faults that may come in the place of an answer.
-use Rattle.std.proofs.Common.{arith, ◌≡◌, ℕ, zero, suc, List, [], ◌∷◌, refl}
-use Rattle.std.specs.Prelude.{Contains}
+use Rattle.mothra_app.proofs.Common.{◌≡◌, ℕ, List, refl, [], Contains, arith, ◌∷◌, suc, zero, of_legal_programs, of_programs, of_runs, MayFailBy, of_mutants}
+use Rattle.mothra_app.proofs.Common.{MayFailRun, Fault, Ops, Syntax, Bench, Check, Form, Run, Job, Request, Op, BenchFault}
 use Rattle.f77_source.specs.declared.fault.FormFault.TheVariants as form
 use Rattle.f77_program.specs.declared.fault.SyntaxFault.TheVariants as syntax
 use Rattle.f77_legal.specs.declared.fault.CheckFault.TheVariants as check
 use Rattle.f77_meaning.specs.declared.outcome.RunFault.TheVariants as run
-use Rattle.mothra_app.specs.Fault.{MayFailBy, MayFailRun, of_programs, of_legal_programs, of_runs, of_mutants}
-use Rattle.mothra_app.specs.declared.fault.Fault.{Fault}
-use Rattle.mothra_app.specs.declared.fault.Fault.TheVariants.{Job, Form, Syntax, Check, Run, Ops, Bench}
 use Rattle.mothra_job.specs.declared.job.JobFault.TheVariants as job
-use Rattle.mothra_verdicts.specs.declared.fault.BenchFault.{BenchFault}
-use Rattle.mothra_cli.specs.declared.request.Request.{Request}
 use Rattle.mothra_cli.specs.declared.request.Request.TheVariants as command
-use Rattle.mothra_codes.specs.declared.op.Op.{Op}
 use Rattle.mothra_replacements.specs.declared.fault.OpsFault.TheVariants as ops
 
 first_in : (x : Fault) (xs : List Fault) → Contains (x ∷ xs) x

@@ -1,29 +1,17 @@
 -- A legal job is answered with its report, or with a fault for lack of memory or of a thread.
-use Rattle.std.proofs.Common.{◌≡◌, ◌∙◌, ℕ, List, [], ◌∷◌, All, Some, None, sym, ap, subst}
-use Rattle.std.specs.Prelude.{Contains}
-use Rattle.std.proofs.lemmas.List.Elements.{All-cons, All-contains, All-nil}
+use Rattle.mothra_app.proofs.Common.{◌≡◌, sym, ℕ, subst, List, ◌∙◌, ap, [], Contains, Some, ◌∷◌, None, All, All-cons, All-nil, All-contains, Text}
+use Rattle.mothra_app.proofs.Common.{of_legal_programs, of_programs, of_runs, AsksFor, MayFailBy, of_mutants, IsAnswer, IsServed, MayFailRun, MayBeWritten}
+use Rattle.mothra_app.proofs.Common.{IsFairAnswer, IsLegalJob, IsOutOfResources, Fault, Ops, Syntax, Bench, Check, Form, Run, Job, Status, IsNoReport}
+use Rattle.mothra_app.proofs.Common.{HasBadOperators, request_of, request_in, Request, job_of, BenchFault}
 use Rattle.clap.specs.Kinds.{IsAmong}
-use Rattle.clap.specs.Words.{Text}
 use Rattle.f77_source.specs.declared.fault.FormFault.TheVariants as form
 use Rattle.f77_program.specs.declared.fault.SyntaxFault.TheVariants as syntax
 use Rattle.f77_legal.specs.declared.fault.CheckFault.TheVariants as check
 use Rattle.f77_meaning.specs.declared.outcome.RunFault.TheVariants as run
 use Rattle.mothra_replacements.specs.declared.fault.OpsFault.TheVariants as ops
-use Rattle.mothra_bench.specs.Analysis.{IsNoReport}
-use Rattle.mothra_verdicts.specs.declared.fault.BenchFault.{BenchFault}
 use Rattle.mothra_verdicts.specs.declared.fault.BenchFault.TheVariants as bench
-use Rattle.mothra_cli.specs.Request.{HasBadOperators, request_in, request_of}
-use Rattle.mothra_cli.specs.declared.request.Request.{Request}
 use Rattle.mothra_cli.specs.declared.request.Request.TheVariants as command
-use Rattle.mothra_app.specs.Answer.{IsAnswer}
-use Rattle.mothra_app.specs.Fault.{MayFailBy, MayFailRun, of_legal_programs, of_mutants, of_programs, of_runs}
-use Rattle.mothra_job.specs.Job.{job_of}
-use Rattle.mothra_app.specs.Law.{IsFairAnswer, IsLegalJob, IsOutOfResources}
-use Rattle.mothra_app.specs.Serving.{AsksFor, IsServed, MayBeWritten}
-use Rattle.mothra_app.specs.declared.fault.Fault.{Fault}
-use Rattle.mothra_app.specs.declared.fault.Fault.TheVariants.{Job, Form, Syntax, Check, Run, Ops, Bench}
 use Rattle.mothra_job.specs.declared.job.JobFault.TheVariants as job
-use Rattle.mothra_app.specs.declared.status.Status.{Status}
 use Rattle.mothra_app.specs.declared.status.Status.TheVariants as status
 
 -- ---- the answer

@@ -1,20 +1,9 @@
 -- For the same words and bytes there is at most one status and one text.
-use Rattle.std.proofs.Common.{◌≡◌, ◌∙◌, ℕ, List, sym, ap, refl, subst, Option, Some, Ok, Err}
-use Rattle.std.specs.List.{slice_get}
-use Rattle.clap.specs.Words.{Text}
+use Rattle.mothra_app.proofs.Common.{◌≡◌, sym, ℕ, subst, List, ◌∙◌, Err, Ok, ap, refl, Some, Option, slice_get, Text, AsksFor, IsOutcomeAnswer, IsPrinted}
+use Rattle.mothra_app.proofs.Common.{IsRequestOutcome, IsServed, fault_line, Fault, Syntax, Status, IsBounded, request_of, Request, Op, job_of, JobRead}
 use Rattle.f77_program.specs.Printing.{printed, print_faults}
-use Rattle.mothra_app.specs.Answer.{Outcome, IsRequestOutcome, IsOutcomeAnswer}
-use Rattle.mothra_job.specs.Job.{JobRead, job_of}
-use Rattle.mothra_app.specs.Line.{fault_line}
-use Rattle.mothra_app.specs.Printing.{IsPrinted}
-use Rattle.mothra_cli.specs.Request.{IsBounded, request_of}
-use Rattle.mothra_app.specs.Serving.{AsksFor, IsServed}
-use Rattle.mothra_app.specs.declared.fault.Fault.{Fault}
-use Rattle.mothra_app.specs.declared.fault.Fault.TheVariants.{Syntax}
-use Rattle.mothra_cli.specs.declared.request.Request.{Request}
 use Rattle.mothra_cli.specs.declared.request.Request.TheVariants as command
-use Rattle.mothra_app.specs.declared.status.Status.{Status}
-use Rattle.mothra_codes.specs.declared.op.Op.{Op}
+use Rattle.mothra_app.specs.{Outcome}
 use Rattle.mothra_app.proofs.OneProgram.{Laws, one_read, same_fault, same_program, never_both, first_of_none}
 use Rattle.mothra_app.proofs.OneExecution.{one_executed}
 use Rattle.mothra_app.proofs.OneListing.{one_listed}

@@ -1,17 +1,11 @@
 -- A plan, tests and declared entries have a bench, or exactly one reason why they have none.
-use Rattle.std.proofs.Common.{arith, ◌≡◌, ◌≢◌, ◌∙◌, ◌+◌, ◌<◌, ◌≤◌, ℕ, true, List, [], ◌∷◌, ◌++◌, length, length-append, append_assoc, get_or, All, ap, refl, sym, subst}
+use Rattle.mothra_app.proofs.Common.{◌≡◌, sym, ℕ, subst, List, ◌∙◌, ap, refl, [], ◌++◌, arith, length, ◌∷◌, ◌≤◌, true, ◌+◌, ◌<◌, append_assoc, All, get_or}
+use Rattle.mothra_app.proofs.Common.{length-append, ◌≢◌, get_or_append_left, length_push, Arg}
+use Rattle.mothra_app.proofs.Common.{program_of, PlanFields, asked, IsNoBench, AreFine, EndsOn, FitsProgram, IsFirstNot, IsEntryTwice}
+use Rattle.mothra_app.proofs.Common.{IsKnownEntry, IsUnknownEntry, BenchFault}
 use Rattle.std.proofs.Math.Seq.{get_or-append_seam}
-use Rattle.std.proofs.lemmas.List.{get_or_append_left, length_push}
-use Rattle.std.proofs.lemmas.List.Elements.{All-nil, All-cons, All-head, All-tail}
-use Rattle.f77_program.specs.Program.{LineFields}
-use Rattle.f77_meaning.specs.declared.argument.Arg.{Arg}
-use Rattle.f77_meaning.specs.declared.outcome.Outcome.{Outcome}
-use Rattle.mothra_verdicts.specs.Bench.{AreFine, AreOutcomes, EndsOn, FitsProgram, IsProgramEnd, IsEntryTwice, IsFirstNot, IsKnownEntry, IsNoBench, IsUnknownEntry}
-use Rattle.mothra_verdicts.specs.declared.fault.BenchFault.{BenchFault}
-use Rattle.mothra_verdicts.specs.declared.fault.BenchFault.TheVariants as bench
 use Rattle.mothra_codes.specs.declared.ticket.Ticket.{Ticket}
-use Rattle.mothra_ops.specs.Mutants.{program_of}
-use Rattle.mothra_ops.specs.Plan.{PlanFields, asked}
+use Rattle.mothra_verdicts.specs.declared.fault.BenchFault.TheVariants as bench
 use Rattle.mothra_app.proofs.EqualPlans.{AreEqualPlans, turned}
 use Rattle.mothra_app.proofs.FirstBreaks.{all_hold, item_holds, one_cut, one_first_not}
 
@@ -120,15 +114,6 @@ never_refused (IsRefused.misfit is) fit end fine = all_hold _ _ _ is fit
 never_refused (IsRefused.failing fits is) fit end fine = all_hold _ _ _ is end
 never_refused (IsRefused.unknown fits ends is) fit end fine = unknown_fails is (fine_behind is.before is.after is.entry is.cut fine)
 never_refused (IsRefused.twice fits ends is) fit end fine = twice_fails is (fine_behind is.before is.after is.entry is.cut fine)
-
-pub ends_all : (program : List LineFields) (steps : ℕ) (tests : List (List Arg)) (outcomes : List Outcome) → AreOutcomes program steps tests outcomes
-    → All IsProgramEnd outcomes → All (EndsOn program steps) tests
-ends_all program steps [] [] are end = All-nil (EndsOn program steps)
-ends_all program steps [] (outcome ∷ outcomes) are end = absurd are
-ends_all program steps (test ∷ tests) [] are end = absurd are
-ends_all program steps (test ∷ tests) (outcome ∷ outcomes) are end =
-    All-cons (EndsOn program steps) test tests (outcome, are.0, All-head IsProgramEnd outcome outcomes end)
-    (ends_all program steps tests outcomes are.1 (All-tail IsProgramEnd outcome outcomes end))
 
 -- ---- the same of a plan with the same lists
 

@@ -1,13 +1,6 @@
 -- A test of a job has at most one outcome or fault.
-use Rattle.std.proofs.Common.{◌≡◌, ◌∙◌, ℕ, List, sym, ap, refl, subst, Option, Some, None, Result, Ok, Err}
-use Rattle.f77_program.specs.Program.{LineFields}
-use Rattle.f77_meaning.specs.declared.argument.Arg.{Arg}
-use Rattle.f77_meaning.specs.declared.outcome.RunFault.{RunFault}
-use Rattle.mothra_app.specs.Executing.{IsRunLine, IsExecuted}
-use Rattle.mothra_job.specs.Job.{JobFields}
-use Rattle.mothra_app.specs.OutcomeLine.{outcome_line}
-use Rattle.mothra_app.specs.declared.fault.Fault.{Fault}
-use Rattle.mothra_app.specs.declared.fault.Fault.TheVariants.{Run}
+use Rattle.mothra_app.proofs.Common.{◌≡◌, sym, ℕ, subst, List, ◌∙◌, Err, Ok, ap, refl, Result, Some, None, Option, Arg, RunFault, LineFields, IsExecuted}
+use Rattle.mothra_app.proofs.Common.{IsRunLine, outcome_line, Fault, Run, JobFields}
 use Rattle.mothra_app.proofs.OneProgram.{Laws, one_legal, same_program, never_both}
 
 abbrev Line : Type 0

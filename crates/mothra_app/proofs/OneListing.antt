@@ -1,15 +1,8 @@
 -- There is at most one list of the mutants of a source.
-use Rattle.std.proofs.Common.{arith, ◌≡◌, ◌∙◌, ◌<◌, ◌≤◌, ◌⊎◌, ◌++◌, ℕ, Bool, true, false, inl, inr, List, [], ◌∷◌, length, map, sym, ap, ap₂, refl, subst, cond, Ok, Err, Result}
-use Rattle.std.specs.Prelude.{Contains, filter, flat_map, sum}
-use Rattle.f77_program.specs.Program.{LineFields}
-use Rattle.mothra_app.specs.Listing.{IsListed, operators_chosen, is_named, listing_text, listing_lines, total_line}
-use Rattle.mothra_app.specs.declared.fault.Fault.{Fault}
-use Rattle.mothra_app.specs.declared.fault.Fault.TheVariants.{Ops}
-use Rattle.mothra_codes.specs.Op.{all_ops, index}
-use Rattle.mothra_codes.specs.declared.op.Op.{Op}
-use Rattle.mothra_ops.specs.Edits.{IsList, IsTooLong, most_edits, most_whole, thinned}
-use Rattle.mothra_ops.specs.Plan.{IsFirstTooLong}
-use Rattle.mothra_ops.specs.declared.edit.Edit.{Edit}
+use Rattle.mothra_app.proofs.Common.{◌≡◌, sym, ℕ, subst, List, ◌∙◌, Err, Ok, ap, refl, [], Contains, ◌++◌, inr, ◌⊎◌, arith, inl, map, Result, length, ◌∷◌, ◌≤◌}
+use Rattle.mothra_app.proofs.Common.{false, true, ◌<◌, Bool, filter, flat_map, ap₂, cond, sum, LineFields, IsListed, operators_chosen, is_named, listing_text}
+use Rattle.mothra_app.proofs.Common.{listing_lines, total_line, Fault, Ops, all_ops, index, Op, IsList, IsTooLong, most_edits, most_whole, thinned}
+use Rattle.mothra_app.proofs.Common.{IsFirstTooLong, Edit}
 use Rattle.mothra_replacements.specs.declared.fault.OpsFault.TheVariants.{TooMany}
 use Rattle.mothra_app.proofs.Chosen.{named_in, same_index}
 use Rattle.mothra_app.proofs.OneProgram.{Laws, one_legal, same_fault, same_program, never_both}

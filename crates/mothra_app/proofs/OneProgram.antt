@@ -1,25 +1,15 @@
 -- A source has at most one program or one fault.
-use Rattle.std.proofs.Common.{arith, ◌≡◌, ◌∙◌, ◌<◌, ◌≤◌, ◌⊎◌, ℕ, List, length, [], sym, ap, refl, subst, Some, None, Result, Ok, Err}
-use Rattle.std.specs.List.{slice_get}
+use Rattle.mothra_app.proofs.Common.{◌≡◌, sym, ℕ, subst, List, ◌∙◌, Err, Ok, ap, refl, [], ◌⊎◌, arith, Result, Some, length, ◌≤◌, None, ◌<◌, slice_get}
+use Rattle.mothra_app.proofs.Common.{OneAnswer, LineFields, AreCards, lines, IsLegalProgramOf, IsProgramOf, Fault, Syntax, Check, Form, IsReport, Op, IsTooLong}
+use Rattle.mothra_app.proofs.Common.{most_edits, most_whole, thinned, IsMember, Lists, Edit, BenchFields}
 use Rattle.f77_source.specs.Card.{CardFields}
-use Rattle.f77_source.specs.Read as form
-use Rattle.f77_source.specs.Read.{AreCards, lines}
 use Rattle.f77_source.specs.declared.fault.FormFault.{FormFault}
-use Rattle.f77_syntax.specs.Parsing as syntax
-use Rattle.f77_program.specs.Program.{LineFields}
 use Rattle.f77_syntax.specs.Parsing.{AreLines}
 use Rattle.f77_program.specs.declared.fault.SyntaxFault.{SyntaxFault}
 use Rattle.f77_legal.specs.Legal.{faults, first_fault}
 use Rattle.f77_legal.specs.declared.fault.CheckFault.{CheckFault}
-use Rattle.f77_meaning.specs.Interpreter.{OneAnswer}
-use Rattle.mothra_app.specs.Program.{IsProgramOf, IsLegalProgramOf}
-use Rattle.mothra_app.specs.declared.fault.Fault.{Fault}
-use Rattle.mothra_app.specs.declared.fault.Fault.TheVariants.{Form, Syntax, Check}
-use Rattle.mothra_bench.specs.Analysis.{IsReport}
-use Rattle.mothra_verdicts.specs.Bench.{BenchFields}
-use Rattle.mothra_codes.specs.declared.op.Op.{Op}
-use Rattle.mothra_ops.specs.Edits.{IsMember, IsTooLong, Lists, most_edits, most_whole, thinned}
-use Rattle.mothra_ops.specs.declared.edit.Edit.{Edit}
+use Rattle.f77_source.specs.Read as form
+use Rattle.f77_syntax.specs.Parsing as syntax
 
 -- the laws of the crates below
 pub record Laws : Type 0 where

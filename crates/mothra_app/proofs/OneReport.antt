@@ -1,33 +1,21 @@
 -- There is at most one report of a job.
-use Rattle.std.proofs.Common.{◌≡◌, ◌≢◌, ◌∙◌, ◌↔◌, ◌≤◌, ◌++◌, ℕ, Bool, List, [], codes, length, get_or, All, sym, ap, subst, if◌then◌else◌, Ok, Err, Result}
-use Rattle.std.specs.Prelude.{Contains, IsTrue, filter, flat_map}
+use Rattle.mothra_app.proofs.Common.{◌≡◌, sym, ℕ, subst, List, ◌∙◌, Err, Ok, ap, [], Contains, ◌++◌, Result, length, ◌≤◌, Bool, codes, ◌↔◌, All, IsTrue, filter}
+use Rattle.mothra_app.proofs.Common.{flat_map, get_or, ◌≢◌, if◌then◌else◌, LineFields, IsLegalProgramOf, IsPlanOf, IsReported, IsBenchOf, Fault, Ops, Bench}
+use Rattle.mothra_app.proofs.Common.{IsReport, all_ops, Op, JobFields, numbered, program_of, edit_text, mutant_made, mutant_name, mutant_of, original_number}
+use Rattle.mothra_app.proofs.Common.{PlanFields, IsFirstTooLong, Edit, BenchFields, IsNoBench, AreFine, EndsOn, FitsProgram, IsDeclared, BenchFault}
 use Rattle.std.specs.Option.{option_and_then, option_map_or}
-use Rattle.f77_program.specs.Program.{LineFields}
-use Rattle.mothra_job.specs.Job.{JobFields}
-use Rattle.mothra_app.specs.Program.{IsLegalProgramOf}
-use Rattle.mothra_app.specs.Reporting.{IsBenchOf, IsPlanOf, IsReported}
-use Rattle.mothra_app.specs.declared.fault.Fault.{Fault}
-use Rattle.mothra_app.specs.declared.fault.Fault.TheVariants.{Bench, Ops}
-use Rattle.mothra_bench.specs.Analysis.{IsReport}
-use Rattle.mothra_verdicts.specs.Bench.{AreFine, BenchFields, EndsOn, FitsProgram, IsDeclared, IsNoBench}
 use Rattle.mothra_bench.specs.Matrix.{counts, score_of, tickets, tickets_of}
-use Rattle.mothra_bench.specs.Report as report
 use Rattle.mothra_bench.specs.Report.{bits_of, is_survivor, is_wrong, line, named_number, report_text, score_line, status_of, unit_line}
 use Rattle.mothra_verdicts.specs.Verdict.{IsAlone, IsVerdict, mutated}
-use Rattle.mothra_verdicts.specs.declared.fault.BenchFault.{BenchFault}
 use Rattle.mothra_verdicts.specs.declared.fault.BenchFault.TheVariants.{Memory}
 use Rattle.mothra_bench.specs.declared.matrix.Entry.{Entry}
-use Rattle.mothra_codes.specs.Op.{all_ops}
-use Rattle.mothra_codes.specs.declared.op.Op.{Op}
 use Rattle.mothra_codes.specs.Ticket.{ticket}
 use Rattle.mothra_codes.specs.declared.ticket.Ticket.{Ticket}
-use Rattle.mothra_ops.specs.Edits.{numbered}
-use Rattle.mothra_ops.specs.Mutants.{edit_text, mutant_made, mutant_name, mutant_of, original_number, program_of}
-use Rattle.mothra_ops.specs.Plan.{IsFirstTooLong, PlanFields}
-use Rattle.mothra_ops.specs.declared.edit.Edit.{Edit}
 use Rattle.mothra_replacements.specs.declared.fault.OpsFault.TheVariants.{TooMany}
+use Rattle.mothra_bench.specs.Report as report
+use Rattle.mothra_verdicts.proofs.BenchTests.{ends_all}
 use Rattle.mothra_app.proofs.EqualPlans.{AreEqualPlans, equal_plans, counted}
-use Rattle.mothra_app.proofs.OneBench.{ends_all, never_refused, one_refusal, refused, refused_moved}
+use Rattle.mothra_app.proofs.OneBench.{never_refused, one_refusal, refused, refused_moved}
 use Rattle.mothra_app.proofs.OneListing.{long_moved, never_long, one_first}
 use Rattle.mothra_app.proofs.OneProgram.{Laws, one_legal, same_fault, same_program, never_both}
 

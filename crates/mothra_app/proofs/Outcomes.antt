@@ -1,28 +1,12 @@
 -- The outcome of a command and its answer, concluded from the answers of its calls.
-use Rattle.std.proofs.Common.{◌≡◌, ◌≤◌, ◌⊎◌, inl, inr, ℕ, List, sym, subst, Result, Ok, Err, MatchResult, String, Global, string_bytes}
-use Rattle.std.specs.Prelude.{Contains}
-use Rattle.mothra_app.specs.code.Answer.{IsReadyBench, IsReportAnswer}
-use Rattle.mothra_app.specs.Answer.{IsRequestOutcome, IsOutcomeAnswer, IsAnswer}
-use Rattle.mothra_app.specs.Executing.{IsExecuted}
-use Rattle.mothra_app.specs.Fault.{MayFailBy, of_programs, of_runs, of_mutants}
-use Rattle.mothra_job.specs.Job.{JobFields, JobRead}
-use Rattle.mothra_app.specs.Line.{fault_line}
-use Rattle.mothra_app.specs.Listing.{IsListed}
-use Rattle.mothra_app.specs.Printing.{IsPrinted}
-use Rattle.mothra_app.specs.Reporting.{IsBenchOf, IsReported}
-use Rattle.mothra_app.specs.declared.answer.Answer.{Answer}
-use Rattle.mothra_app.specs.declared.fault.Fault.{Fault}
-use Rattle.mothra_app.specs.declared.fault.Fault.TheVariants.{Bench}
+use Rattle.mothra_app.proofs.Common.{◌≡◌, sym, ℕ, subst, List, Err, Ok, string_bytes, Contains, inr, ◌⊎◌, inl, Result, ◌≤◌, MatchResult, Global, String}
+use Rattle.mothra_app.proofs.Common.{of_programs, of_runs, IsExecuted, IsOutcomeAnswer, IsReported, MayFailBy, of_mutants, IsAnswer, IsListed, IsPrinted}
+use Rattle.mothra_app.proofs.Common.{IsRequestOutcome, IsBenchOf, fault_line, IsReportAnswer, IsReadyBench, Fault, Bench, Status, IsNoReport, IsBounded}
+use Rattle.mothra_app.proofs.Common.{Request, Op, JobFields, JobRead, BenchFields, BenchFault}
 use Rattle.mothra_job.specs.declared.job.JobFault.TheVariants.{Memory}
-use Rattle.mothra_app.specs.declared.status.Status.{Status}
-use Rattle.mothra_app.specs.declared.status.Status.TheVariants as status
-use Rattle.mothra_bench.specs.Analysis.{IsNoReport}
-use Rattle.mothra_verdicts.specs.Bench.{BenchFields}
-use Rattle.mothra_verdicts.specs.declared.fault.BenchFault.{BenchFault}
-use Rattle.mothra_cli.specs.Request.{IsBounded}
-use Rattle.mothra_cli.specs.declared.request.Request.{Request}
 use Rattle.mothra_cli.specs.declared.request.Request.TheVariants as command
-use Rattle.mothra_codes.specs.declared.op.Op.{Op}
+use Rattle.mothra_app.specs.declared.answer.Answer.{Answer}
+use Rattle.mothra_app.specs.declared.status.Status.TheVariants as status
 use Rattle.mothra_app.proofs.Memory.{in_exec, in_list, in_print}
 
 abbrev Text : Type 0

@@ -1,19 +1,8 @@
 -- The bench of a job, or the fault of `run`, concluded from the answers of its calls.
-use Rattle.std.proofs.Common.{◌⊎◌, inl, inr, ℕ, List, Ok, Err}
-use Rattle.std.specs.Prelude.{Contains}
-use Rattle.f77_program.specs.Program.{LineFields}
-use Rattle.mothra_app.specs.Fault.{MayFailRun, of_legal_programs}
-use Rattle.mothra_job.specs.Job.{JobFields}
-use Rattle.mothra_app.specs.Program.{IsLegalProgramOf}
-use Rattle.mothra_app.specs.Reporting.{IsPlanOf, IsReported}
-use Rattle.mothra_app.specs.declared.fault.Fault.{Fault}
-use Rattle.mothra_app.specs.declared.fault.Fault.TheVariants.{Bench, Ops}
-use Rattle.mothra_verdicts.specs.Bench.{IsNoBench}
-use Rattle.mothra_verdicts.specs.declared.fault.BenchFault.{BenchFault}
-use Rattle.mothra_verdicts.specs.declared.fault.BenchFault.TheVariants as bench
-use Rattle.mothra_codes.specs.declared.op.Op.{Op}
-use Rattle.mothra_ops.specs.Plan.{IsNoPlan, PlanFields}
+use Rattle.mothra_app.proofs.Common.{ℕ, List, Err, Ok, Contains, inr, ◌⊎◌, inl, LineFields, IsLegalProgramOf, of_legal_programs, IsPlanOf, IsReported}
+use Rattle.mothra_app.proofs.Common.{MayFailRun, Fault, Ops, Bench, Op, JobFields, PlanFields, IsNoPlan, IsNoBench, BenchFault}
 use Rattle.mothra_replacements.specs.declared.fault.OpsFault.{OpsFault}
+use Rattle.mothra_verdicts.specs.declared.fault.BenchFault.TheVariants as bench
 use Rattle.mothra_replacements.specs.declared.fault.OpsFault.TheVariants as ops
 use Rattle.mothra_app.proofs.Memory.{in_run, legal_in_mutants, ops_in}
 

@@ -1,22 +1,14 @@
 -- The program of a source, and how it is printed, concluded from the answers of the calls on it.
-use Rattle.std.proofs.Common.{◌≡◌, ◌≤◌, ◌⊎◌, inl, inr, ℕ, List, [], sym, subst, length, Some, None, Result, Ok, Err, MatchResult}
-use Rattle.std.specs.Prelude.{Contains, IsErrAnd}
-use Rattle.std.specs.List.{slice_get}
+use Rattle.mothra_app.proofs.Common.{◌≡◌, sym, ℕ, subst, List, Err, Ok, [], Contains, inr, ◌⊎◌, inl, Result, Some, length, ◌≤◌, None, MatchResult, IsErrAnd}
+use Rattle.mothra_app.proofs.Common.{slice_get, LineFields, AreCards, lines, of_programs, IsProgramOf, IsPrinted, Fault, Syntax, Form}
 use Rattle.f77_source.specs.Card.{CardFields}
-use Rattle.f77_source.specs.Read as forms
-use Rattle.f77_source.specs.Read.{AreCards, lines}
 use Rattle.f77_source.specs.declared.fault.FormFault.{FormFault}
-use Rattle.f77_source.specs.declared.fault.FormFault.TheVariants as form
-use Rattle.f77_syntax.specs.Parsing as parsing
-use Rattle.f77_program.specs.Program.{LineFields}
 use Rattle.f77_program.specs.Printing.{printed, print_faults}
 use Rattle.f77_program.specs.declared.fault.SyntaxFault.{SyntaxFault}
+use Rattle.f77_source.specs.Read as forms
+use Rattle.f77_source.specs.declared.fault.FormFault.TheVariants as form
+use Rattle.f77_syntax.specs.Parsing as parsing
 use Rattle.f77_program.specs.declared.fault.SyntaxFault.TheVariants as syntax
-use Rattle.mothra_app.specs.Fault.{of_programs}
-use Rattle.mothra_app.specs.Program.{IsProgramOf}
-use Rattle.mothra_app.specs.Printing.{IsPrinted}
-use Rattle.mothra_app.specs.declared.fault.Fault.{Fault}
-use Rattle.mothra_app.specs.declared.fault.Fault.TheVariants.{Form, Syntax}
 use Rattle.mothra_app.proofs.Memory.{form_in, syntax_in}
 
 -- where the result is this fault, what holds of the fault holds of the result

@@ -11,3 +11,15 @@ pub mod Answer
 pub mod Serving
 pub mod Law
 pub mod code
+pub use Fault.*
+unfoldable pub use Line.*
+pub use Program.*
+pub use Printing.*
+pub use OutcomeLine.*
+pub use Executing.*
+pub use Listing.*
+pub use Reporting.*
+pub use Status.*
+pub use Answer.*
+pub use Serving.*
+pub use Law.*

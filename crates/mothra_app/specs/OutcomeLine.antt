@@ -1,7 +1,7 @@
 -- The line of the outcome of a run.
-use Rattle.std.specs.Prelude.{ℕ, Bool, List, [], ◌++◌, codes, flat_map, if◌then◌else◌}
+use Rattle.std.specs.Prelude.{ℕ, Bool, List, ◌++◌, codes, flat_map, if◌then◌else◌}
 use Rattle.std.specs.Fmt.{signed_decimal}
-use Rattle.f77_tree.specs.Joined.{separated}
+use Rattle.f77_program.specs.Joined.{enclosed_text}
 use Rattle.f77_meaning.specs.declared.argument.Arg.{Arg}
 use Rattle.f77_meaning.specs.declared.argument.Arg.TheVariants.{Int, Truth, Ints, Truths}
 use Rattle.f77_meaning.specs.declared.outcome.Outcome.{Outcome}
@@ -13,7 +13,7 @@ truth_letter b = if b then codes "T" else codes "F"
 
 -- the elements of an array in parentheses, joined by commas
 abbrev pub array_text : {A : Type 0} → (A → List ℕ) → List A → List ℕ
-array_text text xs = codes "(" ++ (separated text [] xs ++ codes ")")
+array_text text xs = enclosed_text (codes "(") text xs (codes ")")
 
 -- the value of an argument: a number, T or F, or an array
 abbrev pub argument_text : Arg → List ℕ

@@ -49,28 +49,29 @@ IsReadFor status.Words left now = Keeps left now
 IsReadFor status.Help left now = Keeps left now
 
 -- Rule: what is read and written, A2, A3
--- the text with this status may be written for the words, where
--- the reader had the bytes `left` before and has `now` after that
-pub record IsAnswered (words : List Text) (left now : Option (List ℕ)) (status : Status)
-    (text : List ℕ) : Type 0 where
+-- the text with this status may be, for all the bytes of the reader, where
+-- it had the bytes `left` before and has `now` after that
+pub record IsAnswered (MayBe : List ℕ → Status → List ℕ → Type 0) (left now : Option (List ℕ))
+    (status : Status) (text : List ℕ) : Type 0 where
   pub bytes : List ℕ
   pub all : AreAll left bytes
-  pub may : MayBeWritten words bytes status text
+  pub may : MayBe bytes status text
   pub read : IsReadFor status left now
 
 -- Rule: what is read and written, A2, A3
 -- such a text was written whole, and nothing else, to a writer
 -- that held the bytes `old` before and holds `new` after that
-pub record WritesWhole (words : List Text) (left now old new : Option (List ℕ))
-    (status : Status) : Type 0 where
+pub record WritesWhole (MayBe : List ℕ → Status → List ℕ → Type 0)
+    (left now old new : Option (List ℕ)) (status : Status) : Type 0 where
   pub text : List ℕ
-  pub answered : IsAnswered words left now status text
+  pub answered : IsAnswered MayBe left now status text
   pub written : Appends old new text
 
 -- Rule: what is read and written, A2, A3
 -- only a front of such a text was written
-pub record WritesFront (words : List Text) (left now old new : Option (List ℕ)) : Type 0 where
+pub record WritesFront (MayBe : List ℕ → Status → List ℕ → Type 0)
+    (left now old new : Option (List ℕ)) : Type 0 where
   pub status : Status
   pub text : List ℕ
-  pub answered : IsAnswered words left now status text
+  pub answered : IsAnswered MayBe left now status text
   pub written : AppendsFront old new text

@@ -2,13 +2,11 @@
 
 ghost use Rattle.std.specs.Prelude.{◌≡◌, ◌⊎◌, ◌≤◌, Err, IfOk, MatchResult, string_bytes};
 ghost use Rattle.clap.specs.Values.{kind_of};
-ghost use Rattle.mothra_app.specs.code.Answer.{IsReadyAnswer, IsReportAnswer};
-ghost use Rattle.mothra_app.specs.Answer.{IsRequestOutcome, IsRefusal};
-ghost use Rattle.mothra_app.specs.Fault.{MayFailBy};
 ghost use Rattle.mothra_job.specs.Job.{job_of};
 ghost use Rattle.mothra_app.specs.Line as Line;
-ghost use Rattle.mothra_app.specs.Serving.{bad_operators};
 ghost use Rattle.mothra_cli.specs.Request.{IsBounded};
+ghost use Rattle.mothra_app.specs.{IsRequestOutcome, IsRefusal, MayFailBy, bad_operators};
+ghost use Rattle.mothra_app.specs.code.{IsReadyAnswer, IsReportAnswer};
 
 use crate::executing::execute;
 use crate::fault::Fault;

@@ -3,9 +3,7 @@
 ghost use Rattle.std.specs.Prelude.{◌≡◌, ◌⊎◌, Ok, Err, Contains, MatchResult, map, string_bytes};
 ghost use Rattle.f77_program.specs.Program.{line_of};
 ghost use Rattle.f77_check.specs.Checked.{shapes};
-ghost use Rattle.mothra_app.specs.Executing.{IsRunLine, IsExecuted};
-ghost use Rattle.mothra_app.specs.Fault.{of_runs};
-ghost use Rattle.mothra_app.specs.Program.{IsLegalProgramOf};
+ghost use Rattle.mothra_app.specs.{IsRunLine, IsExecuted, of_runs, IsLegalProgramOf};
 
 use crate::fault::Fault;
 use crate::outcome_line::outcome_line;

@@ -2,10 +2,7 @@
 
 ghost use Rattle.std.specs.Prelude.{◌≡◌, ℕ, Bool, List};
 ghost use Rattle.clap.specs.Words.{Text};
-ghost use Rattle.mothra_app.specs.Fault.{MayFailBy};
 ghost use Rattle.mothra_job.specs.Job.{job_of};
-ghost use Rattle.mothra_app.specs.Law.{IsFairAnswer, IsLegalJob, IsOutOfResources, ReportsJob};
-ghost use Rattle.mothra_app.specs.Serving.{AsksFor, IsServed, MayBeWritten};
 ghost use Rattle.mothra_app.specs.declared.fault.Fault.{Fault};
 ghost use Rattle.mothra_app.specs.declared.status.Status.{Status};
 ghost use Rattle.mothra_app.specs.declared.status.Status.TheVariants.{Report};
@@ -20,6 +17,8 @@ ghost use Rattle.mothra_codes.specs.declared.ticket.Ticket.{Ticket};
 ghost use Rattle.mothra_exchange.specs.Rule.{IsSoundExchange};
 ghost use Rattle.mothra_exchange.specs.declared.view.View.{View};
 ghost use Rattle.mothra_ops.specs.Plan.{PlanFields};
+ghost use Rattle.mothra_app.specs.{MayFailBy, IsFairAnswer, IsLegalJob, IsOutOfResources, ReportsJob, AsksFor};
+ghost use Rattle.mothra_app.specs.{IsServed, MayBeWritten};
 
 use f77_meaning::law::one_outcome;
 use f77_source::law::one_reading;

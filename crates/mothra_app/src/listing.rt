@@ -2,11 +2,10 @@
 
 ghost use Rattle.std.specs.Prelude.{◌≡◌, ◌⊎◌, ◌++◌, ◌≤◌, Ok, Err, Contains};
 ghost use Rattle.std.specs.Prelude.{IfOk, MatchResult, OnOk, codes, string_bytes};
-ghost use Rattle.mothra_app.specs.Fault.{of_mutants};
 ghost use Rattle.mothra_app.specs.Listing as definition;
-ghost use Rattle.mothra_app.specs.Listing.{IsListed, asked_total};
-ghost use Rattle.mothra_app.specs.code.Listing.{asked_lines, plan_lines, plan_text};
 ghost use Rattle.mothra_ops.specs.Mutants.{mutant_text};
+ghost use Rattle.mothra_app.specs.{of_mutants, IsListed, asked_total};
+ghost use Rattle.mothra_app.specs.code.{asked_lines, plan_lines, plan_text};
 
 use crate::fault::Fault;
 use crate::program::legal_program_of;

@@ -6,41 +6,19 @@ ghost use Rattle.f77_meaning.specs.declared.outcome.RunFault.TheVariants as faul
 ghost use Rattle.mothra_app.specs.OutcomeLine as definition;
 
 use f77_meaning::{Arg, Outcome, RunFault};
+use f77_program::print_enclosed;
 use std::alloc::{AllocError, Global};
 
-fn truth_text(truth: bool) -> &'static str
-    ensures { result.now ≡ definition.truth_letter truth }
+fn push_number(text: &mut String, number: &i32) -> Result<(), AllocError>
+    ensures { OnOk result (string_bytes text.new ≡ string_bytes text.old ++ signed_decimal number.now) }
 {
-    if truth { "T" } else { "F" }
+    write!(text, "{number}")
 }
 
-/// Adds the elements of an INTEGER array.
-fn push_numbers(text: &mut String, numbers: &[i32]) -> Result<(), AllocError>
-    ensures { OnOk result
-        (string_bytes text.new ≡ string_bytes text.old ++ definition.array_text signed_decimal numbers.now) }
+fn push_truth(text: &mut String, truth: &bool) -> Result<(), AllocError>
+    ensures { OnOk result (string_bytes text.new ≡ string_bytes text.old ++ definition.truth_letter truth.now) }
 {
-    text.push_str("(")?;
-    let mut before = "";
-    for number in numbers {
-        write!(text, "{before}{number}")?;
-        before = ",";
-    }
-    text.push_str(")")
-}
-
-/// Adds the elements of a LOGICAL array.
-fn push_truths(text: &mut String, truths: &[bool]) -> Result<(), AllocError>
-    ensures { OnOk result
-        (string_bytes text.new ≡ string_bytes text.old ++ definition.array_text definition.truth_letter truths.now) }
-{
-    text.push_str("(")?;
-    let mut before = "";
-    for truth in truths {
-        text.push_str(before)?;
-        text.push_str(truth_text(*truth))?;
-        before = ",";
-    }
-    text.push_str(")")
+    text.push_str(if *truth { "T" } else { "F" })
 }
 
 /// Adds the value of a dummy argument.
@@ -48,10 +26,10 @@ fn push_argument(text: &mut String, argument: &Arg) -> Result<(), AllocError>
     ensures { OnOk result (string_bytes text.new ≡ string_bytes text.old ++ definition.argument_text argument.now) }
 {
     match argument {
-        Arg::Int(number) => write!(text, "{number}"),
-        Arg::Truth(truth) => text.push_str(truth_text(*truth)),
-        Arg::Ints(numbers) => push_numbers(text, numbers.as_slice()),
-        Arg::Truths(truths) => push_truths(text, truths.as_slice()),
+        Arg::Int(number) => push_number(text, number),
+        Arg::Truth(truth) => push_truth(text, truth),
+        Arg::Ints(numbers) => print_enclosed(text, "(", numbers.as_slice(), ")", push_number),
+        Arg::Truths(truths) => print_enclosed(text, "(", truths.as_slice(), ")", push_truth),
     }
 }
 

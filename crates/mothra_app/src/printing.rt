@@ -1,8 +1,7 @@
 //! The command `print`: the program of a job in fixed form.
 
 ghost use Rattle.std.specs.Prelude.{◌⊎◌, Ok, Err, Contains, MatchResult, string_bytes};
-ghost use Rattle.mothra_app.specs.Fault.{of_programs};
-ghost use Rattle.mothra_app.specs.Printing.{IsPrinted};
+ghost use Rattle.mothra_app.specs.{of_programs, IsPrinted};
 
 use crate::fault::Fault;
 use crate::program::program_of;

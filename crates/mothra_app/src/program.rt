@@ -3,8 +3,7 @@
 ghost use Rattle.std.specs.Prelude.{◌≡◌, ◌⊎◌, Ok, Err, Contains, IfOk, MatchResult, map};
 ghost use Rattle.f77_program.specs.Program.{line_of};
 ghost use Rattle.f77_check.specs.Checked.{shapes};
-ghost use Rattle.mothra_app.specs.Fault.{of_programs, of_legal_programs};
-ghost use Rattle.mothra_app.specs.Program.{IsProgramOf, IsLegalProgramOf};
+ghost use Rattle.mothra_app.specs.{of_programs, of_legal_programs, IsProgramOf, IsLegalProgramOf};
 
 use crate::fault::Fault;
 use f77_check::{Checked, check};

@@ -1,8 +1,7 @@
 //! The command `run`: the bench of a job, of which its report is made.
 
 ghost use Rattle.std.specs.Prelude.{◌≤◌, ◌⊎◌, Err, MatchResult, length};
-ghost use Rattle.mothra_app.specs.Fault.{MayFailRun};
-ghost use Rattle.mothra_app.specs.Reporting.{IsBenchOf, IsReported};
+ghost use Rattle.mothra_app.specs.{MayFailRun, IsBenchOf, IsReported};
 
 use crate::fault::Fault;
 use crate::program::legal_program_of;

@@ -5,11 +5,10 @@
 
 ghost use Rattle.std.specs.Prelude.{◌≡◌, ◌≢◌, false, Ok, Err, IfOk, map, string_bytes};
 ghost use Rattle.mothra_cli.specs.Input.{limit, IsRead, TakesAtMost};
-ghost use Rattle.mothra_app.specs.Serving.{IsAnswered, WritesWhole, WritesFront};
-ghost use Rattle.mothra_app.specs.code.Serving.{IsReadyBy, IsReadyFor, HasStatus};
-ghost use Rattle.mothra_app.specs.Status.{is_read_fault, is_write_fault};
 ghost use Rattle.mothra_cli.specs.Request.{IsBounded};
 ghost use Rattle.mothra_cli.specs.Watched.{inside, has_failed};
+ghost use Rattle.mothra_app.specs.{IsAnswered, MayBeWritten, WritesWhole, WritesFront, is_read_fault, is_write_fault};
+ghost use Rattle.mothra_app.specs.code.{IsReadyBy, IsReadyFor, HasStatus};
 
 use crate::answer::{Answer, Ready, bad_list, ready_for, refusal, report_on};
 use crate::status::{AppFault, Status};
@@ -68,7 +67,7 @@ fn answer_for<S: AsStr, R: Read>(
     reader: &mut Watched<R>,
 ) -> Result<Answer, AppFault>
     requires { has_failed reader.old ≡ false }
-    ensures answered { IfOk result (λ a. IsAnswered (map S.text words.now)
+    ensures answered { IfOk result (λ a. IsAnswered (MayBeWritten (map S.text words.now))
         (R.remaining (inside reader.old)) (R.remaining (inside reader.new)) a.status (string_bytes a.text)) }
     ensures words { IfOk result (λ a. a.status ≡ Status.Words → reader.new ≡ reader.old) }
     ensures help { IfOk result (λ a. a.status ≡ Status.Help → reader.new ≡ reader.old) }
@@ -96,10 +95,10 @@ pub fn serve<S: AsStr, R: Read, W: Write>(
     requires writer_works { has_failed writer.old ≡ false }
 
     // What is written.
-    ensures written { IfOk result (WritesWhole (map S.text words.now)
+    ensures written { IfOk result (WritesWhole (MayBeWritten (map S.text words.now))
         (R.remaining (inside reader.old)) (R.remaining (inside reader.new))
         (W.contents (inside writer.old)) (W.contents (inside writer.new))) }
-    ensures front { result ≡ Err AppFault.Write → WritesFront (map S.text words.now)
+    ensures front { result ≡ Err AppFault.Write → WritesFront (MayBeWritten (map S.text words.now))
         (R.remaining (inside reader.old)) (R.remaining (inside reader.new))
         (W.contents (inside writer.old)) (W.contents (inside writer.new)) }
     ensures no_memory { result ≡ Err AppFault.Memory → writer.new ≡ writer.old }

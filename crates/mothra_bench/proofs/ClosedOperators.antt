@@ -1,15 +1,7 @@
 -- An operator that is closed stays closed.
-use Rattle.std.proofs.Common.{◌≡◌, ◌≢◌, ℕ, ◌+◌, ◌<◌, List, [], ◌∷◌, length, Bool, true, false, true≢false, eqb, All, get_or, take, refl, sym, ap, ◌∙◌, subst, eq-eqb}
-use Rattle.std.proofs.lemmas.Bool.{eqb-true}
-use Rattle.std.proofs.lemmas.List.{take_more}
-use Rattle.std.proofs.lemmas.List.Elements.{All-append, All-cons, All-nil, All-weaker}
-use Rattle.mothra_codes.proofs.Operators.{same_op}
-use Rattle.mothra_codes.specs.declared.op.Op.{Op}
-use Rattle.mothra_codes.specs.Op.{index}
-use Rattle.mothra_exchange.specs.declared.view.Look.{Look}
-use Rattle.mothra_exchange.specs.declared.view.View.{View}
-use Rattle.mothra_bench.specs.code.Closing.{AreClosed, Closes}
-use Rattle.mothra_bench.specs.Closing.{seen_of}
+use Rattle.mothra_bench.proofs.Common.{◌≡◌, ◌∙◌, ap, List, length, subst, sym, refl, [], ℕ, true, All, take, ◌∷◌, ◌+◌, ◌<◌, Bool, false, get_or, eqb, ◌≢◌}
+use Rattle.mothra_bench.proofs.Common.{true≢false, eq-eqb, eqb-true, take_more, All-nil, All-append, All-cons, All-weaker, seen_of, Closes, AreClosed, same_op}
+use Rattle.mothra_bench.proofs.Common.{index, Op, Look, View}
 
 -- closing one operator leaves those closed that were closed before
 stays : (old new : View) (op o : Op) → Closes op old new → (seen_of old o).closed ≡ true → (seen_of new o).closed ≡ true

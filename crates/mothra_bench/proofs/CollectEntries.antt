@@ -1,18 +1,7 @@
 -- Entries are made of the rows of tickets in order.
-use Rattle.std.proofs.Common.{◌≡◌, ℕ, suc, ◌+◌, ◌<◌, ◌≤◌, List, length, map, take, drop, get_or, All, Bool, false, cond, eqb, ◌&&◌, Option, Some, None, refl, sym, ap, ◌∙◌, subst, ⊎_elim, arith}
-use Rattle.std.specs.Prelude.{AllPairs, IsSome}
-use Rattle.std.proofs.lemmas.Bool.Decides.{nat_tests}
-use Rattle.std.proofs.lemmas.List.Elements.{All-map, All-weaker}
-use Rattle.mothra_codes.specs.Op.{index}
-use Rattle.mothra_codes.specs.declared.ticket.Ticket.{Ticket}
-use Rattle.mothra_exchange.specs.declared.word.Word.{Word}
-use Rattle.mothra_verdicts.specs.Bench.{BenchFields}
-use Rattle.mothra_codes.specs.Ticket.{Before}
-use Rattle.mothra_bench.specs.code.Entries.{IsEntry, IsFirstAbsent, IsHere}
-use Rattle.mothra_bench.specs.code.RowMap.{ticket_row}
-use Rattle.mothra_bench.specs.declared.matrix.Entry.{Entry}
-use Rattle.mothra_bench.specs.declared.row_map.RowMap.{RowMap}
-use Rattle.mothra_verdicts.specs.declared.verdict.Row.{Row}
+use Rattle.mothra_bench.proofs.Common.{◌≡◌, ◌∙◌, ap, List, length, subst, sym, refl, arith, ℕ, All, take, ◌+◌, Some, ◌<◌, ◌≤◌, Bool, false, None, get_or}
+use Rattle.mothra_bench.proofs.Common.{Option, eqb, suc, cond, ⊎_elim, ◌&&◌, map, AllPairs, IsSome, drop, nat_tests, All-weaker, All-map, ticket_row, IsEntry}
+use Rattle.mothra_bench.proofs.Common.{IsFirstAbsent, IsHere, Entry, RowMap, index, Before, Ticket, Word, BenchFields, Row}
 use Rattle.mothra_bench.proofs.CollectLists.{any_default, cut_at}
 
 -- the tickets from place i on have the rows that they had at first

@@ -1,9 +1,8 @@
 -- Lists that are gone through from the front.
-use Rattle.std.proofs.Common.{◌≡◌, ◌≢◌, ℕ, zero, suc, ◌+◌, ◌<◌, ◌≤◌, List, [], ◌∷◌, ◌++◌, length, take, drop, get_or, All}
-use Rattle.std.proofs.Common.{Bool, true, false, cond, Some, refl, sym, ap, ◌∙◌, subst, arith, append-nil, append_assoc}
-use Rattle.std.specs.Prelude.{AllPairs, Contains, filter, flat_map, slice_get, slice_set}
-use Rattle.std.proofs.lemmas.List.{take_more}
-use Rattle.std.proofs.lemmas.List.Elements.{All-append, All-nil, All-cons, All-head, All-tail, Contains-append_left, Contains-append_right}
+use Rattle.mothra_bench.proofs.Common.{◌≡◌, ◌∙◌, ap, List, length, subst, sym, ◌++◌, refl, [], arith, ℕ, true, All, take, ◌∷◌, ◌+◌, Some, ◌<◌, ◌≤◌, Bool, false}
+use Rattle.mothra_bench.proofs.Common.{get_or, suc, cond, ◌≢◌, Contains, append_assoc, append-nil, slice_get, zero, AllPairs, drop, slice_set, take_more}
+use Rattle.mothra_bench.proofs.Common.{All-nil, All-append, All-cons, All-tail, Contains-append_right, All-head, Contains-append_left}
+use Rattle.std.proofs.Common.{filter, flat_map}
 use Rattle.std.proofs.lemmas.List.Kept.{AllPairs-cons}
 
 pub cut_at : {X : Type 0} (xs : List X) (i : ℕ) (x : X) → i < length xs → x ≡ get_or xs i x → xs ≡ take i xs ++ x ∷ drop (suc i) xs

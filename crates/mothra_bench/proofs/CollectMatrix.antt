@@ -1,23 +1,10 @@
 -- From entries to a matrix, and from an absent ticket to a missing mutant.
-use Rattle.std.proofs.Common.{◌≡◌, zero, suc, ◌<◌, ◌≤◌, List, [], ◌∷◌, ◌++◌, length, map, All, Bool, Option, Some, None, refl, sym, ap, ◌∙◌, subst, ⊎_elim, arith}
-use Rattle.std.specs.Prelude.{AllPairs, Contains, IsSome, option_to_list}
-use Rattle.std.proofs.lemmas.List.Elements.{All-contains, All-weaker, Contains-append_cases, Contains-append_right}
-use Rattle.mothra_codes.specs.Op.{index}
-use Rattle.mothra_codes.specs.declared.ticket.Ticket.{Ticket}
-use Rattle.mothra_exchange.specs.declared.word.Word.{Word}
-use Rattle.mothra_ops.specs.Plan.{PlanFields}
-use Rattle.mothra_verdicts.specs.Bench.{BenchFields}
-use Rattle.mothra_codes.specs.Ticket.{Before}
-use Rattle.mothra_bench.specs.Collecting.{AreCollected, IsFirstMissing, IsKnown, IsNoMatrix, IsCollected, is_row_of, row_of, rows_of}
-use Rattle.mothra_bench.specs.code.Entries.{AreNoEntries, IsEntry, IsFirstAbsent, IsHere}
-use Rattle.mothra_bench.specs.Matrix.{tickets_of}
-use Rattle.mothra_bench.specs.code.RowMap.{HasRows, ticket_row}
-use Rattle.mothra_verdicts.specs.Verdict.{HasMutant}
-use Rattle.mothra_verdicts.specs.declared.fault.BenchFault.{BenchFault}
+use Rattle.mothra_bench.proofs.Common.{◌≡◌, ◌∙◌, ap, List, length, subst, sym, ◌++◌, refl, [], arith, All, ◌∷◌, Some, ◌<◌, ◌≤◌, Bool, None, Option, suc, ⊎_elim}
+use Rattle.mothra_bench.proofs.Common.{Contains, map, zero, AllPairs, IsSome, option_to_list, All-weaker, All-contains, Contains-append_right}
+use Rattle.mothra_bench.proofs.Common.{Contains-append_cases, IsKnown, is_row_of, rows_of, AreCollected, IsNoMatrix, tickets_of, IsFirstMissing, row_of}
+use Rattle.mothra_bench.proofs.Common.{IsCollected, ticket_row, IsEntry, HasRows, AreNoEntries, IsFirstAbsent, IsHere, Entry, RowMap, index, Before, Ticket}
+use Rattle.mothra_bench.proofs.Common.{Word, PlanFields, BenchFields, HasMutant, BenchFault, Row}
 use Rattle.mothra_verdicts.specs.declared.fault.BenchFault.TheVariants as fault
-use Rattle.mothra_bench.specs.declared.matrix.Entry.{Entry}
-use Rattle.mothra_bench.specs.declared.row_map.RowMap.{RowMap}
-use Rattle.mothra_verdicts.specs.declared.verdict.Row.{Row}
 use Rattle.mothra_bench.proofs.CollectLists.{filter_passes}
 use Rattle.mothra_bench.proofs.CollectRows.{no_double, own_ticket}
 use Rattle.mothra_bench.proofs.CollectTickets.{has_ticket, tickets_had, tickets_ordered}

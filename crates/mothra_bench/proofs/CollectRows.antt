@@ -1,17 +1,7 @@
 -- Rows are put into a map one by one.
-use Rattle.std.proofs.Common.{◌≡◌, ℕ, ◌≤◌, List, [], ◌∷◌, ◌++◌, length, Bool, true, false, cond, eqb, ◌&&◌, Option, None, Some, refl, sym, ap, ◌∙◌, subst, arith, append-nil}
-use Rattle.std.specs.Prelude.{option_to_list, is_none}
-use Rattle.std.proofs.lemmas.Bool.Decides.{nat_tests}
-use Rattle.std.proofs.lemmas.List.Elements.{filter-append}
-use Rattle.mothra_codes.specs.Op.{index}
-use Rattle.mothra_codes.proofs.Operators.{same_op}
-use Rattle.mothra_codes.specs.Ticket.{ticket}
-use Rattle.mothra_codes.specs.declared.ticket.Ticket.{Ticket}
-use Rattle.mothra_ops.specs.Plan.{PlanFields}
-use Rattle.mothra_bench.specs.Collecting.{IsFirstDouble, NoDouble, is_row_of, rows_of}
-use Rattle.mothra_bench.specs.code.RowMap.{HasRows, ticket_row}
-use Rattle.mothra_bench.specs.declared.row_map.RowMap.{RowMap}
-use Rattle.mothra_verdicts.specs.declared.verdict.Row.{Row}
+use Rattle.mothra_bench.proofs.Common.{◌≡◌, ◌∙◌, ap, List, length, subst, sym, ◌++◌, refl, [], arith, ℕ, true, ◌∷◌, Some, ◌≤◌, Bool, false, None, Option, eqb}
+use Rattle.mothra_bench.proofs.Common.{cond, ◌&&◌, append-nil, option_to_list, is_none, nat_tests, filter-append, is_row_of, rows_of, IsFirstDouble, NoDouble}
+use Rattle.mothra_bench.proofs.Common.{ticket_row, HasRows, RowMap, same_op, index, ticket, Ticket, PlanFields, Row}
 
 one_filter : (t : Ticket) (row : Row) (b : Bool) → is_row_of t row ≡ b → rows_of t (row ∷ []) ≡ cond b (row ∷ []) []
 one_filter t row true e = rw e refl

@@ -1,18 +1,11 @@
 -- The tickets of a plan stand in order, and are those of the plan's mutants.
-use Rattle.std.proofs.Common.{◌≡◌, ℕ, suc, ◌+◌, ◌-◌, ◌<◌, ◌≤◌, List, [], ◌∷◌, ◌++◌, length, All, get_or, true, Option, Some, None, refl, sym, ap, ◌∙◌, subst, arith, inl, inr}
-use Rattle.std.specs.Prelude.{⊤, AllPairs, Contains, flat_map, is_some}
-use Rattle.std.specs.Option.{option_map_or}
-use Rattle.std.proofs.lemmas.List.Elements.{All-append, All-nil, All-weaker}
+use Rattle.mothra_bench.proofs.Common.{◌≡◌, ◌∙◌, ap, List, length, subst, sym, ◌++◌, refl, [], arith, ℕ, true, All, ◌∷◌, ◌+◌, Some, ◌<◌, ◌≤◌, None, get_or}
+use Rattle.mothra_bench.proofs.Common.{Option, inr, inl, suc, Contains, AllPairs, ◌-◌, is_some, All-nil, All-append, All-weaker, option_map_or, tickets}
+use Rattle.mothra_bench.proofs.Common.{tickets_of, index_below, op_at-index, index, all_ops, ticket, Before, Op, Aar, Ticket, PlanFields, edits_of, IsPlan}
+use Rattle.mothra_bench.proofs.Common.{ListFields, list_of_operator, HasMutant}
+use Rattle.std.specs.Prelude.{⊤}
+use Rattle.std.proofs.Common.{flat_map}
 use Rattle.std.proofs.lemmas.List.FromFn.{get_or-map-range_with_len, length-map-range_with_len, map-range_with_len_more}
-use Rattle.mothra_codes.specs.Op.{all_ops, index}
-use Rattle.mothra_codes.specs.declared.op.Op.{Op}
-use Rattle.mothra_codes.specs.declared.op.Op.TheVariants.{Aar}
-use Rattle.mothra_codes.proofs.Operators.{op_at-index, index_below}
-use Rattle.mothra_ops.specs.Plan.{ListFields, PlanFields, IsPlan, list_of_operator, edits_of}
-use Rattle.mothra_codes.specs.Ticket.{Before, ticket}
-use Rattle.mothra_codes.specs.declared.ticket.Ticket.{Ticket}
-use Rattle.mothra_bench.specs.Matrix.{tickets, tickets_of}
-use Rattle.mothra_verdicts.specs.Verdict.{HasMutant}
 use Rattle.mothra_bench.proofs.CollectLists.{flat_map_all, flat_map_has, pairs_append}
 
 pub tickets_more : (op : Op) (n : ℕ) → tickets op (n + 1) ≡ tickets op n ++ ticket op (n + 1) ∷ []

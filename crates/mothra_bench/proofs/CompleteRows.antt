@@ -1,25 +1,11 @@
 -- Where every mutant of the plan was handed out once, its rows make a matrix.
-use Rattle.std.proofs.Common.{◌≡◌, ℕ, suc, ◌+◌, ◌≤◌, List, [], ◌∷◌, ◌++◌, length, All, Bool, true, false, eqb, ◌&&◌, refl, ap, ◌∙◌, subst, arith}
-use Rattle.std.proofs.lemmas.Bool.Decides.{nat_tests}
-use Rattle.std.proofs.lemmas.List.{map-append}
+use Rattle.mothra_bench.proofs.Common.{◌≡◌, ◌∙◌, ap, List, length, subst, ◌++◌, refl, [], arith, ℕ, true, All, ◌∷◌, ◌+◌, ◌≤◌, Bool, false, eqb, suc, ◌&&◌}
+use Rattle.mothra_bench.proofs.Common.{nat_tests, map-append, AreVerdicts, tickets_in, IsOwn, is_row_of, rows_of, IsNoMatrix, AreComplete, IsFirstDouble}
+use Rattle.mothra_bench.proofs.Common.{IsFirstMissing, IsFirstStranger, IsNoReport, index, ticket_times, one_if, once_up_to, is_ticket, Ticket, times-append}
+use Rattle.mothra_bench.proofs.Common.{once_up_to-most, Word, program_of, PlanFields, edits_of, BenchFields, HasMutant, IsKill, mutated, BenchFault, Row}
 use Rattle.std.proofs.lemmas.Slice.Zip.{AllZip-long}
 use Rattle.f77_meaning.specs.declared.argument.Arg.{Arg}
-use Rattle.mothra_codes.specs.Op.{index}
-use Rattle.mothra_codes.specs.Ticket.{is_ticket, once_up_to, one_if, ticket_times}
-use Rattle.mothra_codes.specs.declared.ticket.Ticket.{Ticket}
-use Rattle.mothra_exchange.specs.declared.word.Word.{Word}
-use Rattle.mothra_exchange.proofs.Counting.{once_up_to-most, times-append}
-use Rattle.mothra_ops.specs.Mutants.{program_of}
-use Rattle.mothra_ops.specs.Plan.{PlanFields, edits_of}
-use Rattle.mothra_bench.specs.Analysis.{IsNoReport}
-use Rattle.mothra_verdicts.specs.Bench.{BenchFields}
-use Rattle.mothra_bench.specs.Collecting.{IsFirstDouble, IsFirstMissing, IsFirstStranger, IsNoMatrix, is_row_of, rows_of}
-use Rattle.mothra_bench.specs.Driving.{AreComplete}
-use Rattle.mothra_bench.specs.Results.{AreVerdicts, IsOwn, tickets_in}
-use Rattle.mothra_verdicts.specs.Verdict.{HasMutant, IsKill, mutated}
-use Rattle.mothra_verdicts.specs.declared.fault.BenchFault.{BenchFault}
 use Rattle.mothra_verdicts.specs.declared.fault.BenchFault.TheVariants as fault
-use Rattle.mothra_verdicts.specs.declared.verdict.Row.{Row}
 
 -- a ticket occurs among the tickets of the rows as often as it has rows
 rows_times : (t : Ticket) (rows : List Row) → length (rows_of t rows) ≡ ticket_times (index t.op) t.number (tickets_in rows)

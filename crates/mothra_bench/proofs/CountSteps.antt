@@ -1,9 +1,6 @@
 -- The counts of the operators are set one after another.
-use Rattle.std.proofs.Common.{◌≡◌, ◌<◌, ◌+◌, ℕ, List, length, get_or, set, inl, inr, sym, ◌∙◌, subst, arith}
-use Rattle.mothra_codes.specs.code.Op.{op_at}
-use Rattle.mothra_exchange.proofs.Counting.{get_or-set_else, get_or-set_there}
-use Rattle.mothra_ops.specs.Plan.{PlanFields, edits_of}
-use Rattle.std.proofs.lemmas.Bool.Decides.{eqb_tells}
+use Rattle.mothra_bench.proofs.Common.{◌≡◌, ◌∙◌, List, length, subst, sym, arith, ℕ, ◌+◌, ◌<◌, get_or, inr, inl, set, eqb_tells, op_at, get_or-set_else}
+use Rattle.mothra_bench.proofs.Common.{get_or-set_there, PlanFields, edits_of}
 
 pub counts_more : (plan : PlanFields) (counts : List ℕ) (n i : ℕ) → i < length counts
     → ((k : ℕ) → k < i → get_or counts k 0 ≡ length (edits_of plan (op_at k))) → n ≡ length (edits_of plan (op_at i))

@@ -1,16 +1,8 @@
 -- The counts of the operators, with one entry more.
-use Rattle.std.proofs.Common.{◌≡◌, ◌<◌, ◌≤◌, ◌+◌, ◌++◌, ◌∷◌, ◌^◌, [], ℕ, List, All, Some, inl, inr, length, take, get_or, not, refl, sym, ap, ◌∙◌, append-nil, arith}
-use Rattle.std.specs.Prelude.{slice_get, slice_set}
-use Rattle.std.proofs.lemmas.Bool.Decides.{eqb_tells}
-use Rattle.std.proofs.lemmas.List.Elements.{filter-append}
+use Rattle.mothra_bench.proofs.Common.{◌≡◌, ◌∙◌, ap, List, length, sym, ◌++◌, refl, [], arith, ℕ, All, take, ◌∷◌, ◌+◌, Some, ◌<◌, ◌≤◌, get_or, inr, inl}
+use Rattle.mothra_bench.proofs.Common.{append-nil, slice_get, slice_set, not, length-take-le, ◌^◌, eqb_tells, filter-append, slice_get_read, same_Some}
+use Rattle.mothra_bench.proofs.Common.{slice_get-get_or, counts, entries_of, Counts, is_entry_of, Entry, index_below, same_op, index, Op}
 use Rattle.std.proofs.lemmas.List.Filters.{length-filter_both}
-use Rattle.std.proofs.lemmas.List.{length-take-le}
-use Rattle.std.proofs.lemmas.Option.{same_Some, slice_get-get_or, slice_get_read}
-use Rattle.mothra_codes.specs.Op.{index}
-use Rattle.mothra_codes.specs.declared.op.Op.{Op}
-use Rattle.mothra_codes.proofs.Operators.{index_below, same_op}
-use Rattle.mothra_bench.specs.Matrix.{Counts, counts, entries_of, is_entry_of}
-use Rattle.mothra_bench.specs.declared.matrix.Entry.{Entry}
 use Rattle.mothra_bench.proofs.CollectLists.{got_other, got_same, taken_more}
 
 -- the entries of an operator are no more than all

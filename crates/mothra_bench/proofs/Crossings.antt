@@ -1,11 +1,10 @@
 -- A closure may go to the thread that runs it.
-use mathlib.Core.List.{[], ◌∷◌}
+use Rattle.mothra_bench.proofs.Common.{[], ◌∷◌, IsSend, IsSync, recorded_send, sendable, struct_send}
+use Rattle.std.proofs.Crossing.{crosses}
 use mir.Syntax.{Sym}
 use denote.RattleType.{RattleType}
 use denote.Struct.Declared.{shape}
 use denote.Struct.Tuple.{TupleAt, type_at}
-use denote.Param.Send.{IsSend, IsSync, recorded_send, sendable, struct_send}
-use Rattle.std.proofs.Crossing.{crosses}
 use Rattle.mothra_codes.specs.contracts.op.Op as op
 
 -- a closure may go to another thread with the five things that it captured

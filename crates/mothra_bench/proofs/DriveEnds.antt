@@ -1,17 +1,8 @@
 -- What holds of the answer of a drive.
-use Rattle.std.proofs.Common.{◌≡◌, ◌⊎◌, ℕ, List, [], ◌++◌, Bool, true, Option, None, Some, Result, Ok, Err, IfSome, IfNone, IsSome, IfOk, IfErr, MatchOption}
-use Rattle.std.proofs.Common.{refl, sym, ap, ◌∙◌, subst, append-nil, inl, inr}
-use Rattle.std.proofs.lemmas.List.Elements.{All-nil}
-use Rattle.mothra_codes.specs.declared.ticket.Ticket.{Ticket}
-use Rattle.mothra_ops.specs.Plan.{PlanFields}
-use Rattle.mothra_verdicts.specs.Bench.{BenchFields}
-use Rattle.mothra_bench.specs.Driving.{IsNoDrive}
-use Rattle.mothra_bench.specs.code.Driving.{answer_of}
-use Rattle.mothra_bench.specs.Feeding.{IsStalled}
-use Rattle.mothra_bench.specs.Results.{AreVerdicts, IsOwn, tickets_in}
-use Rattle.mothra_verdicts.specs.declared.fault.BenchFault.{BenchFault}
+use Rattle.mothra_bench.proofs.Common.{◌≡◌, ◌∙◌, ap, List, subst, sym, ◌++◌, refl, [], ℕ, true, Some, Bool, None, Option, inr, inl, IfSome, ◌⊎◌, append-nil}
+use Rattle.mothra_bench.proofs.Common.{IfNone, IfOk, IsSome, MatchOption, Ok, Result, Err, IfErr, All-nil, AreVerdicts, tickets_in, IsOwn, IsNoDrive, IsStalled}
+use Rattle.mothra_bench.proofs.Common.{answer_of, Ticket, PlanFields, BenchFields, BenchFault, Row}
 use Rattle.mothra_verdicts.specs.declared.fault.BenchFault.TheVariants as fault
-use Rattle.mothra_verdicts.specs.declared.verdict.Row.{Row}
 
 -- a property of the answer, concluded from what holds of each of its four parts
 pub ok_answer : {X : Type 0} (own : Option BenchFault) (first second : Result (Unit {0}) BenchFault) (outcome : Result X BenchFault) (P : X → Type 0)

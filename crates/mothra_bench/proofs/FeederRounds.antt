@@ -1,20 +1,8 @@
 -- What the stages of all operators show after a round of a feeder.
-use Rattle.std.proofs.Common.{◌≡◌, ◌≢◌, ℕ, ◌+◌, ◌<◌, List, [], ◌∷◌, ◌++◌, length, Bool, true, false, true≢false, eqb}
-use Rattle.std.proofs.Common.{All, Contains, get_or, set, take, zero, suc, refl, sym, ap, ◌∙◌, subst, arith, eq-eqb}
-use Rattle.std.proofs.lemmas.Bool.{eqb-true}
-use Rattle.std.proofs.lemmas.List.{take_more}
-use Rattle.std.proofs.lemmas.Bool.Decides.{nat_tests}
-use Rattle.std.proofs.lemmas.List.Elements.{All-append, All-cons, All-nil, All-weaker, Contains-get_or}
-use Rattle.mothra_codes.proofs.Operators.{index_below, same_op}
-use Rattle.mothra_codes.specs.declared.op.Op.{Op}
-use Rattle.mothra_codes.specs.Op.{index}
-use Rattle.mothra_exchange.specs.declared.view.View.{View}
-use Rattle.mothra_exchange.specs.Law.{ChangesOnly}
-use Rattle.mothra_codes.specs.Ticket.{once_up_to, ticket_times}
-use Rattle.mothra_exchange.specs.View.{times_closed}
-use Rattle.mothra_exchange.proofs.Counting.{get_or-set_else, get_or-set_there}
-use Rattle.mothra_bench.specs.code.Feeding.{AllShow, ShowsStage, stage_of}
-use Rattle.mothra_bench.specs.Feeding.{AreFed, IsFed}
+use Rattle.mothra_bench.proofs.Common.{◌≡◌, ◌∙◌, ap, List, length, subst, sym, ◌++◌, refl, [], arith, ℕ, true, All, take, ◌∷◌, ◌+◌, ◌<◌, Bool, false, get_or}
+use Rattle.mothra_bench.proofs.Common.{eqb, suc, ◌≢◌, Contains, true≢false, zero, eq-eqb, eqb-true, set, nat_tests, take_more, All-nil, All-append, All-cons}
+use Rattle.mothra_bench.proofs.Common.{All-weaker, Contains-get_or, IsFed, AreFed, ShowsStage, stage_of, AllShow, index_below, same_op, index, ticket_times}
+use Rattle.mothra_bench.proofs.Common.{once_up_to, Op, get_or-set_else, get_or-set_there, ChangesOnly, times_closed, View}
 use Rattle.mothra_bench.specs.declared.feeding.Stage.{Stage}
 use Rattle.mothra_bench.specs.declared.feeding.Stage.TheVariants as stage
 use Rattle.mothra_bench.proofs.FeederSteps.{shows_other}

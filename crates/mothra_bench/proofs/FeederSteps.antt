@@ -1,30 +1,14 @@
 -- What the calls of a feeder do to its pass.
-use Rattle.std.proofs.Common.{◌≡◌, ◌⊎◌, ◌≢◌, ℕ, ◌+◌, ◌<◌, ◌≤◌, List, [], ◌∷◌, ◌++◌, Bool, true, false, true≢false, cond, eqb}
-use Rattle.std.proofs.Common.{ltb, not, Option, None, Some, IfSome, refl, sym, ap, ◌∙◌, subst, ⊎_elim, arith, inl, inr, eq-eqb}
-use Rattle.std.specs.Prelude.{slice_index}
-use Rattle.std.proofs.lemmas.Bool.{eqb-true, ltb-true}
-use Rattle.std.proofs.lemmas.Bool.Decides.{nat_tests}
-use Rattle.mothra_codes.specs.declared.op.Op.{Op}
-use Rattle.mothra_codes.specs.Op.{index}
-use Rattle.mothra_codes.specs.declared.ticket.Ticket.{Ticket}
-use Rattle.mothra_exchange.specs.declared.view.Look.{Look}
-use Rattle.mothra_exchange.specs.declared.view.View.{View}
-use Rattle.mothra_exchange.specs.declared.word.Word.{Word}
+use Rattle.mothra_bench.proofs.Common.{◌≡◌, ◌∙◌, ap, List, subst, sym, ◌++◌, refl, [], arith, ℕ, true, ◌∷◌, ◌+◌, Some, ◌<◌, ◌≤◌, Bool, false, None, Option, inr}
+use Rattle.mothra_bench.proofs.Common.{eqb, inl, cond, IfSome, slice_index, ⊎_elim, ◌≢◌, ◌⊎◌, true≢false, eq-eqb, eqb-true, not, ltb, ltb-true, nat_tests}
+use Rattle.mothra_bench.proofs.Common.{OnlyGave, count_of, seen_of, IsFed, HasClosed, HasOffered, NeverClosed, Closes, LooksOnly, ShowsStage, Shuts, IsFull}
+use Rattle.mothra_bench.proofs.Common.{index, ticket, ticket_times, one_if, Op, Ticket, is_closing-own, is_ticket-own, once_up_to-suc, times-more}
+use Rattle.mothra_bench.proofs.Common.{times_closed-more, offer_only, CloseKept, OfferKept, ChangesOnly, HaveSame, times_closed, closing, view_after_load}
+use Rattle.mothra_bench.proofs.Common.{AtMost, word_after_offer, Look, View, Word}
 use Rattle.mothra_exchange.specs.declared.answer.Close.{Close}
-use Rattle.mothra_exchange.specs.declared.answer.Close.TheVariants as close
 use Rattle.mothra_exchange.specs.declared.answer.Offer.{Offer}
+use Rattle.mothra_exchange.specs.declared.answer.Close.TheVariants as close
 use Rattle.mothra_exchange.specs.declared.answer.Offer.TheVariants as offer
-use Rattle.mothra_exchange.specs.Gate.{CloseKept, OfferKept}
-use Rattle.mothra_exchange.specs.Law.{ChangesOnly, HaveSame}
-use Rattle.mothra_codes.specs.Ticket.{one_if, ticket, ticket_times}
-use Rattle.mothra_exchange.specs.View.{closing, times_closed, view_after_load}
-use Rattle.mothra_exchange.specs.Word.{AtMost, word_after_offer}
-use Rattle.mothra_exchange.proofs.Counting.{is_closing-own, is_ticket-own, once_up_to-suc, times-more, times_closed-more}
-use Rattle.mothra_exchange.proofs.Others.{offer_only}
-use Rattle.mothra_bench.specs.code.Closing.{Closes, LooksOnly, Shuts}
-use Rattle.mothra_bench.specs.Closing.{count_of, seen_of}
-use Rattle.mothra_bench.specs.Feeding.{HasClosed, HasOffered, IsFed, NeverClosed, OnlyGave}
-use Rattle.mothra_bench.specs.code.Feeding.{IsFull, ShowsStage}
 use Rattle.mothra_bench.specs.declared.feeding.Stage.{Stage}
 use Rattle.mothra_bench.specs.declared.feeding.Stage.TheVariants as stage
 use Rattle.mothra_bench.proofs.Looking.{found, load_long, looks_load, looks_lost, looks_on, only_trans, seen_after_load}

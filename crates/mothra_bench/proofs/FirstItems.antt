@@ -1,26 +1,15 @@
 -- Between two steps of an exchange with the counts of a plan, the tickets handed out are those of the first items of its lists.
-use Rattle.std.proofs.Common.{◌≡◌, ℕ, zero, suc, ◌+◌, ◌<◌, ◌≤◌, List, [], ◌∷◌, ◌++◌, map, length, take, Option, Some}
-use Rattle.std.proofs.Common.{refl, sym, ap, subst, ◌∙◌, arith, inl, inr}
-use Rattle.std.specs.Prelude.{slice_get, slice_index}
-use Rattle.std.proofs.lemmas.List.{get_or-map, length_push, map_more, map_push}
-use Rattle.std.proofs.lemmas.Option.{slice_get-get_or, slice_get_cases}
-use Rattle.mothra_codes.specs.Op.{all_ops, index}
-use Rattle.mothra_codes.specs.declared.op.Op.{Op}
-use Rattle.mothra_codes.specs.declared.op.Op.TheVariants.{Aar}
-use Rattle.mothra_codes.proofs.Operators.{index_below, op_at-index}
-use Rattle.mothra_exchange.specs.Law.{IsWordOf, IsShownInLog}
+use Rattle.mothra_bench.proofs.Common.{◌≡◌, ◌∙◌, ap, List, length, subst, sym, ◌++◌, refl, [], arith, ℕ, take, ◌∷◌, ◌+◌, Some, ◌<◌, ◌≤◌, Option, inr, inl, suc}
+use Rattle.mothra_bench.proofs.Common.{slice_index, map, slice_get, zero, get_or-map, length_push, map_more, map_push, slice_get-get_or, slice_get_cases}
+use Rattle.mothra_bench.proofs.Common.{AreCounts, AreFirstItems, HasHistory, KeepsLists, plan_counts, index_below, op_at-index, index, all_ops, Op, Aar}
+use Rattle.mothra_bench.proofs.Common.{IsShownInLog, IsWordOf, View, Word, PlanFields, edits_of}
 use Rattle.mothra_exchange.specs.Log.{IsLegalLog, closes, hands, offers, one_to, taken_in}
 use Rattle.mothra_exchange.specs.Rule.{IsSoundExchange, OpRule}
 use Rattle.mothra_exchange.specs.declared.log.Event.{Event}
-use Rattle.mothra_exchange.specs.declared.view.View.{View}
-use Rattle.mothra_exchange.specs.declared.word.Word.{Word}
 use Rattle.mothra_exchange.proofs.Histories.{in_order, legal_for, none_after}
 use Rattle.mothra_exchange.proofs.Showing.{shows_one_log}
 use Rattle.mothra_exchange.proofs.Standings.{are_in_order, has_word, rule_at}
 use Rattle.mothra_ops.specs.Edits.{numbered}
-use Rattle.mothra_ops.specs.Plan.{PlanFields, edits_of}
-use Rattle.mothra_bench.specs.Feeding.{AreCounts}
-use Rattle.mothra_bench.specs.PlanExchange.{AreFirstItems, HasHistory, KeepsLists, plan_counts}
 
 -- ---- the items of a list by number
 

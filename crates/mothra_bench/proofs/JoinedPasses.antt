@@ -1,26 +1,11 @@
 -- The passes of feeders and workers are merged into one.
-use Rattle.std.proofs.Common.{◌≡◌, ℕ, zero, suc, ◌+◌, ◌<◌, ◌≤◌, List, [], Result, Ok, IfOk, length, Contains, Bool, true, ◌&&◌, eqb, refl, sym, ap, ◌∙◌, subst, ⊎_elim, arith}
-use Rattle.std.specs.Prelude.{slice_index}
-use Rattle.std.proofs.lemmas.Bool.Decides.{nat_tests}
-use Rattle.std.proofs.lemmas.List.Elements.{All-contains}
-use Rattle.mothra_codes.specs.declared.op.Op.{Op}
-use Rattle.mothra_codes.specs.Op.{index}
-use Rattle.mothra_codes.specs.declared.ticket.Ticket.{Ticket}
-use Rattle.mothra_exchange.specs.declared.view.View.{View}
-use Rattle.mothra_exchange.specs.declared.word.Word.{Word}
-use Rattle.mothra_exchange.specs.Sharing.{IsOver}
+use Rattle.mothra_bench.proofs.Common.{◌≡◌, ◌∙◌, ap, List, length, subst, sym, refl, [], arith, ℕ, true, ◌+◌, ◌<◌, ◌≤◌, Bool, eqb, suc, slice_index, ⊎_elim}
+use Rattle.mothra_bench.proofs.Common.{◌&&◌, Contains, zero, IfOk, Ok, Result, nat_tests, All-contains, count_of, AreOver, AreCounts, seen_of, IsFed}
+use Rattle.mothra_bench.proofs.Common.{AreComplete, AreFed, HasClosed, HasOffered, IsWhole, IsReadyPass, IsUntouched, complete_word, AreShared, IsDone}
+use Rattle.mothra_bench.proofs.Common.{IsNewPass, KeepsFed, OnlySplit, JoinsPass, index, ticket_times, one_if, once_up_to, Op, Ticket, times-append}
+use Rattle.mothra_bench.proofs.Common.{times_closed-append, IsOver, times_closed, once_if_closed, split_off_view, view_after_split, whole_part, AtMost, View}
+use Rattle.mothra_bench.proofs.Common.{Word, PlanFields, edits_of, BenchFault}
 use Rattle.mothra_exchange.specs.Tally.{EndsAsViews, EndsAt, operator_word}
-use Rattle.mothra_codes.specs.Ticket.{once_up_to, one_if, ticket_times}
-use Rattle.mothra_exchange.specs.View.{once_if_closed, split_off_view, times_closed, view_after_split, whole_part}
-use Rattle.mothra_exchange.specs.Word.{AtMost}
-use Rattle.mothra_exchange.proofs.Counting.{times-append, times_closed-append}
-use Rattle.mothra_ops.specs.Plan.{PlanFields, edits_of}
-use Rattle.mothra_bench.specs.Closing.{count_of, seen_of}
-use Rattle.mothra_bench.specs.Driving.{AreComplete, IsWhole, complete_word}
-use Rattle.mothra_bench.specs.code.Driving.{AreShared, IsDone, IsNewPass, JoinsPass, KeepsFed, OnlySplit}
-use Rattle.mothra_bench.specs.Feeding.{AreCounts, AreFed, IsReadyPass, HasClosed, HasOffered, IsFed, IsUntouched}
-use Rattle.mothra_bench.specs.Working.{AreOver}
-use Rattle.mothra_verdicts.specs.declared.fault.BenchFault.{BenchFault}
 
 joined_counts : (v w n : View) → JoinsPass v w n → n.counts ≡ v.counts
 joined_counts v w n j = ap (λ (u : View). u.counts) j.united

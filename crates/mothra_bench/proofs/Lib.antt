@@ -1,3 +1,4 @@
+pub mod Common
 mod CollectLists
 mod CollectTickets
 mod CollectRows

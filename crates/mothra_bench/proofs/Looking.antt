@@ -1,25 +1,14 @@
 -- What a pass has seen after an offer or a close.
-use Rattle.std.proofs.Common.{◌≡◌, ◌⊎◌, ℕ, ◌+◌, ◌≤◌, List, [], ◌∷◌, ◌++◌, length, Bool, true, false, true≢false, cond, refl, sym, ap, ◌∙◌, subst, arith, inl, inr, length-set}
-use Rattle.std.specs.Prelude.{slice_index}
-use Rattle.mothra_codes.specs.declared.op.Op.{Op}
-use Rattle.mothra_codes.specs.Op.{index}
-use Rattle.mothra_exchange.specs.declared.view.Look.{Look}
-use Rattle.mothra_exchange.specs.declared.view.View.{View}
-use Rattle.mothra_exchange.specs.declared.word.Word.{Word}
+use Rattle.mothra_bench.proofs.Common.{◌≡◌, ◌∙◌, ap, List, length, subst, sym, ◌++◌, refl, [], arith, ℕ, true, ◌∷◌, ◌+◌, ◌≤◌, Bool, false, inr, inl, cond}
+use Rattle.mothra_bench.proofs.Common.{slice_index, ◌⊎◌, true≢false, length-set, count_of, seen_of, Closes, LooksOnly, Shuts, index, Op, AtMost-refl}
+use Rattle.mothra_bench.proofs.Common.{AtMost-trans, close_only, CloseKept, ChangesOnly, closing, look_at, view_after_load, view_after_finding, AtMost}
+use Rattle.mothra_bench.proofs.Common.{word_after_close, Look, View, Word}
 use Rattle.mothra_exchange.specs.declared.answer.Close.{Close}
-use Rattle.mothra_exchange.specs.declared.answer.Close.TheVariants as close
 use Rattle.mothra_exchange.specs.Answer.{close_answer}
 use Rattle.mothra_exchange.specs.Calls.{LostTo}
-use Rattle.mothra_exchange.specs.Gate.{CloseKept}
-use Rattle.mothra_exchange.specs.Law.{ChangesOnly}
 use Rattle.mothra_exchange.specs.Rule.{Loads}
-use Rattle.mothra_exchange.specs.View.{closing, look_at, view_after_load, view_after_finding}
-use Rattle.mothra_exchange.specs.Word.{AtMost, word_after_close}
-use Rattle.mothra_exchange.proofs.Counting.{AtMost-refl, AtMost-trans}
-use Rattle.mothra_exchange.proofs.Others.{close_only}
 use Rattle.mothra_exchange.proofs.Steps.{new_look}
-use Rattle.mothra_bench.specs.code.Closing.{Closes, LooksOnly, Shuts}
-use Rattle.mothra_bench.specs.Closing.{count_of, seen_of}
+use Rattle.mothra_exchange.specs.declared.answer.Close.TheVariants as close
 
 -- the look after a load, and after a word was found or written after that load
 abbrev loaded_look : View → Op → Word → Look

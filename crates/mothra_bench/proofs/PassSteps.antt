@@ -1,12 +1,7 @@
 -- What a take does to a pass of a gate that keeps records.
-use Rattle.std.proofs.Common.{◌≡◌, ◌≢◌, ℕ, ap, refl}
-use Rattle.mothra_codes.specs.declared.op.Op.{Op}
-use Rattle.mothra_codes.specs.declared.ticket.Ticket.{Ticket}
-use Rattle.mothra_exchange.specs.declared.view.View.{View}
+use Rattle.mothra_bench.proofs.Common.{◌≡◌, ap, refl, ℕ, ◌≢◌, OnlyTook, Op, Ticket, TakeKept, View}
 use Rattle.mothra_exchange.specs.declared.answer.Take.{Take}
 use Rattle.mothra_exchange.specs.declared.answer.Take.TheVariants as take
-use Rattle.mothra_exchange.specs.Gate.{TakeKept}
-use Rattle.mothra_bench.specs.Working.{OnlyTook}
 
 -- a take offers and closes nothing
 pub take_only : (C : ℕ) (old : View) (op : Op) (answer : Take) (new : View) → TakeKept C old op answer new → OnlyTook old new

@@ -1,19 +1,8 @@
 -- A report's entries are the verdicts of a bench, and it has one report at most.
-use Rattle.std.proofs.Common.{◌≡◌, ◌↔◌, ℕ, List, [], ◌∷◌, map, drop, get_or, All, Bool, true, false, refl, sym, ap, ◌∙◌, subst, arith}
-use Rattle.std.specs.Prelude.{IsTrue}
-use Rattle.std.proofs.lemmas.List.Elements.{All-filter, All-tail}
+use Rattle.mothra_bench.proofs.Common.{◌≡◌, ◌∙◌, ap, List, subst, sym, refl, [], arith, ℕ, true, All, ◌∷◌, Bool, false, get_or, map, drop, IsTrue, ◌↔◌}
+use Rattle.mothra_bench.proofs.Common.{All-tail, All-filter, AreVerdicts, IsOwn, is_row_of, rows_of, AreCollected, IsReport, report_text, row_of, AreEntries}
+use Rattle.mothra_bench.proofs.Common.{Entry, ticket, Ticket, Word, BenchFields, IsDeclared, IsVerdict, Row}
 use Rattle.f77_meaning.specs.Interpreter.{OneAnswer}
-use Rattle.mothra_codes.specs.Ticket.{ticket}
-use Rattle.mothra_codes.specs.declared.ticket.Ticket.{Ticket}
-use Rattle.mothra_exchange.specs.declared.word.Word.{Word}
-use Rattle.mothra_bench.specs.Analysis.{AreEntries, IsReport}
-use Rattle.mothra_verdicts.specs.Bench.{BenchFields, IsDeclared}
-use Rattle.mothra_bench.specs.Collecting.{AreCollected, is_row_of, row_of, rows_of}
-use Rattle.mothra_bench.specs.Results.{AreVerdicts, IsOwn}
-use Rattle.mothra_bench.specs.Report.{report_text}
-use Rattle.mothra_verdicts.specs.Verdict.{IsVerdict}
-use Rattle.mothra_bench.specs.declared.matrix.Entry.{Entry}
-use Rattle.mothra_verdicts.specs.declared.verdict.Row.{Row}
 use Rattle.mothra_verdicts.proofs.Kills.{one_verdict}
 
 -- an entry is made of a verdict

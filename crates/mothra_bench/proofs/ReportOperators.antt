@@ -1,13 +1,7 @@
 -- The lines of the operators asked for, with one operator more.
-use Rattle.std.proofs.Common.{◌≡◌, ℕ, ◌+◌, ◌<◌, Bool, true, false, cond, List, [], ◌∷◌, ◌++◌, take, refl, ap, ◌∙◌}
-use Rattle.std.specs.List.{filter, flat_map}
+use Rattle.mothra_bench.proofs.Common.{◌≡◌, ◌∙◌, ap, List, ◌++◌, refl, [], ℕ, true, take, ◌∷◌, ◌+◌, ◌<◌, Bool, false, cond, append_assoc, append-nil, take_more}
+use Rattle.mothra_bench.proofs.Common.{filter-append, flat_map, filter, all_ops, op_at, Op, Aar}
 use Rattle.std.proofs.lemmas.Grind.{flat_map-append}
-use Rattle.std.proofs.lemmas.List.{append-nil, append_assoc, take_more}
-use Rattle.std.proofs.lemmas.List.Elements.{filter-append}
-use Rattle.mothra_codes.specs.Op.{all_ops}
-use Rattle.mothra_codes.specs.code.Op.{op_at}
-use Rattle.mothra_codes.specs.declared.op.Op.{Op}
-use Rattle.mothra_codes.specs.declared.op.Op.TheVariants.{Aar}
 
 kept : (f : Op → List ℕ) (op : Op) (b : Bool) → flat_map f (cond b (op ∷ []) []) ≡ cond b (f op) []
 kept f op true = append-nil (f op)

@@ -1,14 +1,8 @@
 -- Lines of a report as examples: every second mutant of ABS, for SUBROUTINE ADD(I,J,K), K=I+J, END and a test with the values 2, 3 and 0.
-use Rattle.std.proofs.Common.{◌≡◌, ℕ, Bool, true, false, List, [], ◌∷◌, Some, refl}
-use Rattle.std.specs.Prelude.{codes}
+use Rattle.mothra_bench.proofs.Common.{◌≡◌, List, refl, [], ℕ, true, ◌∷◌, Some, Bool, false, codes, counts, operator_line, counts_line, mutant_line, score_line}
+use Rattle.mothra_bench.proofs.Common.{score_of, survivor_line, wrong_line, bits_of, score_text, Entry, ticket, Abs, PlanFields}
 use Rattle.std.specs.Fmt.{digits}
 use Rattle.f77_check.specs.Checked.{CheckedFields}
-use Rattle.mothra_codes.specs.declared.op.Op.TheVariants.{Abs}
-use Rattle.mothra_codes.specs.Ticket.{ticket}
-use Rattle.mothra_ops.specs.Plan.{PlanFields}
-use Rattle.mothra_bench.specs.Matrix.{counts, score_of}
-use Rattle.mothra_bench.specs.Report.{bits_of, counts_line, mutant_line, operator_line, score_line, score_text, survivor_line, wrong_line}
-use Rattle.mothra_bench.specs.declared.matrix.Entry.{Entry}
 
 abbrev plan_of : CheckedFields → PlanFields
 plan_of checked = record { checked = checked; every = 2; lists = [] }

@@ -1,6 +1,5 @@
 -- Six texts, each written after the one before it.
-use Rattle.std.proofs.Common.{◌≡◌, ℕ, List, ◌++◌}
-use Rattle.std.proofs.lemmas.List.{append_assoc}
+use Rattle.mothra_bench.proofs.Common.{◌≡◌, List, ◌++◌, ℕ, append_assoc}
 
 pub six_texts : {one two three four five six : List ℕ} (a b c d e f : List ℕ) → one ≡ a → two ≡ one ++ b → three ≡ two ++ c → four ≡ three ++ d → five ≡ four ++ e → six ≡ five ++ f
     → six ≡ a ++ (b ++ (c ++ (d ++ (e ++ f))))

@@ -1,12 +1,7 @@
 -- Rows stand in the lists of the operators, each at the place of its number.
-use Rattle.std.proofs.Common.{◌≡◌, ◌<◌, ℕ, List, [], length, All, inl, inr, Option, None, Some, cond, eqb, ◌&&◌, sym, ap, subst, ◌∙◌}
-use Rattle.std.specs.Prelude.{Vec, slice_get, slice_set}
-use Rattle.std.specs.Option.{option_and_then, option_flatten}
+use Rattle.mothra_bench.proofs.Common.{◌≡◌, ◌∙◌, ap, List, length, subst, sym, [], ℕ, All, Some, ◌<◌, None, Option, inr, eqb, inl, cond, ◌&&◌, slice_get}
+use Rattle.mothra_bench.proofs.Common.{slice_set, Vec, eqb_tells, slice_get_cases, slice_get_within, option_and_then, option_flatten, row_at, listed_row, Row}
 use Rattle.std.specs.declared.alloc.Global.{Global}
-use Rattle.std.proofs.lemmas.Bool.Decides.{eqb_tells}
-use Rattle.std.proofs.lemmas.Option.{slice_get_cases, slice_get_within}
-use Rattle.mothra_bench.specs.code.RowMap.{row_at, listed_row}
-use Rattle.mothra_verdicts.specs.declared.verdict.Row.{Row}
 use Rattle.mothra_bench.proofs.CollectLists.{got_other, got_same}
 
 -- another row, or none, is put at a place

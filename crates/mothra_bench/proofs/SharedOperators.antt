@@ -1,12 +1,7 @@
 -- Each operator belongs to exactly one of the two feeders.
-use Rattle.std.proofs.Common.{◌≡◌, ◌⊎◌, ℕ, ◌+◌, ◌-◌, ◌<◌, ◌≤◌, List, [], ◌∷◌, take, drop, get_or, ltb, not, inl, inr, All, Contains, Bool, true, false, ◌&&◌, refl, ap, ◌∙◌, arith}
-use Rattle.std.proofs.lemmas.Bool.{ltb-false, ltb-true}
-use Rattle.std.proofs.lemmas.List.{get_or-drop, get_or-take, get_or_default}
-use Rattle.std.proofs.lemmas.List.Elements.{All-cons, All-contains, All-nil}
-use Rattle.mothra_codes.proofs.Operators.{index_below, op_at-index}
-use Rattle.mothra_codes.specs.declared.op.Op.{Op}
-use Rattle.mothra_codes.specs.Op.{all_ops, index}
-use Rattle.mothra_bench.specs.code.Driving.{AreShared}
+use Rattle.mothra_bench.proofs.Common.{◌≡◌, ◌∙◌, ap, List, refl, [], arith, ℕ, true, All, take, ◌∷◌, ◌+◌, ◌<◌, ◌≤◌, Bool, false, get_or, inr, inl, ◌&&◌}
+use Rattle.mothra_bench.proofs.Common.{Contains, ◌⊎◌, drop, not, ◌-◌, ltb, ltb-true, get_or-drop, get_or-take, ltb-false, get_or_default, All-nil, All-cons}
+use Rattle.mothra_bench.proofs.Common.{All-contains, AreShared, index_below, op_at-index, index, all_ops, Op}
 
 and_both : (a b : Bool) → (a && b) ≡ true → (a ≡ true) × (b ≡ true)
 and_both true b e = (refl, e)

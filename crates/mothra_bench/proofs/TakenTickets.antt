@@ -1,22 +1,10 @@
 -- The tickets that a worker's pass took, and the first of them that the plan does not have.
-use Rattle.std.proofs.Common.{◌≡◌, ℕ, zero, suc, ◌≤◌, List, [], ◌∷◌, ◌++◌, All, Option, None, Some, IfSome, MatchOption, length, sym, ap, ◌∙◌, subst, append_assoc, append-nil, refl, arith}
-use Rattle.std.specs.Prelude.{IfNone}
-use Rattle.std.specs.Option.{option_and_then}
-use Rattle.std.proofs.lemmas.List.Elements.{All-append, All-cons, All-nil}
-use Rattle.std.proofs.lemmas.Option.{none-some, slice_get_within}
-use Rattle.mothra_codes.specs.declared.ticket.Ticket.{Ticket}
-use Rattle.mothra_exchange.specs.declared.view.View.{View}
+use Rattle.mothra_bench.proofs.Common.{◌≡◌, ◌∙◌, ap, List, length, subst, sym, ◌++◌, refl, [], arith, ℕ, All, ◌∷◌, Some, ◌≤◌, None, Option, suc, IfSome}
+use Rattle.mothra_bench.proofs.Common.{append_assoc, append-nil, zero, IfNone, MatchOption, All-nil, All-append, All-cons, none-some, slice_get_within}
+use Rattle.mothra_bench.proofs.Common.{option_and_then, NamesTaken, NamesFirst, AddsRow, Takes, Ticket, View, program_of, MutantFields, mutant_made, mutant_of}
+use Rattle.mothra_bench.proofs.Common.{PlanFields, edits_of, BenchFields, HasMutant, IsNoVerdict, BenchFault, Row}
 use Rattle.mothra_ops.specs.Edits.{numbered}
-use Rattle.mothra_ops.specs.Mutants.{MutantFields, mutant_made, mutant_of, program_of}
-use Rattle.mothra_ops.specs.Plan.{PlanFields, edits_of}
-use Rattle.mothra_verdicts.specs.Bench.{BenchFields}
-use Rattle.mothra_bench.specs.code.Results.{AddsRow}
-use Rattle.mothra_verdicts.specs.Verdict.{HasMutant, IsNoVerdict}
-use Rattle.mothra_bench.specs.Working.{NamesFirst, NamesTaken}
-use Rattle.mothra_bench.specs.code.Working.{Takes}
-use Rattle.mothra_verdicts.specs.declared.fault.BenchFault.{BenchFault}
 use Rattle.mothra_verdicts.specs.declared.fault.BenchFault.TheVariants as fault
-use Rattle.mothra_verdicts.specs.declared.verdict.Row.{Row}
 
 and_then_some : {X Y : Type 0} (f : X → Option Y) (o : Option X) (y : Y) → option_and_then f o ≡ Some y → (x : X) × (o ≡ Some x)
 and_then_some f None y e = absurd (none-some y e)

@@ -1,18 +1,9 @@
 -- The rows of the workers are merged one worker after another.
-use Rattle.std.proofs.Common.{◌≡◌, ◌⊎◌, ℕ, suc, List, [], ◌∷◌, ◌++◌, All, Bool, true, Vec, Global, Option, None, Some, Result, Ok, Err, IfSome}
-use Rattle.std.proofs.Common.{IsSome, IfOk, IfErr, length, true≢false, refl, MatchOption, MatchResult, sym, ap, ◌∙◌, subst, append_assoc, arith, inr}
-use Rattle.std.specs.Prelude.{IfNone, IsOkAnd}
-use Rattle.std.proofs.lemmas.List.Elements.{All-append, All-cons, All-nil}
-use Rattle.mothra_codes.specs.declared.ticket.Ticket.{Ticket}
-use Rattle.mothra_ops.specs.Plan.{PlanFields}
-use Rattle.mothra_verdicts.specs.Bench.{BenchFields}
-use Rattle.mothra_bench.specs.Driving.{IsNoDrive}
-use Rattle.mothra_bench.specs.Feeding.{AreCounts}
-use Rattle.mothra_bench.specs.Results.{AreVerdicts, IsOwn, tickets_in}
-use Rattle.mothra_bench.specs.Working.{IsNoWork}
-use Rattle.mothra_verdicts.specs.declared.fault.BenchFault.{BenchFault}
+use Rattle.mothra_bench.proofs.Common.{◌≡◌, ◌∙◌, ap, List, length, subst, sym, ◌++◌, refl, [], arith, ℕ, true, All, ◌∷◌, Some, Bool, None, Option, inr, suc}
+use Rattle.mothra_bench.proofs.Common.{IfSome, append_assoc, ◌⊎◌, true≢false, IfNone, IfOk, IsSome, MatchOption, Ok, Result, Vec, Err, Global, IfErr, IsOkAnd}
+use Rattle.mothra_bench.proofs.Common.{MatchResult, All-nil, All-append, All-cons, AreVerdicts, tickets_in, IsOwn, AreCounts, IsNoDrive, IsNoWork, Ticket}
+use Rattle.mothra_bench.proofs.Common.{PlanFields, BenchFields, BenchFault, Row}
 use Rattle.mothra_verdicts.specs.declared.fault.BenchFault.TheVariants as fault
-use Rattle.mothra_verdicts.specs.declared.verdict.Row.{Row}
 use Rattle.mothra_bench.proofs.WorkerSteps.{tickets-append}
 
 pub first_of_all : {X : Type 0} (l : List X) (x : X) (xs : List X) (P : X → Type 0) → l ≡ x ∷ xs → All P l → P x × All P xs

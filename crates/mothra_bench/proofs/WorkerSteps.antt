@@ -1,42 +1,18 @@
 -- A worker's steps, one after another.
-use Rattle.std.proofs.Common.{◌≡◌, ℕ, ◌+◌, ◌-◌, ◌<◌, ◌≤◌, List, [], ◌∷◌, ◌++◌, Bool, true, false, Vec, Global, Option, None, Some, Result, Ok, Err, IfSome, IfOk, IfErr}
-use Rattle.std.proofs.Common.{MatchOption, cond, ◌&&◌, eqb, is_some, IsSome, true≢false, eq-eqb, ◌≢◌, refl, sym, ap, ◌∙◌, subst, append_assoc, append-nil, arith}
+use Rattle.mothra_bench.proofs.Common.{◌≡◌, ◌∙◌, ap, List, subst, sym, ◌++◌, refl, [], arith, ℕ, true, ◌∷◌, ◌+◌, Some, ◌<◌, ◌≤◌, Bool, false, None, Option, eqb}
+use Rattle.mothra_bench.proofs.Common.{cond, IfSome, ◌&&◌, ◌≢◌, append_assoc, append-nil, true≢false, IfNone, IfOk, IsSome, MatchOption, Ok, Result, Vec}
+use Rattle.mothra_bench.proofs.Common.{eq-eqb, eqb-true, Err, Global, IfErr, ◌-◌, is_some, nat_tests, map-append, All-nil, All-append, All-cons, none-some}
+use Rattle.mothra_bench.proofs.Common.{same_Some, AreVerdicts, tickets_in, IsOwn, AreCounts, IsNoWork, NamesTaken, OnlyTook, AreFresh, TookRows, Went, AddsRow}
+use Rattle.mothra_bench.proofs.Common.{AddsRows, same_op, op_at-index, index, ticket, ticket_times, one_if, op_at, Op, Ticket, times-append, TakeKept, IsOver}
+use Rattle.mothra_bench.proofs.Common.{look_at, Look, View, PlanFields, BenchFields, HasMutant, IsNoVerdict, BenchFault, Row}
 use Rattle.std.specs.Result.{result_ok}
-use Rattle.std.specs.Prelude.{IfNone}
-use Rattle.std.proofs.lemmas.Bool.{eqb-true}
-use Rattle.std.proofs.lemmas.Bool.Decides.{nat_tests}
-use Rattle.std.proofs.lemmas.List.{map-append}
-use Rattle.std.proofs.lemmas.Option.{none-some, same_Some}
-use Rattle.std.proofs.lemmas.List.Elements.{All-append, All-nil, All-cons}
-use Rattle.mothra_codes.specs.declared.op.Op.{Op}
-use Rattle.mothra_codes.specs.Op.{index}
-use Rattle.mothra_codes.specs.code.Op.{op_at}
 use Rattle.mothra_exchange.specs.Calls.{TakeDid}
-use Rattle.mothra_exchange.specs.Gate.{TakeKept}
-use Rattle.mothra_exchange.specs.Sharing.{IsOver}
-use Rattle.mothra_exchange.specs.View.{look_at}
-use Rattle.mothra_exchange.specs.declared.view.Look.{Look}
-use Rattle.mothra_codes.specs.Ticket.{one_if, ticket, ticket_times}
 use Rattle.mothra_exchange.specs.declared.answer.Take.{Take}
 use Rattle.mothra_exchange.specs.declared.answer.Take.TheVariants.{Finished, Empty, Taken}
-use Rattle.mothra_codes.specs.declared.ticket.Ticket.{Ticket}
-use Rattle.mothra_exchange.specs.declared.view.View.{View}
-use Rattle.mothra_codes.proofs.Operators.{op_at-index, same_op}
-use Rattle.mothra_exchange.proofs.Counting.{times-append}
 use Rattle.mothra_exchange.proofs.Others.{take_only as take_changes}
 use Rattle.mothra_exchange.proofs.Overs.{finished_over, over_takes}
-use Rattle.mothra_ops.specs.Plan.{PlanFields}
-use Rattle.mothra_verdicts.specs.Bench.{BenchFields}
-use Rattle.mothra_bench.specs.Feeding.{AreCounts}
-use Rattle.mothra_bench.specs.code.Results.{AddsRow}
-use Rattle.mothra_bench.specs.Results.{AreVerdicts, IsOwn, tickets_in}
-use Rattle.mothra_verdicts.specs.Verdict.{HasMutant, IsNoVerdict}
-use Rattle.mothra_bench.specs.code.Working.{AddsRows, Went}
-use Rattle.mothra_bench.specs.Working.{AreFresh, IsNoWork, NamesTaken, OnlyTook, TookRows}
-use Rattle.mothra_verdicts.specs.declared.fault.BenchFault.{BenchFault}
 use Rattle.mothra_verdicts.specs.declared.fault.BenchFault.TheVariants as fault
 use Rattle.mothra_bench.specs.declared.results.Results.{Results}
-use Rattle.mothra_verdicts.specs.declared.verdict.Row.{Row}
 use Rattle.mothra_bench.proofs.PassSteps.{take_only}
 use Rattle.mothra_bench.proofs.TakenTickets.{named_taken, takes_none, takes_on, takes_one, takes_stalled}
 

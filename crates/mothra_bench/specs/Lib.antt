@@ -9,3 +9,13 @@ pub mod Driving
 pub mod PlanExchange
 pub mod Analysis
 pub mod code
+pub use Closing.*
+pub use Matrix.*
+pub use Collecting.*
+pub use Report.*
+pub use Results.*
+pub use Working.*
+pub use Feeding.*
+pub use Driving.*
+pub use PlanExchange.*
+pub use Analysis.*

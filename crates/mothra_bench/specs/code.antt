@@ -5,3 +5,10 @@ pub mod Results
 pub mod Working
 pub mod Feeding
 pub mod Driving
+pub use Closing.*
+pub use RowMap.*
+pub use Entries.*
+pub use Results.*
+pub use Working.*
+pub use Feeding.*
+pub use Driving.*

@@ -1,7 +1,7 @@
 //! The report of a bench, made by many threads.
 
 ghost use Rattle.std.specs.Prelude.{◌≤◌, IfOk, IfErr, string_bytes};
-ghost use Rattle.mothra_bench.specs.Analysis.{IsNoReport, IsReport};
+ghost use Rattle.mothra_bench.specs.{IsNoReport, IsReport};
 
 use crate::collecting::collect;
 use crate::driving::drive;

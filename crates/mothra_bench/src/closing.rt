@@ -1,8 +1,8 @@
 //! Operators are closed.
 
 ghost use Rattle.std.specs.Prelude.{◌≡◌, true, false};
-ghost use Rattle.mothra_bench.specs.code.Closing.{AreClosed, Closes};
-ghost use Rattle.mothra_bench.specs.Feeding.{OnlyGave};
+ghost use Rattle.mothra_bench.specs.{OnlyGave};
+ghost use Rattle.mothra_bench.specs.code.{AreClosed, Closes};
 
 use mothra_codes::Op;
 use mothra_exchange::{Close, Gate};

@@ -1,7 +1,7 @@
 //! The rows of all mutants are put in order and compared with the plan.
 
 ghost use Rattle.std.specs.Prelude.{◌↔◌, All, IfOk, IfErr, IsTrue, MatchOption};
-ghost use Rattle.mothra_bench.specs.Collecting.{AreCollected, IsFirstStranger, IsKnown, IsNoMatrix};
+ghost use Rattle.mothra_bench.specs.{AreCollected, IsFirstStranger, IsKnown, IsNoMatrix};
 
 use crate::entries::entries_of;
 use crate::matrix::Matrix;

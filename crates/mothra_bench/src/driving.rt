@@ -4,17 +4,15 @@
 //! between two of them. Which fault is given is the contract of `answer`, which is private: a public clause can not
 //! speak of how each single thread ended.
 
-ghost use Rattle.std.specs.Prelude.{◌≡◌, ◌⊎◌, ◌+◌, ◌++◌, ◌<◌, ◌≤◌, [], true, false, All, length};
+ghost use Rattle.std.specs.Prelude.{◌≡◌, ◌⊎◌, ◌+◌, ◌++◌, ◌<◌, ◌≤◌, [], true, false, All};
+ghost use Rattle.std.specs.Prelude.{length};
 ghost use Rattle.std.specs.Prelude.{None, IfOk, IfErr, IfSome, IfNone, MatchOption};
 ghost use Rattle.mothra_exchange.specs.View.{whole_part};
 ghost use Rattle.mothra_exchange.specs.declared.view.View.{View};
-ghost use Rattle.mothra_bench.specs.code.Closing.{AreClosed};
-ghost use Rattle.mothra_bench.specs.Driving.{AreComplete, AreHandedOnce, EndsWhole, IsNoDrive, IsWhole};
-ghost use Rattle.mothra_bench.specs.code.Driving.{Drives, HasShares, IsShare, JoinsPass, KeepsFed, OnlySplit};
-ghost use Rattle.mothra_bench.specs.code.Driving.{answer_of};
-ghost use Rattle.mothra_bench.specs.Feeding.{AreFed, IsReadyPass, IsStalled};
-ghost use Rattle.mothra_bench.specs.Results.{AreVerdicts, tickets_in};
-ghost use Rattle.mothra_bench.specs.Working.{AreOver};
+ghost use Rattle.mothra_bench.specs.{AreComplete, AreHandedOnce, EndsWhole, IsNoDrive, IsWhole, AreFed, IsReadyPass};
+ghost use Rattle.mothra_bench.specs.{IsStalled, AreVerdicts, tickets_in, AreOver};
+ghost use Rattle.mothra_bench.specs.code.{AreClosed, Drives, HasShares, IsShare, JoinsPass, KeepsFed, OnlySplit};
+ghost use Rattle.mothra_bench.specs.code.{answer_of};
 
 use crate::closing::close_each;
 use crate::results::Results;

@@ -1,11 +1,11 @@
 //! Entries of the matrix are made of rows.
 
-ghost use Rattle.std.specs.Prelude.{◌≡◌, ◌&&◌, ◌==◌, All, AllPairs, IfOk, IfErr, MatchOption, None, map, if◌then◌else◌};
+ghost use Rattle.std.specs.Prelude.{◌≡◌, ◌&&◌, ◌==◌, All, AllPairs, IfOk, IfErr, MatchOption, None, map};
+ghost use Rattle.std.specs.Prelude.{if◌then◌else◌};
 ghost use Rattle.mothra_codes.specs.Op.{index};
 ghost use Rattle.mothra_codes.specs.declared.ticket.Ticket.{Ticket};
 ghost use Rattle.mothra_codes.specs.Ticket.{Before};
-ghost use Rattle.mothra_bench.specs.code.Entries.{AreNoEntries, IsEntry, IsHere};
-ghost use Rattle.mothra_bench.specs.code.RowMap.{ticket_row};
+ghost use Rattle.mothra_bench.specs.code.{AreNoEntries, IsEntry, IsHere, ticket_row};
 
 use crate::matrix::Entry;
 use crate::row_map::RowMap;

@@ -5,10 +5,8 @@ ghost use Rattle.std.specs.Prelude.{Some, IfOk, IfErr, IfNone, IfSome, slice_ind
 ghost use Rattle.mothra_codes.specs.Op.{index};
 ghost use Rattle.mothra_codes.specs.declared.op.Op.{Op as OpModel};
 ghost use Rattle.mothra_exchange.specs.Law.{ChangesOnly};
-ghost use Rattle.mothra_bench.specs.code.Closing.{Closes};
-ghost use Rattle.mothra_bench.specs.Closing.{count_of};
-ghost use Rattle.mothra_bench.specs.code.Feeding.{AllShow, IsFull, ShowsStage, stage_of};
-ghost use Rattle.mothra_bench.specs.Feeding.{AreFed, IsReadyPass, IsStalled, OnlyGave};
+ghost use Rattle.mothra_bench.specs.{count_of, AreFed, IsReadyPass, IsStalled, OnlyGave};
+ghost use Rattle.mothra_bench.specs.code.{Closes, AllShow, IsFull, ShowsStage, stage_of};
 
 use crate::closing::close_one;
 use crate::tickets::counts;

@@ -4,10 +4,8 @@ ghost use Rattle.std.specs.Prelude.{◌≡◌, ℕ, List};
 ghost use Rattle.mothra_exchange.specs.Rule.{IsSoundExchange};
 ghost use Rattle.mothra_exchange.specs.declared.view.View.{View};
 ghost use Rattle.mothra_ops.specs.Plan.{PlanFields};
-ghost use Rattle.mothra_bench.specs.Analysis.{IsReport};
 ghost use Rattle.mothra_verdicts.specs.Bench.{BenchFields};
-ghost use Rattle.mothra_bench.specs.Feeding.{AreCounts};
-ghost use Rattle.mothra_bench.specs.PlanExchange.{KeepsLists};
+ghost use Rattle.mothra_bench.specs.{IsReport, AreCounts, KeepsLists};
 
 use f77_meaning::law::one_outcome;
 

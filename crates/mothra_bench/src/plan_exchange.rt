@@ -2,9 +2,8 @@
 
 ghost use Rattle.std.specs.Prelude.{◌≡◌, IfOk, IfErr};
 ghost use Rattle.mothra_exchange.specs.Table.{IsPassOf, view_of};
-ghost use Rattle.mothra_bench.specs.Driving.{IsWhole};
-ghost use Rattle.mothra_bench.specs.PlanExchange.{KeepsLists};
 ghost use Rattle.mothra_verdicts.specs.declared.fault.BenchFault.TheVariants.{Memory};
+ghost use Rattle.mothra_bench.specs.{IsWhole, KeepsLists};
 
 use crate::tickets::counts;
 use mothra_exchange::{ExchangeFault, Pass, Stepwise, TableExchange};

@@ -5,9 +5,9 @@ ghost use Rattle.f77_program.specs.Program.{line_of};
 ghost use Rattle.mothra_ops.specs.Copies.{copied, statements_in};
 ghost use Rattle.mothra_ops.specs.Mutants.{program_of};
 ghost use Rattle.mothra_bench.specs.Report as definition;
-ghost use Rattle.mothra_bench.specs.Report.{bits_of, counts_line, entry_lines, mutant_line, operator_lines};
-ghost use Rattle.mothra_bench.specs.Report.{report_text, score_line, status_of, survivor_line, wrong_line};
 ghost use Rattle.mothra_verdicts.specs.declared.fault.BenchFault.TheVariants.{Memory};
+ghost use Rattle.mothra_bench.specs.{bits_of, counts_line, entry_lines, mutant_line, operator_lines, report_text};
+ghost use Rattle.mothra_bench.specs.{score_line, status_of, survivor_line, wrong_line};
 
 use crate::counts::Counts;
 use crate::matrix::{Entry, Matrix};

@@ -3,9 +3,9 @@
 ghost use Rattle.std.specs.Prelude.{◌≡◌, ◌∷◌, ◌++◌, [], None, Some, Ok, Err, IfOk, IfErr, OnOk};
 ghost use Rattle.std.specs.Prelude.{IfSome, IfNone, IsOkAnd, MatchOption, MatchResult};
 ghost use Rattle.mothra_verdicts.specs.Bench.{BenchFields};
-ghost use Rattle.mothra_bench.specs.code.Results.{AddsRow};
 ghost use Rattle.mothra_verdicts.specs.Verdict.{IsNoVerdict, IsVerdict};
 ghost use Rattle.mothra_verdicts.specs.declared.fault.BenchFault.TheVariants.{Memory};
+ghost use Rattle.mothra_bench.specs.code.{AddsRow};
 
 use mothra_exchange::Ticket;
 use mothra_verdicts::{BenchFault, Row, Verdicts};

@@ -5,8 +5,8 @@ ghost use Rattle.std.specs.Prelude.{◌≡◌, ◌&&◌, ◌<◌, ◌+◌, ◌^�
 ghost use Rattle.std.specs.Prelude.{None, Some, is_none, if◌then◌else◌, length};
 ghost use Rattle.mothra_codes.specs.Op.{index};
 ghost use Rattle.mothra_codes.specs.declared.ticket.Ticket.{Ticket};
-ghost use Rattle.mothra_bench.specs.Collecting.{is_row_of};
-ghost use Rattle.mothra_bench.specs.code.RowMap.{AreEmptyLists, HasRows, IsNoRowMap, row_at, ticket_row};
+ghost use Rattle.mothra_bench.specs.{is_row_of};
+ghost use Rattle.mothra_bench.specs.code.{AreEmptyLists, HasRows, IsNoRowMap, row_at, ticket_row};
 
 use mothra_exchange::Ticket;
 use mothra_verdicts::{BenchFault, Row};

@@ -5,7 +5,7 @@ ghost use Rattle.mothra_codes.specs.Op.{index};
 ghost use Rattle.mothra_codes.specs.declared.op.Op.{Op as OpModel};
 ghost use Rattle.mothra_ops.specs.Plan.{IsPlan, edits_of};
 ghost use Rattle.mothra_bench.specs.Matrix as definition;
-ghost use Rattle.mothra_bench.specs.Matrix.{tickets_of};
+ghost use Rattle.mothra_bench.specs.{tickets_of};
 
 use mothra_codes::Op;
 use mothra_exchange::Ticket;

@@ -3,10 +3,9 @@
 ghost use Rattle.std.specs.Prelude.{◌≡◌, ◌⊎◌, true, false, IfOk, IfErr, IfSome, IsSome};
 ghost use Rattle.mothra_codes.specs.declared.op.Op.{Op as OpModel};
 ghost use Rattle.mothra_verdicts.specs.Bench.{BenchFields};
-ghost use Rattle.mothra_bench.specs.Results.{AreVerdicts};
-ghost use Rattle.mothra_bench.specs.Working.{AreOver, IsNoWork, NamesTaken, OnlyTook, TookRows};
-ghost use Rattle.mothra_bench.specs.code.Working.{Went};
 ghost use Rattle.mothra_exchange.specs.Sharing.{IsOver};
+ghost use Rattle.mothra_bench.specs.{AreVerdicts, AreOver, IsNoWork, NamesTaken, OnlyTook, TookRows};
+ghost use Rattle.mothra_bench.specs.code.{Went};
 
 use crate::results::Results;
 use crossbeam_utils::Backoff;

@@ -1,28 +1,24 @@
 -- Where a command line is taken, each option of a number has a number within its bounds.
-use Rattle.std.proofs.Common.{ap₂, lt_of_le_of_lt, ◌≡◌, ◌∙◌, ◌<◌, ◌≤◌, ◌^◌, ◌&&◌, ◌||◌, ℕ, Bool, cond, codes, not, true, false, refl, sym, ap, subst, arith}
-use Rattle.std.proofs.Common.{List, [], ◌∷◌, ◌++◌, fold, find, Option, Some, None, IfSome, option_and_then, option_map, true≢false, lt-ltb, leb-true, bytes_eq}
+use Rattle.mothra_cli.proofs.Common.{◌≡◌, ap, ◌∙◌, None, Some, refl, List, Option, false, true, ℕ, ◌≤◌, [], subst, ◌++◌, Bool, bytes_eq, codes, cond, sym, ◌∷◌}
+use Rattle.mothra_cli.proofs.Common.{IfSome, ap₂, arith, find, lt-ltb, option_and_then, ◌&&◌, ◌<◌, fold, not, option_map, slice_get, true≢false, ◌^◌, leb-true}
+use Rattle.mothra_cli.proofs.Common.{lt_of_le_of_lt, ◌||◌, list_any, option_map_or, digits_value, without_leading_plus, Shape, built, argument_words, entered}
+use Rattle.mothra_cli.proofs.Common.{label_of, names_of, rows_at, is_unsigned_in, mothra, number_meant}
 use Rattle.std.proofs.lemmas.Bool.{and_parts, or_parts}
-use Rattle.std.specs.List.{list_any}
-use Rattle.std.specs.Option.{option_map_or}
-use Rattle.std.specs.Prelude.{slice_get}
-use Rattle.std.specs.Str.Parse.{digits_value, without_leading_plus}
 use Rattle.clap.specs.Facts.{explicit_source, parser_of_value}
 use Rattle.clap.specs.Values.{read_as, reading_of}
-use Rattle.clap.specs.ValueTests.{is_unsigned_in}
-use Rattle.clap.specs.Walk.{Row, Rule, Text, action_of, answers_to, default_rows, has_row, is_empty, more_values, nothing_held}
-use Rattle.clap.specs.Walk.{reading_by, row_text, rows_after, settled, stop_after, walk, walk_from, with_default, with_values}
-use Rattle.clap.specs.Simple.{App, Shape, argument_words, built, entered, label_of, names_of, rows_at, subcommand_of}
+use Rattle.clap.specs.Walk.{Row, Rule, Text, action_of, answers_to, default_rows, has_row, is_empty, more_values, nothing_held, reading_by, row_text}
+use Rattle.clap.specs.Walk.{rows_after, settled, stop_after, walk, walk_from, with_default, with_values}
+use Rattle.clap.specs.Simple.{App, subcommand_of}
 use Rattle.clap.specs.Takes.{is_given}
 use Rattle.clap.specs.Kinds.{check_kinds, request_kinds}
-use Rattle.clap.specs.Faults.{check_fault, default_fault, defaults_fault, entered_fault, fault_of, given_default_fault, level_fault, settle_fault, values_fault, walk_fault}
+use Rattle.clap.specs.Faults.{check_fault, default_fault, defaults_fault, entered_fault, fault_of, given_default_fault, level_fault, settle_fault, values_fault}
+use Rattle.clap.specs.Faults.{walk_fault}
 use Rattle.clap.specs.declared.builder.value_parser.Reading.{Reading}
-use Rattle.clap.specs.declared.builder.value_parser.Reading.TheVariants as reading
 use Rattle.clap.specs.declared.parser.matches.ValueSource.TheVariants.{DefaultValue}
 use Rattle.clap.proofs.OnLiterals.{clap_on_literals}
-use Rattle.mothra_cli.specs.Command.{mothra}
-use Rattle.mothra_cli.specs.Request.{number_meant}
-use Rattle.mothra_cli.proofs.OptionRows.{Each, Fine, HasNumber, IsFirst, Serves, first_accepted, found, has_default, id_same}
-use Rattle.mothra_cli.proofs.OptionRows.{is_required, none_left, same_id, settle_fine, some_kind, some_values, values_fine, walk_fine}
+use Rattle.clap.specs.declared.builder.value_parser.Reading.TheVariants as reading
+use Rattle.mothra_cli.proofs.OptionRows.{Each, Fine, HasNumber, IsFirst, Serves, first_accepted, found, has_default, id_same, is_required, none_left, same_id}
+use Rattle.mothra_cli.proofs.OptionRows.{settle_fine, some_kind, some_values, values_fine, walk_fine}
 
 -- ---- after the walk
 

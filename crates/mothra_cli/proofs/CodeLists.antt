@@ -1,19 +1,17 @@
 -- The pieces of a text between commas are read one by one, each as an operator's code.
-use Rattle.std.proofs.Common.{◌≡◌, ◌∙◌, ap, refl, sym, ℕ, Bool, true, false, cond, ◌==◌, lit<, List, [], ◌∷◌, ◌++◌, append_assoc}
-use Rattle.std.proofs.Common.{append-nil, Option, Some, None, IfSome, is_some, option_map, filter_map, find, bytes_eq}
+use Rattle.mothra_cli.proofs.Common.{◌≡◌, ap, ◌∙◌, None, Some, refl, List, Option, false, true, ℕ, [], ◌++◌, Bool, bytes_eq, cond, sym, ◌∷◌, IfSome, find}
+use Rattle.mothra_cli.proofs.Common.{is_some, option_map, append-nil, append_assoc, filter_map, lit<, ◌==◌, list_all, slice_split, Text, comma, operator_of}
+use Rattle.mothra_cli.proofs.Common.{operators_of}
 use Rattle.std.specs.Borrow.{Bor}
 use Rattle.std.specs.Iterator.{AlwaysYields}
-use Rattle.std.specs.List.{list_all, slice_split}
 use Rattle.std.specs.Str.Iter.{split_has_more, split_pattern, split_steps, split_text}
 use Rattle.std.specs.Str.Pattern.{FindsChar}
 use Rattle.std.specs.declared.str.Split.{Split}
 use Rattle.std.proofs.lemmas.Iterator.{YieldsList}
 use Rattle.std.proofs.lemmas.Iterator.Splits.{YieldsList-from_str_split}
-use Rattle.clap.specs.Words.{Text}
 use Rattle.mothra_codes.specs.Op.{all_ops, code_of}
 use Rattle.mothra_codes.specs.declared.op.Op.{Op}
 use Rattle.mothra_codes.proofs.Codes.{op_found}
-use Rattle.mothra_cli.specs.Operators.{comma, operator_of, operators_of}
 use Rattle.mothra_cli.proofs.OptionRows.{same_id}
 
 -- ---- one code

@@ -1,13 +1,12 @@
 -- Each subcommand that the command line takes is a request, or has a bad list of operators.
-use Rattle.std.proofs.Common.{◌≡◌, ◌≤◌, ◌∙◌, ◌⊎◌, ℕ, inl, inr, ap, sym, subst, true, true≢false, List, [], Option, Some, None, Ok, Err, codes, is_some, IsSome, bytes_eq, refl}
-use Rattle.std.specs.Option.{option_map_or}
-use Rattle.clap.specs.Words.{Row, Shape, Text, fault_of, subcommand_of}
-use Rattle.clap.specs.Simple.{built}
+use Rattle.mothra_cli.proofs.Common.{◌≡◌, ap, ◌∙◌, None, Some, refl, List, Option, true, ℕ, ◌≤◌, [], subst, bytes_eq, codes, sym, is_some, Err, Ok, true≢false}
+use Rattle.mothra_cli.proofs.Common.{IsSome, inl, inr, ◌⊎◌, option_map_or, built, Text, fault_of, subcommand_of, Row, mothra, IsBounded, IsFaultOf, Meaning}
+use Rattle.mothra_cli.proofs.Common.{bad_operators, list_meaning, meaning_of, operators_at, refused, request, request_in, request_of, run_meaning}
+use Rattle.mothra_cli.proofs.Common.{subcommand_meaning}
+use Rattle.clap.specs.Words.{Shape}
 use Rattle.clap.proofs.OnLiterals.{clap_on_literals}
 use Rattle.mothra_codes.specs.declared.op.Op.{Op}
-use Rattle.mothra_cli.specs.Command.{mothra}
-use Rattle.mothra_cli.specs.Request.{Meaning, IsBounded, IsFaultOf, subcommand_meaning, meaning_of, bad_operators, list_meaning, run_meaning, operators_at, refused, request, request_of, request_in}
-use Rattle.mothra_cli.specs.code.Request.{ReadsRequest}
+use Rattle.mothra_cli.specs.code.{ReadsRequest}
 use Rattle.mothra_cli.specs.declared.request.Request.{Request}
 use Rattle.mothra_cli.specs.declared.request.WordsFault.{WordsFault}
 use Rattle.mothra_cli.specs.declared.request.WordsFault.TheVariants.{Refused, BadOperatorList}

@@ -1,12 +1,10 @@
 -- What the getter of a number reads.
-use Rattle.std.proofs.Common.{◌≡◌, ℕ, ◌<◌, ◌^◌, ◌&&◌, Bool, true, false, cond, ap, refl, ltb-true, lt-ltb, nat_lt, List, [], ◌∷◌, Option, Some, None, Result, Ok, Err}
-use Rattle.std.specs.List.{list_all}
+use Rattle.mothra_cli.proofs.Common.{◌≡◌, ap, None, Some, refl, List, Option, false, true, ℕ, [], Bool, cond, ◌∷◌, lt-ltb, ◌&&◌, ◌<◌, Err, Ok, ◌^◌, Result}
+use Rattle.mothra_cli.proofs.Common.{ltb-true, nat_lt, list_all, ParsesUnsigned, digits_value, without_leading_plus, AllDigits, IsNumeral, is_numeral}
+use Rattle.mothra_cli.proofs.Common.{number_meant}
 use Rattle.std.specs.Char.{digit_value}
-use Rattle.std.specs.Str.Parse.{AllDigits, IsNumeral, ParsesUnsigned, digits_value, without_leading_plus}
 use Rattle.std.proofs.lemmas.Bool.{and_parts}
 use Rattle.clap.specs.Matches.{ReadsOne}
-use Rattle.clap.specs.ValueTests.{is_numeral}
-use Rattle.mothra_cli.specs.Request.{number_meant}
 
 all_digits : (ds : List ℕ) → list_all (λ d. nat_lt (digit_value d) 10) ds ≡ true → AllDigits 10 ds
 all_digits [] e = tt

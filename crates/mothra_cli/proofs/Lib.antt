@@ -1,3 +1,4 @@
+pub mod Common
 mod Commands
 pub mod Getters
 pub mod OptionRows

@@ -1,34 +1,31 @@
 -- What the walk over words that are taken keeps of an option of one number.
-use Rattle.std.proofs.Common.{ne_eqb, ◌≡◌, ◌<◌, ◌≤◌, ◌+◌, ◌&&◌, ℕ, Bool, cond, not, true, false, zero, suc, refl, ap, subst, arith, List, []}
-use Rattle.std.proofs.Common.{◌∷◌, ◌++◌, length, drop, fold, find, Option, Some, None, IfSome, is_some, option_and_then, lt-ltb, bytes_eq, min}
+use Rattle.mothra_cli.proofs.Common.{◌≡◌, ap, None, Some, refl, List, Option, false, true, ℕ, ◌≤◌, [], subst, ◌++◌, Bool, bytes_eq, cond, length, ◌∷◌, IfSome}
+use Rattle.mothra_cli.proofs.Common.{arith, find, is_some, lt-ltb, option_and_then, ◌&&◌, ◌+◌, ◌<◌, drop, fold, not, slice_get, encode_utf8, min, ne_eqb, suc}
+use Rattle.mothra_cli.proofs.Common.{zero, option_map_or, Shape, is_unsigned_in, accepts, number_meant}
 use Rattle.std.proofs.lemmas.Slice.Eq.{bytes_eq-Decides}
-use Rattle.std.specs.Option.{option_map_or}
-use Rattle.std.specs.Prelude.{encode_utf8, slice_get}
 use Rattle.std.specs.Str.{chars}
 use Rattle.clap.specs.Facts.{parser_of_value, unwrap_or_range}
 use Rattle.clap.specs.Lexer.{long_of, short_of}
 use Rattle.clap.specs.Values.{reading_of, refused_kind}
-use Rattle.clap.specs.ValueTests.{accepts, is_unsigned_in}
-use Rattle.clap.specs.Walk.{Held, Names, Outcome, Row, Rule, Step, Text, Waiting, Walk, action_of, after_flag, after_step, arg_by_id, arg_by_index, arg_by_long, arg_by_short}
-use Rattle.clap.specs.Walk.{at_row, attached_value, bundle_met, bundle_step, count_of, done, flag_met, idle, is_empty, is_pending, long_met, long_or_other, more_values}
-use Rattle.clap.specs.Walk.{new_count, next, one_of, option, option_met, option_word, plain, plain_word, positional, positional_held, reacted, reading_by, refused, settled}
-use Rattle.clap.specs.Walk.{settled_rows, short_met, short_or_plain, subcommand, subcommand_met, subcommand_or_other, takes_several, takes_values, to_positional, trailing}
-use Rattle.clap.specs.Walk.{used, used_as, used_by_id, value, values_or_missing, waits, walked, walked_from, with_count, with_values, without, word_met}
-use Rattle.clap.specs.Simple.{Shape}
+use Rattle.clap.specs.Walk.{Held, Names, Outcome, Row, Rule, Step, Text, Waiting, Walk, action_of, after_flag, after_step, arg_by_id, arg_by_index, arg_by_long}
+use Rattle.clap.specs.Walk.{arg_by_short, at_row, attached_value, bundle_met, bundle_step, count_of, done, flag_met, idle, is_empty, is_pending, long_met}
+use Rattle.clap.specs.Walk.{long_or_other, more_values, new_count, next, one_of, option, option_met, option_word, plain, plain_word, positional}
+use Rattle.clap.specs.Walk.{positional_held, reacted, reading_by, refused, settled, settled_rows, short_met, short_or_plain, subcommand, subcommand_met}
+use Rattle.clap.specs.Walk.{subcommand_or_other, takes_several, takes_values, to_positional, trailing, used, used_as, used_by_id, value, values_or_missing}
+use Rattle.clap.specs.Walk.{waits, walked, walked_from, with_count, with_values, without, word_met}
 use Rattle.clap.specs.Kinds.{Kinds, or_else, range_kinds, value_kinds, values_kinds}
 use Rattle.clap.specs.Faults.{action_fault, bundle_fault, bundle_step_fault, flag_word_fault, flags_fault, long_fault, option_fault, other_fault}
 use Rattle.clap.specs.Faults.{positional_fault, react_fault, settle_fault, short_fault, step_fault, stray_fault, turn_fault, use_fault, walk_fault, word_fault}
 use Rattle.clap.specs.declared.builder.action.ArgAction.{ArgAction}
-use Rattle.clap.specs.declared.builder.action.ArgAction.TheVariants as action
 use Rattle.clap.specs.declared.builder.value_parser.Reading.{Reading}
-use Rattle.clap.specs.declared.builder.value_parser.Reading.TheVariants as reading
 use Rattle.clap.specs.declared.builder.value_parser.ValueParser.{ValueParser}
-use Rattle.clap.specs.declared.builder.value_parser.ValueParser.TheVariants as parser
 use Rattle.clap.specs.declared.error.kind.ErrorKind.{ErrorKind}
-use Rattle.clap.specs.declared.error.kind.ErrorKind.TheVariants as kind
 use Rattle.clap.specs.declared.parser.matches.ValueSource.{ValueSource}
 use Rattle.clap.specs.declared.parser.matches.ValueSource.TheVariants.{CommandLine}
-use Rattle.mothra_cli.specs.Request.{number_meant}
+use Rattle.clap.specs.declared.builder.action.ArgAction.TheVariants as action
+use Rattle.clap.specs.declared.builder.value_parser.Reading.TheVariants as reading
+use Rattle.clap.specs.declared.builder.value_parser.ValueParser.TheVariants as parser
+use Rattle.clap.specs.declared.error.kind.ErrorKind.TheVariants as kind
 
 -- ---- lists, kinds and ids
 

@@ -1,1 +1,2 @@
 pub mod Request
+pub use Request.*

@@ -3,8 +3,8 @@
 ghost use Rattle.std.specs.Prelude.{◌≡◌, IfOk, map, is_some, true, false};
 ghost use Rattle.clap.specs.Words.{app_of, shape_of, rule_of, fault_of, subcommand_rows_of, subcommand_of, FailsBy};
 ghost use Rattle.clap.specs.declared.builder.command.Command.TheViews.{out-Command};
-ghost use Rattle.mothra_cli.specs.Command.{mothra, bare, print_shape, exec_shape, list_shape, run_shape};
-ghost use Rattle.mothra_cli.specs.Command.{test_rule, steps_rule, ops_rule, every_rule, workers_rule};
+ghost use Rattle.mothra_cli.specs.{mothra, bare, print_shape, exec_shape, list_shape, run_shape, test_rule, steps_rule};
+ghost use Rattle.mothra_cli.specs.{ops_rule, every_rule, workers_rule};
 
 use clap::builder::ValueParser;
 use clap::{Arg, ArgMatches, Command, Error};

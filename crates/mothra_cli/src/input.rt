@@ -1,8 +1,7 @@
 //! The bytes of a reader, up to a limit.
 
 ghost use Rattle.std.specs.Prelude.{◌≡◌, false, IfOk};
-ghost use Rattle.mothra_cli.specs.Watched.{inside, has_failed};
-ghost use Rattle.mothra_cli.specs.Input.{limit, failed_read, ReadsUpTo, TakesAtMost};
+ghost use Rattle.mothra_cli.specs.{inside, has_failed, limit, failed_read, ReadsUpTo, TakesAtMost};
 
 use crate::watched::Watched;
 use std::alloc::Global;

@@ -2,8 +2,7 @@
 
 ghost use Rattle.std.specs.Prelude.{◌≡◌, false, is_err, OnOk, OnErr};
 ghost use Rattle.std.specs.Io.KnownBytes.{Appends};
-ghost use Rattle.mothra_cli.specs.Watched.{inside, has_failed};
-ghost use Rattle.mothra_cli.specs.Output.{AppendsFront};
+ghost use Rattle.mothra_cli.specs.{inside, has_failed, AppendsFront};
 
 use crate::watched::Watched;
 use std::io::Write;

@@ -5,7 +5,7 @@
 ghost use Rattle.std.specs.Prelude.{◌≡◌, ◌||◌, false, is_err};
 ghost use Rattle.std.specs.Io.{ReadsAtMost, WritesAtMost};
 ghost use Rattle.std.specs.Io.KnownBytes.{ReadConsumes, WriteAppends};
-ghost use Rattle.mothra_cli.specs.Watched.{inside, has_failed, took_none};
+ghost use Rattle.mothra_cli.specs.{inside, has_failed, took_none};
 
 use std::io;
 use std::io::{Read, Write};

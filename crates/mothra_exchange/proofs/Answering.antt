@@ -1,14 +1,8 @@
 -- What an answer of the table shows of the numbers that it was given for.
-use Rattle.std.proofs.Common.{◌≡◌, ◌≢◌, ℕ, ◌+◌, ◌<◌, ◌≤◌, Bool, true, false, true≢false, cond, eqb, ltb, not, refl, sym, ◌∙◌, arith, eq-eqb, ne_eqb}
-use Rattle.std.proofs.lemmas.Bool.Decides.{nat_tests}
-use Rattle.mothra_codes.specs.declared.op.Op.{Op}
-use Rattle.mothra_codes.specs.declared.ticket.Ticket.{Ticket}
-use Rattle.mothra_exchange.specs.declared.word.Word.{Word}
-use Rattle.mothra_exchange.specs.declared.answer.Offer.TheVariants.{Closed, PastEnd, OutOfTurn, Full, Accepted}
-use Rattle.mothra_exchange.specs.declared.answer.Take.TheVariants.{Finished, Empty, Taken}
-use Rattle.mothra_exchange.specs.declared.answer.Close.TheVariants.{Already, Done}
-use Rattle.mothra_codes.specs.Ticket.{ticket}
-use Rattle.mothra_exchange.specs.Answer.{offer_answer, take_answer, close_answer}
+use Rattle.mothra_exchange.proofs.Common.{◌≡◌, ◌<◌, ℕ, ◌∙◌, sym, arith, refl, ◌+◌, ◌≤◌, false, ◌≢◌, Bool, eq-eqb, true, eqb, ne_eqb, true≢false, cond, ltb, not}
+use Rattle.mothra_exchange.proofs.Common.{nat_tests, ticket, Op, Ticket, take_answer, close_answer, offer_answer, Done, Already, Accepted, Full, OutOfTurn}
+use Rattle.mothra_exchange.proofs.Common.{PastEnd, Taken, Empty, Finished, Word}
+use Rattle.mothra_exchange.specs.declared.answer.Offer.TheVariants.{Closed}
 
 accepted_means : (n : ℕ) (c past turn full : Bool) → cond c Closed (cond past PastEnd (cond (not turn) (OutOfTurn n) (cond full Full Accepted))) ≡ Accepted
     → (c ≡ false) × (past ≡ false) × (turn ≡ true) × (full ≡ false)

@@ -1,17 +1,9 @@
 -- Counts over tickets and over views.
-use Rattle.std.proofs.Common.{◌≡◌, ◌≢◌, ℕ, zero, suc, ◌+◌, ◌<◌, ◌≤◌, List, [], ◌∷◌, ◌++◌, length, set, get_or, false, eqb, refl, sym, ap, ◌∙◌, arith, ne_eqb, eq-eqb}
-use mathlib.Core.Option.{some, some-ne-none, some-injective}
-use lib.ListN.{get_elem?}
-use Rattle.std.proofs.lemmas.Bool.Decides.{nat_tests}
-use Rattle.mothra_codes.specs.declared.op.Op.{Op}
-use Rattle.mothra_codes.specs.declared.ticket.Ticket.{Ticket}
-use Rattle.mothra_exchange.specs.declared.word.Word.{Word}
-use Rattle.mothra_exchange.specs.declared.view.View.{View}
-use Rattle.mothra_codes.specs.Op.{index}
-use Rattle.mothra_exchange.specs.Word.{AtMost}
-use Rattle.mothra_codes.specs.Ticket.{one_if, is_ticket, ticket_times, once_up_to, ticket}
+use Rattle.mothra_exchange.proofs.Common.{◌≡◌, ◌<◌, ℕ, ◌∙◌, sym, length, ap, arith, refl, ◌+◌, List, [], ◌≤◌, false, get_or, ◌≢◌, ◌∷◌, eq-eqb, suc, zero, eqb}
+use Rattle.mothra_exchange.proofs.Common.{ne_eqb, ◌++◌, set, nat_tests, index, ticket, one_if, ticket_times, once_up_to, is_ticket, Op, Ticket, AtMost}
+use Rattle.mothra_exchange.proofs.Common.{times_closed, once_if_closed, total, closing, closes_operator, View, Word, get_elem?, some, some-injective}
+use Rattle.mothra_exchange.proofs.Common.{some-ne-none}
 use Rattle.mothra_exchange.specs.declared.view.Closing.{Closing}
-use Rattle.mothra_exchange.specs.View.{closing, closes_operator, times_closed, total, once_if_closed}
 
 -- the total after a change of one view
 pub total_set : (f : View → ℕ) (views : List View) (by : ℕ) (v w : View) → get_elem? views by ≡ some v → total f (set views by w) + f v ≡ total f views + f w

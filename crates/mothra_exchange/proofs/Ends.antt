@@ -1,23 +1,10 @@
 -- How an exchange begins and ends.
-use Rattle.std.proofs.Common.{◌≡◌, ◌⊎◌, ℕ, zero, suc, ◌<◌, ◌≤◌, List, [], ◌∷◌, length, map, get_or, refl, sym, ap, ◌∙◌, subst, ⊎_elim, arith, inl}
-use Rattle.std.specs.Prelude.{slice_index}
-use Rattle.std.proofs.lemmas.Bool.Decides.{nat_tests}
-use mathlib.Core.Option.{some, some-ne-none, some-injective}
-use lib.ListN.{get_elem?}
-use Rattle.atomic_table.specs.Table.{Final, Seen}
-use Rattle.mothra_exchange.specs.declared.word.Word.{Word}
-use Rattle.mothra_exchange.specs.declared.view.Look.{Look}
-use Rattle.mothra_exchange.specs.declared.view.View.{View}
-use Rattle.mothra_codes.specs.Op.{index}
-use Rattle.mothra_exchange.specs.Word.{largest_count, pack, AtMost, opening_word, FitsWord}
-use Rattle.mothra_codes.specs.Ticket.{ticket_times, once_up_to}
-use Rattle.mothra_exchange.specs.View.{times_closed, total, first_look, whole_view, spent_view}
-use Rattle.mothra_exchange.specs.Rule.{Knows, IsLive, IsSoundExchange}
-use Rattle.mothra_exchange.specs.code.Rule.{HoldsRule}
-use Rattle.mothra_exchange.specs.Tally.{operator_word, EndsAt, EndsAsViews}
-use Rattle.mothra_exchange.specs.Fault.{AllCountsFit}
+use Rattle.mothra_exchange.proofs.Common.{◌≡◌, ◌<◌, ℕ, ◌∙◌, sym, length, ap, arith, subst, refl, List, [], ◌≤◌, get_or, slice_index, ⊎_elim, ◌∷◌, suc, zero}
+use Rattle.mothra_exchange.proofs.Common.{◌⊎◌, inl, map, nat_tests, Final, Seen, index_below, index, ticket_times, once_up_to, AtMost, opening_word}
+use Rattle.mothra_exchange.proofs.Common.{times_closed, IsLive, IsSoundExchange, Knows, first_look, largest_count, pack, spent_view, total, AllCountsFit}
+use Rattle.mothra_exchange.proofs.Common.{FitsWord, EndsAsViews, EndsAt, operator_word, whole_view, HoldsRule, Look, View, Word, get_elem?, some}
+use Rattle.mothra_exchange.proofs.Common.{some-injective, some-ne-none}
 use Rattle.mothra_exchange.proofs.Counting.{AtMost-refl, total_has}
-use Rattle.mothra_codes.proofs.Operators.{index_below}
 use Rattle.mothra_exchange.proofs.Steps.{lives}
 use Rattle.mothra_exchange.proofs.Halves.{blank}
 use Rattle.mothra_exchange.proofs.Exchanges.{fits}

@@ -1,25 +1,13 @@
 -- An exchange keeps the rule, whether it wins or not.
-use Rattle.std.proofs.Common.{◌≡◌, ◌≢◌, ◌⊎◌, ℕ, ◌+◌, ◌*◌, ◌^◌, ◌<◌, ◌≤◌, List, length, set, Bool, true, false, true≢false, eqb, refl, sym, ap, ◌∙◌, subst, arith, inl, inr}
-use Rattle.std.specs.Prelude.{slice_index}
-use mathlib.Core.Option.{some, none}
-use lib.ListN.{get_elem?}
+use Rattle.mothra_exchange.proofs.Common.{◌≡◌, ◌<◌, ℕ, ◌∙◌, sym, length, ap, arith, subst, refl, ◌+◌, List, ◌≤◌, false, slice_index, ◌≢◌, Bool, true, ◌⊎◌, eqb}
+use Rattle.mothra_exchange.proofs.Common.{inl, true≢false, set, inr, ◌*◌, ◌^◌, exchanged, Me, step, Allows, keeps, Act, Valid, carried_after, stepped}
+use Rattle.mothra_exchange.proofs.Common.{op_at-index, index, ticket, one_if, ticket_times, once_up_to, Op, AtMost, look_at, times_closed, InBounds, Knows}
+use Rattle.mothra_exchange.proofs.Common.{OpRule, largest_count, once_if_closed, pack, word_after_offer, closing, view_after_finding, FitsWord, bit, field}
+use Rattle.mothra_exchange.proofs.Common.{HoldsRule, ChangeOfTable, Exchanges, IsNewChange, view_after, HasLoaded, Loses, MayChange, Wins, a_close, a_take}
+use Rattle.mothra_exchange.proofs.Common.{an_offer, word_after, Look, View, Word, get_elem?, some, none}
 use prog.Atomic.{either}
-use Rattle.atomic_table.specs.Table.{Me, Act, keeps, Allows, stepped, step, Valid, carried_after}
-use Rattle.atomic_table.proofs.Lists.{exchanged}
-use Rattle.mothra_codes.specs.declared.op.Op.{Op}
-use Rattle.mothra_exchange.specs.declared.word.Word.{Word}
-use Rattle.mothra_exchange.specs.declared.view.Look.{Look}
-use Rattle.mothra_exchange.specs.declared.view.View.{View}
-use Rattle.mothra_codes.specs.Op.{index}
-use Rattle.mothra_exchange.specs.Word.{largest_count, field, bit, pack, FitsWord, AtMost, InBounds, word_after_offer}
-use Rattle.mothra_codes.specs.Ticket.{one_if, ticket_times, once_up_to, ticket}
-use Rattle.mothra_exchange.specs.View.{closing, times_closed, look_at, view_after_finding, once_if_closed}
-use Rattle.mothra_exchange.specs.Rule.{Knows, OpRule}
-use Rattle.mothra_exchange.specs.code.Rule.{HoldsRule}
-use Rattle.mothra_exchange.specs.code.Exchange.{ChangeOfTable, an_offer, a_take, a_close, MayChange, word_after, view_after, IsNewChange, Wins, Loses, Exchanges}
-use Rattle.mothra_exchange.specs.code.Calls.{HasLoaded}
-use Rattle.mothra_exchange.proofs.Counting.{total_has, once_up_to-past, times-more, is_ticket-own, is_ticket-other, times_closed-more, is_closing-own, is_closing-other, once_up_to-suc, AtMost-refl}
-use Rattle.mothra_codes.proofs.Operators.{op_at-index}
+use Rattle.mothra_exchange.proofs.Counting.{total_has, once_up_to-past, times-more, is_ticket-own, is_ticket-other, times_closed-more, is_closing-own}
+use Rattle.mothra_exchange.proofs.Counting.{is_closing-other, once_up_to-suc, AtMost-refl}
 use Rattle.mothra_exchange.proofs.Steps.{Moves, Apart, op_moves, lives, turns, looks_apart, new_look}
 
 pub fits : (C : ℕ) (w : Word) → InBounds C w → FitsWord w

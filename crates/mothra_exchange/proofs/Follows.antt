@@ -1,23 +1,8 @@
 -- The word after a winning step shows the log with the step's event.
-use Rattle.std.proofs.Common.{◌≡◌, ℕ, ◌+◌, ◌<◌, ◌≤◌, List, [], ◌∷◌, ◌++◌, length, false, eqb, refl, sym, ap, ◌∙◌, subst, ⊎_elim, arith, ne_eqb, eq-eqb}
-use Rattle.std.specs.Prelude.{slice_index}
-use mathlib.Core.Option.{some, some-ne-none}
-use mathlib.Core.Logic.{dite}
-use native.Mathlib.Decide.{ℕ_discrete}
-use lib.ListN.{get_elem?}
-use Rattle.mothra_codes.specs.declared.op.Op.{Op}
-use Rattle.mothra_codes.specs.declared.ticket.Ticket.{Ticket}
-use Rattle.mothra_exchange.specs.declared.log.Event.{Event}
-use Rattle.mothra_exchange.specs.declared.log.Event.TheVariants.{Offered, Handed, Closed}
-use Rattle.mothra_exchange.specs.declared.word.Word.{Word}
-use Rattle.mothra_exchange.specs.declared.answer.Offer.TheVariants.{Accepted}
-use Rattle.mothra_exchange.specs.declared.answer.Take.TheVariants.{Taken}
-use Rattle.mothra_exchange.specs.declared.answer.Close.TheVariants.{Done}
-use Rattle.mothra_exchange.specs.Answer.{offer_answer, take_answer, close_answer}
-use Rattle.mothra_codes.specs.Op.{index}
-use Rattle.mothra_codes.specs.Ticket.{one_if, ticket}
-use Rattle.mothra_exchange.specs.Word.{word_after_offer, word_after_take, word_after_close}
-use Rattle.mothra_exchange.specs.Log.{word_of, offers, hands, MayFollowEvents, IsLegalLog}
+use Rattle.mothra_exchange.proofs.Common.{◌≡◌, ◌<◌, ℕ, ◌∙◌, sym, length, ap, arith, subst, refl, ◌+◌, List, [], ◌≤◌, false, slice_index, ⊎_elim, ◌∷◌, eq-eqb}
+use Rattle.mothra_exchange.proofs.Common.{eqb, ne_eqb, ◌++◌, index, ticket, one_if, Op, Ticket, IsLegalLog, hands, take_answer, word_after_offer}
+use Rattle.mothra_exchange.proofs.Common.{word_after_take, MayFollowEvents, close_answer, offer_answer, offers, word_after_close, word_of, Done, Accepted}
+use Rattle.mothra_exchange.proofs.Common.{Taken, Event, Closed, Handed, Offered, Word, get_elem?, dite, some, some-ne-none, ℕ_discrete}
 use Rattle.mothra_exchange.proofs.Logs.{offers-more, hands-more, legal_more, stands, word-offered, word-handed, word-closed}
 use Rattle.mothra_exchange.proofs.Histories.{legal_induction, at_end}
 use Rattle.mothra_exchange.proofs.Answering.{accepted, taken, done, above}

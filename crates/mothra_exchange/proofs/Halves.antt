@@ -1,23 +1,11 @@
 -- A pass is split in two, and two passes are merged into one.
-use Rattle.std.proofs.Common.{◌≡◌, ◌≢◌, ◌⊎◌, ℕ, zero, suc, ◌+◌, ◌<◌, List, [], ◌∷◌, ◌++◌, length, set, get_or, ◌||◌, Bool, true, false, true≢false, refl, sym, ap, ◌∙◌, subst, ⊎_elim, arith, inl, inr}
-use Rattle.std.specs.Prelude.{slice_index}
-use mathlib.Core.Option.{some, none}
-use lib.ListN.{get_elem?}
-use Rattle.atomic_table.specs.Table.{Me, keeps, Allows, step, Splits, Joins}
-use Rattle.atomic_table.proofs.Lists.{at_set, at_snoc}
+use Rattle.mothra_exchange.proofs.Common.{◌≡◌, ◌<◌, ℕ, ◌∙◌, sym, length, ap, arith, subst, refl, ◌+◌, List, [], false, get_or, slice_index, ◌≢◌, ⊎_elim, ◌∷◌}
+use Rattle.mothra_exchange.proofs.Common.{Bool, suc, true, zero, ◌⊎◌, inl, true≢false, ◌++◌, set, inr, ◌||◌, at_set, at_snoc, Me, step, Allows, keeps, Joins}
+use Rattle.mothra_exchange.proofs.Common.{Splits, index_below, index, ticket_times, AtMost, look_at, times_closed, IsLive, Knows, OpRule, first_look}
+use Rattle.mothra_exchange.proofs.Common.{spent_view, total, greater_word, joined_look, split_off_view, view_after_split, joined_looks, HoldsRule, merging_view}
+use Rattle.mothra_exchange.proofs.Common.{settled_view, Settles, Look, View, Word, get_elem?, some, none}
 use Rattle.mothra_codes.specs.declared.op.Op.TheVariants.{Aar}
-use Rattle.mothra_exchange.specs.declared.word.Word.{Word}
-use Rattle.mothra_exchange.specs.declared.view.Look.{Look}
-use Rattle.mothra_exchange.specs.declared.view.View.{View}
-use Rattle.mothra_codes.specs.Op.{index}
-use Rattle.mothra_exchange.specs.Word.{AtMost, greater_word}
-use Rattle.mothra_codes.specs.Ticket.{ticket_times}
-use Rattle.mothra_exchange.specs.View.{times_closed, total, look_at, first_look, spent_view, view_after_split, split_off_view, joined_look, joined_looks}
-use Rattle.mothra_exchange.specs.code.View.{merging_view, settled_view}
-use Rattle.mothra_exchange.specs.Rule.{Knows, OpRule, IsLive}
-use Rattle.mothra_exchange.specs.code.Rule.{HoldsRule, Settles}
 use Rattle.mothra_exchange.proofs.Counting.{total_set, total_has, total-snoc, times-append, times_closed-append, once_up_to-most, once_if_closed-most}
-use Rattle.mothra_codes.proofs.Operators.{index_below}
 use Rattle.mothra_exchange.proofs.Steps.{Keeps, op_keeps, lives, turns}
 
 -- the word that a view has of an operator which it never loaded is at most every word

@@ -1,18 +1,8 @@
 -- What holds of a legal log as a whole.
-use Rattle.std.proofs.Common.{◌≡◌, ◌⊎◌, ℕ, zero, suc, ◌+◌, ◌<◌, List, [], ◌∷◌, ◌++◌, length, Bool, true, false}
-use Rattle.std.proofs.Common.{true≢false, cond, ◌||◌, eqb, refl, sym, ap, ◌∙◌, subst, ⊎_elim, arith, inl, inr, ne_eqb, eq-eqb}
-use Rattle.std.specs.Prelude.{slice_index}
-use mathlib.Core.Option.{some, some-injective, some-ne-none}
-use mathlib.Core.Logic.{dite}
-use native.Mathlib.Decide.{ℕ_discrete}
-use lib.ListN.{get_elem?}
-use Rattle.mothra_codes.specs.declared.op.Op.{Op}
-use Rattle.mothra_codes.specs.declared.ticket.Ticket.{Ticket}
-use Rattle.mothra_exchange.specs.declared.log.Event.{Event}
-use Rattle.mothra_exchange.specs.declared.log.Event.TheVariants.{Offered, Handed, Closed}
-use Rattle.mothra_codes.specs.Op.{index}
-use Rattle.mothra_codes.specs.Ticket.{one_if}
-use Rattle.mothra_exchange.specs.Log.{closes_in, hands, closes, MayFollowEvents, IsLegalAfter, IsLegalLog, taken_of, taken_in, one_to}
+use Rattle.mothra_exchange.proofs.Common.{◌≡◌, ◌<◌, ℕ, ◌∙◌, sym, length, ap, arith, subst, refl, ◌+◌, List, [], false, slice_index, ⊎_elim, ◌∷◌, Bool, eq-eqb}
+use Rattle.mothra_exchange.proofs.Common.{suc, true, zero, ◌⊎◌, eqb, inl, ne_eqb, true≢false, ◌++◌, inr, ◌||◌, cond, index, one_if, Op, Ticket, IsLegalLog}
+use Rattle.mothra_exchange.proofs.Common.{hands, MayFollowEvents, closes, IsLegalAfter, closes_in, one_to, taken_in, taken_of, Event, Closed, Handed, Offered}
+use Rattle.mothra_exchange.proofs.Common.{get_elem?, dite, some, some-injective, some-ne-none, ℕ_discrete}
 use Rattle.mothra_exchange.proofs.Logs.{append-cons, append-nil, hands-more}
 
 pub legal_induction : (C : ℕ) (counts : List ℕ) (P : List Event → Type 0) → P [] → ((log : List Event) (e : Event) → P log → MayFollowEvents C counts log e → P (log ++ e ∷ []))

@@ -1,30 +1,13 @@
 -- A log that grows stays legal, and the words show it.
-use Rattle.std.proofs.Common.{◌≡◌, ◌≢◌, ◌⊎◌, ℕ, zero, suc, ◌+◌, ◌*◌, ◌<◌, ◌≤◌, List, [], ◌∷◌, ◌++◌, length, set, get_or}
-use Rattle.std.proofs.Common.{Bool, true, false, ◌||◌, eqb, refl, sym, ap, ◌∙◌, subst, ⊎_elim, arith, inl, inr, ne_eqb, eq-eqb, length-append, length-set}
-use Rattle.std.specs.Prelude.{slice_index}
-use mathlib.Core.Option.{some}
-use mathlib.Core.Logic.{dite}
-use native.Mathlib.Decide.{ℕ_discrete, dec_le}
-use lib.ListN.{get_elem?}
-use Rattle.atomic_table.proofs.Lists.{at_longer, at_last}
-use Rattle.mothra_codes.specs.declared.op.Op.{Op}
-use Rattle.mothra_codes.specs.declared.ticket.Ticket.{Ticket}
-use Rattle.mothra_exchange.specs.declared.word.Word.{Word}
-use Rattle.mothra_exchange.specs.declared.log.Event.{Event}
-use Rattle.mothra_exchange.specs.declared.log.Event.TheVariants.{Offered, Handed, Closed}
-use Rattle.mothra_exchange.specs.declared.answer.Offer.TheVariants.{Accepted}
-use Rattle.mothra_exchange.specs.declared.answer.Take.TheVariants.{Taken}
-use Rattle.mothra_exchange.specs.declared.answer.Close.TheVariants.{Done}
-use Rattle.mothra_codes.specs.Op.{index}
-use Rattle.mothra_codes.specs.code.Op.{op_at}
-use Rattle.mothra_exchange.specs.Word.{bit, InBounds, opening_word, word_after_offer, word_after_take, word_after_close}
-use Rattle.mothra_codes.specs.Ticket.{one_if, ticket}
-use Rattle.mothra_exchange.specs.Log.{offers_in, hands_in, closes_in, offers, hands, closes, word_of, IsOffered, MayFollowEvents, IsLegalAfter, IsLegalLog}
-use Rattle.mothra_exchange.specs.Answer.{offer_answer, take_answer, close_answer}
-use Rattle.mothra_exchange.specs.State.{History, history, used_by, words_used, room, counts_of, KeepsLog}
+use Rattle.mothra_exchange.proofs.Common.{◌≡◌, ◌<◌, ℕ, ◌∙◌, sym, length, ap, arith, subst, refl, ◌+◌, List, [], ◌≤◌, false, get_or, slice_index, ◌≢◌, ⊎_elim}
+use Rattle.mothra_exchange.proofs.Common.{◌∷◌, Bool, eq-eqb, suc, true, zero, ◌⊎◌, eqb, inl, ne_eqb, ◌++◌, set, inr, length-set, ◌*◌, ◌||◌, length-append}
+use Rattle.mothra_exchange.proofs.Common.{at_last, at_longer, index_below, same_op, index-op_at, index, ticket, one_if, op_at, Op, Ticket, opening_word}
+use Rattle.mothra_exchange.proofs.Common.{InBounds, IsLegalLog, hands, take_answer, word_after_offer, word_after_take, MayFollowEvents, close_answer, closes}
+use Rattle.mothra_exchange.proofs.Common.{counts_of, history, offer_answer, offers, room, word_after_close, word_of, History, IsLegalAfter, KeepsLog, bit}
+use Rattle.mothra_exchange.proofs.Common.{closes_in, words_used, IsOffered, hands_in, offers_in, used_by, Done, Accepted, Taken, Event, Closed, Handed, Offered}
+use Rattle.mothra_exchange.proofs.Common.{Word, get_elem?, dite, some, ℕ_discrete, dec_le}
 use Rattle.mothra_exchange.proofs.Answering.{accepted, taken, done, above}
 use Rattle.mothra_exchange.proofs.Counting.{get_or-set_there, get_or-set_else}
-use Rattle.mothra_codes.proofs.Operators.{index_below, index-op_at, same_op}
 
 pub offers-more : (i : ℕ) (log : List Event) (e : Event) → offers i (log ++ e ∷ []) ≡ offers i log + offers_in i e
 offers-more i [] e = omega arith

@@ -1,23 +1,15 @@
 -- A call changes of a view only what it has of the call's operator.
-use Rattle.std.proofs.Common.{◌≡◌, ◌≢◌, ℕ, ◌+◌, refl, sym, ap, ◌∙◌, subst, arith}
-use Rattle.mothra_codes.specs.declared.op.Op.{Op}
-use Rattle.mothra_codes.specs.Op.{index}
-use Rattle.mothra_codes.specs.declared.ticket.Ticket.{Ticket}
-use Rattle.mothra_exchange.specs.declared.word.Word.{Word}
-use Rattle.mothra_exchange.specs.declared.view.Look.{Look}
-use Rattle.mothra_exchange.specs.declared.view.View.{View}
+use Rattle.mothra_exchange.proofs.Common.{◌≡◌, ℕ, ◌∙◌, sym, ap, arith, subst, refl, ◌+◌, ◌≢◌, same_op, index, ticket, one_if, is_ticket, Op, Ticket, look_at}
+use Rattle.mothra_exchange.proofs.Common.{first_look, closing, view_after_finding, view_after_load, LostTo, OfferDid, TakeDid, closes_operator, with_look}
+use Rattle.mothra_exchange.proofs.Common.{ChangesOnly, CloseDid, view_after_close, view_after_offer, view_after_take, Done, Already, Accepted, Full, OutOfTurn}
+use Rattle.mothra_exchange.proofs.Common.{PastEnd, Taken, Empty, Finished, Look, View, Word}
 use Rattle.mothra_exchange.specs.declared.answer.Offer.{Offer}
-use Rattle.mothra_exchange.specs.declared.answer.Offer.TheVariants.{Closed, PastEnd, OutOfTurn, Full, Busy as OfferBusy, Accepted, GaveUp as OfferGaveUp}
+use Rattle.mothra_exchange.specs.declared.answer.Offer.TheVariants.{Closed, Busy as OfferBusy, GaveUp as OfferGaveUp}
 use Rattle.mothra_exchange.specs.declared.answer.Take.{Take}
-use Rattle.mothra_exchange.specs.declared.answer.Take.TheVariants.{Finished, Empty, Busy as TakeBusy, Taken, GaveUp as TakeGaveUp}
+use Rattle.mothra_exchange.specs.declared.answer.Take.TheVariants.{Busy as TakeBusy, GaveUp as TakeGaveUp}
 use Rattle.mothra_exchange.specs.declared.answer.Close.{Close}
-use Rattle.mothra_exchange.specs.declared.answer.Close.TheVariants.{Already, Busy as CloseBusy, Done, GaveUp as CloseGaveUp}
-use Rattle.mothra_codes.specs.Ticket.{one_if, is_ticket, ticket}
-use Rattle.mothra_exchange.specs.View.{closing, closes_operator, first_look, look_at, with_look, view_after_load, view_after_finding, view_after_take, view_after_offer, view_after_close}
-use Rattle.mothra_exchange.specs.Calls.{LostTo, OfferDid, TakeDid, CloseDid}
-use Rattle.mothra_exchange.specs.Law.{ChangesOnly}
+use Rattle.mothra_exchange.specs.declared.answer.Close.TheVariants.{Busy as CloseBusy, GaveUp as CloseGaveUp}
 use Rattle.mothra_exchange.proofs.Counting.{times-more, times_closed-more, is_ticket-other, is_closing-other, get_or-set_else}
-use Rattle.mothra_codes.proofs.Operators.{same_op}
 
 only_trans : (op : Op) (a b c : View) → ChangesOnly op a b → ChangesOnly op b c → ChangesOnly op a c
 only_trans op a b c p q = record {

@@ -1,17 +1,6 @@
 -- What a compare-exchange left, concluded from what it found.
-use Rattle.std.proofs.Common.{◌≡◌, ◌≢◌, ℕ, length, sym, ap, ◌∙◌, subst, ⊎_elim, length-set}
-use mathlib.Core.Option.{none}
-use Rattle.atomic_table.specs.Table.{Me, step}
-use Rattle.mothra_codes.specs.declared.op.Op.{Op}
-use Rattle.mothra_exchange.specs.declared.word.Word.{Word}
-use Rattle.mothra_exchange.specs.declared.view.View.{View}
-use Rattle.mothra_codes.specs.Op.{index}
-use Rattle.mothra_codes.specs.code.Op.{op_at}
-use Rattle.mothra_codes.proofs.Operators.{op_at-index}
-use Rattle.mothra_exchange.specs.Word.{pack, AtMost}
-use Rattle.mothra_exchange.specs.View.{look_at, view_after_finding}
-use Rattle.mothra_exchange.specs.code.Exchange.{ChangeOfTable, IsNewChange, view_after, Exchanges}
-use Rattle.mothra_exchange.specs.Calls.{LostTo}
+use Rattle.mothra_exchange.proofs.Common.{◌≡◌, ℕ, ◌∙◌, sym, length, ap, subst, ◌≢◌, ⊎_elim, length-set, Me, step, op_at-index, index, op_at, Op, AtMost}
+use Rattle.mothra_exchange.proofs.Common.{look_at, pack, view_after_finding, LostTo, ChangeOfTable, Exchanges, IsNewChange, view_after, View, Word, none}
 use Rattle.mothra_exchange.proofs.Exchanges.{change_apart}
 
 -- what stays, whether it won or lost

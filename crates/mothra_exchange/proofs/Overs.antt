@@ -1,25 +1,12 @@
 -- What follows from the contracts of the calls.
-use Rattle.std.proofs.Common.{◌≡◌, ◌⊎◌, ℕ, ◌+◌, ◌<◌, length, Bool, true, false, true≢false, cond, eqb, ltb, not, ◌||◌, refl, sym, ap, ◌∙◌, subst, ⊎_elim, arith, eq-eqb, length-set}
-use Rattle.mothra_codes.specs.declared.op.Op.{Op}
-use Rattle.mothra_exchange.specs.declared.word.Word.{Word}
-use Rattle.mothra_exchange.specs.declared.view.Look.{Look}
-use Rattle.mothra_exchange.specs.declared.view.View.{View}
-use Rattle.mothra_codes.specs.declared.ticket.Ticket.{Ticket}
-use Rattle.mothra_exchange.specs.declared.answer.Offer.TheVariants.{Closed as OfferClosed, PastEnd, OutOfTurn, Full, Accepted}
+use Rattle.mothra_exchange.proofs.Common.{◌≡◌, ◌<◌, ℕ, ◌∙◌, sym, length, ap, arith, subst, refl, ◌+◌, false, ⊎_elim, Bool, eq-eqb, true, ◌⊎◌, eqb, true≢false}
+use Rattle.mothra_exchange.proofs.Common.{length-set, ◌||◌, cond, ltb, not, index_below, index, ticket, Op, Ticket, AtMost, look_at, take_answer}
+use Rattle.mothra_exchange.proofs.Common.{word_after_take, view_after_load, Loads, OfferDid, TakeDid, greater_word, joined_look, split_off_view}
+use Rattle.mothra_exchange.proofs.Common.{view_after_split, IsOver, MergesWell, united_view, AgreesWithViews, merging_view, Accepted, Full, OutOfTurn, PastEnd}
+use Rattle.mothra_exchange.proofs.Common.{Taken, Empty, Finished, Busy, GaveUp, Look, View, Word}
+use Rattle.mothra_exchange.specs.declared.answer.Offer.TheVariants.{Closed as OfferClosed}
 use Rattle.mothra_exchange.specs.declared.answer.Take.{Take}
-use Rattle.mothra_exchange.specs.declared.answer.Take.TheVariants.{Finished, Empty, Busy, Taken, GaveUp}
-use Rattle.mothra_codes.specs.Op.{index}
-use Rattle.mothra_codes.specs.Ticket.{ticket}
-use Rattle.mothra_exchange.specs.Word.{AtMost, greater_word, word_after_take}
-use Rattle.mothra_exchange.specs.View.{look_at, joined_look, united_view, view_after_load, view_after_split, split_off_view}
-use Rattle.mothra_exchange.specs.code.View.{merging_view}
-use Rattle.mothra_exchange.specs.Rule.{Loads}
-use Rattle.mothra_exchange.specs.code.Rule.{AgreesWithViews}
-use Rattle.mothra_exchange.specs.Sharing.{IsOver, MergesWell}
-use Rattle.mothra_exchange.specs.Answer.{take_answer}
-use Rattle.mothra_exchange.specs.Calls.{TakeDid, OfferDid}
 use Rattle.mothra_exchange.proofs.Counting.{times-append, times_closed-append}
-use Rattle.mothra_codes.proofs.Operators.{index_below}
 use Rattle.mothra_exchange.proofs.Steps.{new_look}
 use Rattle.mothra_exchange.proofs.Halves.{joined_at}
 

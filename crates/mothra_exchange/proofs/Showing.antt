@@ -1,24 +1,11 @@
 -- Words that keep the rule show one legal log: first each ticket that was handed out is offered and handed out at once,
 -- then those that wait are offered, then comes the close.
-use Rattle.std.proofs.Common.{◌≡◌, ◌≢◌, ℕ, zero, suc, ◌+◌, ◌-◌, ◌<◌, ◌≤◌, List, [], ◌∷◌, ◌++◌, Bool, true, false, refl, sym, ap, ◌∙◌, subst, arith}
-use Rattle.std.specs.Prelude.{slice_index}
-use mathlib.Core.Logic.{dite}
-use native.Mathlib.Decide.{ℕ_discrete}
-use Rattle.mothra_codes.specs.declared.op.Op.{Op}
-use Rattle.mothra_codes.specs.Op.{index}
-use Rattle.mothra_codes.specs.code.Op.{op_at}
-use Rattle.mothra_exchange.specs.declared.word.Word.{Word}
-use Rattle.mothra_exchange.specs.declared.view.View.{View}
-use Rattle.mothra_exchange.specs.declared.log.Event.{Event}
-use Rattle.mothra_exchange.specs.declared.log.Event.TheVariants.{Offered, Handed, Closed}
-use Rattle.mothra_exchange.specs.Word.{InBounds, opening_word, word_after_offer, word_after_take, word_after_close}
-use Rattle.mothra_codes.specs.Ticket.{ticket}
-use Rattle.mothra_exchange.specs.Log.{offers, hands, closes, word_of, IsLegalLog}
-use Rattle.mothra_exchange.specs.Rule.{IsSoundExchange, Loads}
-use Rattle.mothra_exchange.specs.Law.{ShowOneLog, ShowsLog}
+use Rattle.mothra_exchange.proofs.Common.{◌≡◌, ◌<◌, ℕ, ◌∙◌, sym, ap, arith, subst, refl, ◌+◌, List, [], ◌≤◌, false, slice_index, ◌≢◌, ◌∷◌, Bool, suc, true}
+use Rattle.mothra_exchange.proofs.Common.{zero, ◌++◌, ◌-◌, index_below, same_op, index-op_at, index, ticket, op_at, Op, opening_word, InBounds, IsLegalLog}
+use Rattle.mothra_exchange.proofs.Common.{IsSoundExchange, hands, word_after_offer, word_after_take, closes, offers, word_after_close, word_of, Loads}
+use Rattle.mothra_exchange.proofs.Common.{ShowOneLog, ShowsLog, Event, Closed, Handed, Offered, View, Word, dite, ℕ_discrete}
 use Rattle.mothra_exchange.proofs.Logs.{legal_more, stands, word-offered, word-handed, word-closed, word-other}
 use Rattle.mothra_exchange.proofs.Exchanges.{fits, pack-injective}
-use Rattle.mothra_codes.proofs.Operators.{index_below, index-op_at, same_op}
 
 abbrev numbers : ℕ → ℕ → ℕ → Bool → Word
 numbers n o h c = record { count = n; offered = o; handed = h; closed = c }

@@ -1,21 +1,8 @@
 -- Counts over the views, read as places: where the total is one, exactly one view has the ticket.
-use Rattle.std.proofs.Common.{◌≡◌, ◌≢◌, ◌⊎◌, ℕ, zero, suc, ◌+◌, ◌<◌, ◌≤◌, List, [], ◌∷◌, Bool, true, false, ◌&&◌, refl, sym, ap, ◌∙◌, subst, ⊎_elim, arith, eq-eqb, ne_eqb}
-use Rattle.std.specs.Prelude.{slice_index}
-use mathlib.Core.Option.{some, some-injective}
-use mathlib.Core.Logic.{dite}
-use native.Mathlib.Decide.{ℕ_discrete}
-use lib.ListN.{get_elem?}
-use Rattle.std.proofs.lemmas.Bool.Decides.{nat_tests}
-use Rattle.mothra_codes.specs.declared.op.Op.{Op}
-use Rattle.mothra_codes.specs.Op.{index}
-use Rattle.mothra_codes.specs.declared.ticket.Ticket.{Ticket}
-use Rattle.mothra_exchange.specs.declared.word.Word.{Word}
-use Rattle.mothra_exchange.specs.declared.view.View.{View}
-use Rattle.mothra_exchange.specs.Word.{AtMost}
-use Rattle.mothra_codes.specs.Ticket.{one_if, ticket_times, once_up_to}
-use Rattle.mothra_exchange.specs.View.{times_closed, total, once_if_closed, spent_view, look_at}
-use Rattle.mothra_exchange.specs.Rule.{OpRule, IsLive, IsSoundExchange}
-use Rattle.mothra_exchange.specs.Law.{IsWordOf, IsOneOfViews, StandsInOne, StandsInNone, AreOneTo, AreViewsInOrder}
+use Rattle.mothra_exchange.proofs.Common.{◌≡◌, ◌<◌, ℕ, ◌∙◌, sym, ap, arith, subst, refl, ◌+◌, List, [], ◌≤◌, false, slice_index, ◌≢◌, ⊎_elim, ◌∷◌, Bool, eq-eqb}
+use Rattle.mothra_exchange.proofs.Common.{suc, true, zero, ◌⊎◌, ne_eqb, ◌&&◌, nat_tests, index, one_if, ticket_times, once_up_to, Op, Ticket, AtMost, look_at}
+use Rattle.mothra_exchange.proofs.Common.{times_closed, IsLive, IsSoundExchange, OpRule, once_if_closed, spent_view, total, AreOneTo, AreViewsInOrder}
+use Rattle.mothra_exchange.proofs.Common.{IsOneOfViews, IsWordOf, StandsInNone, StandsInOne, View, Word, get_elem?, dite, some, some-injective, ℕ_discrete}
 use Rattle.mothra_exchange.proofs.Counting.{total_has}
 use Rattle.mothra_exchange.proofs.Exchanges.{fits, pack-injective}
 

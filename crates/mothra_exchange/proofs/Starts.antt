@@ -1,13 +1,7 @@
 -- How a log begins.
-use Rattle.std.proofs.Common.{◌≡◌, ℕ, zero, suc, ◌+◌, ◌*◌, ◌<◌, ◌≤◌, List, [], ◌∷◌, map, take, length, get_or, refl, sym, ap, ◌∙◌, subst, arith}
-use Rattle.std.specs.Prelude.{slice_index}
-use Rattle.mothra_exchange.specs.declared.word.Word.{Word}
-use Rattle.mothra_exchange.specs.declared.log.Event.{Event}
-use Rattle.mothra_codes.specs.Op.{index}
-use Rattle.mothra_exchange.specs.Word.{InBounds, opening_word}
-use Rattle.mothra_exchange.specs.State.{words_used, room, counts_of, KeepsLog}
-use Rattle.mothra_exchange.specs.Fault.{AllCountsFit}
-use Rattle.mothra_codes.proofs.Operators.{index_below}
+use Rattle.mothra_exchange.proofs.Common.{◌≡◌, ◌<◌, ℕ, ◌∙◌, sym, length, ap, arith, subst, refl, ◌+◌, List, [], ◌≤◌, get_or, slice_index, ◌∷◌, suc, zero, map}
+use Rattle.mothra_exchange.proofs.Common.{◌*◌, take, index_below, index, opening_word, InBounds, counts_of, room, AllCountsFit, KeepsLog, words_used, Event}
+use Rattle.mothra_exchange.proofs.Common.{Word}
 
 pub same_list : {A : Type 0} (d : A) (xs ys : List A) → length xs ≡ length ys → ((k : ℕ) → k < length xs → get_or xs k d ≡ get_or ys k d) → xs ≡ ys
 same_list d [] [] e h = refl

@@ -1,24 +1,9 @@
 -- Each step keeps the rule.
-use Rattle.std.proofs.Common.{◌≡◌, ◌≢◌, ◌⊎◌, ℕ, ◌+◌, ◌<◌, List, length, set, get_or, refl, sym, ap, ◌∙◌, subst, ⊎_elim, arith, inl, length-set}
-use Rattle.std.specs.Prelude.{slice_index, slice_set}
-use mathlib.Core.Option.{Option, some, none}
-use native.Mathlib.Decide.{ℕ_discrete}
-use mathlib.Core.Logic.{dite}
-use lib.ListN.{get_elem?}
-use Rattle.atomic_table.specs.Table.{State, Me, keeps, Allows, step}
-use Rattle.atomic_table.proofs.Lists.{at_set}
-use Rattle.mothra_codes.specs.declared.op.Op.{Op}
-use Rattle.mothra_exchange.specs.declared.word.Word.{Word}
-use Rattle.mothra_exchange.specs.declared.view.Look.{Look}
-use Rattle.mothra_exchange.specs.declared.view.View.{View}
-use Rattle.mothra_codes.specs.Op.{index}
-use Rattle.mothra_exchange.specs.Word.{pack, AtMost, InBounds}
-use Rattle.mothra_codes.specs.Ticket.{ticket_times, once_up_to}
-use Rattle.mothra_exchange.specs.View.{times_closed, look_at, view_after_load, spent_view, with_look, first_look, once_if_closed}
-use Rattle.mothra_exchange.specs.Rule.{Knows, OpRule, IsLive}
-use Rattle.mothra_exchange.specs.code.Rule.{HoldsRule, Looks}
+use Rattle.mothra_exchange.proofs.Common.{◌≡◌, ◌<◌, ℕ, ◌∙◌, sym, length, ap, arith, subst, refl, ◌+◌, List, get_or, slice_index, ◌≢◌, ⊎_elim, ◌⊎◌, inl, set}
+use Rattle.mothra_exchange.proofs.Common.{length-set, slice_set, at_set, Me, step, Allows, keeps, State, index_below, same_op, index, ticket_times, once_up_to}
+use Rattle.mothra_exchange.proofs.Common.{Op, AtMost, look_at, times_closed, InBounds, IsLive, Knows, OpRule, first_look, once_if_closed, pack, spent_view}
+use Rattle.mothra_exchange.proofs.Common.{view_after_load, with_look, HoldsRule, Looks, Look, View, Word, get_elem?, dite, some, none, Option, ℕ_discrete}
 use Rattle.mothra_exchange.proofs.Counting.{total_set, AtMost-refl, AtMost-trans, get_or-set_there, get_or-set_else}
-use Rattle.mothra_codes.proofs.Operators.{index_below, same_op}
 
 -- what a step of one view changes for its operator, whose word w₀ becomes w
 pub record Moves (i : ℕ) (w₀ w : Word) (v v' : View) : Type 0 where

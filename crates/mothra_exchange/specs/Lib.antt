@@ -13,3 +13,17 @@ pub mod Tally
 pub mod View
 pub mod Word
 pub mod code
+pub use Answer.*
+pub use Calls.*
+pub use Fault.*
+pub use Gate.*
+pub use Law.*
+pub use Locked.*
+pub use Log.*
+pub use Rule.*
+pub use Sharing.*
+pub use State.*
+pub use Table.*
+pub use Tally.*
+pub use View.*
+pub use Word.*

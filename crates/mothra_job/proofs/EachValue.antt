@@ -1,10 +1,7 @@
 -- The values of a list are read one by one.
-use Rattle.std.proofs.Common.{◌≡◌, ◌∙◌, ap, refl, sym, ℕ, suc, ◌+◌, ◌<◌, ◌≤◌, List, [], ◌∷◌, ◌++◌, length, drop, get_or, drop-cons, add-one, append_assoc, append-nil, Option, Some, None, option_map}
+use Rattle.mothra_job.proofs.Common.{◌≡◌, Some, ◌++◌, ap, ◌∙◌, List, [], drop, sym, ◌∷◌, option_map, refl, Option, length, ℕ, None, ◌+◌, ◌≤◌, ◌<◌, suc, get_or}
+use Rattle.mothra_job.proofs.Common.{add-one, append-nil, append_assoc, drop-cons, each, Data, items_view, view, Value}
 use Rattle.std.proofs.lemmas.List.{drop_all}
-use Rattle.serde_json.specs.Data.{Data}
-use Rattle.serde_json.specs.View.{view, items_view}
-use Rattle.serde_json.specs.declared.value.Value.{Value}
-use Rattle.mothra_job.specs.Suite.{each}
 
 -- the items that were read, followed by what the other values are
 abbrev behind : {A : Type 0} → List A → (Data → Option A) → List Value → Option (List A)

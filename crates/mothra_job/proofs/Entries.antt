@@ -1,6 +1,7 @@
 -- Which mutant a text names.
-use Rattle.std.proofs.Common.{arith, ◌≡◌, ◌≢◌, ◌∙◌, ◌<◌, ◌≤◌, ◌^◌, ◌&&◌, ap, ap₂, refl, sym, subst, ℕ, zero, suc, Bool, true, false, true≢false, cond}
-use Rattle.std.proofs.Common.{leb-true, le-leb, lit<, nat_le, List, [], ◌∷◌, ◌++◌, codes, drop, get_or, length, take, Option, Some, None, IfSome, Result, Ok, Err, bytes_eq, option_and_then}
+use Rattle.mothra_job.proofs.Common.{◌≡◌, Some, ◌++◌, ap, ◌∙◌, List, [], drop, sym, ◌∷◌, refl, Option, length, ℕ, Err, None, false, subst, ◌≤◌, Bool, Ok, true}
+use Rattle.mothra_job.proofs.Common.{◌<◌, Result, arith, suc, ap₂, codes, cond, get_or, option_and_then, true≢false, IfSome, bytes_eq, le-leb, leb-true, lit<}
+use Rattle.mothra_job.proofs.Common.{nat_le, take, zero, ◌&&◌, ◌^◌, ◌≢◌, named, if_named, ticket_text}
 use Rattle.std.specs.Fmt.{decimal}
 use Rattle.std.specs.Bool.{Decides}
 use Rattle.std.specs.Borrow.{Bor}
@@ -12,16 +13,15 @@ use Rattle.std.proofs.lemmas.Fmt.{decimal-digits_value, decimal_digit, digits_va
 use Rattle.std.proofs.lemmas.Slice.Eq.{bytes_eq-Decides}
 use Rattle.std.proofs.lemmas.Str.Parse.{numerals_by_value, tells_digits, without_leading_plus_none}
 use Rattle.std.proofs.lemmas.Str.Pattern.{IsSplitOnceResult, split_after}
-use Rattle.mothra_job.specs.code.Equivalent.{Names}
-use Rattle.mothra_job.specs.Equivalent.{if_named, named, ticket_text}
 use Rattle.mothra_cli.specs.Operators.{operator_of}
 use Rattle.mothra_codes.proofs.Codes.{op_found}
 use Rattle.mothra_codes.specs.Op.{code_of}
 use Rattle.mothra_codes.specs.declared.op.Op.{Op}
-use Rattle.mothra_codes.specs.declared.op.Op.TheVariants.{Aar, Abs, Acr, Aor, Asr, Car, Cnr, Crp, Csr, Der, Dsa}
-use Rattle.mothra_codes.specs.declared.op.Op.TheVariants.{Glr, Lcr, Ror, Rsr, San, Sar, Scr, Sdl, Src, Svr, Uoi}
+use Rattle.mothra_codes.specs.declared.op.Op.TheVariants.{Aar, Abs, Acr, Aor, Asr, Car, Cnr, Crp, Csr, Der, Dsa, Glr, Lcr, Ror, Rsr, San, Sar, Scr, Sdl, Src}
+use Rattle.mothra_codes.specs.declared.op.Op.TheVariants.{Svr, Uoi}
 use Rattle.mothra_codes.specs.Ticket.{ticket}
 use Rattle.mothra_codes.specs.declared.ticket.Ticket.{Ticket}
+use Rattle.mothra_job.specs.code.{Names}
 
 -- ---- a code has three letters, none of them a blank
 

@@ -1,17 +1,10 @@
 -- A job has at most 256 tests.
-use Rattle.std.proofs.Common.{arith, ◌≡◌, ◌≤◌, ◌++◌, ℕ, suc, Bool, true, false, cond, refl, subst, List, [], ◌∷◌, length, nat_lt, Option, Some, None, Result, Ok, map, unwrap_or}
-use Rattle.std.proofs.lemmas.Bool.{ltb-false}
-use Rattle.std.specs.Prelude.{codes, filter_map}
+use Rattle.mothra_job.proofs.Common.{◌≡◌, Some, ◌++◌, List, [], ◌∷◌, refl, map, Option, length, ℕ, None, false, subst, ◌≤◌, Bool, Ok, true, Result, arith, suc}
+use Rattle.mothra_job.proofs.Common.{codes, cond, filter_map, ltb-false, nat_lt, unwrap_or, fault_or, JobRead, tests_of, JobFields, entry_faults, list_faults}
+use Rattle.mothra_job.proofs.Common.{suite_faults, test_faults, job_faults, job_fields, job_of, json_of, unknown_keys, value_faults, absent, count_faults}
+use Rattle.mothra_job.proofs.Common.{equivalent_in, job_size_faults, object_faults, source_in, suite_in, test, JobFault, Key, TooManyTests, Data, Members}
+use Rattle.mothra_job.proofs.Common.{as_object}
 use Rattle.std.specs.List.{cons_option}
-use Rattle.serde_json.specs.Data.{Data, Members}
-use Rattle.serde_json.specs.Find.{as_object}
-use Rattle.mothra_job.specs.Equivalent.{entry_faults}
-use Rattle.mothra_job.specs.FirstFault.{absent, fault_or}
-use Rattle.mothra_job.specs.Job.{JobFields, JobRead, equivalent_in, job_faults, job_fields, job_of, json_of, list_faults}
-use Rattle.mothra_job.specs.Job.{object_faults, job_size_faults, source_in, suite_in, unknown_keys, value_faults}
-use Rattle.mothra_job.specs.Suite.{count_faults, suite_faults, test, test_faults, tests_of}
-use Rattle.mothra_job.specs.declared.job.JobFault.{JobFault}
-use Rattle.mothra_job.specs.declared.job.JobFault.TheVariants.{Key, TooManyTests}
 
 front_none : (xs ys : List JobFault) → xs ++ ys ≡ [] → xs ≡ []
 front_none [] ys e = refl

@@ -1,3 +1,4 @@
+pub mod Common
 pub mod EachValue
 pub mod Suites
 pub mod Entries

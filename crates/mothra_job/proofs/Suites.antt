@@ -1,13 +1,7 @@
 -- The tests of a suite are read one by one.
-use Rattle.std.proofs.Common.{◌≡◌, ap, refl, ◌<◌, ◌≤◌, lt-ltb, le-ltb, List, [], ◌∷◌, length, map, Err}
+use Rattle.mothra_job.proofs.Common.{◌≡◌, ap, List, [], ◌∷◌, refl, map, length, Err, ◌≤◌, ◌<◌, le-ltb, lt-ltb, fault_or, tests_of, suite_faults, test_faults}
+use Rattle.mothra_job.proofs.Common.{data_listed, TooManyTests, Data, view, items_of, Value}
 use Rattle.std.proofs.lemmas.List.{length-map}
-use Rattle.serde_json.specs.Data.{Data}
-use Rattle.serde_json.specs.View.{view, items_of}
-use Rattle.serde_json.specs.declared.value.Value.{Value}
-use Rattle.mothra_job.specs.FirstFault.{fault_or}
-use Rattle.mothra_job.specs.Job.{data_listed}
-use Rattle.mothra_job.specs.Suite.{suite_faults, test_faults, tests_of}
-use Rattle.mothra_job.specs.declared.job.JobFault.TheVariants.{TooManyTests}
 
 pub listed_items : (ds : List Data) → data_listed (items_of ds) ≡ ds
 listed_items [] = refl

@@ -3,3 +3,7 @@ pub mod Suite
 pub mod Equivalent
 pub mod Job
 pub mod code
+pub use FirstFault.*
+unfoldable pub use Suite.*
+unfoldable pub use Equivalent.*
+unfoldable pub use Job.*

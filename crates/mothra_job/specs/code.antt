@@ -1,1 +1,2 @@
 pub mod Equivalent
+pub use Equivalent.*

@@ -4,10 +4,9 @@ ghost use Rattle.std.specs.Prelude.{◌≡◌, ◌≤◌, ◌⊎◌, ℕ, Err, I
 ghost use Rattle.std.specs.Fmt.{decimal};
 ghost use Rattle.serde_json.specs.View.{view as value_of};
 ghost use Rattle.mothra_job.specs.Equivalent as definition;
-ghost use Rattle.mothra_job.specs.code.Equivalent.{Names};
-ghost use Rattle.mothra_job.specs.Equivalent.{tickets_named, entry_faults};
-ghost use Rattle.mothra_job.specs.FirstFault.{fault_or};
 ghost use Rattle.mothra_job.specs.declared.job.JobFault.TheVariants.{Memory};
+ghost use Rattle.mothra_job.specs.{tickets_named, entry_faults, fault_or};
+ghost use Rattle.mothra_job.specs.code.{Names};
 
 use crate::job::JobFault;
 use f77_meaning::Values;

@@ -4,9 +4,8 @@ ghost use Rattle.std.specs.Prelude.{◌≡◌, ◌⊎◌, ◌≤◌, Err, IfOk, 
 ghost use Rattle.serde_json.specs.Find.{as_bool};
 ghost use Rattle.serde_json.specs.View.{view as value_of, items_view};
 ghost use Rattle.mothra_job.specs.Suite as definition;
-ghost use Rattle.mothra_job.specs.FirstFault.{fault_or};
-ghost use Rattle.mothra_job.specs.Suite.{each, suite_faults, test_faults, tests_of};
 ghost use Rattle.mothra_job.specs.declared.job.JobFault.TheVariants.{Memory};
+ghost use Rattle.mothra_job.specs.{fault_or, each, suite_faults, test_faults, tests_of};
 
 use crate::job::JobFault;
 use f77_meaning::{Arg, Values};

@@ -1,19 +1,7 @@
 -- Whether an edit is one of its operator's, by what it makes.
-use Rattle.std.proofs.Common.{◌≡◌, List, map, Option, Some, None, Result, Ok, Err, refl, ap, sym, ◌∙◌, subst}
-use Rattle.std.specs.Prelude.{IfNone, IfOk, IfSome, option_map}
-use Rattle.std.proofs.lemmas.Option.{none-some, same_Some}
-use Rattle.f77_check.specs.Checked.{CheckedFields}
-use Rattle.f77_program.specs.Program.{LineFields, line_of}
-use Rattle.f77_tree.specs.Node.{NodeOf}
-use Rattle.f77_tree.specs.Sites.{changed}
-use Rattle.f77_tree.specs.Statement.{statement_of, Statement}
-use Rattle.mothra_ops.specs.code.Edits.{IsMadeBy}
-use Rattle.mothra_ops.specs.code.Original.{HasStatement}
-use Rattle.mothra_ops.specs.Edits.{IsMember, IsMutant, made}
-use Rattle.mothra_ops.specs.Made.{IsMadeMutant}
-use Rattle.mothra_replacements.specs.Pools.{pools_of}
-use Rattle.mothra_ops.specs.declared.edit.Edit.{Edit}
-use Rattle.mothra_ops.specs.declared.mutant.Mutant.{Mutant}
+use Rattle.mothra_ops.proofs.Common.{◌≡◌, ◌∙◌, ap, sym, List, map, refl, Some, subst, None, Option, option_map, IfSome, IfNone, IfOk, Err, Ok, Result}
+use Rattle.mothra_ops.proofs.Common.{same_Some, none-some, CheckedFields, line_of, LineFields, NodeOf, changed, statement_of, Statement, IsMadeMutant, made}
+use Rattle.mothra_ops.proofs.Common.{IsMutant, IsMember, HasStatement, IsMadeBy, Edit, Mutant, pools_of}
 use Rattle.mothra_ops.proofs.Members.{steps}
 
 pub none_made : (program : List LineFields) (edit : Edit) → made (pools_of program) program edit ≡ None → IsMadeBy program edit None

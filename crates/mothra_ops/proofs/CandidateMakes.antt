@@ -1,21 +1,8 @@
 -- What an edit makes, concluded from what its operator gives for its node.
-use Rattle.std.proofs.Common.{arith, ◌≡◌, ◌<◌, ◌≤◌, ◌-◌, ◌∙◌, List, [], map, length, get_or, Option, Some, None, refl, ap, sym, inl, inr}
-use Rattle.std.specs.Prelude.{◌⊎◌, option_map, slice_get}
-use Rattle.std.specs.Option.{option_and_then, option_map_or}
-use Rattle.std.proofs.lemmas.List.{length-map}
-use Rattle.std.proofs.lemmas.Option.{none-some, same_Some}
-use Rattle.f77_tree.specs.Node.{NodeOf, nodes_of}
-use Rattle.f77_program.specs.Program.{LineFields, line_of, line_at}
-use Rattle.f77_tree.specs.Statement.{statement_of, Statement}
-use Rattle.f77_program.specs.declared.program.Line.{Line}
-use Rattle.f77_tree.specs.Replacement.{replacement_of}
-use Rattle.f77_tree.specs.Sites.{Site, changed, sites}
-use Rattle.f77_tree.specs.declared.replacement.Replacement.{Replacement}
-use Rattle.mothra_ops.specs.Edits.{made, numbered}
-use Rattle.mothra_ops.specs.code.Original.{HasStatement, candidates_at}
-use Rattle.mothra_replacements.specs.Pools.{PoolFields}
-use Rattle.mothra_replacements.specs.Replacements.{gives}
-use Rattle.mothra_ops.specs.declared.edit.Edit.{Edit}
+use Rattle.mothra_ops.proofs.Common.{◌≡◌, ◌∙◌, ap, sym, List, map, arith, refl, Some, length, ◌≤◌, None, [], ◌-◌, ◌<◌, inr, slice_get, Option, inl, ◌⊎◌}
+use Rattle.mothra_ops.proofs.Common.{option_map, get_or, length-map, same_Some, none-some, option_and_then, option_map_or, line_of, LineFields, line_at, Line}
+use Rattle.mothra_ops.proofs.Common.{NodeOf, nodes_of, replacement_of, changed, Site, sites, statement_of, Statement, Replacement, numbered, made, HasStatement}
+use Rattle.mothra_ops.proofs.Common.{candidates_at, Edit, PoolFields, gives}
 use Rattle.mothra_ops.proofs.Made.{item_numbered, no_node, no_new, past, the_new}
 use Rattle.mothra_ops.proofs.MakesMutant.{line_numbered, line_stands}
 use Rattle.mothra_ops.proofs.Numbered.{nothing_numbered}

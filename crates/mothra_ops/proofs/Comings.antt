@@ -1,24 +1,9 @@
 -- A list of edits that is being made, step by step.
-use Rattle.std.proofs.Common.{arith, ◌≡◌, ◌<◌, ◌≤◌, ◌+◌, ℕ, zero, suc, length, List, [], ◌∷◌, ◌++◌, refl, Some, ap, sym, ◌∙◌, subst, inl, inr, get_or}
-use Rattle.std.specs.Prelude.{◌⊎◌}
-use Rattle.f77_tree.specs.Node.{NodeOf, nodes_of}
-use Rattle.f77_program.specs.Program.{LineFields}
-use Rattle.f77_tree.specs.Statement.{Statement}
-use Rattle.f77_tree.specs.Sites.{changed}
-use Rattle.mothra_ops.specs.Edits.{IsCountedList, IsMember, IsMutant, IsNoList, IsTooLong, Lists, most_edits, most_whole, numbered, thinned}
-use Rattle.mothra_ops.specs.code.Listing.{HasCome, So}
-use Rattle.mothra_ops.specs.Listing.{HoldsEdits, edits_in, longest}
-use Rattle.mothra_ops.specs.code.Original.{HasStatement, StandsAt}
-use Rattle.mothra_replacements.specs.Pools.{pools_of}
-use Rattle.mothra_replacements.specs.Replacements.{gives}
-use Rattle.mothra_ops.specs.declared.edit.Edit.{Edit}
-use Rattle.mothra_replacements.specs.declared.fault.OpsFault.{OpsFault}
-use Rattle.mothra_replacements.specs.declared.fault.OpsFault.TheVariants.{Memory, TooMany}
+use Rattle.mothra_ops.proofs.Common.{◌≡◌, ◌∙◌, ap, sym, List, arith, refl, Some, length, subst, ℕ, ◌≤◌, [], ◌+◌, suc, ◌<◌, inr, zero, ◌∷◌, inl, ◌⊎◌, ◌++◌}
+use Rattle.mothra_ops.proofs.Common.{get_or, length-map, LineFields, NodeOf, nodes_of, changed, Statement, Op, numbered, IsMutant, IsMember, edits_in, thinned}
+use Rattle.mothra_ops.proofs.Common.{IsNoList, IsTooLong, Lists, IsCountedList, most_edits, most_whole, HoldsEdits, longest, HasStatement, HasCome, StandsAt}
+use Rattle.mothra_ops.proofs.Common.{So, Edit, Listing, Mutant, pools_of, gives, OpsFault, Memory, TooMany}
 use Rattle.mothra_ops.specs.declared.listing.Limits.{Limits}
-use Rattle.mothra_ops.specs.declared.listing.Listing.{Listing}
-use Rattle.mothra_ops.specs.declared.mutant.Mutant.{Mutant}
-use Rattle.std.proofs.lemmas.List.{length-map}
-use Rattle.mothra_codes.specs.declared.op.Op.{Op}
 use Rattle.mothra_ops.proofs.Cursor.{edit_at, kept, passed_by, first_rank, next_node, next_statement, starts, ends}
 use Rattle.mothra_ops.proofs.Members.{own_op, rank_first, statement_first, statement_last, position_last, rank_last, member_here, mutant_here}
 

@@ -1,20 +1,8 @@
 -- What stands in copies of statements when nodes were swapped.
-use Rattle.std.proofs.Common.{◌≡◌, ◌<◌, ◌≤◌, ◌-◌, ◌∙◌, ℕ, zero, suc, List, [], ◌∷◌, Some, Option, get_or, length, map, set, refl, sym, ap, arith}
-use Rattle.std.specs.Prelude.{◌⊎◌, slice_get, slice_set, option_map}
-use Rattle.std.specs.Option.{option_map_or}
-use Rattle.f77_tree.specs.Node.{NodeOf}
-use Rattle.f77_tree.specs.Sites.{changed}
-use Rattle.f77_tree.specs.Statement.{Statement, statement_of}
-use Rattle.f77_tree.specs.declared.statement.Stmt.{Stmt}
-use Rattle.f77_check.specs.Checked.{CheckedFields}
-use Rattle.f77_program.specs.Program.{LineFields, line_of}
-use Rattle.f77_tree.specs.Replacement.{replacement_of}
-use Rattle.std.proofs.lemmas.List.{map-set}
-use Rattle.std.proofs.lemmas.Option.{none-some, same_Some, slice_get-map, slice_get_read}
-use Rattle.mothra_ops.specs.Copies.{changed_at, statements_in}
-use Rattle.mothra_ops.specs.Edits.{numbered}
-use Rattle.mothra_ops.specs.Made.{IsMadeMutant}
-use Rattle.mothra_ops.specs.declared.mutant.Mutant.{Mutant}
+use Rattle.mothra_ops.proofs.Common.{◌≡◌, ◌∙◌, ap, sym, List, map, arith, refl, Some, length, ℕ, ◌≤◌, [], ◌-◌, suc, ◌<◌, slice_get, zero, ◌∷◌, Option, ◌⊎◌}
+use Rattle.mothra_ops.proofs.Common.{option_map, get_or, set, slice_set, map-set, same_Some, none-some, slice_get-map, slice_get_read, option_map_or}
+use Rattle.mothra_ops.proofs.Common.{CheckedFields, line_of, LineFields, NodeOf, replacement_of, changed, statement_of, Statement, Stmt, numbered, IsMadeMutant}
+use Rattle.mothra_ops.proofs.Common.{statements_in, changed_at, Mutant}
 use Rattle.mothra_ops.proofs.Made.{past}
 use Rattle.mothra_ops.proofs.MakesMutant.{counted_at}
 

@@ -1,12 +1,7 @@
 -- A list of edits that has come to a place: it has those with a property that stand before the place.
-use Rattle.std.proofs.Common.{arith, ◌≡◌, ◌<◌, ◌+◌, ℕ, length, List, [], ◌∷◌, ◌++◌, refl, ap, sym, ◌∙◌, subst, inl, inr, get_or}
-use Rattle.std.specs.Prelude.{◌⊎◌, Contains}
-use Rattle.std.proofs.lemmas.Bool.{cases_lt}
-use Rattle.std.proofs.lemmas.List.{get_or_append_left, get_or_push, length_push, get_or_default}
+use Rattle.mothra_ops.proofs.Common.{◌≡◌, ◌∙◌, ap, sym, List, arith, refl, length, subst, ℕ, [], ◌+◌, ◌<◌, inr, ◌∷◌, inl, ◌⊎◌, ◌++◌, get_or, Contains, cases_lt}
+use Rattle.mothra_ops.proofs.Common.{length_push, get_or_append_left, get_or_default, get_or_push, Op, Lists, BeforeEdit, Below, Edit}
 use Rattle.std.proofs.lemmas.List.Quantifiers.{all_pairs_push}
-use Rattle.mothra_ops.specs.Edits.{Below, BeforeEdit, Lists}
-use Rattle.mothra_ops.specs.declared.edit.Edit.{Edit}
-use Rattle.mothra_codes.specs.declared.op.Op.{Op}
 
 contains_old : (xs : List Edit) (y e : Edit) → Contains xs e → Contains (xs ++ y ∷ []) e
 contains_old xs y e (k, low, at) = (k, omega (arith, length_push xs y), get_or_append_left xs (y ∷ []) e k low ∙ at)

@@ -1,7 +1,5 @@
 -- Lists that are the same from the item after the n-th on.
-use Rattle.std.proofs.Common.{arith, ◌≡◌, ◌∙◌, ◌+◌, ◌-◌, ◌<◌, ℕ, zero, suc, List, [], ◌∷◌, ap, drop, refl, sym}
-use Rattle.std.specs.Prelude.{slice_get}
-use Rattle.mothra_ops.specs.Edits.{numbered}
+use Rattle.mothra_ops.proofs.Common.{◌≡◌, ◌∙◌, ap, sym, List, arith, refl, ℕ, [], ◌+◌, ◌-◌, suc, ◌<◌, slice_get, zero, ◌∷◌, drop, numbered}
 
 item_behind : {X : Type 0} (xs : List X) (n k j : ℕ) → n + k ≡ j → slice_get (drop n xs) k ≡ slice_get xs j
 item_behind xs zero k j e = let same : k ≡ j = omega (arith, e) in ap (slice_get xs) same

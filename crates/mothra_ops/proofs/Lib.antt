@@ -1,3 +1,4 @@
+pub mod Common
 mod OrderedLists
 mod Thinning
 mod LongLists

@@ -1,10 +1,6 @@
 -- Lists of edits that are too long.
-use Rattle.std.proofs.Common.{◌<◌, ◌≤◌, ℕ, List, length, subst, arith, inl, inr}
-use Rattle.std.specs.Prelude.{◌⊎◌}
-use Rattle.f77_program.specs.Program.{LineFields}
-use Rattle.mothra_ops.specs.Edits.{IsMember, IsTooLong, Lists, thinned, most_edits, most_whole}
-use Rattle.mothra_ops.specs.declared.edit.Edit.{Edit}
-use Rattle.mothra_codes.specs.declared.op.Op.{Op}
+use Rattle.mothra_ops.proofs.Common.{List, arith, length, subst, ℕ, ◌≤◌, ◌<◌, inr, inl, ◌⊎◌, LineFields, Op, IsMember, thinned, IsTooLong, Lists, most_edits}
+use Rattle.mothra_ops.proofs.Common.{most_whole, Edit}
 use Rattle.mothra_ops.proofs.OrderedLists.{no_longer}
 use Rattle.mothra_ops.proofs.Thinning.{thinned_within}
 

@@ -1,23 +1,9 @@
 -- What an edit makes, concluded from the line, the node and the replacement that are found.
-use Rattle.std.proofs.Common.{arith, ◌≡◌, ◌<◌, ◌≤◌, ◌-◌, ◌+◌, ℕ, zero, suc, length, List, map, drop, set, refl, Option, Some, None, ap, sym, ◌∙◌, inl, inr, get_or}
-use Rattle.std.specs.Prelude.{◌⊎◌, option_map, slice_get}
-use Rattle.std.specs.Option.{option_and_then}
-use Rattle.std.proofs.lemmas.Option.{none-some, slice_get-map, slice_get_cases, slice_get_past, slice_get_read}
-use Rattle.std.proofs.lemmas.List.{drop-drop, drop-set-lt, length-map, map-set}
-use Rattle.f77_tree.specs.Node.{NodeOf, node_of, nodes_of}
-use Rattle.f77_program.specs.Program.{LineFields, line_of, line_at}
-use Rattle.f77_tree.specs.Statement.{statement_of, Statement}
-use Rattle.f77_tree.specs.declared.node.Node.{Node}
-use Rattle.f77_program.specs.declared.program.Line.{Line}
-use Rattle.f77_tree.specs.Replacement.{replacement_of}
-use Rattle.f77_tree.specs.Sites.{Site, changed, sites}
-use Rattle.f77_tree.specs.declared.replacement.Replacement.{Replacement}
-use Rattle.mothra_ops.specs.Edits.{made, numbered}
-use Rattle.mothra_ops.specs.code.Original.{HasStatement}
-use Rattle.mothra_replacements.specs.Pools.{PoolFields}
-use Rattle.mothra_replacements.specs.Replacements.{gives}
-use Rattle.mothra_ops.specs.declared.edit.Edit.{Edit}
-use Rattle.mothra_codes.specs.declared.op.Op.{Op}
+use Rattle.mothra_ops.proofs.Common.{◌≡◌, ◌∙◌, ap, sym, List, map, arith, refl, Some, length, ℕ, ◌≤◌, None, ◌+◌, ◌-◌, suc, ◌<◌, inr, slice_get, zero, Option}
+use Rattle.mothra_ops.proofs.Common.{inl, ◌⊎◌, option_map, get_or, drop, set, drop-drop, drop-set-lt, length-map, map-set, none-some, slice_get-map}
+use Rattle.mothra_ops.proofs.Common.{slice_get_read, slice_get_past, slice_get_cases, option_and_then, line_of, LineFields, line_at, Line, NodeOf, nodes_of}
+use Rattle.mothra_ops.proofs.Common.{node_of, replacement_of, changed, Site, sites, statement_of, Statement, Node, Replacement, Op, numbered, made}
+use Rattle.mothra_ops.proofs.Common.{HasStatement, Edit, PoolFields, gives}
 use Rattle.mothra_ops.proofs.Left.{numbered_behind}
 use Rattle.mothra_ops.proofs.Members.{node_there, made_there}
 use Rattle.mothra_ops.proofs.MakesMutant.{line_numbered}

@@ -1,23 +1,8 @@
 -- What is found of a statement that an edit makes by a node.
-use Rattle.std.proofs.Common.{◌≡◌, ◌<◌, ◌-◌, ◌+◌, ◌^◌, true, Bool, map, Some, ap, sym, ◌∙◌, subst}
-use Rattle.f77_check.specs.Checked.{CheckedFields, IsChecked}
-use Rattle.f77_legal.specs.Alone.{StandsAlone}
-use Rattle.f77_program.specs.Patching.{Fits}
-use Rattle.f77_program.specs.Program.{line_of, line_at}
-use Rattle.f77_program.specs.declared.program.Line.{Line}
-use Rattle.f77_tree.specs.Node.{NodeOf}
-use Rattle.f77_tree.specs.Replacement.{replacement_of}
-use Rattle.f77_tree.specs.Sites.{changed}
-use Rattle.f77_tree.specs.Statement.{statement_of, Statement}
-use Rattle.f77_tree.specs.declared.replacement.Replacement.{Replacement}
-use Rattle.f77_tree.specs.declared.statement.Stmt.{Stmt}
+use Rattle.mothra_ops.proofs.Common.{◌≡◌, ◌∙◌, ap, sym, map, Some, subst, ◌+◌, ◌-◌, ◌<◌, true, Bool, ◌^◌, same_Some, CheckedFields, IsChecked, StandsAlone}
+use Rattle.mothra_ops.proofs.Common.{Fits, line_of, line_at, Line, NodeOf, replacement_of, changed, statement_of, Statement, Replacement, Stmt, IsMadeMutant}
+use Rattle.mothra_ops.proofs.Common.{made, IsMutant, HasStatement, Edit, pools_of}
 use Rattle.std.specs.declared.snapshot.Snapshot.{Snapshot}
-use Rattle.std.proofs.lemmas.Option.{same_Some}
-use Rattle.mothra_ops.specs.code.Original.{HasStatement}
-use Rattle.mothra_ops.specs.Edits.{IsMutant, made}
-use Rattle.mothra_ops.specs.Made.{IsMadeMutant}
-use Rattle.mothra_replacements.specs.Pools.{pools_of}
-use Rattle.mothra_ops.specs.declared.edit.Edit.{Edit}
 use Rattle.mothra_ops.proofs.MadeFits.{made_fits}
 use Rattle.mothra_ops.proofs.MakesMutant.{line_stands}
 

@@ -1,29 +1,17 @@
 -- What an edit makes of a statement of a legal program may stand in its place.
-use Rattle.std.proofs.Common.{◌≡◌, ◌≤◌, ◌-◌, ℕ, zero, suc, List, [], ◌∷◌, Bool, true, false, true≢false, Some, None, refl, sym, ap, ◌∙◌, subst, arith, if◌then◌else◌}
-use Rattle.std.specs.Prelude.{◌↔◌, ◌&&◌, not, slice_get}
-use Rattle.std.specs.List.{All}
-use Rattle.std.proofs.lemmas.List.Elements.{All-nil, All-cons}
-use Rattle.std.proofs.lemmas.Option.{none-some, same_Some}
+use Rattle.mothra_ops.proofs.Common.{◌≡◌, ◌∙◌, ap, sym, List, arith, refl, Some, subst, ℕ, ◌≤◌, None, [], ◌-◌, suc, slice_get, zero, ◌∷◌, true, Bool, false}
+use Rattle.mothra_ops.proofs.Common.{true≢false, if◌then◌else◌, not, ◌&&◌, ◌↔◌, All-nil, All-cons, same_Some, none-some, All, IsLegal, Fits, LineFields}
+use Rattle.mothra_ops.proofs.Common.{IsProgram, NodeOf, nodes_of, Site, sites, sites_behind, statement_or, Statement, form_of, same_statement, Op, Rsr, San}
+use Rattle.mothra_ops.proofs.Common.{Sdl, numbered, made, IsMember, MakesLegal, Edit, pools_of, PoolFields, gives, replacements, stands_in, acts_or_continues}
+use Rattle.mothra_ops.proofs.Common.{is_replaceable_action, new_statement}
 use Rattle.f77_tree.specs.declared.form.Form.{Form}
-use Rattle.f77_tree.specs.Statement.{Statement, form_of, same_statement}
 use Rattle.f77_tree.specs.Name.{is_symbolic}
-use Rattle.f77_tree.specs.Node.{NodeOf, nodes_of}
-use Rattle.f77_tree.specs.Sites.{Site, sites, sites_behind, statement_or}
 use Rattle.f77_program.specs.Formed.{is_action}
 use Rattle.f77_program.specs.code.Formed.{statement_formed}
 use Rattle.f77_program.specs.Group.{form_group, group_of}
-use Rattle.f77_program.specs.Patching.{Fits}
-use Rattle.f77_program.specs.Program.{IsProgram, LineFields}
 use Rattle.f77_program.specs.declared.group.Group.TheVariants.{Executable}
 use Rattle.f77_program.proofs.StatementForming.{formed_spelled}
 use Rattle.f77_tree.proofs.Tests.{and_true}
-use Rattle.f77_legal.specs.Legal.{IsLegal}
-use Rattle.mothra_codes.specs.declared.op.Op.{Op}
-use Rattle.mothra_codes.specs.declared.op.Op.TheVariants.{Rsr, San, Sdl}
-use Rattle.mothra_ops.specs.Edits.{IsMember, MakesLegal, made, numbered}
-use Rattle.mothra_replacements.specs.Pools.{PoolFields, pools_of}
-use Rattle.mothra_replacements.specs.Replacements.{is_replaceable_action, acts_or_continues, gives, new_statement, replacements, stands_in}
-use Rattle.mothra_ops.specs.declared.edit.Edit.{Edit}
 use Rattle.mothra_replacements.proofs.FormedCandidates.{IsFit, chosen, gives_fit}
 use Rattle.mothra_replacements.proofs.FormedNodes.{IsFormedLine, IsFormedNode, lines_formed, nodes_formed}
 use Rattle.mothra_replacements.proofs.FormedPools.{pools_formed}

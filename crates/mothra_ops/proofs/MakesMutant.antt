@@ -1,15 +1,8 @@
 -- Whether a statement makes a mutant.
-use Rattle.std.proofs.Common.{◌≡◌, ◌≢◌, ◌≤◌, ◌-◌, ℕ, zero, suc, List, map, Some, None, refl, sym, ap, ◌∙◌, arith}
-use Rattle.std.specs.Prelude.{option_map, slice_get}
-use Rattle.std.proofs.lemmas.Option.{none-some, same_Some, slice_get-map}
-use Rattle.f77_program.specs.Program.{LineFields, line_of, line_at}
-use Rattle.f77_program.specs.Patching.{Fits, patched}
-use Rattle.f77_tree.specs.Statement.{statement_of, Statement}
-use Rattle.f77_program.specs.declared.program.Line.{Line}
+use Rattle.mothra_ops.proofs.Common.{◌≡◌, ◌∙◌, ap, sym, List, map, arith, refl, Some, ℕ, ◌≤◌, None, ◌-◌, suc, slice_get, zero, option_map, ◌≢◌, same_Some}
+use Rattle.mothra_ops.proofs.Common.{none-some, slice_get-map, IsLegal, Fits, patched, line_of, LineFields, line_at, Line, statement_of, Statement, numbered}
+use Rattle.mothra_ops.proofs.Common.{IsMutant, HasStatement}
 use Rattle.f77_legal.specs.Labels.{nth_statement}
-use Rattle.f77_legal.specs.Legal.{IsLegal}
-use Rattle.mothra_ops.specs.Edits.{IsMutant, numbered}
-use Rattle.mothra_ops.specs.code.Original.{HasStatement}
 
 -- the statement of this number
 pub line_numbered : (lines : List Line) (number : ℕ) → numbered (map line_of lines) number ≡ option_map line_of (line_at lines number)

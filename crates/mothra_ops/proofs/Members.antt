@@ -1,19 +1,9 @@
 -- The members of an operator's list: where they stand, and which edits are members.
-use Rattle.std.proofs.Common.{arith, ◌≡◌, ◌<◌, ◌≤◌, ◌+◌, ℕ, zero, suc, length, List, refl, Option, Some, None, ap, sym, ◌∙◌, subst, inl, inr}
-use Rattle.std.specs.Prelude.{option_map, slice_get}
-use Rattle.std.specs.Option.{option_and_then}
-use Rattle.std.proofs.lemmas.Option.{same_Some, none-some, slice_get-map, slice_get_within, slice_get_cases, option_and_then_some}
-use Rattle.f77_tree.specs.Node.{NodeOf, nodes_of}
-use Rattle.f77_program.specs.Program.{LineFields}
-use Rattle.f77_tree.specs.Statement.{Statement}
-use Rattle.f77_tree.specs.Sites.{Site, node_at, put_node, changed, sites}
+use Rattle.mothra_ops.proofs.Common.{◌≡◌, ◌∙◌, ap, sym, List, arith, refl, Some, length, subst, ℕ, ◌≤◌, None, ◌+◌, suc, ◌<◌, inr, slice_get, zero, Option, inl}
+use Rattle.mothra_ops.proofs.Common.{option_map, same_Some, none-some, slice_get-map, slice_get_cases, slice_get_within, option_and_then_some, option_and_then}
+use Rattle.mothra_ops.proofs.Common.{LineFields, NodeOf, nodes_of, changed, Site, sites, node_at, put_node, Statement, Op, numbered, made, IsMutant, IsMember}
+use Rattle.mothra_ops.proofs.Common.{HasStatement, StandsAt, Edit, pools_of, PoolFields, gives}
 use Rattle.f77_tree.proofs.Numbering.{numbering}
-use Rattle.mothra_ops.specs.Edits.{IsMember, IsMutant, made, numbered}
-use Rattle.mothra_ops.specs.code.Original.{HasStatement, StandsAt}
-use Rattle.mothra_replacements.specs.Pools.{PoolFields, pools_of}
-use Rattle.mothra_replacements.specs.Replacements.{gives}
-use Rattle.mothra_ops.specs.declared.edit.Edit.{Edit}
-use Rattle.mothra_codes.specs.declared.op.Op.{Op}
 use Rattle.mothra_ops.proofs.Cursor.{edit_at}
 
 -- the number of an item is 1 at least and the length of the list at most

@@ -1,15 +1,8 @@
 -- The nodes of the statements of a program, statement by statement.
-use Rattle.std.proofs.Common.{arith, ◌≡◌, ◌≤◌, ◌-◌, ℕ, zero, suc, List, map, Option, Some, None, sym, ap, ◌∙◌}
-use Rattle.std.specs.Prelude.{Vec, option_map, slice_get}
+use Rattle.mothra_ops.proofs.Common.{◌≡◌, ◌∙◌, ap, sym, List, map, arith, Some, ℕ, ◌≤◌, None, ◌-◌, suc, slice_get, zero, Option, option_map, Vec, same_Some}
+use Rattle.mothra_ops.proofs.Common.{none-some, slice_get-map, line_of, LineFields, Line, NodeOf, nodes_of, node_of, Statement, Node, numbered, HasStatement}
+use Rattle.mothra_ops.proofs.Common.{AreNodesOf, nodes_at}
 use Rattle.std.specs.declared.alloc.Global.{Global}
-use Rattle.std.proofs.lemmas.Option.{none-some, same_Some, slice_get-map}
-use Rattle.f77_tree.specs.Node.{NodeOf, node_of, nodes_of}
-use Rattle.f77_program.specs.Program.{LineFields, line_of}
-use Rattle.f77_tree.specs.Statement.{Statement}
-use Rattle.f77_tree.specs.declared.node.Node.{Node}
-use Rattle.f77_program.specs.declared.program.Line.{Line}
-use Rattle.mothra_ops.specs.Edits.{numbered}
-use Rattle.mothra_ops.specs.code.Original.{AreNodesOf, HasStatement, nodes_at}
 
 -- the list that is found for a number has the nodes of the statement with that number
 pub list_found : (program : List LineFields) (lists : List (Vec Node Global)) (number : ℕ) → AreNodesOf program lists → 1 ≤ number

@@ -1,19 +1,10 @@
 -- The mutants of a plan, found by their numbers.
-use Rattle.std.proofs.Common.{arith, ltb, ◌≡◌, ◌≤◌, ◌-◌, ◌∙◌, ℕ, zero, suc, List, [], length, map, get_or, Option, Some, None, refl, sym, ap, subst}
-use Rattle.std.specs.Prelude.{IfSome, is_some, slice_get}
-use Rattle.std.specs.Borrow.{Bor}
-use Rattle.std.specs.List.{All}
-use Rattle.std.specs.Option.{option_and_then, option_map, option_map_or}
-use Rattle.std.proofs.lemmas.Bool.{ltb-false, ltb-true}
-use Rattle.std.proofs.lemmas.Option.{get_or_from_slice_get, none-some, slice_get-map, slice_get_past, slice_get_read, slice_get_within}
-use Rattle.f77_tree.specs.Statement.{Statement}
-use Rattle.mothra_ops.specs.Edits.{numbered}
-use Rattle.mothra_ops.specs.Made.{IsMadeMutant}
-use Rattle.mothra_ops.specs.Mutants.{mutant_fields, mutant_made, mutant_of, program_of}
-use Rattle.mothra_ops.specs.Plan.{ListFields, PlanFields, edits_of, list_fields, list_of_operator}
-use Rattle.mothra_ops.specs.declared.listing.Listing.{Listing}
-use Rattle.mothra_ops.specs.declared.mutant.Mutant.{Mutant}
-use Rattle.mothra_codes.specs.declared.op.Op.{Op}
+use Rattle.mothra_ops.proofs.Common.{◌≡◌, ◌∙◌, ap, sym, List, map, arith, refl, Some, length, subst, ℕ, ◌≤◌, None, [], ◌-◌, suc, slice_get, zero, Option}
+use Rattle.mothra_ops.proofs.Common.{IfSome, get_or, is_some, ltb-false, ltb, ltb-true, none-some, slice_get-map, slice_get_read, slice_get_past}
+use Rattle.mothra_ops.proofs.Common.{slice_get_within, get_or_from_slice_get, Bor, All, option_and_then, option_map_or, Statement, Op, numbered, IsMadeMutant}
+use Rattle.mothra_ops.proofs.Common.{list_fields, ListFields, PlanFields, list_of_operator, mutant_fields, edits_of, mutant_made, mutant_of, program_of}
+use Rattle.mothra_ops.proofs.Common.{Listing, Mutant}
+use Rattle.std.specs.Option.{option_map}
 
 pub nothing_numbered : {X : Type 0} (k : ℕ) → numbered {X = X} [] k ≡ None
 nothing_numbered zero = refl

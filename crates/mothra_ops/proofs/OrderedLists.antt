@@ -1,8 +1,6 @@
 -- Lists of edits in order: only one has given members, and none that has no others is longer.
-use Rattle.std.proofs.Common.{◌≡◌, ◌≤◌, zero, suc, length, List, [], ◌∷◌, refl, sym, ◌∙◌, subst, arith, inl, inr}
-use Rattle.std.specs.Prelude.{◌⊎◌, AllPairs, Contains}
-use Rattle.mothra_ops.specs.declared.edit.Edit.{Edit}
-use Rattle.mothra_ops.specs.Edits.{BeforeEdit, Lists}
+use Rattle.mothra_ops.proofs.Common.{◌≡◌, ◌∙◌, sym, List, arith, refl, length, subst, ◌≤◌, [], suc, inr, zero, ◌∷◌, inl, ◌⊎◌, Contains, AllPairs, Lists}
+use Rattle.mothra_ops.proofs.Common.{BeforeEdit, Edit}
 
 -- no edit is before itself, and of two edits only one is before the other
 not_before_itself : (e : Edit) → ¬ (BeforeEdit e e)

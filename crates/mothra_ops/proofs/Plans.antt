@@ -1,28 +1,15 @@
 -- The lists of a plan that is being made.
-use Rattle.std.proofs.Common.{◌≡◌, ◌<◌, ◌≤◌, ◌⊎◌, ◌+◌, ◌++◌, ℕ, zero, suc, List, [], ◌∷◌, map, filter, take, Bool, true, false}
-use Rattle.std.proofs.Common.{eqb, nat_eq, Option, Some, None, refl, sym, ap, ◌∙◌, cond, arith, inl, inr, subst, Bor, true≢false}
-use Rattle.std.specs.Prelude.{All, Contains, IfSome, is_some}
+use Rattle.mothra_ops.proofs.Common.{◌≡◌, ◌∙◌, ap, sym, List, map, arith, refl, Some, subst, ℕ, ◌≤◌, None, [], ◌+◌, suc, ◌<◌, inr, zero, ◌∷◌, Option, inl, ◌⊎◌}
+use Rattle.mothra_ops.proofs.Common.{IfSome, ◌++◌, true, Bool, false, cond, filter, take, true≢false, Contains, is_some, append-nil, nat_eq, take_all, eqb}
+use Rattle.mothra_ops.proofs.Common.{cases_lt, nat_tests, map-append, All-nil, All-push, All-head, All-tail, filter_more, find, option_map_or, option_or}
+use Rattle.mothra_ops.proofs.Common.{CheckedFields, line_of, LineFields, Op, Aar, edits_in, IsNoList, IsTooLong, IsCountedList, list_fields, IsList, IsNoPlan}
+use Rattle.mothra_ops.proofs.Common.{ListFields, HasOneEach, IsPlan, asked, plan_fields, Edit, Listing, OpsFault, Memory, TooMany, NotASite}
+use Rattle.std.proofs.Common.{Bor, All}
 use Rattle.std.specs.Bool.{Decides}
-use Rattle.std.specs.List.{find}
-use Rattle.std.specs.Option.{option_map, option_map_or, option_or}
-use Rattle.std.proofs.lemmas.List.{append-nil, map-append, take_all}
-use Rattle.std.proofs.lemmas.List.Elements.{All-head, All-tail, All-push, All-nil, filter_more}
+use Rattle.std.specs.Option.{option_map}
 use Rattle.std.proofs.lemmas.List.Folds.{find-append}
-use Rattle.std.proofs.lemmas.Bool.{cases_lt}
-use Rattle.std.proofs.lemmas.Bool.Decides.{nat_tests}
-use Rattle.f77_program.specs.Program.{LineFields, line_of}
-use Rattle.f77_check.specs.Checked.{CheckedFields}
-use Rattle.mothra_ops.specs.Edits.{IsCountedList, IsList, IsNoList, IsTooLong}
 use Rattle.mothra_codes.specs.Op.{all_ops, index}
 use Rattle.mothra_codes.specs.code.Op.{op_at}
-use Rattle.mothra_ops.specs.Listing.{edits_in}
-use Rattle.mothra_ops.specs.Plan.{ListFields, HasOneEach, IsPlan, IsNoPlan, asked, plan_fields, list_fields}
-use Rattle.mothra_ops.specs.declared.edit.Edit.{Edit}
-use Rattle.mothra_replacements.specs.declared.fault.OpsFault.{OpsFault}
-use Rattle.mothra_replacements.specs.declared.fault.OpsFault.TheVariants.{Memory, NotASite, TooMany}
-use Rattle.mothra_ops.specs.declared.listing.Listing.{Listing}
-use Rattle.mothra_codes.specs.declared.op.Op.{Op}
-use Rattle.mothra_codes.specs.declared.op.Op.TheVariants.{Aar}
 use Rattle.mothra_codes.proofs.Operators.{same_op, index_below, op_at-index}
 use Rattle.mothra_ops.proofs.Numbered.{seen}
 

@@ -1,33 +1,17 @@
 -- A mutant takes the arguments of its program: what an edit changes says nothing of the dummy arguments.
-use Rattle.std.proofs.Common.{◌≡◌, ◌∙◌, ◌-◌, ℕ, zero, suc, List, [], ◌∷◌, ◌++◌, Bool, true, false, true≢false, cond, Option, Some, None, refl, sym, ap, subst, map, filter}
-use Rattle.std.specs.Borrow.{Bor}
-use Rattle.std.specs.Prelude.{IfSome, is_some, slice_get, if◌then◌else◌}
-use Rattle.std.specs.List.{filter_map}
-use Rattle.std.specs.Option.{option_and_then}
+use Rattle.mothra_ops.proofs.Common.{◌≡◌, ◌∙◌, ap, sym, List, map, refl, Some, subst, ℕ, None, [], ◌-◌, suc, slice_get, zero, ◌∷◌, Option, IfSome, ◌++◌, true}
+use Rattle.mothra_ops.proofs.Common.{Bool, false, cond, filter, true≢false, is_some, if◌then◌else◌, filter-append, filter_map-append, same_Some, none-some}
+use Rattle.mothra_ops.proofs.Common.{option_and_then_some, Bor, filter_map, option_and_then, CheckedFields, shapes, Fits, patched, replaced, line_of}
+use Rattle.mothra_ops.proofs.Common.{LineFields, NodeOf, names_of, Site, sites, statement_of, Statement, is_executable_statement, Op, Der, Dsa, Glr, numbered}
+use Rattle.mothra_ops.proofs.Common.{IsMadeMutant, made, Edit, Mutant, pools_of, PoolFields, gives, replacements, stands_in}
 use Rattle.std.specs.Str.{bytes_eq}
-use Rattle.std.proofs.lemmas.List.Elements.{filter-append, filter_map-append}
-use Rattle.std.proofs.lemmas.Option.{none-some, same_Some, option_and_then_some}
 use Rattle.f77_program.specs.Group.{group_of}
-use Rattle.f77_tree.specs.Node.{NodeOf, names_of}
-use Rattle.f77_program.specs.Program.{LineFields, line_of}
-use Rattle.f77_program.specs.Patching.{Fits, replaced, patched}
-use Rattle.f77_tree.specs.Statement.{Statement, is_executable_statement, statement_of}
 use Rattle.f77_program.specs.declared.group.Group.{Group}
 use Rattle.f77_program.specs.declared.group.Group.TheVariants.{Subroutine, Declaration}
 use Rattle.f77_tree.specs.declared.tree.Kind.TheVariants.{Integer}
 use Rattle.f77_legal.specs.Heading.{dummies_of, dummies}
 use Rattle.f77_legal.specs.Names.{Symbol, NameUse, Plain, name_in, uses_of, uses, kind_in, bounds_in, some_items, first_item_or}
 use Rattle.f77_legal.specs.InitialValues.{product}
-use Rattle.f77_check.specs.Checked.{CheckedFields, shapes}
-use Rattle.f77_tree.specs.Sites.{Site, sites}
-use Rattle.mothra_codes.specs.declared.op.Op.{Op}
-use Rattle.mothra_codes.specs.declared.op.Op.TheVariants.{Der, Dsa, Glr}
-use Rattle.mothra_ops.specs.Edits.{made, numbered}
-use Rattle.mothra_ops.specs.Made.{IsMadeMutant}
-use Rattle.mothra_replacements.specs.Pools.{PoolFields, pools_of}
-use Rattle.mothra_replacements.specs.Replacements.{gives, replacements, stands_in}
-use Rattle.mothra_ops.specs.declared.edit.Edit.{Edit}
-use Rattle.mothra_ops.specs.declared.mutant.Mutant.{Mutant}
 use Rattle.mothra_ops.proofs.MakesMutant.{counted_at}
 use Rattle.mothra_ops.proofs.Numbered.{nothing_numbered}
 

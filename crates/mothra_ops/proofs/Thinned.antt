@@ -1,11 +1,6 @@
 -- A list of which each q-th item is kept, and one more item.
-use Rattle.std.proofs.Common.{◌≡◌, ◌≢◌, ◌+◌, ◌%◌, ℕ, suc, false, List, [], ◌∷◌, ◌++◌, length, map, filter, ap, ◌∙◌, arith}
-use Rattle.std.specs.Prelude.{◌==◌, cond}
-use Rattle.std.specs.List.{enumerate_from}
-use Rattle.std.proofs.lemmas.Bool.Decides.{nat_tests}
-use Rattle.std.proofs.lemmas.List.{map-append, append-nil}
-use Rattle.std.proofs.lemmas.List.Elements.{filter-append}
-use Rattle.mothra_ops.specs.Edits.{thinned}
+use Rattle.mothra_ops.proofs.Common.{◌≡◌, ◌∙◌, ap, List, map, arith, length, ℕ, [], ◌+◌, suc, ◌∷◌, ◌++◌, false, cond, filter, ◌%◌, append-nil, ◌==◌, ◌≢◌}
+use Rattle.mothra_ops.proofs.Common.{nat_tests, map-append, filter-append, enumerate_from, thinned}
 
 enumerate_push : {X : Type 0} (n : ℕ) (xs : List X) (x : X) → enumerate_from n (xs ++ x ∷ []) ≡ enumerate_from n xs ++ (n + length xs, x) ∷ []
 enumerate_push n [] x = let e : n ≡ n + 0 = omega arith in ap (λ (k : ℕ). (k, x) ∷ []) e

@@ -1,13 +1,9 @@
 -- Lists of which each q-th item is kept.
-use Rattle.std.proofs.Common.{◌≡◌, ◌<◌, ◌≤◌, ◌+◌, ◌-◌, ◌*◌, ◌%◌, ℕ, zero, suc, true, false, List, [], ◌∷◌, length, map, filter, Some, refl, sym, ap, ◌∙◌, arith, inl, inr}
-use Rattle.std.specs.Prelude.{◌⊎◌, ◌==◌, slice_get, cond}
-use Rattle.std.specs.List.{enumerate_from}
+use Rattle.mothra_ops.proofs.Common.{◌≡◌, ◌∙◌, ap, sym, List, map, arith, refl, Some, length, ℕ, ◌≤◌, [], ◌+◌, ◌-◌, suc, ◌<◌, inr, slice_get, zero, ◌∷◌, inl}
+use Rattle.mothra_ops.proofs.Common.{◌⊎◌, true, false, cond, filter, ◌%◌, ◌==◌, ◌*◌, cases_lt, nat_tests, slice_get_cases, slice_get_within, enumerate_from}
+use Rattle.mothra_ops.proofs.Common.{thinned}
 use Rattle.std.proofs.Math.Nat.{add-mul}
 use Rattle.std.proofs.lemmas.Nat.{mod-mul-add}
-use Rattle.std.proofs.lemmas.Option.{slice_get_within, slice_get_cases}
-use Rattle.std.proofs.lemmas.Bool.{cases_lt}
-use Rattle.std.proofs.lemmas.Bool.Decides.{nat_tests}
-use Rattle.mothra_ops.specs.Edits.{thinned}
 
 -- the items of a list that follows n others, thinned
 abbrev from : {X : Type 0} → ℕ → ℕ → List X → List X

@@ -5,3 +5,9 @@ pub mod Plan
 pub mod Mutants
 pub mod Made
 pub mod code
+pub use Edits.*
+pub use Copies.*
+pub use Listing.*
+unfoldable pub use Plan.*
+pub use Mutants.*
+pub use Made.*

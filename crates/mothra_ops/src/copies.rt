@@ -4,8 +4,7 @@ ghost use Rattle.std.specs.Prelude.{◌≡◌, ◌<◌, ◌+◌, ◌^◌, map, o
 ghost use Rattle.f77_program.specs.Program.{line_of};
 ghost use Rattle.f77_tree.specs.Replacement.{replacement_of};
 ghost use Rattle.f77_tree.specs.Statement.{statement_of};
-ghost use Rattle.mothra_ops.specs.Copies.{changed_at, copied, statements_in};
-ghost use Rattle.mothra_ops.specs.Edits.{numbered};
+ghost use Rattle.mothra_ops.specs.{changed_at, copied, statements_in, numbered};
 
 use f77_program::Line;
 use f77_tree::{Replacement, Shared, Stmt};

@@ -3,18 +3,15 @@
 //! Three loops, over statements, nodes and replacements, have one invariant: the members before this place, in order,
 //! are what was found so far (`HasCome`).
 
-ghost use Rattle.std.specs.Prelude.{◌≡◌, ◌<◌, ◌≤◌, ◌+◌, ◌^◌, ◌⊎◌, map, All, OnOk, IfOk, IfErr};
+ghost use Rattle.std.specs.Prelude.{◌≡◌, ◌<◌, ◌≤◌, ◌+◌, ◌^◌, ◌⊎◌, map, All, OnOk, IfOk};
+ghost use Rattle.std.specs.Prelude.{IfErr};
 ghost use Rattle.f77_program.specs.Program.{line_of};
 ghost use Rattle.f77_program.specs.Patching.{patched};
 ghost use Rattle.f77_tree.specs.Statement.{statement_of};
-ghost use Rattle.mothra_ops.specs.Edits.{IsCountedList, IsList, IsMember, IsNoList};
-ghost use Rattle.mothra_ops.specs.Listing.{edits_in};
-ghost use Rattle.mothra_ops.specs.Copies.{copied, statements_in};
-ghost use Rattle.mothra_ops.specs.Made.{IsMadeMutant};
-ghost use Rattle.mothra_ops.specs.code.Listing.{HasCome};
-ghost use Rattle.mothra_ops.specs.code.Original.{HasStatement, IsSiteOf};
-ghost use Rattle.mothra_ops.specs.code.Drawn.{IsOriginal, lines_of};
 ghost use Rattle.mothra_replacements.specs.declared.fault.OpsFault.TheVariants.{Memory, NotASite};
+ghost use Rattle.mothra_ops.specs.{IsCountedList, IsList, IsMember, IsNoList, edits_in, copied, statements_in};
+ghost use Rattle.mothra_ops.specs.{IsMadeMutant};
+ghost use Rattle.mothra_ops.specs.code.{HasCome, HasStatement, IsSiteOf, IsOriginal, lines_of};
 
 use crate::copies::Copies;
 use crate::edit::Edit;

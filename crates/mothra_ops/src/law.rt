@@ -1,14 +1,15 @@
 //! Theorems on the operators' lists. Each is the contract of a function that does nothing.
 
-ghost use Rattle.std.specs.Prelude.{◌≡◌, ◌↔◌, ◌*◌, ◌<◌, ◌≤◌, ◌⊎◌, ℕ, List, Some, None, length, slice_get};
+ghost use Rattle.std.specs.Prelude.{◌≡◌, ◌↔◌, ◌*◌, ◌<◌, ◌≤◌, ◌⊎◌, ℕ, List, Some};
+ghost use Rattle.std.specs.Prelude.{None, length, slice_get};
 ghost use Rattle.f77_tree.specs.Statement.{Statement};
 ghost use Rattle.f77_program.specs.Program.{IsProgram, LineFields};
 ghost use Rattle.f77_program.specs.Patching.{Fits};
 ghost use Rattle.f77_legal.specs.Legal.{IsLegal};
-ghost use Rattle.mothra_ops.specs.Edits.{Lists, IsMember, IsTooLong, MakesLegal, made, thinned, most_edits, most_whole};
 ghost use Rattle.mothra_replacements.specs.Pools.{pools_of};
 ghost use Rattle.mothra_ops.specs.declared.edit.Edit.{Edit};
 ghost use Rattle.mothra_codes.specs.declared.op.Op.{Op};
+ghost use Rattle.mothra_ops.specs.{Lists, IsMember, IsTooLong, MakesLegal, made, thinned, most_edits, most_whole};
 
 /// An operator has only one whole list for a program.
 pub fn one_list()

@@ -1,10 +1,10 @@
 //! The list of an operator's mutants while it is made. It is thinned at once, so its memory grows with what is kept.
 
-ghost use Rattle.std.specs.Prelude.{◌≡◌, ◌⊎◌, ◌++◌, ◌∷◌, [], ◌<◌, ◌≤◌, List, OnOk, IfErr, length};
-ghost use Rattle.mothra_ops.specs.Edits.{thinned};
-ghost use Rattle.mothra_ops.specs.Listing.{HoldsEdits, longest};
+ghost use Rattle.std.specs.Prelude.{◌≡◌, ◌⊎◌, ◌++◌, ◌∷◌, [], ◌<◌, ◌≤◌, List, OnOk};
+ghost use Rattle.std.specs.Prelude.{IfErr, length};
 ghost use Rattle.mothra_ops.specs.declared.edit.Edit.{Edit};
 ghost use Rattle.mothra_replacements.specs.declared.fault.OpsFault.TheVariants.{Memory, TooMany};
+ghost use Rattle.mothra_ops.specs.{thinned, HoldsEdits, longest};
 
 use crate::mutant::Mutant;
 use mothra_codes::Op;

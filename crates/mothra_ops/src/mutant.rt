@@ -4,10 +4,8 @@ ghost use Rattle.std.specs.Prelude.{◌≡◌, ◌++◌, codes, string_bytes, If
 ghost use Rattle.f77_program.specs.Canonical.{statement_text};
 ghost use Rattle.f77_tree.specs.Statement.{statement_of};
 ghost use Rattle.f77_tree.specs.Replacement.{replacement_of};
-ghost use Rattle.mothra_ops.specs.Copies.{copied, statements_in};
-ghost use Rattle.mothra_ops.specs.Made.{IsMadeMutant};
-ghost use Rattle.mothra_ops.specs.Mutants.{change_text, line_number_at, mutant_fields};
-ghost use Rattle.mothra_ops.specs.Mutants.{mutant_name, mutant_text, program_of};
+ghost use Rattle.mothra_ops.specs.{copied, statements_in, IsMadeMutant, change_text, line_number_at, mutant_fields};
+ghost use Rattle.mothra_ops.specs.{mutant_name, mutant_text, program_of};
 
 use crate::copies::Copies;
 use crate::edit::Edit;

@@ -1,8 +1,8 @@
 -- A sorted list that has each number once ascends, and no other list that ascends has the same numbers.
-use Rattle.std.proofs.Common.{◌≡◌, ◌<◌, ◌≤◌, ◌+◌, ℕ, zero, suc, List, [], ◌∷◌, Bool, true, false, refl, sym, ap, ◌∙◌, ◌&&◌, ◌||◌, map, arith, Option, Some, None}
+use Rattle.mothra_replacements.proofs.Common.{◌≡◌, map, List, ap, refl, ◌∙◌, [], sym, ◌∷◌, None, true, ℕ, Bool, Some, false, Option, ◌&&◌, ◌<◌, is_some, ◌+◌}
+use Rattle.mothra_replacements.proofs.Common.{nat_eq, nat_le, ◌||◌, arith, cond, suc, zero, ◌≤◌, list_any, AllByRecursion, dedup, range_with_len, ascending}
+use Rattle.mothra_replacements.proofs.Common.{largest_of}
 use Rattle.std.proofs.Math.Dec.{T}
-use Rattle.std.specs.List.{AllByRecursion, list_any, dedup, range_with_len}
-use Rattle.std.specs.Prelude.{nat_eq, nat_le, is_some, cond}
 use Rattle.std.specs.List.Sorted.{IsPermutation, IsSorted, IsStrictlySortedBy}
 use Rattle.std.specs.List.Retain.{IsFiltered, DiffersFromLast}
 use Rattle.std.specs.Ordering.{nat_cmp, eq_by_cmp}
@@ -17,7 +17,6 @@ use Rattle.std.proofs.lemmas.List.Kept.{IsStrictlySortedBy-dedup, IsStrictlySort
 use Rattle.std.proofs.lemmas.List.Sorted.{list_any-IsPermutation}
 use Rattle.std.proofs.lemmas.Map.Keys.{sorted_from_strictly_increasing}
 use Rattle.std.proofs.lemmas.Map.Views.{list_any-from_Contains, Contains-from_any, any-filter_same}
-use Rattle.mothra_replacements.specs.Pools.{ascending, largest_of}
 
 abbrev has : ℕ → List ℕ → Bool
 has q ns = list_any (eq_by_cmp nat_cmp q) ns

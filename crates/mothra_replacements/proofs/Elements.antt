@@ -1,14 +1,10 @@
 -- What the copies of references are, and what sets array references apart from scalars.
-use Rattle.std.proofs.Common.{arith, ◌<◌, length, ap, ◌∙◌, ◌≡◌, ◌∷◌, [], List, true, false, map, refl, sym}
-use Rattle.std.specs.List.{AllZip}
-use Rattle.f77_tree.specs.Tree.{Tree, Trees}
-use Rattle.f77_tree.specs.View.{trees, tree_of, reference_fields}
+use Rattle.mothra_replacements.proofs.Common.{◌≡◌, map, List, ap, refl, ◌∙◌, [], sym, ◌∷◌, true, false, length, ◌<◌, arith, AllZip, Symbol, Tree, Trees}
+use Rattle.mothra_replacements.proofs.Common.{tree_of, reference_fields, trees, are_some}
 use Rattle.f77_tree.specs.declared.tree.Expr.{Expr}
 use Rattle.f77_tree.specs.declared.tree.Ref.{Ref}
 use Rattle.f77_tree.proofs.Views.{ref_view, reference_view}
 use Rattle.f77_tree.specs.declared.tree.Expr.TheViews as views
-use Rattle.f77_legal.specs.Names.{Symbol}
-use Rattle.mothra_replacements.specs.Pools.{are_some}
 
 some_element : (xs : List Expr) → 0 < length xs → are_some (trees (map tree_of xs)) ≡ true
 some_element [] h = absurd (omega arith)

@@ -1,8 +1,7 @@
 -- Lists that a loop makes of the items that pass a test, or of which something is made.
-use Rattle.std.proofs.Common.{◌≡◌, ◌<◌, ◌≤◌, ◌+◌, ◌∷◌, ◌++◌, [], ℕ, List, Bool, true, false, Option, Some, None, cond, length, map, filter, take, get_or, refl, sym, ap, ◌∙◌}
-use Rattle.std.specs.List.{cons_option, filter_map}
-use Rattle.std.proofs.lemmas.List.{take_more, take_all, map-append, append-nil}
-use Rattle.std.proofs.lemmas.List.Elements.{filter-append, filter_map-append}
+use Rattle.mothra_replacements.proofs.Common.{◌≡◌, map, List, ap, refl, ◌∙◌, [], filter, sym, ◌∷◌, None, take, true, ℕ, Bool, Some, false, Option, ◌++◌, get_or}
+use Rattle.mothra_replacements.proofs.Common.{length, ◌<◌, ◌+◌, append-nil, cond, ◌≤◌, take_all, map-append, take_more, filter-append, filter_map-append}
+use Rattle.mothra_replacements.proofs.Common.{filter_map, cons_option}
 
 module _ {X V : Type 0} (p : X → Bool) (f : X → V) where
   more : (xs : List X) (i : ℕ) {x : X} (d : X) → x ≡ get_or xs i d → i < length xs

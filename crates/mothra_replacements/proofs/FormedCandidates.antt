@@ -1,35 +1,25 @@
 -- An operator puts in the place of a node of a formed statement what is formed itself.
-use Rattle.std.proofs.Common.{◌≡◌, ℕ, zero, suc, ◌+◌, List, [], ◌∷◌, ◌++◌, Bool, true, false, Some, None, filter, refl, if◌then◌else◌}
-use Rattle.std.specs.Prelude.{not, nat_eq, nat_le, nat_lt, ◌&&◌, ◌||◌, ⊤}
-use Rattle.std.specs.List.{All}
+use Rattle.mothra_replacements.proofs.Common.{◌≡◌, List, refl, [], filter, ◌∷◌, not, None, true, ℕ, Bool, Some, false, ◌++◌, ◌&&◌, ◌+◌, if◌then◌else◌, nat_eq}
+use Rattle.mothra_replacements.proofs.Common.{nat_le, ◌||◌, suc, zero, nat_lt, All-append, All-cons, All-map, All-nil, All-weaker, All-filter, All, Symbol}
+use Rattle.mothra_replacements.proofs.Common.{reference_formed, all_formed, formed, is_some_list, and_true, same_tree, same_operator, same_kind, is_symbolic}
+use Rattle.mothra_replacements.proofs.Common.{NodeOf, Statement, form_of, same_statement, Tree, Trees, Operator, scalar, PoolFields, is_comparable, placed}
+use Rattle.mothra_replacements.proofs.Common.{are_some, is_in, is_operand, kind_of_expression, next_constants, relations, replacements, absolute}
+use Rattle.mothra_replacements.proofs.Common.{absolute_value, acts_or_continues, altered, arithmetic_operators, comparable, connectors, drawn, gives}
+use Rattle.mothra_replacements.proofs.Common.{in_expression, in_label, in_statement, in_value, is_replaceable_action, lowered, new_statement, operands}
+use Rattle.mothra_replacements.proofs.Common.{other_operations, others, pool, raised, stands_in, truths, unary_of, with_group, with_subscripts, with_unary}
+use Rattle.mothra_replacements.proofs.Common.{Operand}
+use Rattle.std.specs.Prelude.{⊤}
 use Rattle.std.specs.Option.{IfSome}
-use Rattle.std.proofs.lemmas.List.Elements.{All-nil, All-cons, All-append, All-filter, All-map, All-weaker}
 use Rattle.f77_tree.specs.declared.data.Value.{Value}
 use Rattle.f77_tree.specs.declared.form.Form.{Form}
-use Rattle.f77_tree.specs.declared.operator.Operator.{Operator}
-use Rattle.f77_tree.specs.declared.operator.Operator.TheVariants as operator
 use Rattle.f77_tree.specs.declared.operator.Sign.TheVariants.{Minus}
 use Rattle.f77_tree.specs.declared.tree.Kind.{Kind}
 use Rattle.f77_tree.specs.declared.tree.Kind.TheVariants.{Integer, Logical}
-use Rattle.f77_tree.specs.Comparing.{same_operator, same_tree, same_kind}
-use Rattle.f77_tree.specs.Name.{is_symbolic}
-use Rattle.f77_tree.specs.Statement.{Statement, form_of, same_statement}
-use Rattle.f77_tree.specs.Tree.{Tree, Trees}
-use Rattle.f77_tree.proofs.Tests.{and_true}
 use Rattle.f77_tree.specs.Limits.{largest_integer}
-use Rattle.f77_tree.specs.Node.{NodeOf}
-use Rattle.f77_program.specs.code.Formed.{all_formed, formed, is_some_list}
-use Rattle.f77_program.proofs.Back.{reference_formed}
-use Rattle.f77_legal.specs.Names.{Symbol}
 use Rattle.mothra_codes.specs.declared.op.Op.{Op}
-use Rattle.mothra_codes.specs.declared.op.Op.TheVariants.{Aar, Abs, Acr, Aor, Asr, Car, Cnr, Crp, Csr, Der, Dsa}
-use Rattle.mothra_codes.specs.declared.op.Op.TheVariants.{Glr, Lcr, Ror, Rsr, San, Sar, Scr, Sdl, Src, Svr, Uoi}
-use Rattle.mothra_replacements.specs.Pools.{PoolFields, are_some, is_operand, pool, scalar}
-use Rattle.mothra_replacements.specs.Replacements.{absolute, absolute_value, acts_or_continues, altered, arithmetic_operators, comparable, connectors, drawn}
-use Rattle.mothra_replacements.specs.Replacements.{gives, in_expression, in_label, in_statement, in_value, is_comparable, is_in, is_replaceable_action}
-use Rattle.mothra_replacements.specs.Replacements.{kind_of_expression, lowered, new_statement, next_constants, operands, other_operations, others, placed, raised}
-use Rattle.mothra_replacements.specs.Replacements.{relations, replacements, stands_in, truths, unary_of, with_group, with_subscripts, with_unary}
-use Rattle.mothra_replacements.specs.declared.operands.Operand.{Operand}
+use Rattle.mothra_codes.specs.declared.op.Op.TheVariants.{Aar, Abs, Acr, Aor, Asr, Car, Cnr, Crp, Csr, Der, Dsa, Glr, Lcr, Ror, Rsr, San, Sar, Scr, Sdl, Src}
+use Rattle.mothra_codes.specs.declared.op.Op.TheVariants.{Svr, Uoi}
+use Rattle.f77_tree.specs.declared.operator.Operator.TheVariants as operator
 use Rattle.mothra_replacements.specs.declared.operands.Operand.TheVariants as operand
 use Rattle.mothra_replacements.proofs.FormedNodes.{IsFormedTree, IsNamed, IsNoFunction, each_mapped, node_formed}
 use Rattle.mothra_replacements.proofs.FormedPools.{All-filter_map, AreFormed, named_formed}

@@ -1,27 +1,19 @@
 -- The nodes of a statement that some text spells, and the names of a program of such statements.
-use Rattle.std.proofs.Common.{◌≡◌, ℕ, List, [], ◌∷◌, ◌++◌, Bool, true, false, Option, Some, None, get_or, length, map, refl}
-use Rattle.std.specs.Prelude.{◌&&◌, ◌||◌, is_some, nat_le}
-use Rattle.std.specs.List.{All, filter_map, flat_map, list_all}
-use Rattle.std.proofs.lemmas.List.Elements.{All-nil, All-cons, All-head, All-tail, All-append, All-map, All-weaker}
-use Rattle.f77_tree.specs.Tree.{Tree, Trees, DeclFields, GroupFields}
-use Rattle.f77_tree.specs.Name.{is_symbolic}
+use Rattle.mothra_replacements.proofs.Common.{◌≡◌, map, List, refl, [], ◌∷◌, None, true, ℕ, Bool, Some, false, Option, ◌++◌, get_or, length, ◌&&◌, is_some}
+use Rattle.mothra_replacements.proofs.Common.{nat_le, ◌||◌, All-append, All-cons, All-map, All-nil, All-weaker, All-head, All-tail, filter_map, All, list_all}
+use Rattle.mothra_replacements.proofs.Common.{flat_map, IsLegal, Symbol, symbols, uses, NameUse, name_in, uses_of, bounds_given, dummies_given, is_twice}
+use Rattle.mothra_replacements.proofs.Common.{kinds_given, names_unit, reference_formed, LineFields, IsProgram, all_formed, formed, is_some_list}
+use Rattle.mothra_replacements.proofs.Common.{statement_formed, value_formed, and_true, is_symbolic, NodeOf, names_of, node_name, nodes_of, all_parts}
+use Rattle.mothra_replacements.proofs.Common.{group_nodes, nodes_behind, parts, value_nodes, Statement, Tree, Trees, GroupFields, DeclFields}
 use Rattle.f77_tree.specs.Intrinsic.{function_named}
 use Rattle.f77_tree.specs.Joined.{has_items}
 use Rattle.f77_tree.specs.code.Joined.{some_all}
 use Rattle.f77_tree.specs.Declaration.{all_bounded}
-use Rattle.f77_tree.specs.Statement.{Statement}
-use Rattle.f77_tree.proofs.Tests.{and_true}
-use Rattle.f77_tree.specs.Node.{NodeOf, parts, all_parts, value_nodes, group_nodes, node_name, names_of, nodes_behind, nodes_of}
 use Rattle.f77_program.specs.code.Data.{any_value, is_group}
 use Rattle.f77_program.specs.code.Declaration.{declaration_formed, is_decl}
-use Rattle.f77_program.specs.code.Formed.{formed, all_formed, is_some_list, statement_formed, value_formed}
 use Rattle.f77_program.specs.Formed.{is_action}
-use Rattle.f77_program.specs.Program.{IsProgram, LineFields}
 use Rattle.f77_program.specs.declared.group.Group.{Group}
-use Rattle.f77_program.proofs.Back.{reference_formed}
 use Rattle.f77_program.proofs.StatementForming.{is_symbolic_formed}
-use Rattle.f77_legal.specs.Legal.{IsLegal}
-use Rattle.f77_legal.specs.Names.{Symbol, NameUse, bounds_given, dummies_given, is_twice, kinds_given, uses, uses_of, name_in, names_unit, symbols}
 use Rattle.f77_legal.proofs.Among.{all_once}
 use Rattle.f77_legal.proofs.Rules.{keeps_every_rule}
 use Rattle.f77_legal.proofs.Symbols.{or_false}

@@ -1,27 +1,17 @@
 -- What the operators draw from in a legal program is formed.
-use Rattle.std.proofs.Common.{◌≡◌, List, [], ◌∷◌, Bool, true, false, Option, Some, None, filter, map, refl, sym, ap, if◌then◌else◌}
-use Rattle.std.specs.Prelude.{not}
-use Rattle.std.specs.List.{All, cons_option, filter_map}
+use Rattle.mothra_replacements.proofs.Common.{◌≡◌, map, List, ap, refl, [], filter, sym, ◌∷◌, not, None, true, Bool, Some, false, Option, if◌then◌else◌}
+use Rattle.mothra_replacements.proofs.Common.{map-append, All-append, All-cons, All-map, All-nil, All-weaker, All-filter, All-head, All-tail, All-same}
+use Rattle.mothra_replacements.proofs.Common.{filter_map, All, cons_option, IsLegal, is_array, Symbol, symbols, uses, NameUse, name_in, uses_of, LineFields}
+use Rattle.mothra_replacements.proofs.Common.{IsProgram, all_formed, formed, statement_formed, and_true, same_tree, is_symbolic, NodeOf, names_of, node_name}
+use Rattle.mothra_replacements.proofs.Common.{nodes_of, Statement, is_executable_statement, Tree, Trees, scalar, PoolFields, each_once, operand_at, is_operand}
+use Rattle.mothra_replacements.proofs.Common.{pools_of, executable_nodes, Operand}
 use Rattle.std.specs.Option.{IfSome}
-use Rattle.std.proofs.lemmas.List.{map-append}
-use Rattle.std.proofs.lemmas.List.Elements.{All-nil, All-cons, All-head, All-tail, All-append, All-filter, All-map, All-same, All-weaker}
-use Rattle.f77_tree.specs.Comparing.{same_tree}
 use Rattle.f77_tree.specs.Grammar.{is_call}
-use Rattle.f77_tree.specs.Name.{is_symbolic}
-use Rattle.f77_tree.specs.Statement.{Statement, is_executable_statement}
-use Rattle.f77_tree.specs.Tree.{Tree, Trees}
-use Rattle.f77_tree.proofs.Tests.{and_true}
-use Rattle.f77_tree.specs.Node.{NodeOf, node_name, names_of, nodes_of}
-use Rattle.f77_program.specs.code.Formed.{all_formed, formed, statement_formed}
-use Rattle.f77_program.specs.Program.{IsProgram, LineFields}
 use Rattle.f77_program.proofs.Forming.{a_reference}
-use Rattle.f77_legal.specs.Legal.{IsLegal, is_array}
-use Rattle.f77_legal.specs.Names.{Symbol, NameUse, uses, uses_of, name_in, symbols}
 use Rattle.f77_legal.proofs.Among.{once_all}
-use Rattle.mothra_replacements.specs.Pools.{PoolFields, each_once, executable_nodes, is_operand, operand_at, pools_of, scalar}
-use Rattle.mothra_replacements.specs.declared.operands.Operand.{Operand}
 use Rattle.mothra_replacements.specs.declared.operands.Operand.TheVariants as operand
-use Rattle.mothra_replacements.proofs.FormedNodes.{IsFormedLine, IsFormedNode, IsFormedTree, IsNamed, IsNoFunction, both_parts, lines_formed, nodes_formed, symbols_named, symbols_no_functions}
+use Rattle.mothra_replacements.proofs.FormedNodes.{IsFormedLine, IsFormedNode, IsFormedTree, IsNamed, IsNoFunction, both_parts, lines_formed, nodes_formed}
+use Rattle.mothra_replacements.proofs.FormedNodes.{symbols_named, symbols_no_functions}
 
 -- the pools hold what some text spells; the arrays bear names of no functions
 pub record AreFormed (pools : PoolFields) : Type 0 where

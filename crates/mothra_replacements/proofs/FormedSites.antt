@@ -1,24 +1,16 @@
 -- A formed statement with a formed node in the place of another one: it is formed, and of the same form.
-use Rattle.std.proofs.Common.{◌≡◌, ℕ, List, [], ◌∷◌, ◌++◌, Bool, true, Option, Some, None, get_or, map, refl, ap, ◌∙◌}
-use Rattle.std.specs.Prelude.{◌&&◌}
-use Rattle.std.specs.List.{All, list_all}
-use Rattle.std.proofs.lemmas.List.Elements.{All-nil, All-cons, All-append, All-map, All-weaker}
+use Rattle.mothra_replacements.proofs.Common.{◌≡◌, map, List, ap, refl, ◌∙◌, [], ◌∷◌, None, true, ℕ, Bool, Some, Option, ◌++◌, get_or, ◌&&◌, All-append}
+use Rattle.mothra_replacements.proofs.Common.{All-cons, All-map, All-nil, All-weaker, All, list_all, reference_formed, all_formed, formed, is_some_list}
+use Rattle.mothra_replacements.proofs.Common.{statement_formed, value_formed, and_true, is_symbolic, NodeOf, Statement, form_of, Tree, Trees, GroupFields}
 use Rattle.f77_tree.specs.declared.data.Value.{Value}
 use Rattle.f77_tree.specs.Form.{acts}
-use Rattle.f77_tree.specs.Tree.{Tree, Trees, GroupFields}
 use Rattle.f77_tree.specs.Grammar.{is_call}
-use Rattle.f77_tree.specs.Name.{is_symbolic}
 use Rattle.f77_tree.specs.Joined.{has_items}
 use Rattle.f77_tree.specs.code.Joined.{some_all}
-use Rattle.f77_tree.specs.Statement.{Statement, form_of}
-use Rattle.f77_tree.proofs.Tests.{and_true}
-use Rattle.f77_tree.specs.Node.{NodeOf}
 use Rattle.f77_tree.specs.Sites.{Site, fixed, group_sites, item_sites, label_sites, list_sites, name_or, name_sites, part_or, part_then, parts_behind}
 use Rattle.f77_tree.specs.Sites.{sites_behind, statement_or, statement_then, step_sites, target_or, target_sites, tree_sites, value_sites, site_within}
 use Rattle.f77_program.specs.code.Data.{any_value, is_group}
-use Rattle.f77_program.specs.code.Formed.{formed, all_formed, is_some_list, statement_formed, value_formed}
 use Rattle.f77_program.specs.Formed.{is_action}
-use Rattle.f77_program.proofs.Back.{reference_formed}
 use Rattle.f77_program.proofs.Forming.{a_reference}
 use Rattle.mothra_replacements.proofs.FormedNodes.{each_mapped, each_of_some, node_formed, some_of_each}
 

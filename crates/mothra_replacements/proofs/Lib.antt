@@ -1,3 +1,4 @@
+pub mod Common
 pub mod Rows
 pub mod Filters
 pub mod Elements

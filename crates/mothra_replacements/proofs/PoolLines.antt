@@ -1,20 +1,15 @@
 -- The pools of a program, found in its table of names.
-use Rattle.std.proofs.Common.{◌≡◌, ◌∷◌, [], ℕ, List, not, map, filter, refl, sym, ap, ◌∙◌}
-use Rattle.std.specs.Prelude.{is_some}
+use Rattle.mothra_replacements.proofs.Common.{◌≡◌, map, List, ap, refl, ◌∙◌, [], filter, sym, ◌∷◌, not, ℕ, is_some, is_array, array_bounds, kind_at}
+use Rattle.mothra_replacements.proofs.Common.{FactsFields, IsNameTable, facts_fields, facts_of, Symbol, symbols, uses, some_items, LineFields, Tree, scalar}
+use Rattle.mothra_replacements.proofs.Common.{PoolFields, ascending, pools_of, operands_of}
 use Rattle.std.specs.Map.{keys_of}
 use Rattle.std.proofs.lemmas.Map.Made.{keys_of-map_values}
 use Rattle.indexmap.specs.IndexMap.{keys}
-use Rattle.f77_program.specs.Program.{LineFields}
-use Rattle.f77_tree.specs.Tree.{Tree}
 use Rattle.f77_tree.specs.declared.tree.Kind.{Kind}
 use Rattle.f77_legal.specs.Labels.{labels}
-use Rattle.f77_legal.specs.Legal.{is_array}
-use Rattle.f77_legal.specs.Names.{Symbol, uses, symbols, some_items}
-use Rattle.f77_legal.specs.NameTable.{FactsFields, IsNameTable, facts_fields, facts_of, kind_at, array_bounds}
 use Rattle.f77_legal.specs.declared.names.Names.{Names}
 use Rattle.f77_legal.proofs.Lookups.{same_kinds, same_bounds}
 use Rattle.f77_legal.proofs.NameTables.{rows}
-use Rattle.mothra_replacements.specs.Pools.{PoolFields, pools_of, ascending, operands_of, scalar}
 use Rattle.mothra_replacements.specs.declared.operands.Operand.TheVariants as operand
 
 keys_rows : (f : Symbol → FactsFields) (names : List Symbol) → keys_of (rows f names) ≡ names

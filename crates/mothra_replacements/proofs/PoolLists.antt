@@ -1,12 +1,9 @@
 -- Lists that keep each item once, where it comes first, as loops make them.
-use Rattle.std.proofs.Common.{◌≡◌, ◌<◌, ◌+◌, ◌∷◌, ◌++◌, [], ℕ, List, Bool, true, false, not, Option, Some, None, length, take, get_or, refl, sym, ap, ◌∙◌, if◌then◌else◌}
-use Rattle.std.specs.Prelude.{map, filter}
+use Rattle.mothra_replacements.proofs.Common.{◌≡◌, map, List, ap, refl, ◌∙◌, [], filter, sym, ◌∷◌, not, None, take, true, ℕ, Bool, Some, false, Option, ◌++◌}
+use Rattle.mothra_replacements.proofs.Common.{get_or, length, ◌<◌, ◌+◌, if◌then◌else◌, append-nil, map-append, take_more, filter-append, filter_map-append}
+use Rattle.mothra_replacements.proofs.Common.{filter_map, cons_option, list_any, each_once}
 use Rattle.std.specs.Cmp.{IsEquivalence}
-use Rattle.std.specs.List.{filter_map, list_any, cons_option}
-use Rattle.std.proofs.lemmas.List.{take_more, map-append, append-nil}
-use Rattle.std.proofs.lemmas.List.Elements.{filter-append, filter_map-append}
 use Rattle.std.proofs.lemmas.Map.Views.{any-filter_same}
-use Rattle.mothra_replacements.specs.Pools.{each_once}
 
 module _ {X : Type 0} (same : X → X → Bool) (laws : IsEquivalence same) where
   -- an item that is the same as q differs from x where q does

@@ -1,19 +1,12 @@
 -- Examples of the definition `replacements`, worked out.
-use Rattle.std.proofs.Common.{◌≡◌, ℕ, List, [], ◌∷◌, map, refl}
-use Rattle.std.specs.Prelude.{codes, pos, negsuc}
-use Rattle.f77_tree.specs.Node.{NodeOf}
-use Rattle.f77_tree.specs.Tree.{Tree, Trees}
-use Rattle.f77_tree.specs.Statement.{Statement}
+use Rattle.mothra_replacements.proofs.Common.{◌≡◌, map, List, refl, [], ◌∷◌, ℕ, codes, negsuc, pos, NodeOf, Statement, Tree, Trees, Operator, PoolFields}
+use Rattle.mothra_replacements.proofs.Common.{ascending, is_in, next_constants, relations, replacements}
 use Rattle.f77_tree.specs.declared.data.Constant.{Constant}
 use Rattle.f77_tree.specs.Operator.{is_relation}
-use Rattle.f77_tree.specs.declared.operator.Operator.{Operator}
-use Rattle.f77_tree.specs.declared.operator.Operator.TheVariants as operator
 use Rattle.f77_tree.specs.declared.operator.Sign.TheVariants.{Minus}
 use Rattle.f77_tree.specs.declared.tree.Kind.TheVariants.{Integer}
-use Rattle.mothra_replacements.specs.Pools.{PoolFields, ascending}
-use Rattle.mothra_replacements.specs.Replacements.{is_in, next_constants, relations, replacements}
-use Rattle.mothra_codes.specs.declared.op.Op.TheVariants.{Aar, Abs, Acr, Aor, Asr, Cnr, Crp, Csr}
-use Rattle.mothra_codes.specs.declared.op.Op.TheVariants.{Glr, Rsr, Sar, Scr, Sdl, Svr}
+use Rattle.mothra_codes.specs.declared.op.Op.TheVariants.{Aar, Abs, Acr, Aor, Asr, Cnr, Crp, Csr, Glr, Rsr, Sar, Scr, Sdl, Svr}
+use Rattle.f77_tree.specs.declared.operator.Operator.TheVariants as operator
 
 abbrev i : List ℕ
 i = codes "I"

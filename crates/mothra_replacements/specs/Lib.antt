@@ -1,2 +1,4 @@
 pub mod Pools
 pub mod Replacements
+pub use Pools.*
+pub use Replacements.*

@@ -7,9 +7,8 @@ ghost use Rattle.f77_tree.specs.Tree.{Tree};
 ghost use Rattle.f77_tree.specs.View.{tree_of};
 ghost use Rattle.f77_tree.specs.declared.operator.Sign.TheVariants.{Minus};
 ghost use Rattle.f77_legal.specs.NameTable.{kind_at};
-ghost use Rattle.mothra_replacements.specs.Pools.{pool_fields};
 ghost use Rattle.mothra_replacements.specs.Replacements as model;
-ghost use Rattle.mothra_replacements.specs.Replacements.{operands, other_operations, truths};
+ghost use Rattle.mothra_replacements.specs.{pool_fields, operands, other_operations, truths};
 
 use crate::operands::{Operand, comparable, drawn, is_operand, kind_in};
 use crate::pools::Pools;

@@ -6,9 +6,8 @@ ghost use Rattle.f77_tree.specs.Tree.{Tree};
 ghost use Rattle.f77_tree.specs.View.{tree_of, reference_fields, trees};
 ghost use Rattle.f77_legal.specs.NameTable.{kind_at};
 ghost use Rattle.mothra_replacements.specs.Pools as drawing;
-ghost use Rattle.mothra_replacements.specs.Pools.{pool_fields};
 ghost use Rattle.mothra_replacements.specs.Replacements as model;
-ghost use Rattle.mothra_replacements.specs.Replacements.{kind_of_expression};
+ghost use Rattle.mothra_replacements.specs.{pool_fields, kind_of_expression};
 
 use crate::pools::Pools;
 use f77_legal::{Names, result_kind};

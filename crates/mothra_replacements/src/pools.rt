@@ -11,7 +11,7 @@ ghost use Rattle.f77_legal.specs.Labels as labelled;
 ghost use Rattle.f77_legal.specs.Names.{some_items};
 ghost use Rattle.f77_legal.specs.NameTable.{array_bounds};
 ghost use Rattle.mothra_replacements.specs.Pools as model;
-ghost use Rattle.mothra_replacements.specs.Pools.{each_once, ascending, operand_at, pool_fields};
+ghost use Rattle.mothra_replacements.specs.{each_once, ascending, operand_at, pool_fields};
 
 use crate::operands::{Operand, is_operand, is_reference, scalar};
 use f77_legal::Names;

@@ -7,8 +7,8 @@ ghost use Rattle.f77_tree.specs.Statement.{same_statement, statement_of};
 ghost use Rattle.f77_tree.specs.Node.{NodeOf, node_of};
 ghost use Rattle.f77_tree.specs.Replacement.{replacement_of};
 ghost use Rattle.f77_tree.specs.View.{tree_of};
-ghost use Rattle.mothra_replacements.specs.Pools.{pool_fields};
 ghost use Rattle.mothra_replacements.specs.Replacements as model;
+ghost use Rattle.mothra_replacements.specs.{pool_fields};
 
 use crate::expressions::in_expression;
 use crate::operands::{has_subscripts, scalar};

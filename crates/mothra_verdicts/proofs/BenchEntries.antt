@@ -1,14 +1,10 @@
 -- Declared entries are added to the set in order.
-use Rattle.std.proofs.Common.{◌≡◌, ◌+◌, ◌<◌, ◌≤◌, ◌^◌, ◌⊎◌, ◌++◌, ◌∷◌, ℕ, List, [], true, length, take, drop, get_or, sym, ap, subst, arith, inl, inr}
-use Rattle.std.specs.Prelude.{Contains}
-use Rattle.std.proofs.lemmas.List.{length-take-le, take_all, get_or_default}
-use Rattle.std.proofs.lemmas.List.Elements.{All-nil, All-push, Contains-get_or, Contains-append_left, Contains-push, Contains-push_cases}
+use Rattle.mothra_verdicts.proofs.Common.{◌≡◌, subst, List, sym, ap, arith, length, take, ℕ, [], ◌<◌, ◌∷◌, inl, inr, take_all, true, ◌++◌, get_or, ◌+◌, ◌⊎◌}
+use Rattle.mothra_verdicts.proofs.Common.{Contains, drop, length-take-le, ◌≤◌, ◌^◌, All-nil, All-push, Contains-append_left, Contains-push, Contains-push_cases}
+use Rattle.mothra_verdicts.proofs.Common.{Contains-get_or, Ticket, PlanFields, asked, AreNamed, AreFine, IsEntryTwice, IsKnownEntry, IsUnknownEntry, AddsTicket}
+use Rattle.mothra_verdicts.proofs.Common.{IsNoted}
+use Rattle.std.proofs.lemmas.List.{get_or_default}
 use Rattle.std.proofs.lemmas.List.Quantifiers.{all_pairs_push}
-use Rattle.mothra_ops.specs.Plan.{PlanFields, asked}
-use Rattle.mothra_codes.specs.declared.ticket.Ticket.{Ticket}
-use Rattle.mothra_verdicts.specs.Bench.{AreFine, IsKnownEntry, IsUnknownEntry, IsEntryTwice}
-use Rattle.mothra_verdicts.specs.Equivalents.{AreNamed}
-use Rattle.mothra_verdicts.specs.code.Equivalents.{AddsTicket, IsNoted}
 use Rattle.mothra_verdicts.specs.declared.equivalents.Noted.{Noted}
 use Rattle.mothra_verdicts.specs.declared.equivalents.Noted.TheVariants.{Fine, Unknown, Twice}
 use Rattle.mothra_verdicts.proofs.BenchTests.{cut_at, next_taken}

@@ -1,19 +1,15 @@
 -- Sets of tickets.
-use Rattle.std.proofs.Common.{◌≡◌, ◌∙◌, ◌<◌, ◌⊎◌, ◌↔◌, ◌++◌, ◌∷◌, ◌||◌, ◌&&◌, ℕ, zero, suc, Bool, true, false, true≢false, not}
-use Rattle.std.proofs.Common.{IsTrue, List, [], length, get_or, refl, sym, ap, subst, arith, inl, inr, nat_eq, if◌then◌else◌}
-use Rattle.std.specs.Prelude.{Contains}
+use Rattle.mothra_verdicts.proofs.Common.{◌≡◌, subst, List, sym, ◌∙◌, ap, arith, length, ℕ, Bool, [], refl, ◌<◌, ◌∷◌, inl, inr, true, ◌++◌, false, get_or}
+use Rattle.mothra_verdicts.proofs.Common.{true≢false, ◌⊎◌, Contains, IsTrue, not, suc, zero, ◌↔◌, if◌then◌else◌, nat_eq, ◌&&◌, ◌||◌, Contains-append_left}
+use Rattle.mothra_verdicts.proofs.Common.{Contains-push, Contains-push_cases, Ticket, AreNamed, AddsTicket}
 use Rattle.std.specs.List.{list_any}
 use Rattle.std.proofs.lemmas.Bool.{and_parts}
 use Rattle.std.proofs.lemmas.Bool.Decides.{nat_tests}
-use Rattle.std.proofs.lemmas.List.Elements.{Contains-append_left, Contains-push, Contains-push_cases}
 use Rattle.indexmap.proofs.CallerLemmas.{Contains-list_any}
 use Rattle.indexmap.specs.IndexSet.{insert_key}
 use Rattle.mothra_codes.specs.Op.{index}
 use Rattle.mothra_codes.proofs.Operators.{same_op}
 use Rattle.mothra_codes.specs.contracts.ticket.TicketPartialEq.TheImpl.{ghosts}
-use Rattle.mothra_codes.specs.declared.ticket.Ticket.{Ticket}
-use Rattle.mothra_verdicts.specs.Equivalents.{AreNamed}
-use Rattle.mothra_verdicts.specs.code.Equivalents.{AddsTicket}
 
 -- the equality of tickets
 both : (a b : Bool) → a ≡ true → b ≡ true → (a && b) ≡ true

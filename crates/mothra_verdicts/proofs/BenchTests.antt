@@ -1,19 +1,11 @@
 -- The program is run on the tests of a bench in order.
-use Rattle.std.proofs.Common.{◌≡◌, ◌∙◌, ◌+◌, ◌<◌, ◌≤◌, ◌++◌, ◌∷◌, ◌↔◌, ℕ, Bool, true, false, true≢false, IsTrue, List, [], None, length, map, take, drop, get_or, sym, ap, subst, arith}
-use Rattle.std.specs.Prelude.{All}
-use Rattle.std.proofs.lemmas.List.{take-append-drop, take_all, take_more, drop_more, length-take-le}
-use Rattle.std.proofs.lemmas.List.Elements.{All-nil, All-cons, All-head, All-tail, All-push, All-more, All-get_or}
-use Rattle.std.proofs.lemmas.Slice.Zip.{all_zipped_more}
-use Rattle.f77_program.specs.Program.{LineFields, line_of}
-use Rattle.f77_check.specs.Checked.{CheckedFields}
+use Rattle.mothra_verdicts.proofs.Common.{◌≡◌, subst, List, sym, ◌∙◌, ap, map, arith, length, take, ℕ, All, None, Bool, [], ◌<◌, ◌∷◌, take_all, true, ◌++◌}
+use Rattle.mothra_verdicts.proofs.Common.{false, get_or, true≢false, ◌+◌, IsTrue, drop, length-take-le, ◌↔◌, ◌≤◌, take-append-drop, All-nil, All-push, All-cons}
+use Rattle.mothra_verdicts.proofs.Common.{All-get_or, All-head, All-more, All-tail, all_zipped_more, CheckedFields, IsOutcomeOf, refusal, Arg, Outcome, line_of}
+use Rattle.mothra_verdicts.proofs.Common.{LineFields, IsFollowed, AreOutcomes, EndsOn, IsEnd, IsFirstNot, AreTraces}
+use Rattle.std.proofs.lemmas.List.{take_more, drop_more}
 use Rattle.f77_check.specs.declared.checked.Shape.{Shape}
-use Rattle.f77_meaning.specs.Interpreter.{IsOutcomeOf, refusal}
-use Rattle.f77_run.specs.Visits.{IsFollowed}
-use Rattle.f77_meaning.specs.declared.argument.Arg.{Arg}
-use Rattle.f77_meaning.specs.declared.outcome.Outcome.{Outcome}
 use Rattle.f77_run.specs.declared.visits.Visits.{Visits}
-use Rattle.mothra_verdicts.specs.Bench.{IsProgramEnd, AreOutcomes, EndsOn, IsFirstNot}
-use Rattle.mothra_verdicts.specs.code.Running.{AreTraces}
 
 -- a list, cut at an item
 pub cut_at : {X : Type 0} (xs : List X) (i : ℕ) (x : X) → i < length xs → x ≡ get_or xs i x → xs ≡ take i xs ++ x ∷ drop (i + 1) xs
@@ -49,14 +41,14 @@ none_left P xs i end hold = subst (All P) (take_all i xs end) hold
 -- the runs of a program on one test more
 pub trace_more : (checked : CheckedFields) (steps : ℕ) (tests : List (List Arg)) (outcomes : List Outcome) (visits : List Visits) (i : ℕ) (test : List Arg)
     (outcome : Outcome) (noted : Visits) → i < length tests → test ≡ get_or tests i test → AreTraces checked steps (take i tests) outcomes visits
-    → IsOutcomeOf (map line_of checked.program) test steps outcome → IsProgramEnd outcome → IsFollowed checked test steps noted
+    → IsOutcomeOf (map line_of checked.program) test steps outcome → IsEnd outcome → IsFollowed checked test steps noted
     → AreTraces checked steps (take (i + 1) tests) (outcomes ++ outcome ∷ []) (visits ++ noted ∷ [])
 trace_more checked steps tests outcomes visits i test outcome noted within is are one end follows =
     subst (λ (taken : List (List Arg)). AreTraces checked steps taken (outcomes ++ outcome ∷ []) (visits ++ noted ∷ []))
     (sym (next_taken tests i test within is))
     (record {
       outcomes = all_zipped_more (λ arguments outcome. IsOutcomeOf (map line_of checked.program) arguments steps outcome) (take i tests) outcomes test outcome are.outcomes one;
-      end = All-push IsProgramEnd outcomes outcome are.end end;
+      end = All-push IsEnd outcomes outcome are.end end;
       visits = all_zipped_more (λ arguments visits. IsFollowed checked arguments steps visits) (take i tests) visits test noted are.visits follows;
     })
 
@@ -73,18 +65,18 @@ test_fits shapes tests i test within is all =
 
 -- where all outcomes are ends, the program ends on each test
 pub ends_all : (program : List LineFields) (steps : ℕ) (tests : List (List Arg)) (outcomes : List Outcome) → AreOutcomes program steps tests outcomes
-    → All IsProgramEnd outcomes → All (EndsOn program steps) tests
+    → All IsEnd outcomes → All (EndsOn program steps) tests
 ends_all program steps [] [] are end = All-nil (EndsOn program steps)
 ends_all program steps [] (outcome ∷ outcomes) are end = absurd are
 ends_all program steps (test ∷ tests) [] are end = absurd are
 ends_all program steps (test ∷ tests) (outcome ∷ outcomes) are end =
-    All-cons (EndsOn program steps) test tests (outcome, are.0, All-head IsProgramEnd outcome outcomes end)
-    (ends_all program steps tests outcomes are.1 (All-tail IsProgramEnd outcome outcomes end))
+    All-cons (EndsOn program steps) test tests (outcome, are.0, All-head IsEnd outcome outcomes end)
+    (ends_all program steps tests outcomes are.1 (All-tail IsEnd outcome outcomes end))
 
 -- where the only outcome is no end, the program does not end on the test
 pub never_ends : (program : List LineFields) (steps : ℕ) (test : List Arg) (outcome : Outcome)
-    → ((other : Outcome) → IsOutcomeOf program test steps other → other ≡ outcome) → ¬ (IsProgramEnd outcome) → ¬ (EndsOn program steps test)
-never_ends program steps test outcome only other ends = other (subst IsProgramEnd (only ends.0 ends.1) ends.2)
+    → ((other : Outcome) → IsOutcomeOf program test steps other → other ≡ outcome) → ¬ (IsEnd outcome) → ¬ (EndsOn program steps test)
+never_ends program steps test outcome only other ends = other (subst IsEnd (only ends.0 ends.1) ends.2)
 
 -- where a truth value says whether P holds, P holds if it is true
 pub passed : {P : Type 0} (answer : Bool) → (IsTrue answer ↔ P) → answer ≡ true → P

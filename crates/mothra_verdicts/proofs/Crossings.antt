@@ -1,7 +1,10 @@
 -- A plan and a bench may be lent to many threads, since each of their parts may.
+use Rattle.std.proofs.Crossing.{crosses}
+use Rattle.std.specs.contracts.vec.Vec as vec
+use Rattle.std.specs.contracts.alloc.Global as global
+use Rattle.std.specs.contracts.impls.GlobalAllocator as allocator
 use denote.Struct.Declared.{shape}
 use denote.Param.Send.{IsSend, IsSync, recorded_sync, sendable, struct_sync}
-use Rattle.std.proofs.Crossing.{crosses}
 use Rattle.f77_tree.proofs.shared.Shared.TheSendSync as shared
 use Rattle.f77_tree.proofs.tree.Expr.TheLaws.TheKnot as expr_knot
 use Rattle.f77_tree.proofs.statement.Stmt.TheLaws.TheKnot as stmt_knot
@@ -21,16 +24,13 @@ use Rattle.f77_check.specs.contracts.checked.Checked as checked
 use Rattle.mothra_ops.specs.contracts.listing.Listing as listing
 use Rattle.mothra_ops.specs.contracts.mutant.Mutant as mutant
 use Rattle.mothra_ops.specs.contracts.plan.Plan as plan
-use Rattle.mothra_verdicts.specs.contracts.bench.Bench as bench
-use Rattle.mothra_verdicts.specs.contracts.bench.Bench.TheInside as inside
 use Rattle.f77_meaning.specs.contracts.argument.Arg as arg
 use Rattle.f77_meaning.specs.contracts.outcome.Outcome as outcome
 use Rattle.f77_meaning.specs.contracts.values.Values as values
 use Rattle.f77_run.specs.contracts.visits.Visits as visits
-use Rattle.std.specs.contracts.vec.Vec as vec
-use Rattle.std.specs.contracts.alloc.Global as global
-use Rattle.std.specs.contracts.impls.GlobalAllocator as allocator
 use Rattle.mothra_codes.specs.contracts.ticket.Ticket as ticket
+use Rattle.mothra_verdicts.specs.contracts.bench.Bench as bench
+use Rattle.mothra_verdicts.specs.contracts.bench.Bench.TheInside as inside
 
 expr_send : IsSend expr.the_row
 expr_send = search (expr_knot.crosses, crosses, sendable) depth 60 fits 20000

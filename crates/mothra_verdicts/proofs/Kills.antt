@@ -1,15 +1,8 @@
 -- Which tests kill a mutant, and that there is only one answer.
-use Rattle.std.proofs.Common.{◌≡◌, ◌∙◌, ℕ, List, [], ◌∷◌, Bool, true, false, true≢false, not, refl, sym, subst}
+use Rattle.mothra_verdicts.proofs.Common.{◌≡◌, subst, List, sym, ◌∙◌, ℕ, Bool, [], refl, ◌∷◌, true, false, true≢false, not, same_Some, IsOutcomeOf, OneAnswer}
+use Rattle.mothra_verdicts.proofs.Common.{Arg, Outcome, LineFields, Ticket, program_of, MutantFields, IsAlone, BenchFields, IsKill, IsVerdict, killed, mutated}
+use Rattle.mothra_verdicts.proofs.Common.{survived}
 use Rattle.std.specs.Bool.{Decides}
-use Rattle.std.proofs.lemmas.Option.{same_Some}
-use Rattle.f77_program.specs.Program.{LineFields}
-use Rattle.f77_meaning.specs.Interpreter.{IsOutcomeOf, OneAnswer}
-use Rattle.f77_meaning.specs.declared.argument.Arg.{Arg}
-use Rattle.f77_meaning.specs.declared.outcome.Outcome.{Outcome}
-use Rattle.mothra_ops.specs.Mutants.{MutantFields, program_of}
-use Rattle.mothra_codes.specs.declared.ticket.Ticket.{Ticket}
-use Rattle.mothra_verdicts.specs.Bench.{BenchFields}
-use Rattle.mothra_verdicts.specs.Verdict.{IsAlone, IsKill, IsVerdict, killed, mutated, survived}
 
 -- a test kills a mutant just if the outcomes differ
 pub is_kill : (program mutant : List LineFields) (arguments : List Arg) (steps : ℕ) (outcome other : Outcome) (same : Bool) → Decides same (outcome ≡ other)

@@ -1,12 +1,7 @@
 -- A mutant is run on the tests of a bench, one after another.
-use Rattle.std.proofs.Common.{inl, inr, arith, ◌≡◌, ◌+◌, ◌<◌, ℕ, zero, suc, Bool, List, [], ◌∷◌, ◌++◌, length, take, Some, refl, sym, subst}
-use Rattle.std.specs.Prelude.{slice_get}
+use Rattle.mothra_verdicts.proofs.Common.{◌≡◌, subst, List, sym, arith, length, take, ℕ, Some, Bool, [], refl, slice_get, ◌<◌, ◌∷◌, inl, inr, ◌++◌, ◌+◌, suc}
+use Rattle.mothra_verdicts.proofs.Common.{zero, same_Some, slice_get_cases, all_zipped_more, Arg, LineFields, IsAlone, IsKill}
 use Rattle.std.specs.List.{AllZip}
-use Rattle.std.proofs.lemmas.Option.{same_Some, slice_get_cases}
-use Rattle.std.proofs.lemmas.Slice.Zip.{all_zipped_more}
-use Rattle.f77_program.specs.Program.{LineFields}
-use Rattle.f77_meaning.specs.declared.argument.Arg.{Arg}
-use Rattle.mothra_verdicts.specs.Verdict.{IsAlone, IsKill}
 use Rattle.mothra_verdicts.proofs.BenchTests.{next_taken}
 
 -- the items at the same place of two lists

@@ -1,4 +1,5 @@
-mod BenchTests
+pub mod Common
+pub mod BenchTests
 mod BenchEntries
 mod BenchSets
 mod BenchFaults

@@ -1,6 +1,5 @@
 -- Where there can be no other fault than that a call is out of memory.
-use Rattle.std.proofs.Common.{◌≡◌, ◌⊎◌, ◌∙◌, Option, Some, None, inl, inr, sym}
-use Rattle.std.proofs.lemmas.Option.{none-some}
+use Rattle.mothra_verdicts.proofs.Common.{◌≡◌, sym, ◌∙◌, None, Some, inl, inr, ◌⊎◌, Option, none-some}
 use Rattle.f77_meaning.specs.declared.outcome.RunFault.{RunFault}
 use Rattle.f77_meaning.specs.declared.outcome.RunFault.TheVariants as run
 

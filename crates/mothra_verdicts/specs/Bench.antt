@@ -4,10 +4,9 @@ use Rattle.std.specs.Prelude.{◌≡◌, ◌≢◌, ◌+◌, ◌≤◌, ⊤, ℕ
 use Rattle.std.specs.List.{AllZip}
 use Rattle.f77_program.specs.Program.{LineFields}
 use Rattle.f77_check.specs.Checked.{shapes}
-use Rattle.f77_meaning.specs.Interpreter.{IsOutcomeOf, refusal}
+use Rattle.f77_meaning.specs.Interpreter.{IsEnd, IsOutcomeOf, refusal}
 use Rattle.f77_meaning.specs.declared.argument.Arg.{Arg}
 use Rattle.f77_meaning.specs.declared.outcome.Outcome.{Outcome}
-use Rattle.f77_meaning.specs.declared.outcome.Outcome.TheVariants.{Returned, Stopped}
 use Rattle.mothra_ops.specs.Mutants.{program_of, original_number}
 use Rattle.mothra_ops.specs.Plan.{PlanFields, asked, whole_of}
 use Rattle.mothra_codes.specs.Ticket.{ticket}
@@ -33,12 +32,6 @@ most_tests = 256
 abbrev pub FitsProgram : List LineFields → List Arg → Type 0
 FitsProgram program arguments = refusal (shapes program) arguments ≡ None
 
--- the program returns or stops
-abbrev pub IsProgramEnd : Outcome → Type 0
-IsProgramEnd (Returned arguments) = ⊤
-IsProgramEnd (Stopped arguments) = ⊤
-IsProgramEnd _ = ⊥
-
 -- the outcomes of the program on the tests
 abbrev pub AreOutcomes : List LineFields → ℕ → List (List Arg) → List Outcome → Type 0
 AreOutcomes program steps tests outcomes =
@@ -48,7 +41,7 @@ AreOutcomes program steps tests outcomes =
 -- the program returns or stops on the test within the limit on steps
 abbrev pub EndsOn : List LineFields → ℕ → List Arg → Type 0
 EndsOn program steps arguments =
-    (outcome : Outcome) × IsOutcomeOf program arguments steps outcome × IsProgramEnd outcome
+    (outcome : Outcome) × IsOutcomeOf program arguments steps outcome × IsEnd outcome
 
 -- a declared entry names a mutant of the whole list of its
 -- operator, where the plan was asked for this operator
@@ -67,7 +60,7 @@ pub record IsBench (bench : BenchFields) : Type 0 where
   pub few : length bench.tests ≤ most_tests
   pub fit : All (FitsProgram (program_of bench.plan)) bench.tests
   pub outcomes : AreOutcomes (program_of bench.plan) bench.steps bench.tests bench.outcomes
-  pub end : All IsProgramEnd bench.outcomes
+  pub end : All IsEnd bench.outcomes
   pub declared : AreFine bench.plan bench.declared
 
 -- item number n, from 1, is the first of which P does not hold

@@ -3,3 +3,7 @@ pub mod Killing
 pub mod Equivalents
 pub mod Verdict
 pub mod code
+pub use Bench.*
+pub use Killing.*
+pub use Equivalents.*
+pub use Verdict.*

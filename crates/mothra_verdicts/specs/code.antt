@@ -1,2 +1,4 @@
 pub mod Running
 pub mod Equivalents
+pub use Running.*
+pub use Equivalents.*

@@ -1,10 +1,10 @@
 //! The mutants that are declared equivalent.
 
-ghost use Rattle.std.specs.Prelude.{◌≡◌, ◌↔◌, ◌≤◌, ◌<◌, ◌^◌, Contains, IsTrue, IfOk, IfErr, OnOk};
-ghost use Rattle.mothra_verdicts.specs.Bench.{AreFine};
-ghost use Rattle.mothra_verdicts.specs.Equivalents.{AreNamed};
-ghost use Rattle.mothra_verdicts.specs.code.Equivalents.{AddsTicket, IsNoted, IsNoEntry};
+ghost use Rattle.std.specs.Prelude.{◌≡◌, ◌↔◌, ◌≤◌, ◌<◌, ◌^◌, Contains, IsTrue, IfOk, IfErr};
+ghost use Rattle.std.specs.Prelude.{OnOk};
 ghost use Rattle.mothra_ops.specs.Plan.{whole_of};
+ghost use Rattle.mothra_verdicts.specs.{AreFine, AreNamed};
+ghost use Rattle.mothra_verdicts.specs.code.{AddsTicket, IsNoted, IsNoEntry};
 
 use crate::fault::BenchFault;
 use indexmap::IndexSet;

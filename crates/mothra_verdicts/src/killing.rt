@@ -7,7 +7,7 @@ ghost use Rattle.f77_run.specs.Changed.{changed_program};
 ghost use Rattle.f77_meaning.specs.Interpreter.{refusal};
 ghost use Rattle.f77_meaning.specs.declared.argument.Arg.{Arg};
 ghost use Rattle.mothra_ops.specs.Mutants.{program_of};
-ghost use Rattle.mothra_verdicts.specs.Verdict.{IsAlone, IsKill};
+ghost use Rattle.mothra_verdicts.specs.{IsAlone, IsKill};
 
 use crate::bench::Bench;
 use crate::out_of_memory;

@@ -2,8 +2,7 @@
 
 ghost use Rattle.std.specs.Prelude.{◌≡◌, List, Bool};
 ghost use Rattle.mothra_codes.specs.declared.ticket.Ticket.{Ticket};
-ghost use Rattle.mothra_verdicts.specs.Bench.{BenchFields};
-ghost use Rattle.mothra_verdicts.specs.Verdict.{IsItemVerdict, IsVerdict};
+ghost use Rattle.mothra_verdicts.specs.{BenchFields, IsItemVerdict, IsVerdict};
 
 use f77_meaning::law::one_outcome;
 

@@ -3,11 +3,11 @@
 ghost use Rattle.std.specs.Prelude.{◌≡◌, ◌↔◌, All, IsTrue, None, IfOk, IfErr, IfSome, IfNone, map};
 ghost use Rattle.f77_program.specs.Program.{line_of};
 ghost use Rattle.f77_check.specs.Checked.{shapes};
-ghost use Rattle.f77_meaning.specs.Interpreter.{IsOutcomeOf, refusal};
+ghost use Rattle.f77_meaning.specs.Interpreter.{IsEnd, IsOutcomeOf, refusal};
 ghost use Rattle.f77_run.specs.Visits.{IsFollowed};
-ghost use Rattle.mothra_verdicts.specs.Bench.{FitsProgram, IsProgramEnd, EndsOn, IsFirstNot};
-ghost use Rattle.mothra_verdicts.specs.code.Running.{AreTraces, IsNoRun};
 ghost use Rattle.mothra_ops.specs.Mutants.{program_of};
+ghost use Rattle.mothra_verdicts.specs.{FitsProgram, EndsOn, IsFirstNot};
+ghost use Rattle.mothra_verdicts.specs.code.{AreTraces, IsNoRun};
 
 use crate::fault::BenchFault;
 use crate::out_of_memory;
@@ -56,7 +56,7 @@ pub(crate) fn first_misfit(plan: &Plan, tests: &[Values<Arg>]) -> Option<usize>
 
 /// Whether the program returned or stopped.
 fn is_end(outcome: &Outcome) -> bool
-    ensures { IsTrue result ↔ IsProgramEnd outcome.now }
+    ensures { IsTrue result ↔ IsEnd outcome.now }
 {
     match outcome {
         Outcome::Returned(_) | Outcome::Stopped(_) => true,
@@ -83,7 +83,7 @@ fn trace_on(
     ensures program { original.new ≡ original.old }
     ensures outcome { IfOk result (λ trace. IfSome trace
         (λ trace. IsOutcomeOf (map line_of original.old.program) test.now steps trace.outcome)) }
-    ensures end { IfOk result (λ trace. IfSome trace (λ trace. IsProgramEnd trace.outcome)) }
+    ensures end { IfOk result (λ trace. IfSome trace (λ trace. IsEnd trace.outcome)) }
     ensures visits { IfOk result
         (λ trace. IfSome trace (λ trace. IsFollowed original.old test.now steps trace.visits)) }
     ensures fails { IfOk result

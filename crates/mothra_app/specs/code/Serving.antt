@@ -9,7 +9,7 @@ use Rattle.mothra_cli.specs.Input.{limit, AreAll, IsRead}
 use Rattle.mothra_job.specs.Job.{job_of}
 use Rattle.mothra_cli.specs.declared.request.Request.{Request}
 use Rattle.mothra_app.specs.declared.status.Status.{Status}
-use Rattle.mothra_app.specs.Serving.{AsksFor, IsAnswered}
+use Rattle.mothra_app.specs.Serving.{AsksFor, IsAnswered, MayBeWritten}
 
 -- what is ready is an answer with this status
 abbrev pub HasStatus : Status → Ready → Type 0
@@ -25,7 +25,8 @@ pub record IsReadyBy (request : Request) (left : Option (List ℕ)) (ready : Rea
 -- what is ready is the answer to the words, or the bench of `run`, where the
 -- reader had the bytes `left` before and has `now` after that
 abbrev pub IsReadyFor : List Text → Option (List ℕ) → Option (List ℕ) → Ready → Type 0
-IsReadyFor words left now (ready.Answer reply) = IsAnswered words left now reply.status (string_bytes reply.text)
+IsReadyFor words left now (ready.Answer reply) =
+    IsAnswered (MayBeWritten words) left now reply.status (string_bytes reply.text)
 IsReadyFor words left now (ready.Bench bench workers) =
     (request : Request)
     × AsksFor words request × IsReadyBy request left (ready.Bench bench workers) × IsRead limit left now

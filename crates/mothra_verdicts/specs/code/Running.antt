@@ -5,7 +5,8 @@ use Rattle.f77_check.specs.Checked.{CheckedFields}
 use Rattle.f77_meaning.specs.declared.argument.Arg.{Arg}
 use Rattle.f77_meaning.specs.declared.outcome.Outcome.{Outcome}
 use Rattle.f77_run.specs.declared.visits.Visits.{Visits}
-use Rattle.mothra_verdicts.specs.Bench.{AreOutcomes, EndsOn, IsProgramEnd, IsFirstNot}
+use Rattle.f77_meaning.specs.Interpreter.{IsEnd}
+use Rattle.mothra_verdicts.specs.Bench.{AreOutcomes, EndsOn, IsFirstNot}
 use Rattle.mothra_verdicts.specs.Killing.{AreFollowedOn}
 use Rattle.mothra_verdicts.specs.declared.fault.BenchFault.{BenchFault}
 use Rattle.mothra_verdicts.specs.declared.fault.BenchFault.TheVariants as fault
@@ -14,7 +15,7 @@ use Rattle.mothra_verdicts.specs.declared.fault.BenchFault.TheVariants as fault
 pub record AreTraces (checked : CheckedFields) (steps : ℕ) (tests : List (List Arg)) (computed : List Outcome)
     (noted : List Visits) : Type 0 where
   pub outcomes : AreOutcomes (map line_of checked.program) steps tests computed
-  pub end : All IsProgramEnd computed
+  pub end : All IsEnd computed
   pub visits : AreFollowedOn checked steps tests noted
 
 -- the faults: out of memory, or the first test on which the program does not end

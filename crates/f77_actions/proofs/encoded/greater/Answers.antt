@@ -1,7 +1,4 @@
-use Rattle.std.proofs.Common.{rules, w64, FitsSigned}
-use Rattle.std.specs.Prelude.{Ok, if◌then◌else◌}
-use Rattle.std.proofs.lemmas.Int.{to_z-of_z}
-use Rattle.f77_actions.specs.Number.{is_below}
+use Rattle.f77_actions.proofs.Common.{FitsSigned, w64, rules, Ok, if◌then◌else◌, to_z-of_z, is_below}
 use Rattle.f77_actions.proofs.Operations.{encodes_chosen}
 use Rattle.f77_actions.proofs.encoded.greater.Goals as goal
 

@@ -1,5 +1,4 @@
-use Rattle.std.proofs.Common.{rules, w32, w64, FitsSigned}
-use Rattle.std.proofs.lemmas.Int.{to_z-of_z}
+use Rattle.f77_actions.proofs.Common.{FitsSigned, w64, rules, w32, to_z-of_z}
 use Rattle.f77_actions.specs.Number as exact
 use Rattle.f77_actions.proofs.Operations.{narrowed}
 use Rattle.f77_actions.proofs.encoded.power.Goals as goal

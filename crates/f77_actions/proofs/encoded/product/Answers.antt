@@ -1,7 +1,4 @@
-use Rattle.std.proofs.Common.{sym, ◌∙◌, w64, FitsSigned}
-use Rattle.std.specs.Prelude.{◌*ℤ◌}
-use Rattle.std.proofs.Common.{rules}
-use Rattle.std.proofs.lemmas.Int.{to_z-of_z}
+use Rattle.f77_actions.proofs.Common.{FitsSigned, w64, rules, sym, ◌∙◌, ◌*ℤ◌, to_z-of_z}
 use Rattle.f77_actions.proofs.Faults as faults
 use Rattle.f77_actions.proofs.Bounds as bounds
 use Rattle.f77_actions.proofs.Sums as sums

@@ -1,5 +1,4 @@
-use Rattle.std.proofs.Common.{rules, w64, FitsSigned}
-use Rattle.std.proofs.lemmas.Int.{to_z-of_z}
+use Rattle.f77_actions.proofs.Common.{FitsSigned, w64, rules, to_z-of_z}
 use Rattle.f77_actions.proofs.Faults.{left_none, right_none, on_values}
 use Rattle.f77_actions.proofs.Bounds.{at_least, not_least}
 use Rattle.f77_actions.proofs.encoded.settled.Goals as goal

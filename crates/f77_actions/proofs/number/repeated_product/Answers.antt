@@ -1,6 +1,5 @@
 -- Where the products leave the range, so does the whole power.
-use Rattle.std.proofs.Common.{arith}
-use Rattle.std.proofs.lemmas.Int.{to_z-of_z}
+use Rattle.f77_actions.proofs.Common.{arith, to_z-of_z}
 use Rattle.std.proofs.lemmas.Result.{err_from_is_err_and}
 use Rattle.f77_actions.proofs.Powers.{stays_beyond}
 use Rattle.f77_actions.proofs.number.repeated_product.Goals as goal

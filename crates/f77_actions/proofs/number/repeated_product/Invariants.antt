@@ -1,5 +1,4 @@
-use Rattle.std.proofs.Common.{◌≡◌}
-use Rattle.f77_actions.specs.Number.{exact_power}
+use Rattle.f77_actions.proofs.Common.{◌≡◌, exact_power}
 use Rattle.f77_actions.proofs.number.repeated_product.Given as goal
 
 abbrev pub invariant-loop : goal.invariant-loop

@@ -1,5 +1,4 @@
-use Rattle.std.proofs.Common.{arith}
-use Rattle.std.proofs.lemmas.Int.{ints}
+use Rattle.f77_actions.proofs.Common.{arith, ints}
 use Rattle.f77_actions.proofs.number.span.Goals as goal
 
 pub returns-clause-value : goal.returns-clause-value

@@ -1,12 +1,5 @@
-use Rattle.std.proofs.Common.{◌≡◌, None, map, refl, ap, sym, subst, ◌∙◌}
-use Rattle.f77_program.specs.Program.{IsProgram, line_of}
-use Rattle.f77_legal.specs.Legal.{IsLegal}
-use Rattle.f77_legal.specs.Tables.{AreTables}
-use Rattle.f77_check.specs.Checked.{shapes, IsChecked}
-use Rattle.f77_check.specs.CheckedView.{checked_fields}
-use Rattle.f77_check.specs.Ready.{CanResolve}
-use Rattle.f77_check.specs.code.Shapes.{shape_at}
-use Rattle.f77_check.specs.declared.resolve.Resolver.{Resolver}
+use Rattle.f77_check.proofs.Common.{◌≡◌, ap, ◌∙◌, sym, map, subst, refl, None, CanResolve, IsChecked, shapes, checked_fields, shape_at, Resolver, IsLegal}
+use Rattle.f77_check.proofs.Common.{AreTables, line_of, IsProgram}
 use Rattle.f77_check.proofs.Arguments.{shapes_are}
 use Rattle.f77_check.proofs.CheckedParts.{own_tables_resolve, checked_of}
 use Rattle.f77_check.proofs.checking.checked_by.Goals as goal

@@ -1,5 +1,4 @@
-use Rattle.std.proofs.Common.{ap, ◌∙◌, ◌++◌, ◌∷◌, []}
-use Rattle.f77_check.specs.code.Shapes.{shape_at}
+use Rattle.f77_check.proofs.Common.{ap, ◌∙◌, [], ◌∷◌, ◌++◌, shape_at}
 use Rattle.f77_legal.proofs.Entries.{pushed}
 use Rattle.f77_check.proofs.checking.shapes.Goals as goal
 

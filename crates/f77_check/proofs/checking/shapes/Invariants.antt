@@ -1,5 +1,4 @@
-use Rattle.std.proofs.Common.{◌≡◌, map, take}
-use Rattle.f77_check.specs.code.Shapes.{shape_at}
+use Rattle.f77_check.proofs.Common.{◌≡◌, map, take, shape_at}
 use Rattle.f77_check.proofs.checking.shapes.Given as goal
 
 abbrev pub invariant-loop-name : goal.invariant-loop-name

@@ -1,5 +1,4 @@
-use Rattle.std.proofs.Common.{◌≡◌, drop}
-use Rattle.f77_check.specs.code.Initial.{give_run}
+use Rattle.f77_check.proofs.Common.{◌≡◌, drop, give_run}
 use Rattle.f77_check.proofs.start.give_run.Given as goal
 
 -- the other slots are still to be given

@@ -1,5 +1,4 @@
-use Rattle.std.proofs.Common.{◌≡◌, drop}
-use Rattle.f77_check.specs.code.Initial.{give_values}
+use Rattle.f77_check.proofs.Common.{◌≡◌, drop, give_values}
 use Rattle.f77_check.proofs.start.give_values.Given as goal
 
 -- the other values are still to be given, to the slots that are left

@@ -1,7 +1,4 @@
-use Rattle.std.proofs.lemmas.Int.{to_z-of_z}
-use Rattle.std.specs.Prelude.{slice_set}
-use Rattle.f77_code.specs.Operation.{point}
-use Rattle.f77_actions.proofs.Bounds.{at_least, not_least}
+use Rattle.f77_code.proofs.Common.{slice_set, to_z-of_z, at_least, not_least, point}
 use Rattle.f77_code.proofs.Points.{fails, goes}
 use Rattle.f77_code.proofs.Written.{put_held}
 use Rattle.f77_code.proofs.assignment.put.Goals as goal

@@ -1,6 +1,4 @@
-use Rattle.std.proofs.Common.{arith, rules, w64, FitsSigned, ◌<◌, ◌≤◌}
-use Rattle.std.proofs.lemmas.Int.{to_z-of_z}
-use Rattle.f77_code.specs.Term.{term_value}
+use Rattle.f77_code.proofs.Common.{arith, ◌<◌, ◌≤◌, FitsSigned, w64, rules, to_z-of_z, term_value}
 use Rattle.f77_code.proofs.Points.{row_fails, column_fails, matrix_misplaced, matrix_put}
 use Rattle.f77_code.proofs.assignment.set_matrix.Goals as goal
 

@@ -1,9 +1,5 @@
-use Rattle.std.proofs.Common.{arith, ◌≡◌, ◌≤◌, ◌<◌, ◌∙◌, sym, ap, length, refl}
-use Rattle.std.specs.Prelude.{slice_get, Some, None}
-use Rattle.std.proofs.lemmas.Bool.{ltb-false}
-use Rattle.std.proofs.lemmas.Option.{slice_get_read, slice_get_past}
-use Rattle.f77_code.specs.Block.{code_after}
-use Rattle.f77_code.specs.Operation.{point}
+use Rattle.f77_code.proofs.Common.{◌≡◌, ◌∙◌, ap, sym, arith, refl, length, Some, ◌<◌, slice_get, ◌≤◌, None, ltb-false, slice_get_read, slice_get_past, point}
+use Rattle.f77_code.proofs.Common.{code_after}
 use Rattle.f77_code.proofs.Sequences.{made_more, rests, there_more}
 use Rattle.f77_code.proofs.blocks.block.Goals as goal
 

@@ -1,7 +1,4 @@
-use Rattle.std.proofs.Common.{◌≡◌, ◌<◌, ◌≤◌, ℕ, true, length}
-use Rattle.f77_code.specs.Block.{code_after}
-use Rattle.f77_code.specs.Operation.{point}
-use Rattle.f77_code.specs.Registers.{are_held}
+use Rattle.f77_code.proofs.Common.{◌≡◌, ℕ, length, true, ◌<◌, ◌≤◌, point, code_after, are_held}
 use Rattle.f77_code.proofs.blocks.block.Given as goal
 
 abbrev pub invariant-instructions : goal.invariant-instructions

@@ -1,9 +1,4 @@
-use Rattle.std.proofs.Common.{pos}
-use Rattle.std.proofs.lemmas.Int.{to_z-of_z}
-use Rattle.std.specs.Prelude.{if◌then◌else◌}
-use Rattle.f77_code.specs.Operation.{point}
-use Rattle.f77_actions.specs.Number.{is_same}
-use Rattle.f77_actions.proofs.Bounds.{at_least, not_least, bits_zero, zero_bits}
+use Rattle.f77_code.proofs.Common.{pos, if◌then◌else◌, to_z-of_z, at_least, not_least, bits_zero, zero_bits, is_same, point}
 use Rattle.f77_code.proofs.Points.{fails, branch_zero, branch_there}
 use Rattle.f77_code.proofs.branching.branch.Goals as goal
 

@@ -1,4 +1,4 @@
-use Rattle.f77_actions.proofs.Bounds.{bits_zero, zero_bits}
+use Rattle.f77_code.proofs.Common.{bits_zero, zero_bits}
 use Rattle.f77_code.proofs.Points.{below_zero, not_below_zero, by_negative, by_zero, by_positive}
 use Rattle.f77_code.proofs.branching.by_sign.Goals as goal
 

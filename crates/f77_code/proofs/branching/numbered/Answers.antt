@@ -1,7 +1,4 @@
-use Rattle.std.proofs.Common.{◌≤◌, length, sym, refl}
-use Rattle.std.proofs.lemmas.Bool.{ltb-false}
-use Rattle.std.proofs.lemmas.Int.{to_z-of_z}
-use Rattle.std.proofs.lemmas.Option.{slice_get_read, slice_get_past}
+use Rattle.f77_code.proofs.Common.{sym, refl, length, ◌≤◌, ltb-false, to_z-of_z, slice_get_read, slice_get_past}
 use Rattle.f77_code.proofs.Points.{below_one, numbered_none, numbered_some, numbered_past}
 use Rattle.f77_code.proofs.branching.numbered.Goals as goal
 

@@ -1,9 +1,4 @@
-use Rattle.std.proofs.Common.{rules, w64, FitsSigned}
-use Rattle.std.proofs.lemmas.Int.{to_z-of_z}
-use Rattle.std.specs.Prelude.{unwrap_or}
-use Rattle.f77_code.specs.Choice.{item_chosen}
-use Rattle.f77_code.specs.Operation.{point}
-use Rattle.f77_actions.proofs.Bounds.{at_least, not_least}
+use Rattle.f77_code.proofs.Common.{FitsSigned, w64, rules, unwrap_or, to_z-of_z, at_least, not_least, point, item_chosen}
 use Rattle.f77_code.proofs.Points.{fails, goes}
 use Rattle.f77_code.proofs.branching.select.Goals as goal
 

@@ -1,8 +1,4 @@
-use Rattle.std.proofs.Common.{rules, w64, FitsSigned}
-use Rattle.std.proofs.lemmas.Int.{to_z-of_z}
-use Rattle.f77_code.specs.Choice.{by_sign}
-use Rattle.f77_code.specs.Operation.{point}
-use Rattle.f77_actions.proofs.Bounds.{at_least, not_least}
+use Rattle.f77_code.proofs.Common.{FitsSigned, w64, rules, to_z-of_z, at_least, not_least, point, by_sign}
 use Rattle.f77_code.proofs.Points.{fails, goes}
 use Rattle.f77_code.proofs.branching.sign.Goals as goal
 

@@ -1,7 +1,4 @@
-use Rattle.std.proofs.Common.{◌≡◌, ◌+◌, ◌∙◌, Some, sym, ap, subst}
-use Rattle.std.specs.Prelude.{slice_get}
-use Rattle.f77_code.specs.code.Compiled.{AreFollowed}
-use Rattle.f77_code.specs.Moves.{is_loop}
+use Rattle.f77_code.proofs.Common.{◌≡◌, ◌∙◌, ap, sym, subst, ◌+◌, Some, slice_get, is_loop, AreFollowed}
 use Rattle.f77_code.proofs.Assembled.{followed_more, followed_still}
 use Rattle.f77_code.proofs.Instructed.{increment_stands, no_loop}
 use Rattle.f77_code.proofs.Placed.{read_at}

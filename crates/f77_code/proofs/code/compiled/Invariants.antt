@@ -1,4 +1,4 @@
-use Rattle.f77_code.specs.code.Compiled.{AreFollowed}
+use Rattle.f77_code.proofs.Common.{AreFollowed}
 use Rattle.f77_code.proofs.code.compiled.Given as goal
 
 abbrev pub invariant-loop-d : goal.invariant-loop-d

@@ -1,5 +1,4 @@
-use Rattle.std.proofs.Common.{◌+◌, ◌∙◌, Some, sym, ap, subst}
-use Rattle.f77_code.specs.code.Compiled.{AreExecuted}
+use Rattle.f77_code.proofs.Common.{◌∙◌, ap, sym, subst, ◌+◌, Some, AreExecuted}
 use Rattle.f77_code.proofs.Assembled.{executed_more}
 use Rattle.f77_code.proofs.OneReplaced.{own_frame}
 use Rattle.f77_code.proofs.Placed.{read_at}

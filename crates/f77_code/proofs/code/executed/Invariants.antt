@@ -1,5 +1,4 @@
-use Rattle.std.proofs.Common.{◌≡◌}
-use Rattle.f77_code.specs.code.Compiled.{AreExecuted}
+use Rattle.f77_code.proofs.Common.{◌≡◌, AreExecuted}
 use Rattle.f77_code.proofs.code.executed.Given as goal
 
 abbrev pub invariant-loop-i : goal.invariant-loop-i

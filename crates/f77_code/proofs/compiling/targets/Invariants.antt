@@ -1,5 +1,4 @@
-use Rattle.std.proofs.Common.{◌≡◌, map, take}
-use Rattle.f77_actions.specs.declared.action.Jump.{Jump}
+use Rattle.f77_code.proofs.Common.{◌≡◌, take, map, Jump}
 use Rattle.f77_code.proofs.compiling.targets.Given as goal
 
 abbrev pub invariant-loop-jump : goal.invariant-loop-jump

@@ -1,6 +1,4 @@
-use Rattle.std.proofs.Common.{arith, ◌≡◌, ◌+◌, pos}
-use Rattle.std.proofs.lemmas.Int.{ints}
-use Rattle.f77_actions.specs.Encoded.{fault_number}
+use Rattle.f77_code.proofs.Common.{◌≡◌, arith, ◌+◌, pos, ints, fault_number}
 use Rattle.f77_code.proofs.ending.failed.Goals as goal
 
 pub returns : goal.returns

@@ -1,6 +1,4 @@
-use Rattle.std.proofs.Common.{rules, w64, FitsSigned}
-use Rattle.std.proofs.lemmas.Int.{to_z-of_z}
-use Rattle.f77_code.specs.Registers.{register}
+use Rattle.f77_code.proofs.Common.{FitsSigned, w64, rules, to_z-of_z, register}
 use Rattle.f77_code.proofs.evaluate.+values.Goals as goal
 
 pub evaluated-returns-in-MatrixAt : goal.evaluated-returns-in-MatrixAt

@@ -1,10 +1,5 @@
-use Rattle.std.proofs.Common.{◌∙◌, ◌≡◌, ◌+◌, length, drop, ap, sym, subst}
-use Rattle.std.proofs.lemmas.Bool.{and_from}
+use Rattle.f77_code.proofs.Common.{◌≡◌, ◌∙◌, ap, sym, subst, length, ◌+◌, drop, and_from, point, code_after, are_held, is_held, with_more}
 use Rattle.std.proofs.lemmas.List.Folds.{list_all-append}
-use Rattle.f77_code.specs.Block.{code_after}
-use Rattle.f77_code.specs.Frame.{with_more}
-use Rattle.f77_code.specs.Operation.{point}
-use Rattle.f77_code.specs.Registers.{are_held, is_held}
 use Rattle.f77_code.proofs.KeptSteps.{leads_to, goes_on, same_run}
 use Rattle.f77_code.proofs.kept_step.first_step.Goals as goal
 

@@ -1,5 +1,4 @@
-use Rattle.std.proofs.Common.{rules, w64, FitsSigned}
-use Rattle.std.proofs.lemmas.Int.{to_z-of_z}
+use Rattle.f77_code.proofs.Common.{FitsSigned, w64, rules, to_z-of_z}
 use Rattle.f77_code.proofs.Incremented.{next_encodes}
 use Rattle.f77_code.proofs.looping.advanced.Goals as goal
 

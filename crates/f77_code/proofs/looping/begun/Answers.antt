@@ -1,8 +1,5 @@
-use Rattle.std.proofs.Common.{◌≡◌, ◌∙◌, pos, rules, sym, w32, FitsSigned}
-use Rattle.std.proofs.lemmas.Int.{to_z-of_z}
-use Rattle.f77_actions.specs.declared.finish.Fault.TheVariants.{ZeroStep}
-use Rattle.f77_actions.proofs.Bounds.{at_least, not_least, bits_zero, zero_bits, encodes_fault}
-use Rattle.f77_code.specs.Operation.{point, passed}
+use Rattle.f77_code.proofs.Common.{◌≡◌, ◌∙◌, sym, pos, FitsSigned, rules, w32, to_z-of_z, at_least, not_least, bits_zero, zero_bits, encodes_fault, ZeroStep}
+use Rattle.f77_code.proofs.Common.{point, passed}
 use Rattle.f77_code.proofs.Begun.{first_fails, last_fails, step_fails, all_go}
 use Rattle.f77_code.proofs.Points.{begun_none, begun_some}
 use Rattle.f77_code.proofs.Written.{put_held}

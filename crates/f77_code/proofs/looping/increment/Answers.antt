@@ -1,9 +1,4 @@
-use Rattle.std.proofs.Common.{◌∙◌, pos, get_or, rules, w32, w64, FitsSigned}
-use Rattle.std.proofs.lemmas.Int.{to_z-of_z}
-use Rattle.f77_actions.proofs.Bounds.{at_least, not_least}
-use Rattle.f77_code.specs.declared.control.Turn.{Turn}
-use Rattle.f77_code.specs.Operation.{passed}
-use Rattle.f77_code.specs.Registers.{register}
+use Rattle.f77_code.proofs.Common.{◌∙◌, pos, FitsSigned, w64, rules, get_or, w32, to_z-of_z, at_least, not_least, register, passed, Turn}
 use Rattle.f77_code.proofs.Incremented.{is_there, next_fails, next_goes}
 use Rattle.f77_code.proofs.Written.{put_held}
 use Rattle.f77_code.proofs.looping.increment.Goals as goal

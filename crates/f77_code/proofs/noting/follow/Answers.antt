@@ -1,7 +1,4 @@
-use Rattle.std.proofs.Common.{arith, ◌∙◌, drop, length, refl, sym, ap}
-use Rattle.std.proofs.lemmas.Option.{slice_get_past}
-use Rattle.f77_code.specs.Block.{one}
-use Rattle.f77_code.specs.Operation.{point}
+use Rattle.f77_code.proofs.Common.{◌∙◌, ap, sym, arith, refl, length, drop, slice_get_past, point, one}
 use Rattle.f77_code.proofs.Following.{all_passed, list_noted, list_sizes, none_numbers, none_passed, none_sizes, noted_count}
 use Rattle.f77_code.proofs.Sequences.{after_last, rests}
 use Rattle.f77_code.proofs.noting.follow.Goals as goal

@@ -1,8 +1,4 @@
-use Rattle.std.proofs.Common.{◌≡◌, ◌≤◌, ◌+◌, drop, length, true}
-use Rattle.f77_code.specs.Block.{code_after}
-use Rattle.f77_code.specs.Follow.{ArePassed, HaveSizes, numbers_kept}
-use Rattle.f77_code.specs.Operation.{point}
-use Rattle.f77_code.specs.Registers.{are_held}
+use Rattle.f77_code.proofs.Common.{◌≡◌, length, true, ◌+◌, ◌≤◌, drop, point, code_after, are_held, ArePassed, HaveSizes, numbers_kept}
 use Rattle.f77_code.proofs.noting.follow.Given as goal
 
 abbrev pub invariant-steps : goal.invariant-steps

@@ -1,8 +1,4 @@
-use Rattle.std.proofs.Common.{arith, ◌<◌, ◌∙◌, length, ap, refl, sym}
-use Rattle.std.proofs.lemmas.List.{length-take}
-use Rattle.std.proofs.lemmas.Option.{slice_get_read}
-use Rattle.f77_code.specs.Follow.{numbers_of}
-use Rattle.f77_code.specs.code.Follow.{NotesList, NotesStep}
+use Rattle.f77_code.proofs.Common.{◌∙◌, ap, sym, arith, refl, length, ◌<◌, length-take, slice_get_read, numbers_of, NotesList, NotesStep}
 use Rattle.f77_code.proofs.Following.{none_of, set_numbers}
 use Rattle.f77_code.proofs.noting.stepped.Goals as goal
 

@@ -1,11 +1,5 @@
-use Rattle.std.proofs.Common.{arith, ◌∙◌, length, ap, pos, rules, w64, FitsSigned}
-use Rattle.std.specs.Prelude.{if◌then◌else◌}
-use Rattle.std.proofs.lemmas.Bool.{and_parts}
-use Rattle.std.proofs.lemmas.Int.{to_z-of_z}
-use Rattle.f77_code.specs.Operation.{operation_within, point, ran}
-use Rattle.f77_code.specs.Term.{term_value, term_within}
-use Rattle.f77_actions.specs.Number.{is_same}
-use Rattle.f77_actions.proofs.Bounds.{at_least, not_least, bits_zero, zero_bits}
+use Rattle.f77_code.proofs.Common.{◌∙◌, ap, arith, length, pos, FitsSigned, w64, rules, if◌then◌else◌, and_parts, to_z-of_z, at_least, not_least, bits_zero}
+use Rattle.f77_code.proofs.Common.{zero_bits, is_same, point, ran, term_value, operation_within, term_within}
 use Rattle.f77_code.proofs.Depth.{depth}
 use Rattle.f77_code.proofs.Points.{fails, goes, zero_next, some_inner}
 use Rattle.f77_code.proofs.operation.+operations.Goals as goal

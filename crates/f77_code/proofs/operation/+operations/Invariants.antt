@@ -1,4 +1,4 @@
-use Rattle.std.proofs.Common.{◌+◌, ◌*◌}
+use Rattle.f77_code.proofs.Common.{◌+◌, ◌*◌}
 use Rattle.f77_code.proofs.Depth.{depth}
 use Rattle.f77_code.proofs.operation.+operations.Given as goal
 

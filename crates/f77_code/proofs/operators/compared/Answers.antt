@@ -1,7 +1,5 @@
-use Rattle.std.proofs.Common.{rules, w64, FitsSigned}
-use Rattle.std.proofs.lemmas.Int.{to_z-of_z}
+use Rattle.f77_code.proofs.Common.{FitsSigned, w64, rules, to_z-of_z, related_number}
 use Rattle.f77_code.specs.Evaluation as meaning
-use Rattle.f77_code.specs.Term.{related_number}
 use Rattle.f77_code.proofs.Connecting.{truth_encodes}
 use Rattle.f77_code.proofs.operators.compared.Goals as goal
 

@@ -1,6 +1,4 @@
-use Rattle.std.proofs.Common.{rules, w64, FitsSigned}
-use Rattle.std.proofs.lemmas.Int.{to_z-of_z}
-use Rattle.f77_code.specs.Term.{connected_number}
+use Rattle.f77_code.proofs.Common.{FitsSigned, w64, rules, to_z-of_z, connected_number}
 use Rattle.f77_code.proofs.Connecting.{connected_encodes}
 use Rattle.f77_code.proofs.operators.connected.Goals as goal
 

@@ -1,5 +1,4 @@
-use Rattle.std.proofs.Common.{◌≡◌, drop}
-use Rattle.f77_code.specs.Instructions.{round}
+use Rattle.f77_code.proofs.Common.{◌≡◌, drop, round}
 use Rattle.f77_code.proofs.places.round.Given as goal
 
 abbrev pub invariant-loop-k : goal.invariant-loop-k

@@ -1,5 +1,4 @@
-use Rattle.std.proofs.Common.{arith, rules, w64, FitsSigned, ◌<◌, ◌≤◌}
-use Rattle.std.proofs.lemmas.Int.{to_z-of_z}
+use Rattle.f77_code.proofs.Common.{arith, ◌<◌, ◌≤◌, FitsSigned, w64, rules, to_z-of_z}
 use Rattle.f77_code.proofs.Reading.{matrix_read, matrix_above, matrix_beyond}
 use Rattle.f77_code.proofs.registers.matrix_element.Goals as goal
 

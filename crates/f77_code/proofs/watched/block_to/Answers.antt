@@ -1,9 +1,4 @@
-use Rattle.std.proofs.Common.{arith, ◌≡◌, ◌<◌, ◌∙◌, sym, ap, length, refl, inl}
-use Rattle.std.specs.Prelude.{slice_get, Some}
-use Rattle.std.proofs.lemmas.Bool.{ltb-false}
-use Rattle.std.proofs.lemmas.Option.{slice_get_read}
-use Rattle.f77_code.specs.Block.{code_after}
-use Rattle.f77_code.specs.Operation.{point}
+use Rattle.f77_code.proofs.Common.{◌≡◌, ◌∙◌, ap, sym, arith, refl, length, Some, ◌<◌, slice_get, inl, ltb-false, slice_get_read, point, code_after}
 use Rattle.f77_code.proofs.Sequences.{made_more, made_some, there_more}
 use Rattle.f77_code.proofs.watched.block_to.Goals as goal
 

@@ -1,7 +1,4 @@
-use Rattle.std.proofs.Common.{◌+◌, map, arith, sym, subst, ◌∙◌}
-use Rattle.std.proofs.lemmas.List.{length-map}
-use Rattle.f77_program.specs.Program.{line_of}
-use Rattle.f77_tree.specs.Statement.{statement_of}
+use Rattle.f77_legal.proofs.Common.{◌∙◌, map, sym, arith, ◌+◌, subst, length-map, line_of, statement_of}
 use Rattle.f77_legal.proofs.BlockScan.{Scanning, scan_on, scan_found, scan_end}
 use Rattle.f77_legal.proofs.blocks.end_of.Goals as goal
 

@@ -1,5 +1,4 @@
-use Rattle.std.specs.Prelude.{map}
-use Rattle.f77_program.specs.Program.{line_of}
+use Rattle.f77_legal.proofs.Common.{map, line_of}
 use Rattle.f77_legal.proofs.BlockScan.{Scanning}
 use Rattle.f77_legal.proofs.blocks.end_of.Given as goal
 

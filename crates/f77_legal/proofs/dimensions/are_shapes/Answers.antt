@@ -1,10 +1,6 @@
-use Rattle.std.proofs.Common.{◌≡◌, ◌&&◌, rules, tests, List, [], ◌∷◌, map, refl, ap, ◌∙◌}
-use Rattle.std.specs.List.{list_all}
-use Rattle.std.proofs.lemmas.Iterator.{YieldsList-from_slice}
-use Rattle.std.proofs.lemmas.Iterator.Search.{all_from_yields_List}
-use Rattle.f77_tree.specs.Declaration.{decl_of}
+use Rattle.f77_legal.proofs.Common.{◌≡◌, ◌∙◌, ap, map, List, refl, [], ◌∷◌, ◌&&◌, rules, tests, YieldsList-from_slice, all_from_yields_List, list_all, is_shape}
+use Rattle.f77_legal.proofs.Common.{decl_of}
 use Rattle.f77_tree.specs.declared.declaration.Decl.{Decl}
-use Rattle.f77_legal.specs.Dimensions.{is_shape}
 use Rattle.f77_legal.proofs.dimensions.are_shapes.Goals as goal
 
 each : (items : List Decl) → list_all (λ item. is_shape (decl_of item)) items ≡ list_all is_shape (map decl_of items)

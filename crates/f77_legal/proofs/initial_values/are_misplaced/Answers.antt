@@ -1,6 +1,4 @@
-use Rattle.std.proofs.Common.{◌≡◌, ◌++◌, ◌∷◌, [], sym, ◌∙◌}
-use Rattle.f77_legal.specs.code.NameTable.{dummy_at}
-use Rattle.f77_legal.specs.code.Runs.{names_held}
+use Rattle.f77_legal.proofs.Common.{◌≡◌, ◌∙◌, sym, [], ◌∷◌, ◌++◌, dummy_at, names_held}
 use Rattle.f77_legal.proofs.Misplaced.{item_found, item_passed, item_held}
 use Rattle.f77_legal.proofs.initial_values.are_misplaced.Goals as goal
 

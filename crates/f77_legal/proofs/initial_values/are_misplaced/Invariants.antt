@@ -1,6 +1,4 @@
-use Rattle.std.proofs.Common.{◌≡◌, ◌++◌, drop}
-use Rattle.f77_legal.specs.code.NameTable.{dummy_at}
-use Rattle.f77_legal.specs.code.Runs.{misplaces, names_held}
+use Rattle.f77_legal.proofs.Common.{◌≡◌, ◌++◌, drop, dummy_at, names_held, misplaces}
 use Rattle.f77_legal.proofs.initial_values.are_misplaced.Given as goal
 
 -- the other names decide, behind those that are noted

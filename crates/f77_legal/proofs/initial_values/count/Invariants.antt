@@ -1,5 +1,4 @@
-use Rattle.std.proofs.Common.{◌≡◌, ◌≤◌, ◌+◌, ◌*◌, length, drop}
-use Rattle.f77_legal.specs.code.Runs.{kinds_in}
+use Rattle.f77_legal.proofs.Common.{◌≡◌, length, ◌+◌, drop, ◌≤◌, ◌*◌, kinds_in}
 use Rattle.f77_legal.proofs.initial_values.count.Given as goal
 
 -- what is counted, with the other values

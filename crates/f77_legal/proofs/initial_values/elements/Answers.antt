@@ -1,4 +1,4 @@
-use Rattle.std.proofs.Common.{arith, ◌≤◌, ◌∙◌}
+use Rattle.f77_legal.proofs.Common.{◌∙◌, arith, ◌≤◌}
 use Rattle.f77_legal.proofs.Products.{product_step}
 use Rattle.f77_legal.proofs.initial_values.elements.Goals as goal
 

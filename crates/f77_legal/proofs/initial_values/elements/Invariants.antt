@@ -1,6 +1,4 @@
-use Rattle.std.proofs.Common.{◌≡◌, ◌*◌, drop}
-use Rattle.std.specs.Prelude.{min}
-use Rattle.f77_legal.specs.InitialValues.{product}
+use Rattle.f77_legal.proofs.Common.{◌≡◌, drop, min, ◌*◌, product}
 use Rattle.f77_legal.proofs.initial_values.elements.Given as goal
 
 -- the product so far, with the other bounds

@@ -1,9 +1,4 @@
-use Rattle.std.proofs.Common.{sym, ap, ◌∙◌, map, Some}
-use Rattle.f77_program.specs.Program.{line_of}
-use Rattle.f77_legal.specs.NameTable.{kind_at, array_bounds}
-use Rattle.f77_legal.specs.code.NameTable.{dummy_at}
-use Rattle.f77_legal.specs.InitialValues.{groups_of}
-use Rattle.f77_legal.specs.code.Runs.{groups_break, names_held}
+use Rattle.f77_legal.proofs.Common.{◌∙◌, ap, map, sym, Some, array_bounds, kind_at, groups_of, dummy_at, names_held, groups_break, line_of}
 use Rattle.f77_legal.proofs.FirstBad.{bad_here, none_bad, first_is}
 use Rattle.f77_legal.proofs.initial_values.first_bad_data.Goals as goal
 

@@ -1,8 +1,4 @@
-use Rattle.std.proofs.Common.{◌≡◌, [], map, drop}
-use Rattle.f77_program.specs.Program.{line_of}
-use Rattle.f77_legal.specs.NameTable.{kind_at, array_bounds}
-use Rattle.f77_legal.specs.code.NameTable.{dummy_at}
-use Rattle.f77_legal.specs.code.Runs.{names_held}
+use Rattle.f77_legal.proofs.Common.{◌≡◌, map, [], drop, array_bounds, kind_at, dummy_at, names_held, line_of}
 use Rattle.f77_legal.proofs.FirstBad.{first_bad}
 use Rattle.f77_legal.proofs.initial_values.first_bad_data.Given as goal
 

@@ -1,7 +1,4 @@
-use Rattle.std.proofs.Common.{◌≡◌, ◌++◌, sym, ap, ◌∙◌}
-use Rattle.f77_legal.specs.NameTable.{array_bounds, kind_at}
-use Rattle.f77_legal.specs.code.NameTable.{dummy_at}
-use Rattle.f77_legal.specs.code.Runs.{misplaces, names_held}
+use Rattle.f77_legal.proofs.Common.{◌≡◌, ◌∙◌, ap, sym, ◌++◌, array_bounds, kind_at, dummy_at, names_held, misplaces}
 use Rattle.f77_legal.proofs.Misplaced.{group_misplaced, group_unfilled, group_passed, group_held}
 use Rattle.f77_legal.proofs.initial_values.groups_break.Goals as goal
 

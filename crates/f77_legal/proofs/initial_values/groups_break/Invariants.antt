@@ -1,8 +1,4 @@
-use Rattle.std.proofs.Common.{◌≡◌, ◌++◌, map, drop}
-use Rattle.f77_tree.specs.Data.{data_group_of}
-use Rattle.f77_legal.specs.NameTable.{array_bounds, kind_at}
-use Rattle.f77_legal.specs.code.NameTable.{dummy_at}
-use Rattle.f77_legal.specs.code.Runs.{groups_break, names_of_groups, names_held}
+use Rattle.f77_legal.proofs.Common.{◌≡◌, map, ◌++◌, drop, array_bounds, kind_at, dummy_at, names_held, groups_break, names_of_groups, data_group_of}
 use Rattle.f77_legal.proofs.initial_values.groups_break.Given as goal
 
 -- the other groups decide, behind the names that are noted

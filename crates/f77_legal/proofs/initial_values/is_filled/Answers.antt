@@ -1,11 +1,5 @@
-use Rattle.std.proofs.Common.{arith, ◌≡◌, ◌+◌, ◌<◌, length, false, drop, get_or, sym, ap, ◌∙◌}
-use Rattle.std.specs.Prelude.{min, Some, None}
-use Rattle.std.specs.Option.{option_map_or}
-use Rattle.std.specs.Cmp.Lexicographic.{pointwise}
-use Rattle.f77_tree.specs.Comparing.{same_kind}
-use Rattle.f77_legal.specs.NameTable.{array_bounds, kind_at}
-use Rattle.f77_legal.specs.InitialValues.{product}
-use Rattle.f77_legal.specs.code.Runs.{kinds_left, behind_kinds, kinds_needed}
+use Rattle.f77_legal.proofs.Common.{◌≡◌, ◌∙◌, ap, sym, false, length, arith, Some, None, ◌+◌, ◌<◌, drop, get_or, min, pointwise, option_map_or, array_bounds}
+use Rattle.f77_legal.proofs.Common.{kind_at, product, behind_kinds, kinds_left, kinds_needed, same_kind}
 use Rattle.f77_legal.proofs.Runs.{fill_at, behind_fewer}
 use Rattle.f77_legal.proofs.initial_values.is_filled.Goals as goal
 

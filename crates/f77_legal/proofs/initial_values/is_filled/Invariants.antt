@@ -1,9 +1,4 @@
-use Rattle.std.proofs.Common.{◌≡◌, ◌<◌, length, drop}
-use Rattle.std.specs.Cmp.Lexicographic.{pointwise}
-use Rattle.f77_tree.specs.Data.{data_group_of}
-use Rattle.f77_tree.specs.Comparing.{same_kind}
-use Rattle.f77_legal.specs.NameTable.{array_bounds, kind_at}
-use Rattle.f77_legal.specs.code.Runs.{fills, kinds_left, kinds_needed}
+use Rattle.f77_legal.proofs.Common.{◌≡◌, length, ◌<◌, drop, pointwise, array_bounds, kind_at, kinds_left, kinds_needed, fills, same_kind, data_group_of}
 use Rattle.f77_legal.proofs.initial_values.is_filled.Given as goal
 
 -- the other names decide

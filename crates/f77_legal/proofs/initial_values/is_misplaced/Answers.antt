@@ -1,7 +1,4 @@
-use Rattle.std.proofs.Common.{◌||◌, sym, ap, ◌∙◌}
-use Rattle.std.specs.List.{list_any}
-use Rattle.std.specs.Str.{bytes_eq}
-use Rattle.f77_legal.specs.code.Runs.{names_held}
+use Rattle.f77_legal.proofs.Common.{◌∙◌, ap, sym, ◌||◌, list_any, bytes_eq, names_held}
 use Rattle.f77_legal.proofs.Misplaced.{was_held}
 use Rattle.f77_legal.proofs.initial_values.is_misplaced.Goals as goal
 

@@ -1,7 +1,4 @@
-use Rattle.std.proofs.Common.{rules, ◌≡◌, ◌||◌, ◌-◌, ◌∷◌, true, sym, ap, ◌∙◌}
-use Rattle.std.specs.Prelude.{◌==◌, None}
-use Rattle.f77_tree.specs.Comparing.{same_kind}
-use Rattle.f77_legal.specs.code.Runs.{kinds_in, behind_kinds}
+use Rattle.f77_legal.proofs.Common.{◌≡◌, ◌∙◌, ap, sym, ◌∷◌, true, None, ◌||◌, rules, ◌==◌, ◌-◌, behind_kinds, kinds_in, same_kind}
 use Rattle.f77_legal.proofs.Runs.{passed, at_end, within}
 use Rattle.f77_legal.proofs.initial_values.take_run.Goals as goal
 

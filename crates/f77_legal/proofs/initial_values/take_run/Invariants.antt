@@ -1,5 +1,4 @@
-use Rattle.std.proofs.Common.{◌≡◌, length}
-use Rattle.f77_legal.specs.code.Runs.{behind_kinds, kinds_left}
+use Rattle.f77_legal.proofs.Common.{◌≡◌, length, behind_kinds, kinds_left}
 use Rattle.f77_legal.proofs.initial_values.take_run.Given as goal
 
 -- what is still needed decides

@@ -1,11 +1,5 @@
-use Rattle.std.proofs.Common.{ℕ, Bool, rules, tests, arith, map, false, length, refl, ◌∙◌}
-use Rattle.std.specs.Prelude.{not, slice_get}
-use Rattle.std.specs.Option.{option_map_or}
-use Rattle.std.proofs.lemmas.Iterator.{YieldsList-from_range}
-use Rattle.std.proofs.lemmas.Iterator.Search.{any_from_yields_List}
-use Rattle.f77_program.specs.Program.{line_of}
-use Rattle.f77_tree.specs.Statement.{statement_of, jumps_of}
-use Rattle.f77_legal.specs.Labels.{statement_with, is_target}
+use Rattle.f77_legal.proofs.Common.{◌∙◌, map, refl, ℕ, false, length, Bool, arith, not, rules, tests, slice_get, YieldsList-from_range, any_from_yields_List}
+use Rattle.f77_legal.proofs.Common.{option_map_or, statement_with, is_target, line_of, statement_of, jumps_of}
 use Rattle.f77_legal.proofs.Jumps.{any_jump}
 use Rattle.f77_legal.proofs.labels.jumps_badly.Goals as goal
 

@@ -1,10 +1,5 @@
-use Rattle.std.proofs.Common.{ℕ, Bool, rules, tests, arith, false, length, refl, ◌∙◌}
-use Rattle.std.specs.Prelude.{is_some, not, slice_get}
-use Rattle.std.specs.Option.{option_map_or}
-use Rattle.std.proofs.lemmas.Iterator.{YieldsList-from_range}
-use Rattle.std.proofs.lemmas.Iterator.Search.{any_from_yields_List}
-use Rattle.f77_tree.specs.Statement.{statement_of, jumps_of}
-use Rattle.f77_legal.specs.Labels.{label_place}
+use Rattle.f77_legal.proofs.Common.{◌∙◌, refl, ℕ, false, length, Bool, arith, not, rules, tests, is_some, slice_get, YieldsList-from_range}
+use Rattle.f77_legal.proofs.Common.{any_from_yields_List, option_map_or, label_place, statement_of, jumps_of}
 use Rattle.f77_legal.proofs.Jumps.{any_jump}
 use Rattle.f77_legal.proofs.labels.jumps_nowhere.Goals as goal
 

@@ -1,4 +1,4 @@
-use Rattle.std.proofs.Common.{◌∙◌, ap, sym, Some}
+use Rattle.f77_legal.proofs.Common.{◌∙◌, ap, sym, Some}
 use Rattle.f77_legal.proofs.Breaches.{expression_reported, expressions_kept, no_expression}
 use Rattle.f77_legal.proofs.legal.check_expressions.Goals as goal
 

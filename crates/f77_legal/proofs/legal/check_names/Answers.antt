@@ -1,7 +1,4 @@
-use Rattle.std.proofs.Common.{map, ap, ◌∙◌, sym}
-use Rattle.std.specs.Prelude.{option_map}
-use Rattle.f77_program.specs.Program.{line_of}
-use Rattle.f77_legal.specs.declared.fault.CheckFault.TheVariants.{RealName, Twice}
+use Rattle.f77_legal.proofs.Common.{◌∙◌, ap, map, sym, option_map, RealName, Twice, line_of}
 use Rattle.f77_legal.proofs.First.{first_of, first_of_second, none_of_both}
 use Rattle.f77_legal.proofs.legal.check_names.Goals as goal
 

@@ -1,8 +1,5 @@
-use Rattle.std.proofs.Common.{◌≡◌, ◌++◌, map, ap, sym, rules, Some, ◌∙◌}
-use Rattle.std.specs.Prelude.{slice_get}
-use Rattle.f77_program.specs.Program.{line_of}
-use Rattle.f77_legal.specs.declared.fault.CheckFault.TheVariants.{DoubleLabel}
-use Rattle.f77_legal.specs.Legal.{name_faults, clause_faults, label_faults, statement_faults, expression_clauses, control_clauses}
+use Rattle.f77_legal.proofs.Common.{◌≡◌, ◌∙◌, ap, map, sym, Some, ◌++◌, rules, slice_get, clause_faults, control_clauses, expression_clauses, label_faults}
+use Rattle.f77_legal.proofs.Common.{name_faults, statement_faults, DoubleLabel, line_of}
 use Rattle.f77_legal.proofs.Breaches.{control_kept, control_reported}
 use Rattle.f77_legal.proofs.First.{empty_from, first_of, first_before, first_behind, none_behind_none}
 use Rattle.f77_legal.proofs.legal.check_statements.Goals as goal

@@ -1,8 +1,4 @@
-use Rattle.std.proofs.Common.{◌≡◌, map, ap, sym, rules, Some, ◌∙◌}
-use Rattle.std.specs.Prelude.{slice_get}
-use Rattle.f77_program.specs.Program.{line_of}
-use Rattle.f77_legal.specs.declared.fault.CheckFault.TheVariants.{BadData}
-use Rattle.f77_legal.specs.Legal.{faults, too_large_faults}
+use Rattle.f77_legal.proofs.Common.{◌≡◌, ◌∙◌, ap, map, sym, Some, rules, slice_get, too_large_faults, faults, BadData, line_of}
 use Rattle.f77_legal.proofs.First.{early_found, late_found, late_reported, first_of, empty_from}
 use Rattle.f77_legal.proofs.legal.judge.Goals as goal
 

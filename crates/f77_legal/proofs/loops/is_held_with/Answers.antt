@@ -1,13 +1,5 @@
-use Rattle.std.proofs.Common.{rules, tests, map, false, ◌∙◌}
-use Rattle.std.specs.Prelude.{◌&&◌}
-use Rattle.std.specs.Option.{option_and_then, option_map_or}
-use Rattle.std.specs.Str.{bytes_eq}
-use Rattle.f77_program.specs.Program.{line_of}
-use Rattle.f77_legal.specs.Labels.{nth_statement}
-use Rattle.f77_legal.specs.Loops.{do_variable_of}
-use Rattle.f77_legal.specs.code.LoopTable.{is_in_do_range}
-use Rattle.std.proofs.lemmas.Iterator.{YieldsList-from_slice}
-use Rattle.std.proofs.lemmas.Iterator.Search.{any_from_yields_List}
+use Rattle.f77_legal.proofs.Common.{◌∙◌, map, false, ◌&&◌, rules, tests, YieldsList-from_slice, any_from_yields_List, option_map_or, option_and_then, bytes_eq}
+use Rattle.f77_legal.proofs.Common.{nth_statement, do_variable_of, is_in_do_range, line_of}
 use Rattle.f77_legal.proofs.LoopTables.{held_with_is}
 use Rattle.f77_legal.proofs.loops.is_held_with.Goals as goal
 

@@ -1,4 +1,4 @@
-use Rattle.std.proofs.Common.{◌-◌, ◌^◌, ◌*◌, ◌∙◌, min}
+use Rattle.f77_legal.proofs.Common.{◌∙◌, ◌-◌, min, ◌*◌, ◌^◌}
 use Rattle.f77_legal.proofs.Sizes.{product_more}
 use Rattle.f77_legal.proofs.names.product.Goals as goal
 

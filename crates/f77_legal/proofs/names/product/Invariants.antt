@@ -1,5 +1,4 @@
-use Rattle.std.proofs.Common.{◌≡◌, ◌-◌, ◌^◌, min, take}
-use Rattle.f77_legal.specs.InitialValues.{product}
+use Rattle.f77_legal.proofs.Common.{◌≡◌, take, ◌-◌, min, ◌^◌, product}
 use Rattle.f77_legal.proofs.names.product.Given as goal
 
 abbrev pub invariant-loop-bound : goal.invariant-loop-bound

@@ -1,6 +1,4 @@
-use Rattle.std.proofs.Common.{ap, ◌∙◌, ◌++◌, ◌∷◌, []}
-use Rattle.f77_tree.specs.Statement.{statement_of}
-use Rattle.f77_legal.specs.code.Tables.{terminal_of}
+use Rattle.f77_legal.proofs.Common.{◌∙◌, ap, [], ◌∷◌, ◌++◌, terminal_of, statement_of}
 use Rattle.f77_legal.proofs.Entries.{pushed}
 use Rattle.f77_legal.proofs.tables.terminals.Goals as goal
 

@@ -1,8 +1,4 @@
-use Rattle.std.proofs.Common.{◌≡◌, List, take, map}
-use Rattle.f77_program.specs.Program.{LineFields}
-use Rattle.f77_tree.specs.Statement.{statement_of}
-use Rattle.f77_legal.specs.LabelTable.{IsLabelTable}
-use Rattle.f77_legal.specs.code.Tables.{terminal_of}
+use Rattle.f77_legal.proofs.Common.{◌≡◌, map, List, take, IsLabelTable, terminal_of, LineFields, statement_of}
 use Rattle.f77_legal.proofs.tables.terminals.Given as goal
 
 abbrev pub invariant-loop-line : goal.invariant-loop-line

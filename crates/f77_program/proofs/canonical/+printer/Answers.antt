@@ -1,4 +1,4 @@
-use Rattle.std.proofs.Common.{string_bytes}
+use Rattle.f77_program.proofs.Common.{string_bytes}
 use Rattle.f77_program.proofs.Texts.{list_whole}
 use Rattle.f77_program.proofs.canonical.+printer.Goals as goal
 

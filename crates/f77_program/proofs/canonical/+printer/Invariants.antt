@@ -1,7 +1,4 @@
-use Rattle.std.proofs.Common.{◌≡◌, ◌<◌, ◌++◌, drop, string_bytes}
-use Rattle.std.specs.Prelude.{map}
-use Rattle.f77_program.specs.Canonical.{rest_text}
-use Rattle.f77_tree.specs.View.{tree_of, trees}
+use Rattle.f77_program.proofs.Common.{◌≡◌, ◌++◌, map, string_bytes, drop, ◌<◌, rest_text, tree_of, trees}
 use Rattle.f77_program.proofs.canonical.+printer.Given as goal
 
 -- what is written, and then the text of the other items, is the text of them all

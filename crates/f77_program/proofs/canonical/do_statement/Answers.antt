@@ -1,6 +1,4 @@
-use Rattle.std.proofs.Common.{◌++◌, ◌∙◌, ap, append_assoc, string_bytes}
-use Rattle.std.specs.Prelude.{codes}
-use Rattle.std.specs.Fmt.{decimal}
+use Rattle.f77_program.proofs.Common.{◌++◌, ap, ◌∙◌, codes, string_bytes, append_assoc, decimal}
 use Rattle.f77_program.proofs.Texts.{before_rest}
 use Rattle.f77_program.proofs.canonical.do_statement.Goals as goal
 

@@ -1,8 +1,4 @@
-use Rattle.std.proofs.Common.{◌≡◌, rules, string_bytes, sym, subst}
-use Rattle.f77_source.specs.Law.{squeezed}
-use Rattle.f77_program.specs.Canonical.{statement_text}
-use Rattle.f77_tree.specs.StatementGrammar.{SpellsStatement}
-use Rattle.f77_tree.specs.Statement.{statement_of}
+use Rattle.f77_program.proofs.Common.{◌≡◌, sym, subst, string_bytes, rules, statement_text, squeezed, statement_of, SpellsStatement}
 use Rattle.f77_program.proofs.StatementPlain.{reads_back}
 use Rattle.f77_program.proofs.canonical.print_stmt.Goals as goal
 

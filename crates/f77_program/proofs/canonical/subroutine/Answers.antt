@@ -1,4 +1,4 @@
-use Rattle.std.proofs.Common.{◌++◌, ◌∙◌, ap, string_bytes}
+use Rattle.f77_program.proofs.Common.{◌++◌, ap, ◌∙◌, string_bytes}
 use Rattle.f77_program.proofs.Texts.{no_arguments, some_arguments}
 use Rattle.f77_program.proofs.canonical.subroutine.Goals as goal
 

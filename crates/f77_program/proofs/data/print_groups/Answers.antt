@@ -1,7 +1,5 @@
-use Rattle.std.proofs.Common.{of_calls, [], ◌++◌, ◌∙◌, ap, string_bytes}
+use Rattle.f77_program.proofs.Common.{[], ◌++◌, ap, ◌∙◌, string_bytes, of_calls, group_text, data_group_of}
 use Rattle.std.proofs.lemmas.Result.{on_ok_weaker}
-use Rattle.f77_tree.specs.Data.{data_group_of}
-use Rattle.f77_program.specs.Data.{group_text}
 use Rattle.f77_program.proofs.JoinedForms.{separated_map}
 use Rattle.f77_program.proofs.data.print_groups.Goals as goal
 

@@ -1,5 +1,4 @@
-use Rattle.std.proofs.Common.{of_calls}
-use Rattle.f77_program.specs.Data.{value_text}
+use Rattle.f77_program.proofs.Common.{of_calls, value_text}
 use Rattle.f77_program.proofs.data.print_values.Goals as goal
 
 pub returns : goal.returns

@@ -1,9 +1,4 @@
-use Rattle.std.proofs.Common.{◌≡◌, drop}
-use Rattle.std.specs.Prelude.{map}
-use Rattle.std.specs.List.{list_all}
-use Rattle.f77_tree.specs.Declaration.{decl_of}
-use Rattle.f77_tree.specs.Name.{is_symbolic}
-use Rattle.f77_program.specs.code.Declaration.{is_decl}
+use Rattle.f77_program.proofs.Common.{◌≡◌, map, drop, list_all, is_decl, decl_of, is_symbolic}
 use Rattle.f77_program.proofs.declaration.are_symbolic.Given as goal
 
 -- the answer rests on the other items

@@ -1,7 +1,5 @@
-use Rattle.std.proofs.Common.{of_calls, [], ◌++◌, ◌∙◌, ap, string_bytes}
+use Rattle.f77_program.proofs.Common.{[], ◌++◌, ap, ◌∙◌, string_bytes, of_calls, decl_text, decl_of}
 use Rattle.std.proofs.lemmas.Result.{on_ok_weaker}
-use Rattle.f77_tree.specs.Declaration.{decl_of}
-use Rattle.f77_program.specs.Declaration.{decl_text}
 use Rattle.f77_program.proofs.JoinedForms.{separated_map}
 use Rattle.f77_program.proofs.declaration.print_declarations.Goals as goal
 

@@ -1,8 +1,4 @@
-use Rattle.std.proofs.Common.{◌≡◌, drop}
-use Rattle.std.specs.Prelude.{map}
-use Rattle.f77_program.specs.code.Formed.{all_formed}
-use Rattle.f77_tree.specs.Name.{is_symbolic}
-use Rattle.f77_tree.specs.View.{tree_of, trees}
+use Rattle.f77_program.proofs.Common.{◌≡◌, map, drop, all_formed, is_symbolic, tree_of, trees}
 use Rattle.f77_program.proofs.formed.+formed.Given as goal
 
 -- the answer rests on the other items

@@ -1,6 +1,4 @@
-use Rattle.std.proofs.Common.{refl, ◌∷◌, ◌++◌, [], ◌∙◌, ap, sym, append-nil, string_bytes}
-use Rattle.std.proofs.lemmas.List.{drop_all}
-use Rattle.f77_tree.specs.Joined.{separated}
+use Rattle.f77_program.proofs.Common.{[], ◌++◌, ap, ◌∙◌, sym, ◌∷◌, refl, string_bytes, append-nil, drop_all, separated}
 use Rattle.f77_program.proofs.JoinedForms.{separated_next}
 use Rattle.f77_program.proofs.joined.print_joined.Goals as goal
 

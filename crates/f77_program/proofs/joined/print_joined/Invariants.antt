@@ -1,8 +1,6 @@
-use Rattle.std.proofs.Common.{◌≡◌, ◌++◌, ℕ, List, drop, string_bytes}
+use Rattle.f77_program.proofs.Common.{◌≡◌, ◌++◌, List, ℕ, string_bytes, drop, Writes, separated}
 use denote.Text.{Utf8}
 use denote.Shadow.{shadow}
-use Rattle.f77_tree.specs.Joined.{separated}
-use Rattle.f77_program.specs.code.Joined.{Writes}
 use Rattle.f77_program.proofs.joined.print_joined.Given as goal
 
 -- what is written, and then the text of the other items, is the text of them all

@@ -1,5 +1,4 @@
-use Rattle.std.proofs.Common.{of_calls}
-use Rattle.f77_program.specs.Data.{name_text}
+use Rattle.f77_program.proofs.Common.{of_calls, name_text}
 use Rattle.f77_program.proofs.joined.print_names.Goals as goal
 
 pub returns : goal.returns

@@ -1,5 +1,4 @@
-use Rattle.std.proofs.Common.{of_calls}
-use Rattle.std.specs.Fmt.{decimal}
+use Rattle.f77_program.proofs.Common.{of_calls, decimal}
 use Rattle.f77_program.proofs.joined.print_numbers.Goals as goal
 
 pub returns : goal.returns

@@ -1,7 +1,4 @@
-use Rattle.std.proofs.Common.{◌≡◌, ◌++◌, drop}
-use Rattle.std.specs.Prelude.{map}
-use Rattle.f77_program.specs.Program.{line_of}
-use Rattle.f77_program.specs.Printing.{card_of}
+use Rattle.f77_program.proofs.Common.{◌≡◌, ◌++◌, map, drop, line_of, card_of}
 use Rattle.f77_program.proofs.printing.cards_of.Given as goal
 
 -- the cards made, and then those of the other lines, are the cards of all lines

@@ -1,8 +1,4 @@
-use Rattle.std.proofs.Common.{◌≡◌, [], rules}
-use Rattle.std.specs.Prelude.{map}
-use Rattle.f77_source.specs.Write.{card_faults}
-use Rattle.f77_program.specs.Program.{line_of}
-use Rattle.f77_program.specs.Printing.{card_of}
+use Rattle.f77_program.proofs.Common.{◌≡◌, [], map, rules, line_of, card_of, card_faults}
 use Rattle.f77_program.proofs.Reported.{program_formed, printed_whole, is_reported, first_refused}
 use Rattle.f77_program.proofs.printing.print.Goals as goal
 

@@ -1,7 +1,5 @@
-use Rattle.std.proofs.Common.{◌∙◌, ap, subst}
+use Rattle.f77_program.proofs.Common.{ap, ◌∙◌, subst, line_of, group_of, MayFollow}
 use Rattle.std.proofs.Math.ListN.{drop_of_length-le}
-use Rattle.f77_program.specs.Group.{group_of}
-use Rattle.f77_program.specs.Program.{MayFollow, line_of}
 use Rattle.f77_program.proofs.Order.{rests_on, rests_no_more, ends_well, ends_badly}
 use Rattle.f77_program.proofs.program.are_program.Goals as goal
 

@@ -1,4 +1,4 @@
-use Rattle.std.proofs.Common.{◌≡◌, ◌++◌}
+use Rattle.f77_program.proofs.Common.{◌≡◌, ◌++◌}
 use Rattle.f77_program.proofs.program.shared_lines.Given as goal
 
 abbrev pub invariant-loop-line : goal.invariant-loop-line

@@ -1,6 +1,4 @@
-use Rattle.std.proofs.Common.{◌<◌, ◌∙◌, length, ap, refl, subst, sym}
-use Rattle.f77_code.specs.Compiled.{are_ready}
-use Rattle.f77_code.specs.Places.{have_places}
+use Rattle.f77_run.proofs.Common.{length, sym, ◌∙◌, ap, subst, refl, ◌<◌, are_ready, have_places}
 use Rattle.f77_run.proofs.Changing.{checked_few, checked_places, checked_ready, grown_begins}
 use Rattle.f77_run.proofs.changed.put.Goals as goal
 

@@ -1,13 +1,7 @@
-use Rattle.std.proofs.Common.{◌≡◌, ◌∙◌, ℕ, ℤ, true, arith, List, drop, length, sym, ap, subst}
-use Rattle.std.specs.Prelude.{Vec}
+use Rattle.f77_run.proofs.Common.{◌≡◌, length, sym, ◌∙◌, ap, subst, List, arith, ℕ, true, ℤ, drop, Vec, with_items_is, code_within, point, are_held, Turn}
 use Rattle.std.specs.declared.alloc.Global.{Global}
 use Rattle.std.specs.Vec.{with_items}
-use Rattle.std.proofs.lemmas.List.{with_items_is}
-use Rattle.f77_code.specs.declared.control.Turn.{Turn}
 use Rattle.f77_code.specs.declared.noting.Passed.{Passed}
-use Rattle.f77_code.specs.Block.{code_within}
-use Rattle.f77_code.specs.Operation.{point}
-use Rattle.f77_code.specs.Registers.{are_held}
 use Rattle.f77_code.proofs.KeptSteps.{held_behind}
 use Rattle.f77_run.proofs.Alongside.{as_run, kept_within, leads, never_there, same_run, shown, sizes, slots_room, same_outcome, within_image}
 use Rattle.f77_run.proofs.diverging.end_beside.Goals as goal

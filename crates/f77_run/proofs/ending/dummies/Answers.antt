@@ -1,11 +1,5 @@
-use Rattle.std.proofs.Common.{◌≡◌, Some, map, ap, subst, ◌∙◌}
-use Rattle.std.specs.List.{zip}
-use Rattle.f77_meaning.specs.Interpreter.{AreFitting, values_in}
-use Rattle.f77_meaning.specs.Spans.{size_of}
-use Rattle.f77_meaning.specs.code.Spans.{span}
-use Rattle.f77_meaning.proofs.Beginning.{dummies_within, dummies_hold, dummies_read, both_ok}
-use Rattle.f77_run.specs.code.Registers.{shown_cells}
-use Rattle.f77_run.specs.code.Site.{shown_by}
+use Rattle.f77_run.proofs.Common.{◌≡◌, ◌∙◌, ap, subst, Some, map, zip, dummies_read, both_ok, dummies_hold, dummies_within, AreFitting, values_in, size_of}
+use Rattle.f77_run.proofs.Common.{span, shown_cells, shown_by}
 use Rattle.f77_run.proofs.ending.dummies.Goals as goal
 
 pub arguments-requires-2-clause-within : goal.arguments-requires-2-clause-within

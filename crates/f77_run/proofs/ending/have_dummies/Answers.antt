@@ -1,10 +1,4 @@
-use Rattle.std.proofs.Common.{◌∙◌, true≢false, sym, ap, subst}
-use Rattle.std.specs.Bool.{Decides}
-use Rattle.std.specs.List.{zip}
-use Rattle.f77_run.specs.code.Holding.{AreHeld}
-use Rattle.f77_run.specs.code.Registers.{shown_cells}
-use Rattle.f77_run.specs.code.Site.{shown_by}
-use Rattle.f77_meaning.specs.code.Spans.{HaveRoom}
+use Rattle.f77_run.proofs.Common.{sym, ◌∙◌, ap, subst, true≢false, Decides, zip, HaveRoom, shown_cells, AreHeld, shown_by}
 use Rattle.f77_run.proofs.Loaded.{shown_count}
 use Rattle.f77_run.proofs.Reporting.{dummies_room, dummies_decided, dummies_misfit}
 use Rattle.f77_run.proofs.ending.have_dummies.Goals as goal

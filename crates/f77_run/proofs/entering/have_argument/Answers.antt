@@ -1,12 +1,5 @@
-use Rattle.std.proofs.Common.{rules, arith, ◌≡◌, ◌+◌, ◌<◌, ◌≤◌, ◌∙◌, ap, get_or, length, pos, refl, subst, sym, true≢false, w64, FitsSigned, Some}
-use Rattle.std.proofs.lemmas.Int.{to_z-of_z}
-use Rattle.std.proofs.lemmas.Option.{slice_get_within}
-use Rattle.std.specs.Bool.{Decides}
-use Rattle.f77_tree.specs.declared.tree.Kind.TheVariants.{Integer}
-use Rattle.f77_code.specs.Evaluation.{held_in}
-use Rattle.f77_code.specs.Registers.{decoded}
-use Rattle.f77_meaning.specs.Interpreter.{values_in}
-use Rattle.f77_run.specs.code.Registers.{shown_as, shown_cells}
+use Rattle.f77_run.proofs.Common.{◌≡◌, length, sym, ◌∙◌, ap, subst, arith, refl, ◌<◌, Some, ◌≤◌, ◌+◌, rules, get_or, FitsSigned, pos, w64, true≢false}
+use Rattle.f77_run.proofs.Common.{to_z-of_z, slice_get_within, Decides, held_in, decoded, values_in, shown_cells, shown_as, Integer}
 use Rattle.f77_run.proofs.Entered.{all_same, one_other, one_same, slot_shown}
 use Rattle.f77_run.proofs.Held.{decided_not}
 use Rattle.f77_run.proofs.entering.have_argument.Goals as goal

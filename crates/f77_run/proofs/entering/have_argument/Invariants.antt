@@ -1,5 +1,4 @@
-use Rattle.f77_meaning.specs.Interpreter.{values_in}
-use Rattle.f77_run.specs.code.Registers.{shown_cells}
+use Rattle.f77_run.proofs.Common.{values_in, shown_cells}
 use Rattle.f77_run.proofs.Entered.{AreSame}
 use Rattle.f77_run.proofs.entering.have_argument.Given as goal
 

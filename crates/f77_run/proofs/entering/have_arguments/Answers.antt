@@ -1,7 +1,4 @@
-use Rattle.std.proofs.Common.{length, refl, subst, sym}
-use Rattle.std.proofs.lemmas.Slice.Zip.{zip_end}
-use Rattle.f77_run.specs.code.Holding.{AreHeld}
-use Rattle.f77_run.specs.code.Registers.{shown_cells}
+use Rattle.f77_run.proofs.Common.{length, sym, subst, refl, zip_end, shown_cells, AreHeld}
 use Rattle.f77_run.proofs.Pairs.{none_left}
 use Rattle.f77_run.proofs.entering.have_arguments.Goals as goal
 

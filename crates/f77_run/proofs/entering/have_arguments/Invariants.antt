@@ -1,8 +1,4 @@
-use Rattle.std.proofs.Common.{length, drop}
-use Rattle.std.specs.List.{zip}
-use Rattle.f77_run.specs.code.Holding.{AreHeld}
-use Rattle.f77_run.specs.code.Registers.{shown_cells}
-use Rattle.f77_meaning.specs.code.Spans.{HaveRoom}
+use Rattle.f77_run.proofs.Common.{length, drop, zip, HaveRoom, shown_cells, AreHeld}
 use Rattle.f77_run.proofs.entering.have_arguments.Given as goal
 
 -- all are held where the other ones are, and these are where all are

@@ -1,10 +1,5 @@
-use Rattle.std.proofs.Common.{rules, arith, ◌≡◌, ◌+◌, ◌<◌, ◌≤◌, ◌∙◌, FitsSigned, Some, get_or, length, of_z, subst, sym, to_z, w64}
-use Rattle.std.specs.Prelude.{slice_set}
-use Rattle.std.proofs.lemmas.Int.{to_z-of_z}
-use Rattle.std.proofs.lemmas.List.{length-set}
-use Rattle.std.proofs.lemmas.Option.{slice_get-get_or, slice_get_within}
-use Rattle.f77_tree.specs.declared.tree.Kind.TheVariants.{Integer}
-use Rattle.f77_meaning.specs.Interpreter.{values_in}
+use Rattle.f77_run.proofs.Common.{◌≡◌, length, sym, ◌∙◌, subst, arith, ◌<◌, Some, ◌≤◌, ◌+◌, rules, get_or, FitsSigned, slice_set, w64, length-set, of_z, to_z}
+use Rattle.f77_run.proofs.Common.{to_z-of_z, slice_get_within, slice_get-get_or, values_in, Integer}
 use Rattle.f77_run.proofs.Entered.{AreBegun, IsChanged, slot_put, value_put, values_put}
 use Rattle.f77_run.proofs.entering.put_argument.Goals as goal
 

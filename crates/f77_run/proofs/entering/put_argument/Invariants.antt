@@ -1,5 +1,4 @@
-use Rattle.std.proofs.Common.{◌≡◌, length}
-use Rattle.f77_meaning.specs.Interpreter.{values_in}
+use Rattle.f77_run.proofs.Common.{◌≡◌, length, values_in}
 use Rattle.f77_run.proofs.Entered.{AreBegun}
 use Rattle.f77_run.proofs.entering.put_argument.Given as goal
 

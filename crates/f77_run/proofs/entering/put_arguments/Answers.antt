@@ -1,6 +1,4 @@
-use Rattle.std.proofs.Common.{◌∷◌, ◌∙◌, [], length, length-append, subst}
-use Rattle.std.proofs.lemmas.Slice.Zip.{zip_turn, zip_end}
-use Rattle.f77_meaning.specs.code.Spans.{HaveRoom}
+use Rattle.f77_run.proofs.Common.{length, ◌∙◌, subst, [], ◌∷◌, length-append, zip_end, zip_turn, HaveRoom}
 use Rattle.f77_run.proofs.Entered.{argument_put, arguments_put}
 use Rattle.f77_run.proofs.Pairs.{pair_left, none_left}
 use Rattle.f77_run.proofs.entering.put_arguments.Goals as goal

@@ -1,6 +1,4 @@
-use Rattle.std.proofs.Common.{◌≡◌, length, drop}
-use Rattle.std.specs.List.{zip}
-use Rattle.f77_meaning.specs.code.Spans.{HaveRoom}
+use Rattle.f77_run.proofs.Common.{◌≡◌, length, drop, zip, HaveRoom}
 use Rattle.f77_run.proofs.Entered.{ArePassed}
 use Rattle.f77_run.proofs.entering.put_arguments.Given as goal
 

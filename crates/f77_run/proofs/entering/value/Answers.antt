@@ -1,9 +1,5 @@
-use Rattle.std.proofs.Common.{rules, arith, ◌≡◌, ◌∙◌, ◌<◌, ℕ, zero, suc, [], ◌∷◌, Some, FitsSigned, ap, false, get_or, length, pos, refl, sym, w32}
-use Rattle.std.specs.Prelude.{option_map, slice_get}
-use Rattle.std.proofs.lemmas.Int.{to_z-of_z}
-use Rattle.std.proofs.lemmas.List.{length-map}
-use Rattle.std.proofs.lemmas.Option.{slice_get-get_or, slice_get-map}
-use Rattle.f77_actions.specs.declared.value.Value.{Value}
+use Rattle.f77_run.proofs.Common.{◌≡◌, length, sym, ◌∙◌, ap, arith, refl, ◌<◌, ℕ, Some, [], ◌∷◌, rules, slice_get, suc, get_or, zero, false, FitsSigned}
+use Rattle.f77_run.proofs.Common.{option_map, pos, w32, to_z-of_z, length-map, slice_get-get_or, slice_get-map, Value}
 use Rattle.f77_actions.specs.declared.value.Value.TheVariants as held
 use Rattle.f77_run.proofs.entering.value.Goals as goal
 

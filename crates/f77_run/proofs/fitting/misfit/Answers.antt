@@ -1,7 +1,6 @@
-use Rattle.std.proofs.Common.{rules, tests, not}
+use Rattle.f77_run.proofs.Common.{rules, not, tests, has_shape}
 use Rattle.std.proofs.lemmas.Iterator.{YieldsList-from_slice, YieldsList-from_zip}
 use Rattle.std.proofs.lemmas.Iterator.Search.{position_from_yields_List}
-use Rattle.f77_meaning.specs.Interpreter.{has_shape}
 use Rattle.f77_run.proofs.fitting.misfit.Goals as goal
 
 pub returns : goal.returns

@@ -1,8 +1,4 @@
-use Rattle.std.proofs.Common.{List, ℤ, refl, sym, subst}
-use Rattle.f77_check.specs.declared.checked.Shape.{Shape}
-use Rattle.f77_meaning.specs.Interpreter.{AreFitting}
-use Rattle.f77_run.specs.code.Ends.{ReportsOf}
-use Rattle.f77_run.specs.code.Site.{HoldDummies}
+use Rattle.f77_run.proofs.Common.{sym, subst, List, refl, ℤ, Shape, AreFitting, HoldDummies, ReportsOf}
 use Rattle.f77_run.proofs.Starting.{own_run, own_compiled}
 use Rattle.f77_run.proofs.interpreter.counted_run.Goals as goal
 

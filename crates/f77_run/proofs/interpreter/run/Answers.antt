@@ -1,4 +1,4 @@
-use Rattle.f77_meaning.proofs.OneAnswer.{one_answer}
+use Rattle.f77_run.proofs.Common.{one_answer}
 use Rattle.f77_run.proofs.interpreter.run.Goals as goal
 
 pub returns-clause-only : goal.returns-clause-only

@@ -1,5 +1,4 @@
-use Rattle.std.proofs.Common.{rules, ◌∙◌, ◌∷◌, [], Some, None, ap, map, w32, FitsSigned}
-use Rattle.std.proofs.lemmas.Int.{to_z-of_z}
+use Rattle.f77_run.proofs.Common.{◌∙◌, ap, Some, [], map, ◌∷◌, None, rules, FitsSigned, w32, to_z-of_z}
 use Rattle.std.proofs.lemmas.Simd.{map-map}
 use Rattle.f77_tree.specs.declared.tree.Kind.TheVariants as kind
 use Rattle.f77_actions.specs.declared.value.Value.TheVariants as held

@@ -1,6 +1,4 @@
-use Rattle.std.proofs.Common.{length, subst, sym, arith}
-use Rattle.std.proofs.lemmas.Slice.Zip.{zip_end}
-use Rattle.f77_meaning.specs.Interpreter.{AreFitting}
+use Rattle.f77_run.proofs.Common.{length, sym, subst, arith, zip_end, AreFitting}
 use Rattle.f77_run.proofs.Misfits.{fit_whole}
 use Rattle.f77_run.proofs.passing.arguments.Goals as goal
 

@@ -1,9 +1,4 @@
-use Rattle.std.proofs.Common.{◌≡◌, List, ◌++◌, Some, length, map, drop}
-use Rattle.std.specs.List.{zip}
-use Rattle.f77_meaning.specs.declared.argument.Arg.{Arg}
-use Rattle.f77_meaning.specs.Interpreter.{AreFitting, values_in}
-use Rattle.f77_meaning.specs.code.Spans.{AllHold, AreWithin, span}
-use Rattle.f77_meaning.specs.Spans.{size_of}
+use Rattle.f77_run.proofs.Common.{◌≡◌, length, List, Some, map, ◌++◌, drop, zip, AreFitting, values_in, size_of, span, AllHold, AreWithin, Arg}
 use Rattle.f77_run.proofs.passing.arguments.Given as goal
 
 -- the arguments so far, with the other ones

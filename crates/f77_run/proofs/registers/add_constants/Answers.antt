@@ -1,12 +1,5 @@
-use Rattle.std.proofs.Common.{◌≡◌, ◌<◌, ◌∷◌, ◌++◌, ◌∙◌, [], get_or, length, pos, rules, sym, ap, take, w32, w64, FitsSigned}
-use Rattle.std.specs.List.{list_all}
-use Rattle.std.proofs.Math.Seq.{take-append_seam}
-use Rattle.std.proofs.lemmas.Bool.{and_from}
-use Rattle.std.proofs.lemmas.Int.{to_z-of_z}
-use Rattle.std.proofs.lemmas.List.{take_all}
-use Rattle.std.proofs.lemmas.List.Folds.{list_all_more}
-use Rattle.f77_actions.specs.Number.{fits}
-use Rattle.f77_code.specs.Registers.{are_held, is_held}
+use Rattle.f77_run.proofs.Common.{◌≡◌, length, sym, ◌∙◌, ap, ◌<◌, [], ◌∷◌, ◌++◌, rules, get_or, take, FitsSigned, pos, w64, w32, take_all, take-append_seam}
+use Rattle.f77_run.proofs.Common.{and_from, to_z-of_z, list_all_more, list_all, fits, are_held, is_held}
 use Rattle.f77_code.proofs.Points.{narrow_fits}
 use Rattle.f77_run.proofs.Pushed.{narrow_held, taken_more}
 use Rattle.f77_run.proofs.registers.add_constants.Goals as goal

@@ -1,7 +1,4 @@
-use Rattle.std.proofs.Common.{◌≡◌, ◌++◌, take, true}
-use Rattle.std.specs.List.{list_all}
-use Rattle.f77_actions.specs.Number.{fits}
-use Rattle.f77_code.specs.Registers.{are_held}
+use Rattle.f77_run.proofs.Common.{◌≡◌, true, ◌++◌, take, list_all, fits, are_held}
 use Rattle.f77_run.proofs.registers.add_constants.Given as goal
 
 -- the constants so far

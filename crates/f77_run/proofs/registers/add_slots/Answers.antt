@@ -1,16 +1,7 @@
-use Rattle.std.proofs.Common.{◌≡◌, ◌<◌, ◌+◌, ◌∷◌, ◌++◌, ◌∙◌, [], get_or, length, length-append, map, rules, sym, ap, w64, FitsSigned}
-use Rattle.std.specs.Prelude.{option_map}
-use Rattle.std.specs.List.{list_all}
-use Rattle.std.proofs.lemmas.Int.{to_z-of_z}
-use Rattle.std.proofs.lemmas.List.{get_or-map, length-map}
-use Rattle.std.proofs.lemmas.Slice.Zip.{zip_turn, zip_end}
-use Rattle.f77_actions.specs.Encoded.{coded, is_fitting}
-use Rattle.f77_code.specs.Holds.{read_as}
-use Rattle.f77_code.specs.Registers.{are_held, is_held}
-use Rattle.f77_meaning.specs.Start.{constant_value}
+use Rattle.f77_run.proofs.Common.{◌≡◌, length, sym, ◌∙◌, ap, ◌<◌, [], map, ◌∷◌, ◌++◌, ◌+◌, rules, get_or, FitsSigned, option_map, length-append, w64, to_z-of_z}
+use Rattle.f77_run.proofs.Common.{length-map, get_or-map, zip_end, zip_turn, list_all, coded, is_fitting, read_as, are_held, is_held, constant_value, loaded}
 use Rattle.f77_run.proofs.Pairs.{pair_left, none_left}
 use Rattle.f77_run.proofs.Pushed.{fitting_more, mapped_all, mapped_more, pairs_left}
-use Rattle.f77_run.specs.Registers.{loaded}
 use Rattle.f77_run.proofs.registers.add_slots.Goals as goal
 
 pub loop-kind-preserved : goal.loop-kind-preserved

@@ -1,12 +1,5 @@
-use Rattle.std.proofs.Common.{◌≡◌, ◌++◌, length, map}
-use Rattle.std.specs.List.{list_all}
-use Rattle.std.specs.Prelude.{option_map}
-use Rattle.f77_actions.specs.Encoded.{coded, is_fitting}
-use Rattle.f77_code.specs.Holds.{read_as}
-use Rattle.f77_code.specs.Registers.{are_held}
-use Rattle.f77_meaning.specs.Start.{constant_value}
+use Rattle.f77_run.proofs.Common.{◌≡◌, length, map, ◌++◌, option_map, list_all, coded, is_fitting, read_as, are_held, constant_value, loaded, values_fit}
 use Rattle.f77_run.proofs.Pushed.{pairs_left}
-use Rattle.f77_run.specs.Registers.{loaded, values_fit}
 use Rattle.f77_run.proofs.registers.add_slots.Given as goal
 
 -- the registers so far, with those of the other slots

@@ -1,5 +1,4 @@
-use Rattle.std.proofs.Common.{arith, pos, sym}
-use Rattle.std.proofs.lemmas.List.{ext_get_or}
+use Rattle.f77_run.proofs.Common.{sym, arith, pos, ext_get_or}
 use Rattle.f77_run.proofs.registers.first_other.Goals as goal
 
 pub returns-clause-none : goal.returns-clause-none

@@ -1,4 +1,4 @@
-use Rattle.std.specs.List.{SameBelow}
+use Rattle.f77_run.proofs.Common.{SameBelow}
 use Rattle.f77_run.proofs.registers.first_other.Given as goal
 
 abbrev pub invariant-places : goal.invariant-places

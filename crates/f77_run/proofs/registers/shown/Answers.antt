@@ -1,12 +1,7 @@
-use Rattle.std.proofs.Common.{◌≡◌, ◌∷◌, ◌++◌, ◌∙◌, [], Some, get_or, length, length-append, pos, rules, sym, ap, subst, w64, FitsSigned}
-use Rattle.std.proofs.lemmas.Int.{to_z-of_z}
-use Rattle.std.proofs.lemmas.Option.{slice_get-get_or}
-use Rattle.std.proofs.lemmas.Slice.Zip.{zip_turn, zip_end}
-use Rattle.f77_code.specs.Registers.{is_held, decoded}
-use Rattle.f77_code.proofs.Listed.{all_at}
+use Rattle.f77_run.proofs.Common.{◌≡◌, length, sym, ◌∙◌, ap, subst, Some, [], ◌∷◌, ◌++◌, rules, get_or, FitsSigned, pos, length-append, w64, to_z-of_z}
+use Rattle.f77_run.proofs.Common.{slice_get-get_or, zip_end, zip_turn, all_at, is_held, decoded, shown_cells, shown_as}
 use Rattle.f77_run.proofs.Pairs.{pair_left}
 use Rattle.f77_run.proofs.Pushed.{mapped_all, mapped_more}
-use Rattle.f77_run.specs.code.Registers.{shown_as, shown_cells}
 use Rattle.f77_run.proofs.registers.shown.Goals as goal
 
 -- the register that is read is one of those that are held

@@ -1,7 +1,5 @@
-use Rattle.std.proofs.Common.{◌≡◌, ◌++◌, length, map}
-use Rattle.f77_code.specs.Registers.{decoded}
+use Rattle.f77_run.proofs.Common.{◌≡◌, length, map, ◌++◌, decoded, shown_cells, shown_as}
 use Rattle.f77_run.proofs.Pushed.{pairs_left}
-use Rattle.f77_run.specs.code.Registers.{shown_as, shown_cells}
 use Rattle.f77_run.proofs.registers.shown.Given as goal
 
 -- what is shown so far, with the other slots

@@ -1,5 +1,4 @@
-use Rattle.std.proofs.Common.{arith}
-use Rattle.f77_run.specs.code.Running.{stands_at}
+use Rattle.f77_run.proofs.Common.{arith, stands_at}
 use Rattle.f77_run.proofs.Advancing.{ends_later, leads_on}
 use Rattle.f77_run.proofs.running.advance.Goals as goal
 

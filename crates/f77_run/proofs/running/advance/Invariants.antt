@@ -1,6 +1,4 @@
-use Rattle.std.proofs.Common.{◌≡◌, ◌≤◌, ◌<◌, ◌-◌, length, true}
-use Rattle.f77_code.specs.Registers.{are_held}
-use Rattle.f77_run.specs.code.Running.{Leads, stands_at, within_registers}
+use Rattle.f77_run.proofs.Common.{◌≡◌, length, ◌<◌, true, ◌≤◌, ◌-◌, are_held, stands_at, Leads, within_registers}
 use Rattle.f77_run.proofs.running.advance.Given as goal
 
 abbrev pub invariant-rounds : goal.invariant-rounds

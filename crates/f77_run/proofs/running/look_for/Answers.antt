@@ -1,6 +1,4 @@
-use Rattle.std.proofs.Common.{arith, ◌≡◌, ◌<◌, ◌+◌, ◌-◌, ◌∙◌, ap, inr, length, sym}
-use Rattle.f77_code.specs.Operation.{Point, point}
-use Rattle.f77_run.specs.code.Running.{stands_at}
+use Rattle.f77_run.proofs.Common.{◌≡◌, length, sym, ◌∙◌, ap, arith, ◌<◌, ◌+◌, ◌-◌, inr, Point, point, stands_at}
 use Rattle.f77_run.proofs.Advancing.{as_many, came_back, leads_nowhere, leads_on}
 use Rattle.f77_run.proofs.running.look_for.Goals as goal
 

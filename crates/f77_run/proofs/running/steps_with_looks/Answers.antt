@@ -1,5 +1,4 @@
-use Rattle.std.proofs.Common.{rules, ◌≡◌}
-use Rattle.f77_run.specs.code.Running.{stands_at}
+use Rattle.f77_run.proofs.Common.{◌≡◌, rules, stands_at}
 use Rattle.f77_run.proofs.Advancing.{leads_on}
 use Rattle.f77_run.proofs.running.steps_with_looks.Goals as goal
 

@@ -1,8 +1,4 @@
-use Rattle.std.proofs.Common.{◌<◌, ◌∙◌, List, length, map, sym, ap, subst}
-use Rattle.f77_program.specs.Program.{line_of}
-use Rattle.f77_actions.specs.declared.resolved.Resolved.{Resolved}
-use Rattle.f77_code.specs.Compiled.{are_ready}
-use Rattle.f77_code.specs.Places.{have_places}
+use Rattle.f77_run.proofs.Common.{length, sym, ◌∙◌, ap, subst, List, ◌<◌, map, Resolved, are_ready, have_places, line_of}
 use Rattle.f77_run.proofs.Readiness.{few_statements, have_all_places, all_ready}
 use Rattle.f77_run.proofs.workspace.prepared.Goals as goal
 

@@ -1,8 +1,6 @@
-use Rattle.std.proofs.Common.{◌≡◌, ◌<◌, ℕ, List, false, ◌++◌, map, string_bytes, ap, ◌∙◌, sym, take_all, length, drop, get_or}
-use Rattle.std.specs.Char.{to_ascii_uppercase}
-use Rattle.std.specs.List.{list_any}
+use Rattle.f77_source.proofs.Common.{◌≡◌, ℕ, List, ap, ◌∙◌, length, false, ◌++◌, sym, ◌<◌, get_or, drop, map, string_bytes, take_all, to_ascii_uppercase}
+use Rattle.f77_source.proofs.Common.{list_any, is_foreign, line_part, counted}
 use lib.Utf8.{encode}
-use Rattle.f77_source.specs.Line.{line_part, counted, is_foreign}
 use Rattle.f77_source.proofs.Columns.{dense, text_blank, text_more, ascii_at}
 use Rattle.f77_source.proofs.line.append_line_part.Goals.{then-c-ne32+in_ok-push, else-c-ne32}
 use Rattle.f77_source.proofs.line.append_line_part.Goals as goal

@@ -1,5 +1,4 @@
-use Rattle.std.proofs.Common.{◌≡◌, ◌++◌, take, map, string_bytes}
-use Rattle.std.specs.Char.{to_ascii_uppercase}
+use Rattle.f77_source.proofs.Common.{◌≡◌, ◌++◌, take, map, string_bytes, to_ascii_uppercase}
 use Rattle.f77_source.proofs.Columns.{dense}
 use Rattle.f77_source.proofs.line.append_line_part.Given as goal
 

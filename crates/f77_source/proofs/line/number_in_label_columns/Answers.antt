@@ -1,8 +1,6 @@
-use Rattle.std.proofs.Common.{◌≡◌, ◌<◌, ◌+◌, ◌*◌, ◌-◌, ◌^◌, ℕ, List, true, length, take, get_or, ap, ◌∙◌, sym, arith, take_all, add-one}
+use Rattle.f77_source.proofs.Common.{◌≡◌, ℕ, List, ap, ◌∙◌, length, arith, true, ◌+◌, sym, ◌<◌, get_or, take, ◌-◌, take_all, ◌*◌, add-one, ◌^◌, list_all}
+use Rattle.f77_source.proofs.Common.{digits_value, is_label_character, field_number}
 use Rattle.std.proofs.Math.Nat.{pow-succ'}
-use Rattle.std.specs.Str.Parse.{digits_value}
-use Rattle.std.specs.List.{list_all}
-use Rattle.f77_source.specs.Line.{field_number, is_label_character}
 use Rattle.f77_source.proofs.Columns.{dense, dense_blank, dense_more, label_digit, number_more}
 use Rattle.f77_source.proofs.line.number_in_label_columns.Goals.{then-c-ne32, else-c-ne32}
 use Rattle.f77_source.proofs.line.number_in_label_columns.Goals as goal

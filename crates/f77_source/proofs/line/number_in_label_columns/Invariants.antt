@@ -1,5 +1,4 @@
-use Rattle.std.proofs.Common.{◌≡◌, ◌<◌, ◌^◌, take}
-use Rattle.std.specs.Str.Parse.{digits_value}
+use Rattle.f77_source.proofs.Common.{◌≡◌, ◌<◌, take, ◌^◌, digits_value}
 use Rattle.f77_source.proofs.Columns.{dense}
 use Rattle.f77_source.proofs.line.number_in_label_columns.Given as goal
 

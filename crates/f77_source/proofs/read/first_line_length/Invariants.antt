@@ -1,4 +1,4 @@
-use Rattle.std.proofs.Common.{◌≢◌, ℕ, ◌<◌, get_or}
+use Rattle.f77_source.proofs.Common.{ℕ, ◌<◌, get_or, ◌≢◌}
 use Rattle.f77_source.proofs.read.first_line_length.Given as goal
 
 abbrev pub invariant-loop-i : goal.invariant-loop-i

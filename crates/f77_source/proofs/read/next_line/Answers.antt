@@ -1,6 +1,4 @@
-use Rattle.std.proofs.Common.{◌≡◌, ◌<◌, ◌+◌, ◌==◌, false, ap, ℕ, length, arith, length-drop}
-use Rattle.std.proofs.lemmas.List.{take_rest}
-use Rattle.std.proofs.lemmas.Bool.Decides.{nat_tests}
+use Rattle.f77_source.proofs.Common.{◌≡◌, ℕ, ap, length, arith, false, ◌+◌, ◌<◌, ◌==◌, length-drop, nat_tests, take_rest}
 use Rattle.f77_source.proofs.Cuts.{ended_line, started_line}
 use Rattle.f77_source.proofs.read.next_line.Goals as goal
 

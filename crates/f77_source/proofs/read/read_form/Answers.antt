@@ -1,10 +1,7 @@
-use Rattle.std.proofs.Common.{◌≡◌, ◌⊎◌, inl, inr, List, ℕ, [], ◌∷◌, Result, Ok, Err, ap, ◌∙◌, refl}
+use Rattle.f77_source.proofs.Common.{◌≡◌, ℕ, List, ap, ◌∙◌, refl, [], ◌∷◌, Ok, Err, Result, inl, inr, ◌⊎◌, lines, Progress, taken, Steps, nothing_read}
+use Rattle.f77_source.proofs.Common.{FormFault, Memory}
 use Rattle.std.proofs.lemmas.Result.{err_from_is_err_and}
-use Rattle.f77_source.specs.declared.fault.FormFault.{FormFault}
-use Rattle.f77_source.specs.declared.fault.FormFault.TheVariants.{Memory}
-use Rattle.f77_source.specs.Read.{lines}
 use Rattle.f77_source.proofs.Cuts.{no_lines_left}
-use Rattle.f77_source.specs.code.Reader.{Progress, nothing_read, taken, Steps}
 use Rattle.f77_source.proofs.Runs.{run}
 use Rattle.f77_source.proofs.Outcomes.{Stopped, stopped_refused, stopped_accepts, stopped_first, read_cards, read_accepts, read_no_fault, step_stops}
 use Rattle.f77_source.proofs.read.read_form.Goals as goal

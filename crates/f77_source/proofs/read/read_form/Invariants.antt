@@ -1,6 +1,4 @@
-use Rattle.std.proofs.Common.{◌≡◌, ◌+◌, ◌≤◌, length}
-use Rattle.f77_source.specs.Read.{lines}
-use Rattle.f77_source.specs.code.Reader.{progress_of, nothing_read}
+use Rattle.f77_source.proofs.Common.{◌≡◌, length, ◌+◌, ◌≤◌, lines, nothing_read, progress_of}
 use Rattle.f77_source.proofs.Runs.{run}
 use Rattle.f77_source.proofs.read.read_form.Given as goal
 

@@ -1,5 +1,4 @@
-use Rattle.std.proofs.Common.{◌≡◌, drop}
-use Rattle.f77_source.specs.Write.{card_faults}
+use Rattle.f77_source.proofs.Common.{◌≡◌, drop, card_faults}
 use Rattle.f77_source.proofs.write.first_fault.Given as goal
 
 abbrev pub invariant-loop-card : goal.invariant-loop-card

@@ -1,7 +1,5 @@
-use Rattle.std.proofs.Common.{refl, ◌≡◌, ◌∙◌, ap, ℕ, List, ◌++◌, ◌+◌, append_assoc, arith}
-use Rattle.std.specs.List.{flat_map, range_with_len}
-use Rattle.f77_source.specs.Card.{CardFields}
-use Rattle.f77_source.specs.Write.{written_card, initial_line, continuation_line}
+use Rattle.f77_source.proofs.Common.{◌≡◌, ℕ, List, ap, ◌∙◌, refl, arith, ◌+◌, ◌++◌, append_assoc, flat_map, range_with_len, CardFields, continuation_line}
+use Rattle.f77_source.proofs.Common.{initial_line, written_card}
 use Rattle.f77_source.proofs.Pieces.{writable, lines_more}
 use Rattle.f77_source.proofs.write.push_card.Goals as goal
 

@@ -1,6 +1,4 @@
-use Rattle.std.proofs.Common.{◌≡◌, ◌++◌, string_bytes}
-use Rattle.std.specs.List.{flat_map, range_with_len}
-use Rattle.f77_source.specs.Write.{initial_line, continuation_line}
+use Rattle.f77_source.proofs.Common.{◌≡◌, ◌++◌, string_bytes, flat_map, range_with_len, continuation_line, initial_line}
 use Rattle.f77_source.proofs.write.push_card.Given as goal
 
 abbrev pub invariant-loop-index : goal.invariant-loop-index

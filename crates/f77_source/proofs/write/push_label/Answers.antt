@@ -1,6 +1,4 @@
-use Rattle.std.proofs.Common.{◌≡◌, ◌++◌, ◌∙◌, ap, subst, ℕ, List, string_bytes, OnOk, rules}
-use Rattle.std.specs.Fmt.{styled_decimal}
-use Rattle.f77_source.specs.Write.{label_text}
+use Rattle.f77_source.proofs.Common.{◌≡◌, ℕ, List, ap, ◌∙◌, ◌++◌, subst, string_bytes, rules, OnOk, styled_decimal, label_text}
 use Rattle.f77_source.proofs.Pieces.{styled_label}
 use Rattle.f77_source.proofs.write.push_label.Goals as goal
 

@@ -1,4 +1,4 @@
-use Rattle.std.proofs.Common.{◌∙◌, rules}
+use Rattle.f77_source.proofs.Common.{◌∙◌, rules}
 use Rattle.f77_source.proofs.Pieces.{piece_is}
 use Rattle.f77_source.proofs.write.push_piece.Goals as goal
 

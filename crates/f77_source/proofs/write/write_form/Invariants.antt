@@ -1,5 +1,4 @@
-use Rattle.std.proofs.Common.{◌≡◌, take, string_bytes}
-use Rattle.f77_source.specs.Write.{written}
+use Rattle.f77_source.proofs.Common.{◌≡◌, take, string_bytes, written}
 use Rattle.f77_source.proofs.write.write_form.Given as goal
 
 abbrev pub invariant-loop-card : goal.invariant-loop-card

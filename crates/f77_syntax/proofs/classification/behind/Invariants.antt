@@ -1,5 +1,4 @@
-use Rattle.std.proofs.Common.{◌≡◌, ◌≤◌, drop}
-use Rattle.f77_syntax.specs.Classification.{behind_character}
+use Rattle.f77_syntax.proofs.Common.{◌≡◌, ◌≤◌, drop, behind_character}
 use Rattle.f77_syntax.proofs.classification.behind.Given as goal
 
 abbrev pub invariant-loop-index : goal.invariant-loop-index

@@ -1,4 +1,4 @@
-use Rattle.std.proofs.Common.{arith, ◌+◌, refl, sym}
+use Rattle.f77_syntax.proofs.Common.{refl, sym, arith, ◌+◌}
 use Rattle.f77_syntax.proofs.Depths.{flat_none, flat_step, open_step}
 use Rattle.f77_syntax.proofs.classification.is_too_deep.Goals as goal
 

@@ -1,5 +1,4 @@
-use Rattle.std.proofs.Common.{◌≡◌, ◌≤◌, ℕ, take}
-use Rattle.f77_syntax.specs.TextLimits.{open_behind, most_open}
+use Rattle.f77_syntax.proofs.Common.{◌≡◌, ℕ, ◌≤◌, take, most_open, open_behind}
 use Rattle.f77_syntax.proofs.classification.is_too_deep.Given as goal
 
 abbrev pub invariant-loop-c : goal.invariant-loop-c

@@ -1,5 +1,4 @@
-use Rattle.std.proofs.Common.{refl}
-use Rattle.f77_syntax.specs.code.Data.{group_at}
+use Rattle.f77_syntax.proofs.Common.{refl, group_at}
 use Rattle.f77_syntax.proofs.DataGives.{group_shorter}
 use Rattle.f77_syntax.proofs.data.group.Goals as goal
 

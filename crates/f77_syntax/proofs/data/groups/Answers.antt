@@ -1,6 +1,4 @@
-use Rattle.std.proofs.Common.{arith, ◌≡◌, length, true, false}
-use Rattle.std.specs.Prelude.{◌==◌}
-use Rattle.std.proofs.lemmas.Result.{err_from_is_err_and}
+use Rattle.f77_syntax.proofs.Common.{◌≡◌, true, false, length, arith, ◌==◌, err_from_is_err_and}
 use Rattle.f77_syntax.proofs.DataGives.{grouping_starts, grouping_fails, grouping_goes_on, grouping_ends}
 use Rattle.f77_syntax.proofs.data.groups.Goals as goal
 

@@ -1,4 +1,4 @@
-use Rattle.std.proofs.Common.{length}
+use Rattle.f77_syntax.proofs.Common.{length}
 use Rattle.f77_syntax.proofs.DataGives.{Grouping}
 use Rattle.f77_syntax.proofs.data.groups.Given as goal
 

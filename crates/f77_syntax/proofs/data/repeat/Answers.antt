@@ -1,7 +1,4 @@
-use Rattle.std.proofs.Common.{sym}
-use Rattle.f77_syntax.specs.code.View.{clipped}
-use Rattle.f77_syntax.specs.code.Declaration.{bound_at}
-use Rattle.f77_syntax.specs.code.Data.{repeat_at}
+use Rattle.f77_syntax.proofs.Common.{sym, clipped, bound_at, repeat_at}
 use Rattle.f77_syntax.proofs.DataGives.{nothing_read, something_read, finds_none, repeat_no_number, repeat_no_star, repeat_whole}
 use Rattle.f77_syntax.proofs.data.repeat.Goals as goal
 

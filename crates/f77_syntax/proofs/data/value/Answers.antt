@@ -1,5 +1,4 @@
-use Rattle.std.proofs.Common.{sym, ◌∙◌, ap}
-use Rattle.f77_syntax.specs.code.Data.{constant_at, clip_constant}
+use Rattle.f77_syntax.proofs.Common.{◌∙◌, sym, ap, clip_constant, constant_at}
 use Rattle.f77_syntax.proofs.DataGives.{nothing_read, something_read, starts, value_none, value_whole, value_shorter}
 use Rattle.f77_syntax.proofs.data.value.Goals as goal
 

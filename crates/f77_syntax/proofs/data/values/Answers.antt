@@ -1,7 +1,4 @@
-use Rattle.std.proofs.Common.{of_calls, sym, ◌∙◌}
-use Rattle.std.proofs.lemmas.List.{map-id}
-use Rattle.f77_tree.specs.declared.data.Value.{Value}
-use Rattle.f77_syntax.specs.code.Data.{clip_value, data_value_at, data_values_at}
+use Rattle.f77_syntax.proofs.Common.{◌∙◌, sym, of_calls, map-id, clip_value, data_value_at, data_values_at, Value}
 use Rattle.f77_syntax.proofs.JoinedItems.{gives_items, gives_as}
 use Rattle.f77_syntax.proofs.data.values.Goals as goal
 

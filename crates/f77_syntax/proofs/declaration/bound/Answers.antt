@@ -1,9 +1,4 @@
-use Rattle.std.proofs.Common.{◌≤◌, ℕ, List, length, Option, Some, None}
-use Rattle.std.specs.Prelude.{IfSome, IfOk, ok_or}
-use Rattle.std.specs.Borrow.{Bor}
-use Rattle.f77_syntax.specs.declared.fault.ReadError.TheVariants.{Unknown}
-use Rattle.f77_syntax.specs.code.View.{clipped}
-use Rattle.f77_syntax.specs.code.Declaration.{bound_at}
+use Rattle.f77_syntax.proofs.Common.{List, ℕ, Some, None, length, Option, ◌≤◌, IfOk, ok_or, IfSome, Bor, clipped, bound_at, Unknown}
 use Rattle.f77_syntax.proofs.DataGives.{finds_gives}
 use Rattle.f77_syntax.proofs.declaration.bound.Goals as goal
 

@@ -1,7 +1,4 @@
-use Rattle.std.proofs.Common.{of_calls, ℕ, sym, ◌∙◌}
-use Rattle.std.proofs.lemmas.List.{map-id}
-use Rattle.f77_syntax.specs.code.View.{clipped}
-use Rattle.f77_syntax.specs.code.Declaration.{bound_at, bounds_at}
+use Rattle.f77_syntax.proofs.Common.{◌∙◌, sym, ℕ, of_calls, map-id, clipped, bound_at, bounds_at}
 use Rattle.f77_syntax.proofs.JoinedItems.{gives_items, gives_as}
 use Rattle.f77_syntax.proofs.declaration.bounds.Goals as goal
 

@@ -1,6 +1,4 @@
-use Rattle.std.proofs.Common.{refl, [], ap, ◌∙◌}
-use Rattle.f77_tree.specs.Name.{cut}
-use Rattle.f77_syntax.specs.code.Declaration.{decl_at}
+use Rattle.f77_syntax.proofs.Common.{refl, ◌∙◌, ap, [], decl_at, cut}
 use Rattle.f77_syntax.proofs.DeclarationTexts.{decl_is}
 use Rattle.f77_syntax.proofs.JoinedTexts.{fronts_short}
 use Rattle.f77_syntax.proofs.declaration.declaration.Goals as goal

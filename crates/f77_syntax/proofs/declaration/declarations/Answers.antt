@@ -1,10 +1,5 @@
-use Rattle.std.proofs.Common.{of_calls, refl}
-use Rattle.std.specs.Prelude.{Ok, Err}
-use Rattle.std.proofs.lemmas.Result.{err_from_is_err_and}
-use Rattle.f77_tree.specs.Declaration.{decl_of}
-use Rattle.f77_syntax.specs.code.Reading.{value_ended}
-use Rattle.f77_syntax.specs.code.Joined.{items_at}
-use Rattle.f77_syntax.specs.code.Declaration.{AreDecls, clip_decl, decl_at, declarations_at}
+use Rattle.f77_syntax.proofs.Common.{refl, Err, of_calls, Ok, err_from_is_err_and, value_ended, items_at, clip_decl, decl_at, declarations_at, AreDecls}
+use Rattle.f77_syntax.proofs.Common.{decl_of}
 use Rattle.f77_syntax.proofs.Gives.{fails_bind, gives_along, gives_ended}
 use Rattle.f77_syntax.proofs.JoinedItems.{gives_items}
 use Rattle.f77_syntax.proofs.declaration.declarations.Goals as goal

@@ -1,6 +1,4 @@
-use Rattle.std.proofs.Common.{refl, ap, ◌∙◌}
-use Rattle.f77_tree.specs.Statement.{Statement}
-use Rattle.f77_tree.proofs.Views.{declare_view}
+use Rattle.f77_syntax.proofs.Common.{refl, ◌∙◌, ap, declare_view, Statement}
 use Rattle.f77_syntax.proofs.declaration.declared.Goals as goal
 
 pub returns : goal.returns

@@ -1,8 +1,4 @@
-use Rattle.std.proofs.Common.{◌≡◌, true, false, refl, sym, ap, ◌∙◌}
-use Rattle.std.specs.Prelude.{map}
-use Rattle.f77_tree.specs.Declaration.{all_bounded, decl_of}
-use Rattle.f77_tree.specs.Statement.{Statement}
-use Rattle.f77_tree.proofs.Views.{dimension_view}
+use Rattle.f77_syntax.proofs.Common.{refl, ◌∙◌, sym, ap, ◌≡◌, true, false, map, dimension_view, all_bounded, decl_of, Statement}
 use Rattle.f77_syntax.proofs.Clip.{all_bounded_clip}
 use Rattle.f77_syntax.proofs.declaration.dimension.Goals as goal
 

@@ -1,5 +1,4 @@
-use Rattle.std.proofs.Common.{[], refl}
-use Rattle.f77_syntax.specs.code.Subroutine.{dummies_at}
+use Rattle.f77_syntax.proofs.Common.{refl, [], dummies_at}
 use Rattle.f77_syntax.proofs.declaration.dummies.Goals as goal
 
 pub returns-in-Some : goal.returns-in-Some

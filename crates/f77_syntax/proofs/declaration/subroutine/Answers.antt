@@ -1,10 +1,4 @@
-use Rattle.std.proofs.Common.{[], refl, sym, ap, ◌∙◌}
-use Rattle.f77_tree.specs.Name.{cut}
-use Rattle.f77_tree.specs.Statement.{Statement}
-use Rattle.f77_tree.proofs.Views.{subroutine_view}
-use Rattle.f77_syntax.specs.code.Reading.{value_ended}
-use Rattle.f77_syntax.specs.code.StatementView.{IsStatement}
-use Rattle.f77_syntax.specs.code.Subroutine.{subroutine_at}
+use Rattle.f77_syntax.proofs.Common.{refl, ◌∙◌, sym, ap, [], value_ended, IsStatement, subroutine_at, subroutine_view, cut, Statement}
 use Rattle.f77_syntax.proofs.Gives.{gives_along, gives_ended}
 use Rattle.f77_syntax.proofs.declaration.subroutine.Goals as goal
 

@@ -1,14 +1,9 @@
-use Rattle.std.proofs.Common.{arith, ◌∷◌, ◌≡◌, sym, ◌∙◌, true, false, refl, ap}
-use Rattle.std.specs.Prelude.{◌==◌, Some, ◌&&◌, nat_le}
-use Rattle.std.proofs.lemmas.Result.{err_from_is_err_and}
-use Rattle.std.proofs.lemmas.Bool.{le-leb}
-use Rattle.std.proofs.lemmas.Bool.Decides.{nat_tests}
-use Rattle.f77_tree.specs.Operator.{level, left_level}
-use Rattle.f77_syntax.specs.code.Reading.{reading, start_at}
+use Rattle.f77_syntax.proofs.Common.{refl, ◌∙◌, sym, ap, ◌≡◌, true, ◌∷◌, Some, false, arith, ◌==◌, ◌&&◌, nat_le, le-leb, nat_tests, err_from_is_err_and}
+use Rattle.f77_syntax.proofs.Common.{reading, start_at, left_level, level}
 use Rattle.f77_syntax.proofs.Steps.{after_is}
 use Rattle.f77_syntax.proofs.Gives.{start_none, start_along, alone_at, last_at, expr_fails, start_shorter, climbing_starts, climb_fails, climbing_goes_on}
-use Rattle.f77_syntax.proofs.Gives.{ends_alone, ends_before, start_group, start_plus, start_minus, start_dot, start_word, group_whole, signed_whole, negated_whole}
-use Rattle.f77_syntax.proofs.Gives.{true_whole, false_whole, number_whole, scalar_whole, listed_whole, list_fails, list_goes_on, list_ends}
+use Rattle.f77_syntax.proofs.Gives.{ends_alone, ends_before, start_group, start_plus, start_minus, start_dot, start_word, group_whole, signed_whole}
+use Rattle.f77_syntax.proofs.Gives.{negated_whole, true_whole, false_whole, number_whole, scalar_whole, listed_whole, list_fails, list_goes_on, list_ends}
 use Rattle.f77_syntax.proofs.expression.+parser.Goals as goal
 
 pub expression-returns-in_err-left-clause-found : goal.expression-returns-in_err-left-clause-found

@@ -1,4 +1,4 @@
-use Rattle.std.proofs.Common.{◌+◌, ◌*◌, length}
+use Rattle.f77_syntax.proofs.Common.{length, ◌+◌, ◌*◌}
 use Rattle.f77_syntax.proofs.Loops.{Climbing, Listing}
 use Rattle.f77_syntax.proofs.expression.+parser.Given as goal
 

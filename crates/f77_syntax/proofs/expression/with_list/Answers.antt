@@ -1,10 +1,4 @@
-use Rattle.std.proofs.Common.{ap, ◌∙◌, sym, ℕ, List}
-use Rattle.std.specs.Prelude.{map}
-use Rattle.f77_tree.specs.Name.{cut}
-use Rattle.f77_tree.specs.Tree.{Tree}
-use Rattle.f77_syntax.specs.code.Reading.{listed_by}
-use Rattle.f77_tree.specs.View.{tree_of, trees}
-use Rattle.f77_tree.proofs.Views.{reference_view}
+use Rattle.f77_syntax.proofs.Common.{◌∙◌, sym, ap, List, ℕ, map, listed_by, reference_view, cut, Tree, tree_of, trees}
 use Rattle.f77_syntax.proofs.expression.with_list.Goals as goal
 
 pub returns-in-None : goal.returns-in-None

@@ -1,6 +1,4 @@
-use Rattle.std.proofs.Common.{append_assoc, [], ◌∷◌, sym}
-use Rattle.std.proofs.lemmas.Result.{err_from_is_err_and}
-use Rattle.f77_syntax.specs.code.Joined.{JoinsItems, Breaks}
+use Rattle.f77_syntax.proofs.Common.{sym, [], ◌∷◌, append_assoc, err_from_is_err_and, Breaks, JoinsItems}
 use Rattle.f77_syntax.proofs.joined.joined.Goals as goal
 
 pub returns-in_err-value : goal.returns-in_err-value

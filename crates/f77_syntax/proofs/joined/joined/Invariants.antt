@@ -1,6 +1,4 @@
-use Rattle.std.proofs.Common.{length, ℕ, List, ◌++◌}
-use Rattle.f77_syntax.specs.declared.fault.ReadError.{ReadError}
-use Rattle.f77_syntax.specs.code.Joined.{JoinsItems, Breaks}
+use Rattle.f77_syntax.proofs.Common.{List, ℕ, length, ◌++◌, Breaks, JoinsItems, ReadError}
 use Rattle.f77_syntax.proofs.joined.joined.Given as goal
 
 -- what the rest is, says what the whole text is

@@ -1,5 +1,4 @@
-use Rattle.std.proofs.Common.{ap, ◌∙◌}
-use Rattle.f77_tree.specs.Name.{cut}
+use Rattle.f77_syntax.proofs.Common.{◌∙◌, ap, cut}
 use Rattle.f77_syntax.proofs.joined.name.Goals as goal
 
 pub returns-clause-found : goal.returns-clause-found

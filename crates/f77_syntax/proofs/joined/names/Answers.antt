@@ -1,7 +1,4 @@
-use Rattle.std.proofs.Common.{of_calls, ℕ, List, sym, ◌∙◌}
-use Rattle.std.proofs.lemmas.List.{map-id}
-use Rattle.f77_tree.specs.Name.{cut}
-use Rattle.f77_syntax.specs.code.Names.{name_at, names_at}
+use Rattle.f77_syntax.proofs.Common.{◌∙◌, sym, List, ℕ, of_calls, map-id, name_at, names_at, cut}
 use Rattle.f77_syntax.proofs.JoinedItems.{gives_items, gives_as}
 use Rattle.f77_syntax.proofs.joined.names.Goals as goal
 

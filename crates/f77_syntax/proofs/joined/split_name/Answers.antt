@@ -1,5 +1,4 @@
-use Rattle.std.proofs.Common.{◌≡◌, true, false, refl, sym, ap, ◌∙◌}
-use Rattle.f77_tree.specs.Grammar.{is_name, word, past_word}
+use Rattle.f77_syntax.proofs.Common.{refl, ◌∙◌, sym, ap, ◌≡◌, true, false, is_name, past_word, word}
 use Rattle.f77_syntax.proofs.joined.split_name.Goals as goal
 
 pub returns-then-not-is_name-clause-found : goal.returns-then-not-is_name-clause-found

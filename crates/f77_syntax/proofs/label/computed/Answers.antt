@@ -1,7 +1,4 @@
-use Rattle.std.proofs.Common.{refl, ◌∙◌}
-use Rattle.f77_tree.specs.Statement.{Statement}
-use Rattle.f77_tree.proofs.Views.{computed_view}
-use Rattle.f77_syntax.specs.code.Goto.{computed_at}
+use Rattle.f77_syntax.proofs.Common.{refl, ◌∙◌, computed_at, computed_view, Statement}
 use Rattle.f77_syntax.proofs.label.computed.Goals as goal
 
 pub returns : goal.returns

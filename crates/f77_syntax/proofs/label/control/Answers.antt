@@ -1,5 +1,4 @@
-use Rattle.std.proofs.Common.{refl}
-use Rattle.f77_syntax.specs.code.DoLoop.{control_at}
+use Rattle.f77_syntax.proofs.Common.{refl, control_at}
 use Rattle.f77_syntax.proofs.label.control.Goals as goal
 
 pub returns-clause-read : goal.returns-clause-read

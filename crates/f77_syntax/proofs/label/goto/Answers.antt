@@ -1,7 +1,4 @@
-use Rattle.std.proofs.Common.{refl, ap, ◌∙◌}
-use Rattle.f77_tree.specs.Statement.{Statement}
-use Rattle.f77_tree.proofs.Views.{goto_view}
-use Rattle.f77_syntax.specs.code.Goto.{goto_at}
+use Rattle.f77_syntax.proofs.Common.{refl, ◌∙◌, ap, goto_at, goto_view, Statement}
 use Rattle.f77_syntax.proofs.label.goto.Goals as goal
 
 pub returns : goal.returns

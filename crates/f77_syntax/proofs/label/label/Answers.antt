@@ -1,8 +1,4 @@
-use Rattle.std.proofs.Common.{◌≡◌, true, refl, sym, ap, ◌∙◌}
-use Rattle.f77_tree.specs.Grammar.{is_number}
-use Rattle.f77_tree.specs.StatementGrammar.{label_number}
-use Rattle.f77_syntax.specs.code.Reading.{digits, past_digits}
-use Rattle.f77_syntax.specs.code.Label.{label_at}
+use Rattle.f77_syntax.proofs.Common.{refl, ◌∙◌, sym, ap, ◌≡◌, true, label_at, digits, past_digits, is_number, label_number}
 use Rattle.f77_syntax.proofs.label.label.Goals as goal
 
 pub returns-clause-found : goal.returns-clause-found

@@ -1,5 +1,4 @@
-use Rattle.std.proofs.Common.{refl}
-use Rattle.f77_syntax.specs.code.Label.{label_comma}
+use Rattle.f77_syntax.proofs.Common.{refl, label_comma}
 use Rattle.f77_syntax.proofs.label.label_comma.Goals as goal
 
 pub returns : goal.returns

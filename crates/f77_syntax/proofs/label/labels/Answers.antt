@@ -1,7 +1,4 @@
-use Rattle.std.proofs.Common.{of_calls, ℕ, sym, ◌∙◌}
-use Rattle.std.proofs.lemmas.List.{map-id}
-use Rattle.f77_syntax.specs.code.Joined.{items_at}
-use Rattle.f77_syntax.specs.code.Label.{label_at}
+use Rattle.f77_syntax.proofs.Common.{◌∙◌, sym, ℕ, of_calls, map-id, items_at, label_at}
 use Rattle.f77_syntax.proofs.JoinedItems.{gives_items, gives_as}
 use Rattle.f77_syntax.proofs.label.labels.Goals as goal
 

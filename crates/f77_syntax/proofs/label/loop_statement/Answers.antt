@@ -1,8 +1,4 @@
-use Rattle.std.proofs.Common.{refl, ap, ◌∙◌}
-use Rattle.f77_tree.specs.Name.{cut}
-use Rattle.f77_tree.specs.Statement.{Statement}
-use Rattle.f77_tree.proofs.Views.{loop_view}
-use Rattle.f77_syntax.specs.code.DoLoop.{loop_at}
+use Rattle.f77_syntax.proofs.Common.{refl, ◌∙◌, ap, loop_at, loop_view, cut, Statement}
 use Rattle.f77_syntax.proofs.label.loop_statement.Goals as goal
 
 pub returns : goal.returns

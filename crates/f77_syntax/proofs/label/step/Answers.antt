@@ -1,5 +1,4 @@
-use Rattle.std.proofs.Common.{None, Some, refl, sym, ap, ◌∙◌}
-use Rattle.f77_syntax.specs.code.DoLoop.{step_at}
+use Rattle.f77_syntax.proofs.Common.{refl, ◌∙◌, sym, ap, Some, None, step_at}
 use Rattle.f77_syntax.proofs.label.step.Goals as goal
 
 pub returns-then-is_empty : goal.returns-then-is_empty

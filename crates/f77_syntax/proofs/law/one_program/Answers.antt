@@ -1,4 +1,4 @@
-use Rattle.std.proofs.Common.{None}
+use Rattle.f77_syntax.proofs.Common.{None}
 use Rattle.f77_syntax.proofs.Total.{lines_or_fault}
 use Rattle.f77_syntax.proofs.Exact.{one_program, one_fault, either_lines_or_fault}
 use Rattle.f77_syntax.proofs.law.one_program.Goals as goal

@@ -1,8 +1,4 @@
-use Rattle.std.proofs.Common.{◌≤◌, inr, subst}
-use Rattle.std.proofs.lemmas.Result.{err_from_is_err_and}
-use Rattle.f77_tree.specs.Statement.{statement_of}
-use Rattle.f77_syntax.specs.Parsing.{IsCardRefused}
-use Rattle.f77_syntax.specs.TextLimits.{character_count, most_characters, IsTooDeep}
+use Rattle.f77_syntax.proofs.Common.{subst, ◌≤◌, inr, err_from_is_err_and, IsCardRefused, character_count, IsTooDeep, most_characters, statement_of}
 use Rattle.f77_syntax.proofs.Admit.{bad_name, outside, all_well, not_spelled, kept_of}
 use Rattle.f77_syntax.proofs.parsing.admitted.Goals as goal
 

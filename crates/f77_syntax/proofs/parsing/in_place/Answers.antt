@@ -1,8 +1,4 @@
-use Rattle.std.proofs.Common.{inr, sym, ◌∙◌, subst, ap}
-use Rattle.std.proofs.lemmas.Result.{err_from_is_err_and}
-use Rattle.f77_syntax.specs.Parsing.{IsAdmitted}
-use Rattle.f77_program.specs.Group.{may_stand}
-use Rattle.f77_tree.specs.Statement.{statement_of}
+use Rattle.f77_syntax.proofs.Common.{◌∙◌, sym, ap, subst, inr, err_from_is_err_and, may_stand, IsAdmitted, statement_of}
 use Rattle.f77_syntax.proofs.Exact.{behind_end, refused_first, out_first}
 use Rattle.f77_syntax.proofs.parsing.in_place.Goals as goal
 

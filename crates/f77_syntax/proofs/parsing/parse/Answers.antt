@@ -1,9 +1,7 @@
-use Rattle.std.proofs.Common.{[], ◌∷◌, ◌+◌, ◌++◌, drop, Err, sym, ap, subst, ◌∙◌}
-use Rattle.std.proofs.lemmas.Result.{err_from_is_err_and}
-use Rattle.std.proofs.lemmas.List.{drop_more}
+use Rattle.f77_syntax.proofs.Common.{◌∙◌, sym, ap, [], ◌∷◌, subst, ◌++◌, ◌+◌, drop, Err, drop_more, err_from_is_err_and, statement_of}
 use Rattle.std.proofs.Math.ListN.{drop_of_length-le}
-use Rattle.f77_tree.specs.Statement.{statement_of}
-use Rattle.f77_syntax.proofs.Cards.{Exactly, more_lines, more_faults, are_program, end_lines, refused_so, ended_so, exactly_lines, exactly_refused, exactly_accepts, exactly_first, pushed}
+use Rattle.f77_syntax.proofs.Cards.{Exactly, more_lines, more_faults, are_program, end_lines, refused_so, ended_so, exactly_lines, exactly_refused}
+use Rattle.f77_syntax.proofs.Cards.{exactly_accepts, exactly_first, pushed}
 use Rattle.f77_syntax.proofs.parsing.parse.Goals as goal
 
 in_err : (c : goal.After-drop-lines) → Exactly c.args.cards.now c.from_residual.result

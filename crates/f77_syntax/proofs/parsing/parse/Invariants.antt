@@ -1,8 +1,4 @@
-use Rattle.std.proofs.Common.{◌++◌, List, drop, None}
-use Rattle.std.specs.Prelude.{map}
-use Rattle.f77_program.specs.declared.fault.SyntaxFault.{SyntaxFault}
-use Rattle.f77_syntax.specs.Parsing.{AreLines, IsFirstSyntaxFault}
-use Rattle.f77_program.specs.Program.{LineFields, line_of}
+use Rattle.f77_syntax.proofs.Common.{List, None, ◌++◌, map, drop, LineFields, line_of, SyntaxFault, AreLines, IsFirstSyntaxFault}
 use Rattle.f77_syntax.proofs.parsing.parse.Given as goal
 
 -- what the other cards are, says what all the cards are

@@ -1,7 +1,4 @@
-use Rattle.std.proofs.Common.{inr, refl, sym, ◌∙◌, subst}
-use Rattle.std.proofs.lemmas.Option.{none-some}
-use Rattle.f77_syntax.specs.code.View.{Fails}
-use Rattle.f77_syntax.specs.code.Statement.{statement_at}
+use Rattle.f77_syntax.proofs.Common.{refl, ◌∙◌, sym, subst, inr, none-some, Fails, statement_at}
 use Rattle.f77_syntax.proofs.StatementSound.{statement_is}
 use Rattle.f77_syntax.proofs.StatementComplete.{statement_read}
 use Rattle.f77_syntax.proofs.parsing.spelled.Goals as goal

@@ -1,10 +1,5 @@
-use Rattle.std.proofs.Common.{◌<◌, length, map, sym, ap, subst, ◌∙◌}
-use Rattle.std.specs.List.{list_all}
-use Rattle.std.proofs.lemmas.List.{length-map}
-use Rattle.std.proofs.lemmas.Result.{err_from_is_err_and}
-use Rattle.f77_tree.specs.Limits.{is_small_node, most_nodes}
+use Rattle.f77_syntax.proofs.Common.{◌∙◌, sym, ap, length, subst, map, ◌<◌, length-map, err_from_is_err_and, list_all, IsOutside, most_nodes, is_small_node}
 use Rattle.f77_tree.specs.Node.{node_of}
-use Rattle.f77_syntax.specs.code.Parsing.{IsOutside}
 use Rattle.f77_syntax.proofs.parsing.within_limits.Goals as goal
 
 pub returns-in_err-list-clause-refused : goal.returns-in_err-list-clause-refused

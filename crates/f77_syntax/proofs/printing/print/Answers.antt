@@ -1,8 +1,6 @@
-use Rattle.std.proofs.Common.{◌≡◌, [], string_bytes}
-use Rattle.std.specs.Prelude.{map}
+use Rattle.f77_syntax.proofs.Common.{◌≡◌, [], map, string_bytes, line_of}
 use Rattle.f77_source.specs.Write.{card_faults}
 use Rattle.f77_program.specs.Printing.{card_of}
-use Rattle.f77_program.specs.Program.{line_of}
 use Rattle.f77_program.proofs.Reported.{program_formed, written_whole}
 use Rattle.f77_syntax.proofs.ReadAgain.{prints_back}
 use Rattle.f77_syntax.proofs.printing.print.Goals as goal

@@ -1,5 +1,4 @@
-use Rattle.std.proofs.Common.{sym, ap, ◌∙◌}
-use Rattle.f77_syntax.specs.Reading.{strip}
+use Rattle.f77_syntax.proofs.Common.{◌∙◌, sym, ap, strip}
 use Rattle.f77_syntax.proofs.Operators.{found_at, missed_at}
 use Rattle.f77_syntax.proofs.scan.first_operator.Goals as goal
 

@@ -1,5 +1,4 @@
-use Rattle.std.proofs.Common.{◌≡◌, drop}
-use Rattle.f77_syntax.specs.code.Reading.{first_operator}
+use Rattle.f77_syntax.proofs.Common.{◌≡◌, drop, first_operator}
 use Rattle.f77_syntax.proofs.scan.first_operator.Given as goal
 
 -- the operators that were tried do not stand there

@@ -1,4 +1,4 @@
-use Rattle.f77_syntax.specs.code.Reading.{operator_at}
+use Rattle.f77_syntax.proofs.Common.{operator_at}
 use Rattle.f77_syntax.proofs.Operators.{next_shorter}
 use Rattle.f77_syntax.proofs.scan.next_operator.Goals as goal
 

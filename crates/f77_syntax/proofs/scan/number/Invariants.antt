@@ -1,6 +1,4 @@
-use Rattle.std.proofs.Common.{◌≡◌, take}
-use Rattle.std.specs.Str.Parse.{digits_value}
-use Rattle.f77_syntax.specs.code.View.{clipped}
+use Rattle.f77_syntax.proofs.Common.{◌≡◌, take, digits_value, clipped}
 use Rattle.f77_syntax.proofs.scan.number.Given as goal
 
 abbrev pub invariant-loop-c : goal.invariant-loop-c

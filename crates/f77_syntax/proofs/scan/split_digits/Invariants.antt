@@ -1,5 +1,4 @@
-use Rattle.std.proofs.Common.{◌≡◌, ◌++◌, take, drop}
-use Rattle.f77_syntax.specs.code.Reading.{digits, past_digits}
+use Rattle.f77_syntax.proofs.Common.{◌≡◌, ◌++◌, drop, take, digits, past_digits}
 use Rattle.f77_syntax.proofs.scan.split_digits.Given as goal
 
 abbrev pub invariant-loop-i : goal.invariant-loop-i

@@ -1,6 +1,4 @@
-use Rattle.std.proofs.Common.{sym, ◌∙◌, refl}
-use Rattle.f77_syntax.specs.code.StatementView.{IsStatement}
-use Rattle.f77_syntax.specs.code.Statement.{simple_action_at, action_at}
+use Rattle.f77_syntax.proofs.Common.{refl, ◌∙◌, sym, IsStatement, simple_action_at, action_at}
 use Rattle.f77_syntax.proofs.Gives.{gives_along}
 use Rattle.f77_syntax.proofs.statement.action.Goals as goal
 

@@ -1,7 +1,4 @@
-use Rattle.std.proofs.Common.{refl, ◌∙◌}
-use Rattle.f77_tree.specs.Statement.{Statement}
-use Rattle.f77_tree.proofs.Views.{arithmetic_view}
-use Rattle.f77_syntax.specs.code.Condition.{arithmetic_at}
+use Rattle.f77_syntax.proofs.Common.{refl, ◌∙◌, arithmetic_at, arithmetic_view, Statement}
 use Rattle.f77_syntax.proofs.statement.arithmetic.Goals as goal
 
 pub returns : goal.returns

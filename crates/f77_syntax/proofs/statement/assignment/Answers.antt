@@ -1,7 +1,4 @@
-use Rattle.std.proofs.Common.{refl, ◌∙◌}
-use Rattle.f77_tree.specs.Statement.{Statement}
-use Rattle.f77_tree.proofs.Views.{assign_view}
-use Rattle.f77_syntax.specs.code.Assignment.{assign_at}
+use Rattle.f77_syntax.proofs.Common.{refl, ◌∙◌, assign_at, assign_view, Statement}
 use Rattle.f77_syntax.proofs.statement.assignment.Goals as goal
 
 pub returns : goal.returns

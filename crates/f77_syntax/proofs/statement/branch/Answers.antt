@@ -1,9 +1,4 @@
-use Rattle.std.proofs.Common.{◌≡◌, true, false, refl, sym, ◌∙◌, ap}
-use Rattle.std.specs.Prelude.{codes}
-use Rattle.std.specs.Str.{bytes_eq}
-use Rattle.f77_tree.specs.Statement.{Statement}
-use Rattle.f77_tree.proofs.Views.{block_view, logical_view}
-use Rattle.f77_syntax.specs.code.Statement.{begins_digit, branch_at}
+use Rattle.f77_syntax.proofs.Common.{refl, ◌∙◌, sym, ap, ◌≡◌, true, false, codes, bytes_eq, begins_digit, branch_at, block_view, logical_view, Statement}
 use Rattle.f77_syntax.proofs.statement.branch.Goals as goal
 
 pub returns-then-eq : goal.returns-then-eq

@@ -1,5 +1,4 @@
-use Rattle.std.proofs.Common.{refl}
-use Rattle.f77_syntax.specs.code.Condition.{condition_at}
+use Rattle.f77_syntax.proofs.Common.{refl, condition_at}
 use Rattle.f77_syntax.proofs.statement.condition.Goals as goal
 
 pub returns : goal.returns

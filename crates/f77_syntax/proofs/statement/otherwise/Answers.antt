@@ -1,10 +1,4 @@
-use Rattle.std.proofs.Common.{◌≡◌, true, refl, sym, ◌∙◌, ap}
-use Rattle.std.specs.Prelude.{codes, not}
-use Rattle.std.specs.Str.{bytes_eq}
-use Rattle.f77_tree.specs.Statement.{Statement}
-use Rattle.f77_tree.proofs.Views.{else_view, else_if_view}
-use Rattle.f77_tree.proofs.Tests.{not_false}
-use Rattle.f77_syntax.specs.code.Statement.{else_at}
+use Rattle.f77_syntax.proofs.Common.{refl, ◌∙◌, sym, ap, ◌≡◌, true, codes, not, bytes_eq, else_at, not_false, else_if_view, else_view, Statement}
 use Rattle.f77_syntax.proofs.statement.otherwise.Goals as goal
 
 pub returns-then-is_empty : goal.returns-then-is_empty

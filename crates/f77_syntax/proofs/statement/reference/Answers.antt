@@ -1,10 +1,4 @@
-use Rattle.std.proofs.Common.{refl, ap, List, ◌∙◌}
-use Rattle.std.specs.Prelude.{map}
-use Rattle.f77_tree.specs.declared.tree.Expr.{Expr}
-use Rattle.f77_tree.specs.Name.{cut}
-use Rattle.f77_tree.specs.Tree.{Trees}
-use Rattle.f77_tree.specs.View.{tree_of, trees}
-use Rattle.f77_syntax.specs.code.Assignment.{reference_at}
+use Rattle.f77_syntax.proofs.Common.{refl, ◌∙◌, ap, List, map, reference_at, cut, Trees, tree_of, trees, Expr}
 use Rattle.f77_syntax.proofs.Gives.{reference_whole}
 use Rattle.f77_syntax.proofs.statement.reference.Goals as goal
 

@@ -1,6 +1,4 @@
-use Rattle.std.proofs.Common.{refl}
-use Rattle.f77_syntax.specs.code.StatementView.{IsStatement}
-use Rattle.f77_syntax.specs.code.Statement.{word_statement, simple_at}
+use Rattle.f77_syntax.proofs.Common.{refl, IsStatement, word_statement, simple_at}
 use Rattle.f77_syntax.proofs.Gives.{gives_along}
 use Rattle.f77_syntax.proofs.BranchGives.{given, word_kept}
 use Rattle.f77_syntax.proofs.statement.simple.Goals as goal

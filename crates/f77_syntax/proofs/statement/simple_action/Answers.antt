@@ -1,7 +1,4 @@
-use Rattle.std.proofs.Common.{◌≡◌, true, false, refl, ◌∙◌}
-use Rattle.f77_program.specs.Formed.{is_action}
-use Rattle.f77_tree.specs.Statement.{statement_of}
-use Rattle.f77_syntax.specs.code.Statement.{simple_action_at}
+use Rattle.f77_syntax.proofs.Common.{refl, ◌∙◌, ◌≡◌, true, false, is_action, simple_action_at, statement_of}
 use Rattle.f77_syntax.proofs.BranchGives.{same_action}
 use Rattle.f77_syntax.proofs.statement.simple_action.Goals as goal
 

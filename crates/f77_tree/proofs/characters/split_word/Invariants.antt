@@ -1,5 +1,4 @@
-use Rattle.std.proofs.Common.{◌≡◌, ◌++◌, take, drop}
-use Rattle.f77_tree.specs.Grammar.{word, past_word}
+use Rattle.f77_tree.proofs.Common.{◌≡◌, drop, ◌++◌, take, word, past_word}
 use Rattle.f77_tree.proofs.characters.split_word.Given as goal
 
 abbrev pub invariant-loop-i : goal.invariant-loop-i

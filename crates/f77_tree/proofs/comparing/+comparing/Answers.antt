@@ -1,4 +1,4 @@
-use Rattle.std.proofs.Common.{arith, sym, ◌∙◌}
+use Rattle.f77_tree.proofs.Common.{sym, ◌∙◌, arith}
 use Rattle.f77_tree.proofs.Comparisons.{other_lengths, rest_on, rest_off, rest_done}
 use Rattle.f77_tree.proofs.comparing.+comparing.Goals as goal
 

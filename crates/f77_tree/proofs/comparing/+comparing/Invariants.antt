@@ -1,6 +1,4 @@
-use Rattle.std.proofs.Common.{◌≡◌, map}
-use Rattle.f77_tree.specs.Comparing.{same_trees}
-use Rattle.f77_tree.specs.View.{trees, tree_of}
+use Rattle.f77_tree.proofs.Common.{map, ◌≡◌, tree_of, trees, same_trees}
 use Rattle.f77_tree.proofs.Comparisons.{same_rest}
 use Rattle.f77_tree.proofs.comparing.+comparing.Given as goal
 

@@ -1,5 +1,4 @@
-use Rattle.std.proofs.Common.{◌≡◌, map, take}
-use Rattle.f77_tree.specs.View.{tree_of}
+use Rattle.f77_tree.proofs.Common.{map, ◌≡◌, take, tree_of}
 use Rattle.f77_tree.proofs.copying.+copying.Given as goal
 
 abbrev pub invariant-copy_all-loop-item : goal.invariant-copy_all-loop-item

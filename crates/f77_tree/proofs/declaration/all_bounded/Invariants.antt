@@ -1,7 +1,4 @@
-use Rattle.std.proofs.Common.{◌≡◌, drop}
-use Rattle.std.specs.Prelude.{map}
-use Rattle.std.specs.List.{list_all}
-use Rattle.f77_tree.specs.Declaration.{decl_of, has_bounds}
+use Rattle.f77_tree.proofs.Common.{map, ◌≡◌, drop, list_all, decl_of, has_bounds}
 use Rattle.f77_tree.proofs.declaration.all_bounded.Given as goal
 
 -- the answer rests on the other items

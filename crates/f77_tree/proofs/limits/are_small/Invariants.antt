@@ -1,8 +1,4 @@
-use Rattle.std.proofs.Common.{◌≡◌, drop}
-use Rattle.std.specs.Prelude.{map}
-use Rattle.std.specs.List.{list_all}
-use Rattle.f77_tree.specs.Limits.{is_small_node}
-use Rattle.f77_tree.specs.Node.{node_of}
+use Rattle.f77_tree.proofs.Common.{map, ◌≡◌, drop, list_all, node_of, is_small_node}
 use Rattle.f77_tree.proofs.limits.are_small.Given as goal
 
 -- the answer rests on the other nodes

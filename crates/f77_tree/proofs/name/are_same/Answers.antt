@@ -1,4 +1,4 @@
-use Rattle.std.proofs.Common.{arith, ◌∙◌, sym}
+use Rattle.f77_tree.proofs.Common.{sym, ◌∙◌, arith}
 use Rattle.f77_tree.proofs.Letters.{same_more, same_texts}
 use Rattle.f77_tree.proofs.name.are_same.Goals as goal
 

@@ -1,4 +1,4 @@
-use Rattle.std.proofs.Common.{◌≡◌, ◌<◌, ℕ, slice_index_or}
+use Rattle.f77_tree.proofs.Common.{◌≡◌, ℕ, ◌<◌, slice_index_or}
 use Rattle.f77_tree.proofs.name.are_same.Given as goal
 
 abbrev pub invariant-loop-place : goal.invariant-loop-place

@@ -1,7 +1,4 @@
-use Rattle.std.proofs.Common.{refl, map}
-use Rattle.std.proofs.lemmas.List.{map-append}
-use Rattle.f77_tree.specs.Node.{NodeOf, node_of, parts, all_parts, tree_nodes}
-use Rattle.f77_tree.specs.View.{tree_of, trees}
+use Rattle.f77_tree.proofs.Common.{map, refl, map-append, NodeOf, node_of, tree_of, trees, all_parts, parts, tree_nodes}
 use Rattle.f77_tree.proofs.Walks.{one_more, all_listed}
 use Rattle.f77_tree.proofs.node_list.+parts.Goals as goal
 

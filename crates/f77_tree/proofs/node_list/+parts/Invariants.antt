@@ -1,6 +1,4 @@
-use Rattle.std.proofs.Common.{◌≡◌, ◌++◌, map, drop}
-use Rattle.f77_tree.specs.Node.{NodeOf, node_of, all_parts}
-use Rattle.f77_tree.specs.View.{tree_of, trees}
+use Rattle.f77_tree.proofs.Common.{map, ◌≡◌, drop, ◌++◌, NodeOf, node_of, tree_of, trees, all_parts}
 use Rattle.f77_tree.proofs.node_list.+parts.Given as goal
 
 abbrev pub invariant-add_items-loop-item : goal.invariant-add_items-loop-item

@@ -1,6 +1,4 @@
-use Rattle.std.proofs.Common.{refl, ◌∷◌, [], map}
-use Rattle.f77_tree.specs.Declaration.{decl_of}
-use Rattle.f77_tree.specs.Node.{NodeOf, node_of}
+use Rattle.f77_tree.proofs.Common.{map, refl, [], ◌∷◌, NodeOf, node_of, decl_of}
 use Rattle.f77_tree.proofs.Walks.{one_more, all_listed, pushed}
 use Rattle.f77_tree.proofs.node_list.add_declared.Goals as goal
 

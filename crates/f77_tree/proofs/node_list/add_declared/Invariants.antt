@@ -1,6 +1,4 @@
-use Rattle.std.proofs.Common.{◌≡◌, ◌++◌, map, drop}
-use Rattle.f77_tree.specs.Declaration.{decl_of}
-use Rattle.f77_tree.specs.Node.{NodeOf, node_of}
+use Rattle.f77_tree.proofs.Common.{map, ◌≡◌, drop, ◌++◌, NodeOf, node_of, decl_of}
 use Rattle.f77_tree.proofs.node_list.add_declared.Given as goal
 
 abbrev pub invariant-loop-item : goal.invariant-loop-item

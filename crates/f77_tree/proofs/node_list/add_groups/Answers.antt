@@ -1,7 +1,5 @@
-use Rattle.std.proofs.Common.{refl, map}
-use Rattle.std.specs.Prelude.{flat_map}
-use Rattle.f77_tree.specs.Data.{data_group_of}
-use Rattle.f77_tree.specs.Node.{node_of, group_nodes}
+use Rattle.f77_tree.proofs.Common.{map, refl, node_of, data_group_of, group_nodes}
+use Rattle.std.proofs.Common.{flat_map}
 use Rattle.f77_tree.proofs.Walks.{one_more, all_listed}
 use Rattle.f77_tree.proofs.node_list.add_groups.Goals as goal
 

@@ -1,7 +1,5 @@
-use Rattle.std.proofs.Common.{◌≡◌, refl, sym, ◌∙◌, ◌∷◌, [], ℕ, List, map, Some, slice_get}
+use Rattle.f77_tree.proofs.Common.{map, refl, ◌≡◌, ℕ, sym, ◌∙◌, List, [], ◌∷◌, Some, slice_get, NodeOf, node_of, statement_of, jumps_of}
 use Rattle.std.proofs.lemmas.Option.{slice_get_within, get_or_from_slice_get}
-use Rattle.f77_tree.specs.Node.{NodeOf, node_of}
-use Rattle.f77_tree.specs.Statement.{statement_of, jumps_of}
 use Rattle.f77_tree.proofs.Walks.{one_more, pushed}
 use Rattle.f77_tree.proofs.node_list.add_jumps.Goals as goal
 

@@ -1,6 +1,4 @@
-use Rattle.std.proofs.Common.{refl, ◌∷◌, [], map}
-use Rattle.std.proofs.lemmas.List.{get_or_default}
-use Rattle.f77_tree.specs.Node.{NodeOf, node_of}
+use Rattle.f77_tree.proofs.Common.{map, refl, [], ◌∷◌, get_or_default, NodeOf, node_of}
 use Rattle.f77_tree.proofs.Walks.{one_more, all_listed, pushed}
 use Rattle.f77_tree.proofs.node_list.add_values.Goals as goal
 

@@ -1,5 +1,4 @@
-use Rattle.std.proofs.Common.{◌≡◌, ◌++◌, map, drop}
-use Rattle.f77_tree.specs.Node.{NodeOf, node_of}
+use Rattle.f77_tree.proofs.Common.{map, ◌≡◌, drop, ◌++◌, NodeOf, node_of}
 use Rattle.f77_tree.proofs.node_list.add_values.Given as goal
 
 abbrev pub invariant-loop-value : goal.invariant-loop-value

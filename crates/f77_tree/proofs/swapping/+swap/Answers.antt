@@ -1,12 +1,6 @@
-use Rattle.std.proofs.Common.{arith, refl, ℕ}
-use Rattle.std.proofs.lemmas.List.{with_items_is}
-use Rattle.std.specs.Prelude.{Vec}
+use Rattle.f77_tree.proofs.Common.{refl, ℕ, arith, Vec, with_items_is, Global, tree_sites, sites_behind, sites, Statement, DataGroup}
 use Rattle.std.specs.Vec.{with_items}
-use Rattle.std.specs.declared.alloc.Global.{Global}
-use Rattle.f77_tree.specs.declared.data.DataGroup.{DataGroup}
-use Rattle.f77_tree.specs.Statement.{Statement}
 use Rattle.f77_tree.proofs.Views.{preset_view, computed_view, logical_view, block_view, else_if_view}
-use Rattle.f77_tree.specs.Sites.{sites, sites_behind, tree_sites}
 use Rattle.f77_tree.proofs.Passes.{sought_first, sought_second}
 use Rattle.f77_tree.proofs.SwappedStatements as statements
 use Rattle.f77_tree.proofs.swapping.+swap.Goals as goal

@@ -1,4 +1,4 @@
-use Rattle.std.proofs.Common.{◌+◌, ◌*◌}
+use Rattle.f77_tree.proofs.Common.{◌+◌, ◌*◌}
 use Rattle.f77_tree.specs.declared.statement.Stmt.TheViews.{size-Stmt}
 use Rattle.f77_tree.proofs.swapping.+swap.Given as goal
 

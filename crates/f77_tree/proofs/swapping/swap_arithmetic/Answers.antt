@@ -1,5 +1,4 @@
-use Rattle.std.proofs.Common.{refl}
-use Rattle.f77_tree.specs.Sites.{label_sites, tree_sites}
+use Rattle.f77_tree.proofs.Common.{refl, tree_sites, label_sites}
 use Rattle.f77_tree.proofs.Passes.{in_first, in_second, pair_sites}
 use Rattle.f77_tree.proofs.SwappedStatements.{in_arithmetic, three_labels}
 use Rattle.f77_tree.proofs.swapping.swap_arithmetic.Goals as goal

@@ -1,6 +1,4 @@
-use Rattle.std.proofs.Common.{refl}
-use Rattle.f77_tree.specs.code.Swapping.{assignment}
-use Rattle.f77_tree.specs.Sites.{sites_behind, target_sites, tree_sites}
+use Rattle.f77_tree.proofs.Common.{refl, tree_sites, sites_behind, target_sites, assignment}
 use Rattle.f77_tree.proofs.Passes.{sought_first, sought_second}
 use Rattle.f77_tree.proofs.swapping.swap_assignment.Goals as goal
 

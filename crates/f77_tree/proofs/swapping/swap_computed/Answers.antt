@@ -1,6 +1,4 @@
-use Rattle.std.proofs.Common.{refl}
-use Rattle.f77_tree.specs.Statement.{Statement}
-use Rattle.f77_tree.specs.Sites.{label_sites, list_sites, sites_behind, tree_sites}
+use Rattle.f77_tree.proofs.Common.{refl, tree_sites, label_sites, sites_behind, list_sites, Statement}
 use Rattle.f77_tree.proofs.Passes.{sought_first, sought_second}
 use Rattle.f77_tree.proofs.swapping.swap_computed.Goals as goal
 

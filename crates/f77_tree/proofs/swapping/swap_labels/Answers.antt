@@ -1,5 +1,4 @@
-use Rattle.std.proofs.Common.{arith, refl}
-use Rattle.f77_tree.specs.Sites.{label_sites}
+use Rattle.f77_tree.proofs.Common.{refl, arith, label_sites}
 use Rattle.f77_tree.proofs.Passes.{next_item, found_item, last_item}
 use Rattle.f77_tree.proofs.swapping.swap_labels.Goals as goal
 

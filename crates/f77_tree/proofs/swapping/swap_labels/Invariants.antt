@@ -1,6 +1,4 @@
-use Rattle.std.proofs.Common.{drop, take}
-use Rattle.f77_tree.specs.Replacement.{replacement_of}
-use Rattle.f77_tree.specs.Sites.{label_sites}
+use Rattle.f77_tree.proofs.Common.{drop, take, label_sites, replacement_of}
 use Rattle.f77_tree.proofs.Passes.{Passing}
 use Rattle.f77_tree.proofs.swapping.swap_labels.Given as goal
 

@@ -1,5 +1,4 @@
-use Rattle.std.proofs.Common.{refl}
-use Rattle.f77_tree.specs.Sites.{label_sites, name_sites, step_sites, tree_sites}
+use Rattle.f77_tree.proofs.Common.{refl, tree_sites, label_sites, step_sites, name_sites}
 use Rattle.f77_tree.proofs.Passes.{in_first, in_second}
 use Rattle.f77_tree.proofs.SwappedStatements.{in_loop, control, parameters, limit_and_step}
 use Rattle.f77_tree.proofs.swapping.swap_loop.Goals as goal

@@ -1,5 +1,4 @@
-use Rattle.std.proofs.Common.{arith}
-use Rattle.std.proofs.lemmas.List.{with_items_is}
+use Rattle.f77_tree.proofs.Common.{arith, with_items_is}
 use Rattle.f77_tree.proofs.Passes.{sought_group}
 use Rattle.f77_tree.proofs.swapping_data.swap_group.Goals as goal
 

@@ -1,7 +1,4 @@
-use Rattle.std.proofs.Common.{arith, refl}
-use Rattle.std.specs.Prelude.{map}
-use Rattle.f77_tree.specs.Data.{data_group_of}
-use Rattle.f77_tree.specs.Sites.{group_sites}
+use Rattle.f77_tree.proofs.Common.{map, refl, arith, data_group_of, group_sites}
 use Rattle.f77_tree.proofs.Passes.{next_viewed, found_viewed, last_viewed}
 use Rattle.f77_tree.proofs.swapping_data.swap_groups.Goals as goal
 

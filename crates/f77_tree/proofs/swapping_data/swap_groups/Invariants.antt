@@ -1,8 +1,4 @@
-use Rattle.std.proofs.Common.{drop, take}
-use Rattle.std.specs.Prelude.{map}
-use Rattle.f77_tree.specs.Data.{data_group_of}
-use Rattle.f77_tree.specs.Replacement.{replacement_of}
-use Rattle.f77_tree.specs.Sites.{group_sites}
+use Rattle.f77_tree.proofs.Common.{map, drop, take, data_group_of, group_sites, replacement_of}
 use Rattle.f77_tree.proofs.Passes.{Passing}
 use Rattle.f77_tree.proofs.swapping_data.swap_groups.Given as goal
 

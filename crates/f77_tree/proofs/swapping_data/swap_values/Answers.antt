@@ -1,5 +1,4 @@
-use Rattle.std.proofs.Common.{arith, refl}
-use Rattle.f77_tree.specs.Sites.{value_sites}
+use Rattle.f77_tree.proofs.Common.{refl, arith, value_sites}
 use Rattle.f77_tree.proofs.Passes.{next_item, found_item, last_item}
 use Rattle.f77_tree.proofs.swapping_data.swap_values.Goals as goal
 

@@ -1,6 +1,4 @@
-use Rattle.std.proofs.Common.{drop, take}
-use Rattle.f77_tree.specs.Replacement.{replacement_of}
-use Rattle.f77_tree.specs.Sites.{value_sites}
+use Rattle.f77_tree.proofs.Common.{drop, take, replacement_of, value_sites}
 use Rattle.f77_tree.proofs.Passes.{Passing}
 use Rattle.f77_tree.proofs.swapping_data.swap_values.Given as goal
 

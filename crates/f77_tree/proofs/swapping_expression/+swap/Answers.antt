@@ -1,9 +1,5 @@
-use Rattle.std.proofs.Common.{arith, refl, ◌≢◌, length-set, get_or-set_other}
-use Rattle.std.specs.Prelude.{map}
-use Rattle.f77_tree.specs.declared.tree.Expr.{Expr}
-use Rattle.f77_tree.specs.declared.tree.Expr.TheVariants.{outs-Reference, outs-Call, outs-Signed, outs-Not, outs-ZeroPush, outs-Binary}
-use Rattle.f77_tree.specs.View.{tree_of}
-use Rattle.f77_tree.specs.Sites.{tree_sites}
+use Rattle.f77_tree.proofs.Common.{map, refl, arith, ◌≢◌, get_or-set_other, length-set, tree_sites, tree_of, Expr, outs-Binary, outs-Call, outs-Not}
+use Rattle.f77_tree.proofs.Common.{outs-Reference, outs-Signed, outs-ZeroPush}
 use Rattle.f77_tree.proofs.Passes.{found_viewed, next_viewed, last_viewed, sought_items}
 use Rattle.f77_tree.proofs.SwappedExpressions as expressions
 use Rattle.f77_tree.proofs.swapping_expression.+swap.Goals as goal

@@ -1,8 +1,4 @@
-use Rattle.std.proofs.Common.{drop, take}
-use Rattle.std.specs.Prelude.{map}
-use Rattle.f77_tree.specs.View.{tree_of}
-use Rattle.f77_tree.specs.Replacement.{replacement_of}
-use Rattle.f77_tree.specs.Sites.{tree_sites}
+use Rattle.f77_tree.proofs.Common.{map, drop, take, tree_sites, tree_of, replacement_of}
 use Rattle.f77_tree.proofs.Passes.{Passing}
 use Rattle.f77_tree.proofs.swapping_expression.+swap.Given as goal
 

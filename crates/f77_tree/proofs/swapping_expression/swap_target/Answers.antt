@@ -1,4 +1,4 @@
-use Rattle.std.proofs.Common.{arith}
+use Rattle.f77_tree.proofs.Common.{arith}
 use Rattle.f77_tree.proofs.SwappedExpressions as expressions
 use Rattle.f77_tree.proofs.swapping_expression.swap_target.Goals as goal
 

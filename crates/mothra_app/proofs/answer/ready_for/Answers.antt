@@ -1,5 +1,4 @@
-use Rattle.std.proofs.Common.{string_bytes}
-use Rattle.mothra_job.specs.Job.{job_of}
+use Rattle.mothra_app.proofs.Common.{string_bytes, job_of}
 use Rattle.mothra_app.proofs.Outcomes.{fault_reported}
 use Rattle.mothra_app.proofs.answer.ready_for.Goals as goal
 

@@ -1,11 +1,6 @@
-use Rattle.std.proofs.Common.{◌≡◌, ◌⊎◌, inl, inr, refl, subst, sym, Err, Ok}
-use Rattle.mothra_app.specs.Answer.{IsRequestOutcome}
-use Rattle.mothra_app.specs.Fault.{MayFailBy}
-use Rattle.mothra_job.specs.Job.{JobRead, job_of}
-use Rattle.mothra_app.specs.declared.fault.Fault.TheVariants.{Job}
+use Rattle.mothra_app.proofs.Common.{◌≡◌, sym, subst, Err, Ok, refl, inr, ◌⊎◌, inl, MayFailBy, IsRequestOutcome, Job, Request, job_of, JobRead}
 use Rattle.mothra_job.specs.declared.job.JobFault.{JobFault}
 use Rattle.mothra_job.specs.declared.job.JobFault.TheVariants.{Memory}
-use Rattle.mothra_cli.specs.declared.request.Request.{Request}
 use Rattle.mothra_job.proofs.FewTests.{few_tests}
 use Rattle.mothra_app.proofs.Memory.{job_in}
 use Rattle.mothra_app.proofs.Outcomes.{bench_ready, executed, listed, printed, read_so, text_ready}

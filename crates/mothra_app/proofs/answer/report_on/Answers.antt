@@ -1,5 +1,4 @@
-use Rattle.std.proofs.Common.{string_bytes}
-use Rattle.mothra_app.specs.code.Answer.{IsReportAnswer}
+use Rattle.mothra_app.proofs.Common.{string_bytes, IsReportAnswer}
 use Rattle.mothra_app.proofs.Answered.{IfOk-both}
 use Rattle.mothra_app.proofs.Outcomes.{as_report, report_refused}
 use Rattle.mothra_app.proofs.answer.report_on.Goals as goal

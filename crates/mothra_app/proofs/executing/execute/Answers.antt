@@ -1,8 +1,4 @@
-use Rattle.std.proofs.Common.{◌⊎◌, Ok, Err, map, subst}
-use Rattle.std.specs.Prelude.{Contains}
-use Rattle.f77_program.specs.Program.{line_of}
-use Rattle.mothra_app.specs.Program.{IsLegalProgramOf}
-use Rattle.mothra_app.specs.Fault.{of_legal_programs}
+use Rattle.mothra_app.proofs.Common.{subst, Err, Ok, Contains, ◌⊎◌, map, line_of, IsLegalProgramOf, of_legal_programs}
 use Rattle.mothra_app.proofs.Executions.{executed_refused}
 use Rattle.mothra_app.proofs.Sources.{of_fault}
 use Rattle.mothra_app.proofs.executing.execute.Goals as goal

@@ -1,12 +1,5 @@
-use Rattle.std.proofs.Common.{◌≡◌, ◌⊎◌, inr, sym, subst, map, Some, Ok, Err, Result, IfSome}
-use Rattle.f77_program.specs.Program.{line_of}
-use Rattle.f77_meaning.specs.Interpreter.{refusal}
-use Rattle.f77_meaning.specs.declared.outcome.Outcome.{Outcome}
-use Rattle.f77_meaning.specs.declared.outcome.RunFault.{RunFault}
+use Rattle.mothra_app.proofs.Common.{◌≡◌, sym, subst, Err, Ok, Contains, inr, ◌⊎◌, map, Result, Some, IfSome, refusal, Outcome, RunFault, line_of, of_runs, Run}
 use Rattle.f77_meaning.specs.declared.outcome.RunFault.TheVariants as fault
-use Rattle.std.specs.Prelude.{Contains}
-use Rattle.mothra_app.specs.Fault.{of_runs}
-use Rattle.mothra_app.specs.declared.fault.Fault.TheVariants.{Run}
 use Rattle.mothra_app.proofs.Executions.{run_refused, run_is, fits}
 use Rattle.mothra_app.proofs.Memory.{run_in}
 use Rattle.mothra_app.proofs.Sources.{of_fault}

@@ -1,6 +1,4 @@
-use Rattle.std.proofs.Common.{rules, inl, map}
-use Rattle.f77_program.specs.Program.{line_of}
-use Rattle.mothra_app.specs.Executing.{IsExecuted}
+use Rattle.mothra_app.proofs.Common.{inl, map, rules, line_of, IsExecuted}
 use Rattle.mothra_app.proofs.Executions.{run_executed}
 use Rattle.mothra_app.proofs.executing.run_test.Goals as goal
 

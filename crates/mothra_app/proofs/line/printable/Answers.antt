@@ -1,8 +1,8 @@
-use Rattle.std.proofs.Common.{rules, arith, ◌≡◌, ◌∙◌, ℕ, ◌<◌, ◌++◌, List, [], ◌∷◌, map, ap₂, refl, IfOk, string_bytes, chars, encode_utf8_all}
+use Rattle.mothra_app.proofs.Common.{◌≡◌, ℕ, List, ◌∙◌, refl, string_bytes, [], ◌++◌, arith, map, ◌∷◌, ◌<◌, IfOk, ap₂, rules, chars, encode_utf8_all}
+use Rattle.mothra_app.proofs.Common.{shown_character}
 use Rattle.std.proofs.lemmas.Bool.Decides.{nat_tests}
 use Rattle.std.proofs.lemmas.Result.{IfOk-weaker}
 use Rattle.std.proofs.lemmas.Str.{chars_from_encodes, encode_ascii}
-use Rattle.mothra_app.specs.Line.{shown_character}
 use Rattle.mothra_app.proofs.line.printable.Goals as goal
 
 small : (c : ℕ) → shown_character c < 128

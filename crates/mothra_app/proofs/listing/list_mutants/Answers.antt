@@ -1,7 +1,4 @@
-use Rattle.std.proofs.Common.{ap, inr, map}
-use Rattle.f77_program.specs.Program.{line_of}
-use Rattle.f77_check.specs.Checked.{CheckedFields}
-use Rattle.mothra_app.specs.declared.fault.Fault.TheVariants.{Ops}
+use Rattle.mothra_app.proofs.Common.{ap, inr, map, CheckedFields, line_of, Ops}
 use Rattle.mothra_app.proofs.Listings.{program_refused, plan_refused, plan_listed}
 use Rattle.mothra_app.proofs.Memory.{ops_in}
 use Rattle.mothra_app.proofs.Sources.{of_fault}

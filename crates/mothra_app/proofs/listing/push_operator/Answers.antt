@@ -1,5 +1,4 @@
-use Rattle.std.proofs.Common.{◌∙◌, ◌+◌, ◌++◌, ap, sym, append_assoc, append-nil, arith, string_bytes}
-use Rattle.mothra_app.specs.Listing.{count_line}
+use Rattle.mothra_app.proofs.Common.{sym, ◌∙◌, ap, string_bytes, ◌++◌, arith, ◌+◌, append_assoc, append-nil, count_line}
 use Rattle.mothra_app.proofs.ListedLines.{lines_behind, mutant_more, no_mutant_more, part_more}
 use Rattle.mothra_app.proofs.listing.push_operator.Goals as goal
 

@@ -1,5 +1,4 @@
-use Rattle.std.proofs.Common.{◌≡◌, ◌++◌, string_bytes}
-use Rattle.mothra_app.specs.code.Listing.{plan_lines}
+use Rattle.mothra_app.proofs.Common.{◌≡◌, string_bytes, ◌++◌, plan_lines}
 use Rattle.mothra_app.proofs.ListedLines.{lines_behind}
 use Rattle.mothra_app.proofs.listing.push_operator.Given as goal
 

@@ -1,10 +1,8 @@
-use Rattle.std.proofs.Common.{arith, ◌≡◌, ◌∙◌, ◌+◌, ◌++◌, ℕ, true, false, ap, sym, subst, append-nil, string_bytes}
-use Rattle.mothra_codes.specs.code.Op.{op_at}
-use Rattle.mothra_ops.specs.Plan.{asked}
-use Rattle.mothra_app.specs.code.Listing.{asked_lines, plan_lines}
+use Rattle.mothra_app.proofs.Common.{◌≡◌, sym, ℕ, subst, ◌∙◌, ap, string_bytes, ◌++◌, arith, false, true, ◌+◌, append-nil, plan_lines, asked_lines, op_at}
+use Rattle.mothra_app.proofs.Common.{asked}
 use Rattle.mothra_app.proofs.ListedLines.{lines_as_before, lines_more, operators_behind, part_more}
-use Rattle.mothra_app.proofs.listing.push_operators.Goals as goal
 use Rattle.mothra_app.proofs.listing.push_operators.Goals.{then-asked+in_ok-push_operator, else-asked}
+use Rattle.mothra_app.proofs.listing.push_operators.Goals as goal
 
 pub loop-op-preserved : goal.loop-op-preserved
 loop-op-preserved c = elim c.if-asked.branch [

@@ -1,5 +1,4 @@
-use Rattle.std.proofs.Common.{◌≡◌, ◌++◌, string_bytes}
-use Rattle.mothra_app.specs.code.Listing.{asked_lines}
+use Rattle.mothra_app.proofs.Common.{◌≡◌, string_bytes, ◌++◌, asked_lines}
 use Rattle.mothra_app.proofs.ListedLines.{operators_behind}
 use Rattle.mothra_app.proofs.listing.push_operators.Given as goal
 

@@ -1,10 +1,7 @@
-use Rattle.std.proofs.Common.{arith, ◌≡◌, ◌∙◌, ◌+◌, ℕ, true, false, length, sym, subst, add-zero}
-use Rattle.mothra_codes.specs.code.Op.{op_at}
-use Rattle.mothra_ops.specs.Plan.{asked, edits_of}
-use Rattle.mothra_app.specs.Listing.{asked_total}
+use Rattle.mothra_app.proofs.Common.{◌≡◌, sym, ℕ, subst, ◌∙◌, arith, length, false, true, ◌+◌, add-zero, asked_total, op_at, asked, edits_of}
 use Rattle.mothra_app.proofs.ListedLines.{count_behind, counts_as_before, counts_more}
-use Rattle.mothra_app.proofs.listing.total_of.Goals as goal
 use Rattle.mothra_app.proofs.listing.total_of.Goals.{then-asked, else-asked}
+use Rattle.mothra_app.proofs.listing.total_of.Goals as goal
 
 pub loop-op-preserved : goal.loop-op-preserved
 loop-op-preserved c = elim c.if-asked.branch [

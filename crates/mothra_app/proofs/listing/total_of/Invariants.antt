@@ -1,5 +1,4 @@
-use Rattle.std.proofs.Common.{◌≡◌, ◌≤◌, ◌+◌, ◌*◌}
-use Rattle.mothra_app.specs.Listing.{asked_total}
+use Rattle.mothra_app.proofs.Common.{◌≡◌, ◌≤◌, ◌+◌, ◌*◌, asked_total}
 use Rattle.mothra_app.proofs.ListedLines.{count_behind}
 use Rattle.mothra_app.proofs.listing.total_of.Given as goal
 

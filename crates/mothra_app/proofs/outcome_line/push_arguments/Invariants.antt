@@ -1,5 +1,4 @@
-use Rattle.std.proofs.Common.{◌≡◌, ◌++◌, string_bytes, take}
-use Rattle.mothra_app.specs.OutcomeLine.{arguments_text}
+use Rattle.mothra_app.proofs.Common.{◌≡◌, string_bytes, ◌++◌, take, arguments_text}
 use Rattle.mothra_app.proofs.outcome_line.push_arguments.Given as goal
 
 -- what is written is the text of the arguments so far

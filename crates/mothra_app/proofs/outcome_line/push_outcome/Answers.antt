@@ -1,5 +1,4 @@
-use Rattle.std.proofs.Common.{◌≡◌, ◌∙◌, ◌++◌, ℕ, List, ap, sym, Result, Ok, Err, OnOk, append_assoc, codes, string_bytes}
-use Rattle.mothra_app.specs.OutcomeLine.{arguments_text, outcome_text}
+use Rattle.mothra_app.proofs.Common.{◌≡◌, sym, ℕ, List, ◌∙◌, Err, Ok, ap, string_bytes, ◌++◌, Result, append_assoc, codes, OnOk, arguments_text, outcome_text}
 use Rattle.mothra_app.proofs.outcome_line.push_outcome.Goals as goal
 
 -- a text is added in two parts

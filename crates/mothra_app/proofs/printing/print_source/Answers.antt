@@ -1,6 +1,4 @@
-use Rattle.std.proofs.Common.{map}
-use Rattle.f77_program.specs.Program.{line_of}
-use Rattle.mothra_app.specs.declared.fault.Fault.TheVariants.{Syntax}
+use Rattle.mothra_app.proofs.Common.{map, line_of, Syntax}
 use Rattle.mothra_app.proofs.Sources.{of_fault, program_refused, text_refused, text_is}
 use Rattle.mothra_app.proofs.printing.print_source.Goals as goal
 

@@ -1,6 +1,4 @@
-use Rattle.std.proofs.Common.{map}
-use Rattle.f77_program.specs.Program.{line_of}
-use Rattle.mothra_app.specs.declared.fault.Fault.TheVariants.{Check}
+use Rattle.mothra_app.proofs.Common.{map, line_of, Check}
 use Rattle.mothra_app.proofs.LegalPrograms.{program_refused, check_refused, legal_is}
 use Rattle.mothra_app.proofs.Sources.{of_fault}
 use Rattle.mothra_app.proofs.program.legal_program_of.Goals as goal

@@ -1,8 +1,5 @@
-use Rattle.std.proofs.Common.{◌≤◌, ℕ, List, length, sym, subst}
+use Rattle.mothra_app.proofs.Common.{sym, ℕ, subst, List, length, ◌≤◌, AreCards, lines, IsProgramOf, Syntax, Form}
 use Rattle.f77_source.specs.Read as forms
-use Rattle.f77_source.specs.Read.{AreCards, lines}
-use Rattle.mothra_app.specs.Program.{IsProgramOf}
-use Rattle.mothra_app.specs.declared.fault.Fault.TheVariants.{Form, Syntax}
 use Rattle.mothra_app.proofs.Sources.{of_fault, form_refused, syntax_refused}
 use Rattle.mothra_app.proofs.program.program_of.Goals as goal
 

@@ -1,12 +1,5 @@
-use Rattle.std.proofs.Common.{◌∙◌, ◌⊎◌, ap, sym, subst, map, Ok, Err}
-use Rattle.std.specs.Prelude.{Contains}
-use Rattle.f77_program.specs.Program.{line_of}
-use Rattle.f77_check.specs.Checked.{CheckedFields}
-use Rattle.mothra_app.specs.Fault.{of_legal_programs}
-use Rattle.mothra_app.specs.Program.{IsLegalProgramOf}
-use Rattle.mothra_app.specs.Reporting.{IsPlanOf}
-use Rattle.mothra_app.specs.declared.fault.Fault.TheVariants.{Bench, Ops}
-use Rattle.mothra_verdicts.specs.Bench.{IsNoBench}
+use Rattle.mothra_app.proofs.Common.{sym, subst, ◌∙◌, Err, Ok, ap, Contains, ◌⊎◌, map, CheckedFields, line_of, IsLegalProgramOf, of_legal_programs, IsPlanOf}
+use Rattle.mothra_app.proofs.Common.{Ops, Bench, IsNoBench}
 use Rattle.mothra_app.proofs.Reports.{bench_refused, plan_refused, program_refused}
 use Rattle.mothra_app.proofs.Sources.{of_fault}
 use Rattle.mothra_app.proofs.reporting.bench_of.Goals as goal

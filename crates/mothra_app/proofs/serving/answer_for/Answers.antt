@@ -1,12 +1,9 @@
-use Rattle.std.proofs.Common.{◌≡◌, ◌∙◌, false, map, refl, string_bytes, subst, sym, Result, Ok, Err}
-use Rattle.std.specs.Prelude.{IsErrAnd}
-use Rattle.mothra_app.specs.code.Serving.{IsReadyFor}
-use Rattle.mothra_app.specs.Status.{is_read_fault}
+use Rattle.mothra_app.proofs.Common.{◌≡◌, sym, subst, ◌∙◌, Err, Ok, refl, string_bytes, map, Result, false, IsErrAnd, is_read_fault, IsReadyFor}
+use Rattle.mothra_cli.specs.Watched.{inside}
 use Rattle.mothra_app.specs.declared.answer.Answer.{Answer}
 use Rattle.mothra_app.specs.declared.status.AppFault.{AppFault}
 use Rattle.mothra_app.specs.declared.status.AppFault.TheVariants.{Memory}
 use Rattle.mothra_app.specs.declared.status.Status.TheVariants as status
-use Rattle.mothra_cli.specs.Watched.{inside}
 use Rattle.mothra_app.proofs.Answered.{few_workers, report_never, reported}
 use Rattle.mothra_app.proofs.serving.answer_for.Goals as goal
 

@@ -1,5 +1,4 @@
-use Rattle.std.proofs.Common.{map, string_bytes, subst}
-use Rattle.mothra_cli.specs.Request.{HasBadOperators, IsFaultOf, IsRefusalOf}
+use Rattle.mothra_app.proofs.Common.{subst, string_bytes, map, HasBadOperators, IsFaultOf, IsRefusalOf}
 use Rattle.mothra_app.proofs.Answered.{ready_for, bad_list, refused, IfOk-both}
 use Rattle.mothra_app.proofs.serving.prepare.Goals as goal
 

@@ -1,6 +1,4 @@
-use Rattle.std.proofs.Common.{ℕ, List, subst}
-use Rattle.mothra_app.specs.code.Answer.{IsReadyAnswer}
-use Rattle.mothra_job.specs.Job.{job_of}
+use Rattle.mothra_app.proofs.Common.{ℕ, subst, List, IsReadyAnswer, job_of}
 use Rattle.mothra_app.proofs.Answered.{ready_by}
 use Rattle.mothra_app.proofs.serving.read_and_prepare.Goals as goal
 

@@ -1,9 +1,7 @@
-use Rattle.std.proofs.Common.{◌≡◌, refl, subst, string_bytes}
+use Rattle.mothra_bench.proofs.Common.{◌≡◌, subst, refl, IsReport, IsWhole, report_text}
+use Rattle.std.proofs.Common.{string_bytes}
 use Rattle.std.proofs.lemmas.Result.{IfOk-weaker, err_from_is_err_and}
 use Rattle.mothra_exchange.specs.Table.{view_of}
-use Rattle.mothra_bench.specs.Analysis.{IsReport}
-use Rattle.mothra_bench.specs.Driving.{IsWhole}
-use Rattle.mothra_bench.specs.Report.{report_text}
 use Rattle.mothra_bench.proofs.CompleteRows.{matrix_report}
 use Rattle.mothra_bench.proofs.ReportEntries.{are_entries}
 use Rattle.mothra_bench.proofs.analysis.analyse.Goals as goal

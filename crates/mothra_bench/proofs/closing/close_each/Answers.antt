@@ -1,7 +1,4 @@
-use Rattle.std.proofs.Common.{List, get_or, subst, ◌∙◌}
-use Rattle.std.proofs.lemmas.List.{take_all}
-use Rattle.mothra_codes.specs.declared.op.Op.{Op}
-use Rattle.mothra_bench.specs.code.Closing.{AreClosed, Closes}
+use Rattle.mothra_bench.proofs.Common.{◌∙◌, List, subst, get_or, take_all, Closes, AreClosed, Op}
 use Rattle.mothra_bench.proofs.ClosedOperators.{closed_more, never_gave_up}
 use Rattle.mothra_bench.proofs.FeederSteps.{gave_on}
 use Rattle.mothra_bench.proofs.closing.close_each.Goals as goal

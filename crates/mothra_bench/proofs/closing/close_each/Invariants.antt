@@ -1,6 +1,4 @@
-use Rattle.std.proofs.Common.{◌≡◌, true, false, take}
-use Rattle.mothra_bench.specs.code.Closing.{AreClosed}
-use Rattle.mothra_bench.specs.Feeding.{OnlyGave}
+use Rattle.mothra_bench.proofs.Common.{◌≡◌, true, take, false, OnlyGave, AreClosed}
 use Rattle.mothra_bench.proofs.closing.close_each.Given as goal
 
 abbrev pub invariant-loop-op : goal.invariant-loop-op

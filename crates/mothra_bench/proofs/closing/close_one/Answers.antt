@@ -1,4 +1,4 @@
-use Rattle.std.proofs.Common.{refl, ◌∙◌}
+use Rattle.mothra_bench.proofs.Common.{◌∙◌, refl}
 use Rattle.mothra_bench.proofs.FeederSteps.{close_gave, gave_on, gave_self}
 use Rattle.mothra_bench.proofs.Looking.{close_closes, looks_next, looks_self}
 use Rattle.mothra_bench.proofs.closing.close_one.Goals as goal

@@ -1,10 +1,5 @@
-use Rattle.std.proofs.Common.{◌≡◌, List, All, sym, subst, ◌∙◌, rules}
-use Rattle.std.specs.Prelude.{AllPairs}
-use Rattle.mothra_codes.specs.declared.ticket.Ticket.{Ticket}
-use Rattle.mothra_codes.specs.Ticket.{Before}
-use Rattle.mothra_bench.specs.Collecting.{AreCollected, IsKnown, IsNoMatrix}
-use Rattle.mothra_bench.specs.code.Entries.{AreNoEntries}
-use Rattle.mothra_bench.specs.Matrix.{tickets_of}
+use Rattle.mothra_bench.proofs.Common.{◌≡◌, ◌∙◌, List, subst, sym, All, rules, AllPairs, IsKnown, AreCollected, IsNoMatrix, tickets_of, AreNoEntries, Before}
+use Rattle.mothra_bench.proofs.Common.{Ticket}
 use Rattle.mothra_bench.proofs.CollectMatrix.{collected, no_matrix}
 use Rattle.mothra_bench.proofs.CollectTickets.{tickets_ordered}
 use Rattle.mothra_bench.proofs.collecting.collect.Goals as goal

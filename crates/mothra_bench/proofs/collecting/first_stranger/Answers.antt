@@ -1,5 +1,4 @@
-use Rattle.std.proofs.Common.{take, drop, rules, arith, subst, All, refl, suc}
-use Rattle.mothra_bench.specs.Collecting.{IsKnown}
+use Rattle.mothra_bench.proofs.Common.{subst, refl, arith, All, take, rules, suc, drop, IsKnown}
 use Rattle.mothra_bench.proofs.CollectLists.{cut_at, all_more, take_whole}
 use Rattle.mothra_bench.proofs.collecting.first_stranger.Goals as goal
 

@@ -1,5 +1,4 @@
-use Rattle.std.proofs.Common.{take, All}
-use Rattle.mothra_bench.specs.Collecting.{IsKnown}
+use Rattle.mothra_bench.proofs.Common.{All, take, IsKnown}
 use Rattle.mothra_bench.proofs.collecting.first_stranger.Given as goal
 
 abbrev pub invariant-loop-row : goal.invariant-loop-row

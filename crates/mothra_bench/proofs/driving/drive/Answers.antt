@@ -1,10 +1,5 @@
-use Rattle.std.proofs.Common.{◌≡◌, List, ◌++◌, take, ap, sym, subst, IfOk, arith, ◌∙◌}
-use Rattle.mothra_codes.specs.Op.{all_ops, index}
-use Rattle.mothra_codes.specs.declared.op.Op.{Op}
-use Rattle.mothra_codes.specs.Ticket.{ticket_times}
-use Rattle.mothra_exchange.proofs.Counting.{times-append}
-use Rattle.mothra_bench.specs.code.Driving.{AreShared, IsDone}
-use Rattle.mothra_bench.specs.Results.{tickets_in}
+use Rattle.mothra_bench.proofs.Common.{◌≡◌, ◌∙◌, ap, List, subst, sym, ◌++◌, arith, take, IfOk, tickets_in, AreShared, IsDone, index, all_ops, ticket_times, Op}
+use Rattle.mothra_bench.proofs.Common.{times-append}
 use Rattle.mothra_bench.proofs.JoinedPasses.{all_complete}
 use Rattle.mothra_bench.proofs.SharedOperators.{all_shared}
 use Rattle.mothra_bench.proofs.driving.drive.Goals as goal

@@ -1,7 +1,4 @@
-use Rattle.std.proofs.Common.{rules, ◌≡◌, ◌⊎◌, ◌+◌, ◌++◌, [], None, length, ap, sym, ◌∙◌, ⊎_elim, arith, inl, inr}
-use Rattle.std.specs.Vec.Iter.{into_iter_items}
-use Rattle.mothra_bench.specs.code.Driving.{IsShare}
-use Rattle.mothra_bench.specs.Working.{AreOver}
+use Rattle.mothra_bench.proofs.Common.{◌≡◌, ◌∙◌, ap, length, sym, ◌++◌, [], arith, ◌+◌, None, rules, inr, inl, ⊎_elim, ◌⊎◌, into_iter_items, AreOver, IsShare}
 use Rattle.mothra_bench.proofs.DriveEnds.{any_none, memory_on, none_on, rows_none}
 use Rattle.mothra_bench.proofs.JoinedPasses.{keeps_on, keeps_self, new_same}
 use Rattle.mothra_bench.proofs.WorkerRows.{answered_with, first_of_all, merges_rows, none_left, over_merged, still_some}

@@ -1,10 +1,5 @@
-use Rattle.std.proofs.Common.{◌≡◌, ◌⊎◌, ◌+◌, ◌++◌, true, None, All, IfSome, MatchOption, length}
-use Rattle.std.specs.Prelude.{IfNone}
-use Rattle.std.specs.Vec.Iter.{into_iter_items, into_iter_len}
-use Rattle.mothra_bench.specs.code.Driving.{IsShare, KeepsFed}
-use Rattle.mothra_bench.specs.Driving.{IsNoDrive}
-use Rattle.mothra_bench.specs.Results.{AreVerdicts, tickets_in}
-use Rattle.mothra_bench.specs.Working.{AreOver}
+use Rattle.mothra_bench.proofs.Common.{◌≡◌, length, ◌++◌, true, All, ◌+◌, None, IfSome, ◌⊎◌, IfNone, MatchOption, into_iter_items, into_iter_len, AreVerdicts}
+use Rattle.mothra_bench.proofs.Common.{tickets_in, AreOver, IsNoDrive, IsShare, KeepsFed}
 use Rattle.mothra_verdicts.specs.declared.fault.BenchFault.TheVariants as fault
 use Rattle.mothra_bench.proofs.driving.join_workers.Given as goal
 

@@ -1,9 +1,6 @@
-use Rattle.std.proofs.Common.{◌≡◌, ◌⊎◌, ◌++◌, [], true, None, length, ap, sym, ◌∙◌, subst, ⊎_elim, arith}
+use Rattle.mothra_bench.proofs.Common.{◌≡◌, ◌∙◌, ap, length, subst, sym, ◌++◌, [], arith, true, None, ⊎_elim, ◌⊎◌, AreVerdicts, tickets_in, AreOver, IsNoDrive}
+use Rattle.mothra_bench.proofs.Common.{IsDone, Drives}
 use Rattle.std.proofs.lemmas.Result.{IfErr-weaker, IfOk-weaker}
-use Rattle.mothra_bench.specs.Driving.{IsNoDrive}
-use Rattle.mothra_bench.specs.code.Driving.{Drives, IsDone}
-use Rattle.mothra_bench.specs.Results.{AreVerdicts, tickets_in}
-use Rattle.mothra_bench.specs.Working.{AreOver}
 use Rattle.mothra_bench.proofs.DriveEnds.{began, err_answer, feeder_answered, ok_answer, rows_answered, stalled_answered, start_answered, where_none}
 use Rattle.mothra_bench.proofs.JoinedPasses.{all_done, feeder_fed, split_on}
 use Rattle.mothra_bench.proofs.WorkerRows.{ok_more, same_no_drive, three_of}

@@ -1,6 +1,4 @@
-use Rattle.std.proofs.Common.{◌≡◌, [], ◌∷◌, length, ap, sym, subst, ◌∙◌, arith}
-use Rattle.std.proofs.lemmas.List.{length-append}
-use Rattle.mothra_bench.specs.code.Driving.{IsNewPass, IsShare}
+use Rattle.mothra_bench.proofs.Common.{◌≡◌, ◌∙◌, ap, length, subst, sym, [], arith, ◌∷◌, length-append, IsShare, IsNewPass}
 use Rattle.mothra_bench.proofs.JoinedPasses.{split_new, split_on, split_once}
 use Rattle.mothra_bench.proofs.WorkerRows.{all_push}
 use Rattle.mothra_bench.proofs.driving.start_workers.Goals as goal

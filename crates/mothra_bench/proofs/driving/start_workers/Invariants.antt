@@ -1,6 +1,4 @@
-use Rattle.std.proofs.Common.{◌≡◌, ◌+◌, ◌≤◌, true, All, length}
-use Rattle.std.specs.Prelude.{vec_capacity}
-use Rattle.mothra_bench.specs.code.Driving.{IsShare, OnlySplit}
+use Rattle.mothra_bench.proofs.Common.{◌≡◌, length, true, All, ◌+◌, ◌≤◌, vec_capacity, IsShare, OnlySplit}
 use Rattle.mothra_bench.proofs.driving.start_workers.Given as goal
 
 abbrev pub invariant-loop : goal.invariant-loop

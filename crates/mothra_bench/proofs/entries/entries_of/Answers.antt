@@ -1,11 +1,5 @@
-use Rattle.std.proofs.Common.{◌≡◌, ◌<◌, ◌∷◌, [], ◌++◌, List, All, map, take, length, get_or, sym, ap, subst, ◌∙◌, rules}
-use Rattle.std.proofs.lemmas.List.{map-append}
-use Rattle.std.proofs.lemmas.List.Elements.{All-push}
-use Rattle.mothra_codes.specs.declared.op.Op.TheVariants.{Aar}
-use Rattle.mothra_codes.specs.Ticket.{ticket}
-use Rattle.mothra_codes.specs.declared.ticket.Ticket.{Ticket}
-use Rattle.mothra_bench.specs.code.Entries.{IsEntry}
-use Rattle.mothra_bench.specs.declared.matrix.Entry.{Entry}
+use Rattle.mothra_bench.proofs.Common.{◌≡◌, ◌∙◌, ap, List, length, subst, sym, ◌++◌, [], All, take, ◌∷◌, ◌<◌, get_or, rules, map, map-append, All-push, IsEntry}
+use Rattle.mothra_bench.proofs.Common.{Entry, ticket, Aar, Ticket}
 use Rattle.mothra_bench.proofs.CollectLists.{any_default, taken_more}
 use Rattle.mothra_bench.proofs.CollectEntries.{absent_here, entry_of_first, left_here, left_more}
 use Rattle.mothra_bench.proofs.entries.entries_of.Goals as goal

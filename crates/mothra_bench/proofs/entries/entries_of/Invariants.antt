@@ -1,6 +1,4 @@
-use Rattle.std.proofs.Common.{◌≡◌, All, map, take}
-use Rattle.mothra_bench.specs.code.Entries.{IsEntry}
-use Rattle.mothra_bench.specs.declared.matrix.Entry.{Entry}
+use Rattle.mothra_bench.proofs.Common.{◌≡◌, All, take, map, IsEntry, Entry}
 use Rattle.mothra_bench.proofs.CollectEntries.{Left}
 use Rattle.mothra_bench.proofs.entries.entries_of.Given as goal
 

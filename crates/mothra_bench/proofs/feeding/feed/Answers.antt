@@ -1,7 +1,4 @@
-use Rattle.std.proofs.Common.{ℕ, List, refl, ap, sym, ◌∙◌}
-use Rattle.std.specs.Prelude.{slice_index}
-use Rattle.mothra_codes.specs.Op.{index}
-use Rattle.mothra_codes.specs.declared.op.Op.{Op}
+use Rattle.mothra_bench.proofs.Common.{◌∙◌, ap, List, sym, refl, ℕ, slice_index, index, Op}
 use Rattle.mothra_bench.proofs.FeederRounds.{all_fed, first_stage, shows_first}
 use Rattle.mothra_bench.proofs.FeederSteps.{gave_on, gave_self}
 use Rattle.mothra_bench.proofs.feeding.feed.Goals as goal

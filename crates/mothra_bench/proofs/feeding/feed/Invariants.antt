@@ -1,10 +1,4 @@
-use Rattle.std.proofs.Common.{◌≡◌, true, [], length, Contains}
-use Rattle.std.specs.Prelude.{slice_index}
-use Rattle.mothra_codes.specs.declared.op.Op.{Op}
-use Rattle.mothra_codes.specs.Op.{index}
-use Rattle.mothra_bench.specs.Closing.{count_of}
-use Rattle.mothra_bench.specs.code.Feeding.{AllShow, stage_of}
-use Rattle.mothra_bench.specs.Feeding.{OnlyGave}
+use Rattle.mothra_bench.proofs.Common.{◌≡◌, length, [], true, slice_index, Contains, OnlyGave, count_of, stage_of, AllShow, index, Op}
 use Rattle.mothra_bench.specs.declared.feeding.Stage.TheVariants as stage
 use Rattle.mothra_bench.proofs.feeding.feed.Given as goal
 

@@ -1,9 +1,4 @@
-use Rattle.std.proofs.Common.{◌≡◌, ℕ, List, All, get_or, ap, sym, subst, ◌∙◌, length-set}
-use Rattle.std.specs.Prelude.{slice_index}
-use Rattle.std.proofs.lemmas.List.{take_all}
-use Rattle.mothra_codes.specs.Op.{index}
-use Rattle.mothra_codes.specs.declared.op.Op.{Op}
-use Rattle.mothra_bench.specs.code.Feeding.{ShowsStage, stage_of}
+use Rattle.mothra_bench.proofs.Common.{◌≡◌, ◌∙◌, ap, List, subst, sym, ℕ, All, get_or, slice_index, length-set, take_all, ShowsStage, stage_of, index, Op}
 use Rattle.mothra_bench.specs.declared.feeding.Stage.TheVariants as stage
 use Rattle.mothra_bench.proofs.FeederRounds.{all_closed_at, all_show_at, other_stage_at}
 use Rattle.mothra_bench.proofs.FeederSteps.{gave_on}

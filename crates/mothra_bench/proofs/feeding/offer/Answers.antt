@@ -1,10 +1,7 @@
-use Rattle.std.proofs.Common.{◌≡◌, ℕ, List, refl, ap, subst, ◌∙◌, ⊎_elim, arith}
-use Rattle.std.specs.Prelude.{slice_index}
-use Rattle.mothra_codes.specs.Op.{index}
-use Rattle.mothra_bench.specs.Closing.{count_of}
-use Rattle.mothra_bench.specs.code.Feeding.{ShowsStage}
+use Rattle.mothra_bench.proofs.Common.{◌≡◌, ◌∙◌, ap, List, subst, refl, arith, ℕ, slice_index, ⊎_elim, count_of, ShowsStage, index}
 use Rattle.mothra_bench.specs.declared.feeding.Stage.TheVariants as stage
-use Rattle.mothra_bench.proofs.FeederSteps.{gave_on, gave_self, offer_gave, offer_looks, only_offered, sees_full, shows_accepted, shows_ended, shows_full, shows_looked}
+use Rattle.mothra_bench.proofs.FeederSteps.{gave_on, gave_self, offer_gave, offer_looks, only_offered, sees_full, shows_accepted, shows_ended, shows_full}
+use Rattle.mothra_bench.proofs.FeederSteps.{shows_looked}
 use Rattle.mothra_bench.proofs.Looking.{looks_self, only_trans}
 use Rattle.mothra_bench.proofs.feeding.offer.Goals as goal
 

@@ -1,6 +1,4 @@
-use Rattle.std.proofs.Common.{◌≡◌, true}
-use Rattle.mothra_bench.specs.code.Closing.{LooksOnly}
-use Rattle.mothra_bench.specs.Feeding.{OnlyGave}
+use Rattle.mothra_bench.proofs.Common.{◌≡◌, true, OnlyGave, LooksOnly}
 use Rattle.mothra_bench.proofs.feeding.offer.Given as goal
 
 abbrev pub invariant-loop : goal.invariant-loop

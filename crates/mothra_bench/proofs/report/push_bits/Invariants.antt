@@ -1,6 +1,4 @@
-use Rattle.std.proofs.Common.{◌≡◌, ◌++◌, map, take}
-use Rattle.std.specs.String.{string_bytes}
-use Rattle.mothra_bench.specs.Report.{bit_of}
+use Rattle.mothra_bench.proofs.Common.{◌≡◌, ◌++◌, take, map, string_bytes, bit_of}
 use Rattle.mothra_bench.proofs.report.push_bits.Given as goal
 
 abbrev pub invariant-loop-kill : goal.invariant-loop-kill

@@ -1,7 +1,4 @@
-use Rattle.std.proofs.Common.{◌≡◌, ◌++◌, take}
-use Rattle.std.specs.List.{flat_map}
-use Rattle.std.specs.String.{string_bytes}
-use Rattle.mothra_bench.specs.Report.{mutant_line}
+use Rattle.mothra_bench.proofs.Common.{◌≡◌, ◌++◌, take, flat_map, string_bytes, mutant_line}
 use Rattle.mothra_bench.proofs.report.push_mutants.Given as goal
 
 abbrev pub invariant-loop-entry : goal.invariant-loop-entry

@@ -1,16 +1,9 @@
-use Rattle.std.proofs.Common.{rules, arith, ◌≡◌, ◌++◌, List, Some, true, false, subst}
-use Rattle.std.specs.Prelude.{slice_get}
-use Rattle.std.specs.String.{string_bytes}
-use Rattle.mothra_codes.specs.Op.{index}
-use Rattle.mothra_codes.specs.code.Op.{op_at}
-use Rattle.mothra_ops.specs.Plan.{asked}
-use Rattle.mothra_bench.specs.Matrix.{counts, entries_of}
-use Rattle.mothra_bench.specs.Report.{operator_line}
-use Rattle.mothra_bench.specs.declared.matrix.Entry.{Entry}
+use Rattle.mothra_bench.proofs.Common.{◌≡◌, List, subst, ◌++◌, arith, true, Some, false, rules, slice_get, string_bytes, counts, entries_of, operator_line}
+use Rattle.mothra_bench.proofs.Common.{Entry, index, op_at, asked}
 use Rattle.mothra_bench.proofs.CountedOperators.{counted}
 use Rattle.mothra_bench.proofs.ReportOperators.{with_line, without_line}
-use Rattle.mothra_bench.proofs.report.push_operators.Goals as goal
 use Rattle.mothra_bench.proofs.report.push_operators.Goals.{then-asked+in_ok-push_counts, else-asked}
+use Rattle.mothra_bench.proofs.report.push_operators.Goals as goal
 
 pub loop-op-preserved : goal.loop-op-preserved
 loop-op-preserved c = elim c.if-asked.branch [

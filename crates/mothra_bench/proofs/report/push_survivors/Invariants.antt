@@ -1,9 +1,5 @@
-use Rattle.std.proofs.Common.{◌≡◌, ◌++◌, take}
-use Rattle.std.specs.List.{flat_map}
-use Rattle.std.specs.String.{string_bytes}
+use Rattle.mothra_bench.proofs.Common.{◌≡◌, ◌++◌, take, flat_map, string_bytes, survivor_line, program_of}
 use Rattle.mothra_ops.specs.Copies.{copied, statements_in}
-use Rattle.mothra_ops.specs.Mutants.{program_of}
-use Rattle.mothra_bench.specs.Report.{survivor_line}
 use Rattle.mothra_bench.proofs.report.push_survivors.Given as goal
 
 abbrev pub invariant-loop-entry : goal.invariant-loop-entry

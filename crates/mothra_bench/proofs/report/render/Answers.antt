@@ -1,9 +1,5 @@
-use Rattle.std.proofs.Common.{rules, ◌≡◌, ◌++◌, subst}
-use Rattle.mothra_ops.specs.Plan.{PlanFields}
-use Rattle.std.specs.Prelude.{codes}
-use Rattle.std.specs.String.{string_bytes}
-use Rattle.mothra_bench.specs.Matrix.{counts, score_of}
-use Rattle.mothra_bench.specs.Report.{counts_line, entry_lines, heading, line, operator_lines, score_line}
+use Rattle.mothra_bench.proofs.Common.{◌≡◌, subst, ◌++◌, rules, codes, string_bytes, counts, counts_line, score_line, score_of, entry_lines, heading, line}
+use Rattle.mothra_bench.proofs.Common.{operator_lines, PlanFields}
 use Rattle.mothra_bench.proofs.ReportTexts.{six_texts}
 use Rattle.mothra_bench.proofs.report.render.Goals as goal
 

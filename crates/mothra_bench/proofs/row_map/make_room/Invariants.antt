@@ -1,5 +1,4 @@
-use Rattle.std.proofs.Common.{◌≡◌, ℕ, length}
-use Rattle.mothra_bench.specs.code.RowMap.{row_at}
+use Rattle.mothra_bench.proofs.Common.{◌≡◌, length, ℕ, row_at}
 use Rattle.mothra_bench.proofs.row_map.make_room.Given as goal
 
 abbrev pub invariant-loop : goal.invariant-loop

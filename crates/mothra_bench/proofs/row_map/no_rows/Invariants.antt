@@ -1,4 +1,4 @@
-use Rattle.std.proofs.Common.{◌≡◌, [], All, length}
+use Rattle.mothra_bench.proofs.Common.{◌≡◌, length, [], All}
 use Rattle.mothra_bench.proofs.row_map.no_rows.Given as goal
 
 abbrev pub invariant-loop : goal.invariant-loop

@@ -1,9 +1,6 @@
-use Rattle.std.proofs.Common.{ap, Some, Option, ◌∙◌}
-use Rattle.std.specs.Prelude.{slice_set}
-use Rattle.mothra_bench.specs.code.RowMap.{row_at}
+use Rattle.mothra_bench.proofs.Common.{◌∙◌, ap, Some, Option, slice_set, row_at, Row}
 use Rattle.mothra_bench.proofs.RowLists.{row_set}
 use Rattle.mothra_bench.proofs.row_map.put_at.Goals as goal
-use Rattle.mothra_verdicts.specs.declared.verdict.Row.{Row}
 
 pub returns-clause-rows : goal.returns-clause-rows
 returns-clause-rows c = λ k.

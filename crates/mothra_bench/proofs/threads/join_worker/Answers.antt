@@ -1,4 +1,4 @@
-use Rattle.std.proofs.Common.{◌∙◌}
+use Rattle.mothra_bench.proofs.Common.{◌∙◌}
 use Rattle.mothra_bench.proofs.JoinedPasses.{keeps_fed}
 use Rattle.mothra_bench.proofs.threads.join_worker.Goals as goal
 

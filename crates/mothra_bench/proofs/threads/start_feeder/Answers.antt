@@ -1,7 +1,7 @@
+use Rattle.mothra_bench.proofs.Common.{arg_send, param_send, param_sync, shr_send, shr_slice_send}
 use denote.Exit.{no}
-use denote.Param.Send.{arg_send, param_send, param_sync, shr_send, shr_slice_send}
-use Rattle.mothra_bench.proofs.Crossings.{captures_send, op_sync}
 use Rattle.mothra_verdicts.proofs.Crossings.{plan_sync}
+use Rattle.mothra_bench.proofs.Crossings.{captures_send, op_sync}
 use Rattle.mothra_bench.proofs.threads.start_feeder.Goals as goal
 
 pub spawn_with-requires-send-F : goal.spawn_with-requires-send-F

@@ -1,8 +1,8 @@
-use denote.Exit.{no}
-use denote.Param.Send.{arg_send, param_send, param_sync, shr_send}
+use Rattle.mothra_bench.proofs.Common.{arg_send, param_send, param_sync, shr_send}
 use Rattle.std.proofs.Crossing.{send}
-use Rattle.mothra_bench.proofs.Crossings.{captures_send}
+use denote.Exit.{no}
 use Rattle.mothra_verdicts.proofs.Crossings.{bench_sync}
+use Rattle.mothra_bench.proofs.Crossings.{captures_send}
 use Rattle.mothra_bench.proofs.threads.start_worker.Goals as goal
 
 pub spawn_with-requires-send-F : goal.spawn_with-requires-send-F

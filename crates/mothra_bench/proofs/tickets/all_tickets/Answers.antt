@@ -1,11 +1,5 @@
-use Rattle.std.proofs.Common.{◌≡◌, ◌+◌, ◌≤◌, ◌++◌, List, length, ap, sym, ◌∙◌, arith, rules}
-use Rattle.std.proofs.lemmas.List.{length-append}
-use Rattle.mothra_codes.specs.Op.{all_ops}
-use Rattle.mothra_codes.specs.code.Op.{op_at}
-use Rattle.mothra_codes.specs.declared.op.Op.TheVariants.{Aar}
-use Rattle.mothra_ops.specs.Plan.{edits_of}
-use Rattle.mothra_codes.specs.declared.ticket.Ticket.{Ticket}
-use Rattle.mothra_bench.specs.Matrix.{tickets}
+use Rattle.mothra_bench.proofs.Common.{◌≡◌, ◌∙◌, ap, List, length, sym, ◌++◌, arith, ◌+◌, ◌≤◌, rules, length-append, tickets, all_ops, op_at, Aar, Ticket}
+use Rattle.mothra_bench.proofs.Common.{edits_of}
 use Rattle.mothra_bench.proofs.CollectLists.{flat_map_more}
 use Rattle.mothra_bench.proofs.CollectTickets.{few_edits, length-tickets}
 use Rattle.mothra_bench.proofs.tickets.all_tickets.Goals as goal

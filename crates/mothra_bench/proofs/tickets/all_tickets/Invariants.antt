@@ -1,8 +1,5 @@
-use Rattle.std.proofs.Common.{◌≡◌, ◌*◌, ◌≤◌, take, length}
-use Rattle.std.specs.Prelude.{flat_map}
-use Rattle.mothra_codes.specs.Op.{all_ops}
-use Rattle.mothra_ops.specs.Plan.{edits_of}
-use Rattle.mothra_bench.specs.Matrix.{tickets}
+use Rattle.mothra_bench.proofs.Common.{◌≡◌, length, take, ◌≤◌, ◌*◌, tickets, all_ops, edits_of}
+use Rattle.std.proofs.Common.{flat_map}
 use Rattle.mothra_bench.proofs.tickets.all_tickets.Given as goal
 
 abbrev pub invariant-loop-op : goal.invariant-loop-op

@@ -1,7 +1,4 @@
-use Rattle.std.proofs.Common.{◌≡◌, ◌<◌, ◌+◌, ◌∙◌, ℕ, length, length-set, get_or, set, subst, sym, rules, arith}
-use Rattle.mothra_codes.specs.code.Op.{op_at}
-use Rattle.mothra_codes.proofs.Operators.{index-op_at}
-use Rattle.mothra_ops.specs.Plan.{edits_of}
+use Rattle.mothra_bench.proofs.Common.{◌≡◌, ◌∙◌, length, subst, sym, arith, ℕ, ◌+◌, ◌<◌, get_or, rules, length-set, set, index-op_at, op_at, edits_of}
 use Rattle.mothra_bench.proofs.CountSteps.{counts_more}
 use Rattle.mothra_bench.proofs.tickets.counts.Goals as goal
 

@@ -1,6 +1,4 @@
-use Rattle.std.proofs.Common.{◌≡◌, ◌<◌, ℕ, length, get_or}
-use Rattle.mothra_codes.specs.code.Op.{op_at}
-use Rattle.mothra_ops.specs.Plan.{IsPlan, edits_of}
+use Rattle.mothra_bench.proofs.Common.{◌≡◌, length, ℕ, ◌<◌, get_or, op_at, edits_of, IsPlan}
 use Rattle.mothra_bench.proofs.tickets.counts.Given as goal
 
 abbrev pub invariant-loop-op : goal.invariant-loop-op

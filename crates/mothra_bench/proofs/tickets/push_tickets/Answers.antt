@@ -1,7 +1,4 @@
-use Rattle.std.proofs.Common.{◌≡◌, ◌+◌, ◌∷◌, [], ◌++◌, List, sym, ap, ◌∙◌, append_assoc, rules}
-use Rattle.mothra_codes.specs.Ticket.{ticket}
-use Rattle.mothra_codes.specs.declared.ticket.Ticket.{Ticket}
-use Rattle.mothra_bench.specs.Matrix.{tickets}
+use Rattle.mothra_bench.proofs.Common.{◌≡◌, ◌∙◌, ap, List, sym, ◌++◌, [], ◌∷◌, ◌+◌, rules, append_assoc, tickets, ticket, Ticket}
 use Rattle.mothra_bench.proofs.CollectTickets.{tickets_more}
 use Rattle.mothra_bench.proofs.tickets.push_tickets.Goals as goal
 

@@ -1,5 +1,4 @@
-use Rattle.std.proofs.Common.{◌≡◌, ◌++◌}
-use Rattle.mothra_bench.specs.Matrix.{tickets}
+use Rattle.mothra_bench.proofs.Common.{◌≡◌, ◌++◌, tickets}
 use Rattle.mothra_bench.proofs.tickets.push_tickets.Given as goal
 
 abbrev pub invariant-loop-before : goal.invariant-loop-before

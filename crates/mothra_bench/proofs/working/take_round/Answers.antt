@@ -1,5 +1,4 @@
-use Rattle.std.proofs.Common.{rules, ◌≡◌, ◌≢◌, refl, ◌∙◌, ⊎_elim, arith}
-use Rattle.mothra_codes.proofs.Operators.{index_below}
+use Rattle.mothra_bench.proofs.Common.{◌≡◌, ◌∙◌, refl, arith, rules, ⊎_elim, ◌≢◌, index_below}
 use Rattle.mothra_bench.specs.declared.working.Turn.TheVariants as turn
 use Rattle.mothra_bench.proofs.WorkerSteps.{all_over, same_verdicts, went_on, went_still}
 use Rattle.mothra_bench.proofs.working.take_round.Goals as goal

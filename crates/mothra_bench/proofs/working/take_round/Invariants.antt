@@ -1,9 +1,4 @@
-use Rattle.std.proofs.Common.{◌≡◌, ◌≢◌, ◌<◌, true, IfSome}
-use Rattle.mothra_codes.specs.Op.{index}
-use Rattle.mothra_codes.specs.declared.op.Op.{Op}
-use Rattle.mothra_exchange.specs.Sharing.{IsOver}
-use Rattle.mothra_verdicts.specs.Bench.{BenchFields}
-use Rattle.mothra_bench.specs.code.Working.{Went}
+use Rattle.mothra_bench.proofs.Common.{◌≡◌, true, ◌<◌, IfSome, ◌≢◌, Went, index, Op, IsOver, BenchFields}
 use Rattle.mothra_bench.specs.declared.working.Turn.TheVariants as turn
 use Rattle.mothra_bench.proofs.working.take_round.Given as goal
 

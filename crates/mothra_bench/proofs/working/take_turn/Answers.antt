@@ -1,5 +1,4 @@
-use Rattle.std.proofs.Common.{inl, inr, refl, ◌∙◌, subst}
-use Rattle.mothra_exchange.specs.Gate.{TakeKept}
+use Rattle.mothra_bench.proofs.Common.{◌∙◌, subst, refl, inr, inl, TakeKept}
 use Rattle.mothra_exchange.specs.declared.answer.Take.TheVariants as take
 use Rattle.mothra_bench.proofs.PassSteps.{take_none, take_only}
 use Rattle.mothra_bench.proofs.WorkerSteps.{same_verdicts, still_over, taken_over, went_idle, went_on, went_one, went_stalled, went_still}

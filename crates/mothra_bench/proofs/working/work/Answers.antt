@@ -1,6 +1,4 @@
-use Rattle.std.proofs.Common.{◌∙◌, Global, Vec, refl, sym, true≢false, ⊎_elim}
-use Rattle.mothra_bench.specs.Working.{AreOver}
-use Rattle.mothra_verdicts.specs.declared.verdict.Row.{Row}
+use Rattle.mothra_bench.proofs.Common.{◌∙◌, sym, refl, ⊎_elim, true≢false, Vec, Global, AreOver, Row}
 use Rattle.mothra_bench.proofs.WorkerSteps.{answers, any_rows, faulty_answer, own_verdicts, same_verdicts, went_on, went_still}
 use Rattle.mothra_bench.proofs.working.work.Goals as goal
 

@@ -1,6 +1,4 @@
-use Rattle.std.proofs.Common.{◌≡◌, true}
-use Rattle.std.specs.Prelude.{IfSome}
-use Rattle.mothra_bench.specs.code.Working.{Went}
+use Rattle.mothra_bench.proofs.Common.{◌≡◌, true, IfSome, Went}
 use Rattle.mothra_bench.proofs.working.work.Given as goal
 
 abbrev pub invariant-loop : goal.invariant-loop

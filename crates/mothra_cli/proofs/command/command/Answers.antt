@@ -1,6 +1,4 @@
-use Rattle.std.proofs.Common.{rules, ◌∙◌, ap, ap₂}
-use Rattle.clap.specs.Words.{App, with_subcommand}
-use Rattle.mothra_cli.specs.Command.{mothra}
+use Rattle.mothra_cli.proofs.Common.{ap, ◌∙◌, rules, ap₂, App, with_subcommand, mothra}
 use Rattle.mothra_cli.proofs.command.command.Goals as goal
 
 pub returns-clause-app : goal.returns-clause-app

@@ -1,8 +1,7 @@
-use Rattle.std.proofs.Common.{rules, ◌≡◌, ◌∙◌, ap, refl, subst, true, map}
+use Rattle.mothra_cli.proofs.Common.{◌≡◌, ap, ◌∙◌, refl, rules, true, subst, map, App, app_of, fault_of, subcommand_of, FailsBy, is_simple, is_simple_and_free}
+use Rattle.mothra_cli.proofs.Common.{mothra}
 use Rattle.std.proofs.lemmas.Result.{IfOk-weaker}
-use Rattle.clap.specs.Words.{App, app_of, fault_of, is_simple, is_simple_and_free, subcommand_of, FailsBy}
 use Rattle.clap.proofs.OnLiterals.{clap_on_literals}
-use Rattle.mothra_cli.specs.Command.{mothra}
 use Rattle.mothra_cli.proofs.command.matches_of.Goals as goal
 
 is_plain : is_simple_and_free mothra ≡ true

@@ -1,5 +1,4 @@
-use Rattle.std.proofs.Common.{rules, ◌≡◌, ◌∙◌, ap, ap₂, codes}
-use Rattle.clap.specs.Words.{App, app_of, new_app, with_rule}
+use Rattle.mothra_cli.proofs.Common.{◌≡◌, ap, ◌∙◌, rules, codes, ap₂, App, app_of, new_app, with_rule}
 use Rattle.mothra_cli.proofs.command.run_command.Goals as goal
 
 pub returns-clause-shape : goal.returns-clause-shape

@@ -1,4 +1,4 @@
-use Rattle.std.proofs.Common.{rules, arith, ◌≡◌, ◌≤◌, ◌+◌, ◌++◌, length, take, length-append, length-take-le}
+use Rattle.mothra_cli.proofs.Common.{◌≡◌, rules, ◌≤◌, ◌++◌, length, arith, take, ◌+◌, length-append, length-take-le}
 use Rattle.std.proofs.KnownBytes.{Consumes-trans}
 use Rattle.mothra_cli.proofs.input.read_input.Goals as goal
 

@@ -1,6 +1,4 @@
-use Rattle.std.proofs.Common.{◌≡◌, ◌≤◌, ◌-◌, false, vec_len}
-use Rattle.std.specs.Io.KnownBytes.{Consumes}
-use Rattle.mothra_cli.specs.Watched.{inside, has_failed}
+use Rattle.mothra_cli.proofs.Common.{◌≡◌, false, ◌≤◌, ◌-◌, vec_len, Consumes, has_failed, inside}
 use Rattle.mothra_cli.proofs.input.read_input.Given as goal
 
 abbrev pub invariant-loop-chunk : goal.invariant-loop-chunk

@@ -1,7 +1,6 @@
-use Rattle.std.proofs.Common.{rules, ◌≡◌, ℕ, ◌+◌, ◌-◌, List, ◌++◌, length, sym, ap, ◌∙◌, subst, take, drop}
+use Rattle.mothra_cli.proofs.Common.{◌≡◌, ap, ◌∙◌, List, rules, ℕ, subst, ◌++◌, length, sym, take, ◌+◌, ◌-◌, drop, Appends}
 use Rattle.std.proofs.lemmas.List.{take_rest}
 use Rattle.std.proofs.Math.Seq.{take-add}
-use Rattle.std.specs.Io.KnownBytes.{Appends}
 use Rattle.std.proofs.KnownBytes.{Appends-trans}
 use Rattle.mothra_cli.proofs.output.write_whole.Goals as goal
 

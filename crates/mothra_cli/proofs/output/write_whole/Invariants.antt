@@ -1,6 +1,4 @@
-use Rattle.std.proofs.Common.{length, ◌-◌, ◌≡◌, ◌≤◌, false, take}
-use Rattle.std.specs.Io.KnownBytes.{Appends}
-use Rattle.mothra_cli.specs.Watched.{inside, has_failed}
+use Rattle.mothra_cli.proofs.Common.{◌≡◌, false, ◌≤◌, length, take, ◌-◌, Appends, has_failed, inside}
 use Rattle.mothra_cli.proofs.output.write_whole.Given as goal
 
 abbrev pub invariant-loop-written : goal.invariant-loop-written

@@ -1,10 +1,7 @@
-use Rattle.std.proofs.Common.{◌≡◌, ◌∙◌, Option, Some, None, ap, refl}
-use Rattle.std.specs.Prelude.{option_and_then}
-use Rattle.std.specs.Str.Parse.{ParsesUnsigned, ExplainsUnsignedError, HasUnsignedDigitsIfOk}
-use Rattle.clap.specs.Words.{Text, found_of}
+use Rattle.mothra_cli.proofs.Common.{◌≡◌, ap, ◌∙◌, None, Some, refl, Option, option_and_then, ParsesUnsigned, ExplainsUnsignedError, HasUnsignedDigitsIfOk}
+use Rattle.mothra_cli.proofs.Common.{Text, found_of, number_meant}
 use Rattle.clap.specs.Matches.{one_text}
 use Rattle.clap.proofs.WalkLemmas.{one_text-rows}
-use Rattle.mothra_cli.specs.Request.{number_meant}
 use Rattle.mothra_cli.proofs.Getters.{reads_number}
 use Rattle.mothra_cli.proofs.request.number_at.Goals as goal
 

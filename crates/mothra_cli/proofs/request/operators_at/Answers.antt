@@ -1,5 +1,4 @@
-use Rattle.std.proofs.Common.{◌≡◌, ◌∙◌, Some, None, codes}
-use Rattle.clap.specs.Words.{found_of, first_of, rows_of}
+use Rattle.mothra_cli.proofs.Common.{◌≡◌, ◌∙◌, None, Some, codes, found_of, first_of, rows_of}
 use Rattle.clap.proofs.WalkLemmas.{first_value-rows}
 use Rattle.mothra_cli.proofs.request.operators_at.Goals as goal
 

@@ -1,4 +1,4 @@
-use Rattle.std.proofs.Common.{rules, map}
+use Rattle.mothra_cli.proofs.Common.{rules, map}
 use Rattle.std.proofs.lemmas.Result.{err_from_is_err_and}
 use Rattle.mothra_cli.proofs.Commands.{asks, meaning_taken, is_bounded, is_fault, is_request, some_request}
 use Rattle.mothra_cli.proofs.request.request_of.Goals as goal

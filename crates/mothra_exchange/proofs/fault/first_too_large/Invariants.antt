@@ -1,5 +1,4 @@
-use Rattle.std.proofs.Common.{ℕ, ◌<◌, ◌≤◌, get_or}
-use Rattle.mothra_exchange.specs.Word.{largest_count}
+use Rattle.mothra_exchange.proofs.Common.{◌<◌, ℕ, ◌≤◌, get_or, largest_count}
 use Rattle.mothra_exchange.proofs.fault.first_too_large.Given as goal
 
 abbrev pub invariant-loop-i : goal.invariant-loop-i

@@ -1,4 +1,4 @@
-use Rattle.mothra_codes.specs.Ticket.{ticket}
+use Rattle.mothra_exchange.proofs.Common.{ticket}
 use Rattle.mothra_exchange.proofs.Follows.{offer_follows, take_follows, close_follows}
 use Rattle.mothra_exchange.proofs.law.words_follow_the_log.Goals as goal
 

@@ -1,4 +1,4 @@
-use Rattle.std.proofs.Common.{[]}
+use Rattle.mothra_exchange.proofs.Common.{[]}
 use Rattle.mothra_exchange.proofs.Tallying.{state_tallied, opening_tallied}
 use Rattle.mothra_exchange.proofs.locked.tally_of.Goals as goal
 

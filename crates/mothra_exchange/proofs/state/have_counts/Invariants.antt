@@ -1,5 +1,4 @@
-use Rattle.std.proofs.Common.{◌≡◌, ℕ, ◌<◌, get_or}
-use Rattle.mothra_exchange.specs.Word.{opening_word}
+use Rattle.mothra_exchange.proofs.Common.{◌≡◌, ◌<◌, ℕ, get_or, opening_word}
 use Rattle.mothra_exchange.proofs.state.have_counts.Given as goal
 
 abbrev pub invariant-loop-i : goal.invariant-loop-i

@@ -1,4 +1,4 @@
-use Rattle.std.proofs.Common.{rules}
+use Rattle.mothra_exchange.proofs.Common.{rules}
 use Rattle.mothra_exchange.proofs.Starts.{opened}
 use Rattle.mothra_exchange.proofs.state.opening_state.Goals as goal
 

@@ -1,5 +1,4 @@
-use Rattle.std.proofs.Common.{◌≡◌, ℕ, ◌<◌, get_or, length}
-use Rattle.mothra_exchange.specs.Word.{opening_word}
+use Rattle.mothra_exchange.proofs.Common.{◌≡◌, ◌<◌, ℕ, length, get_or, opening_word}
 use Rattle.mothra_exchange.proofs.state.opening_state.Given as goal
 
 abbrev pub invariant-loop-i : goal.invariant-loop-i

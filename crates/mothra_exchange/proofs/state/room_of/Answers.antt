@@ -1,4 +1,4 @@
-use Rattle.std.proofs.Common.{◌<◌, rules, arith}
+use Rattle.mothra_exchange.proofs.Common.{◌<◌, arith, rules}
 use Rattle.mothra_exchange.proofs.Starts.{room-take}
 use Rattle.mothra_exchange.proofs.state.room_of.Goals as goal
 

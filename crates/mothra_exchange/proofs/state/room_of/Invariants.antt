@@ -1,6 +1,4 @@
-use Rattle.std.proofs.Common.{◌≡◌, ◌+◌, ◌*◌, ◌≤◌, map, take}
-use Rattle.mothra_exchange.specs.Word.{largest_count, opening_word}
-use Rattle.mothra_exchange.specs.State.{room}
+use Rattle.mothra_exchange.proofs.Common.{◌≡◌, ◌+◌, ◌≤◌, map, ◌*◌, take, opening_word, largest_count, room}
 use Rattle.mothra_exchange.proofs.state.room_of.Given as goal
 
 abbrev pub invariant-loop-i : goal.invariant-loop-i

@@ -1,4 +1,4 @@
-use Rattle.std.proofs.Common.{◌≡◌, ℕ, ◌<◌, get_or, length}
+use Rattle.mothra_exchange.proofs.Common.{◌≡◌, ◌<◌, ℕ, length, get_or}
 use Rattle.mothra_exchange.proofs.table.opening_words.Given as goal
 
 abbrev pub invariant-loop-i : goal.invariant-loop-i

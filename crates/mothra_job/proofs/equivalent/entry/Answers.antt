@@ -1,7 +1,4 @@
-use Rattle.std.proofs.Common.{rules, ◌≡◌, ◌∙◌, ap, Some, option_and_then}
-use Rattle.serde_json.specs.Find.{as_str}
-use Rattle.serde_json.specs.View.{view}
-use Rattle.mothra_job.specs.Equivalent.{named}
+use Rattle.mothra_job.proofs.Common.{◌≡◌, Some, ap, ◌∙◌, rules, option_and_then, named, as_str, view}
 use Rattle.mothra_job.proofs.Entries.{is_named}
 use Rattle.mothra_job.proofs.equivalent.entry.Goals as goal
 

@@ -1,7 +1,4 @@
-use Rattle.std.proofs.Common.{◌≡◌, ◌+◌, ◌++◌, drop, map}
-use Rattle.serde_json.specs.View.{view}
-use Rattle.mothra_job.specs.Equivalent.{tickets_named, entry_faults}
-use Rattle.mothra_job.specs.FirstFault.{fault_or}
+use Rattle.mothra_job.proofs.Common.{◌≡◌, ◌++◌, drop, map, ◌+◌, fault_or, entry_faults, tickets_named, view}
 use Rattle.mothra_job.proofs.equivalent.equivalent.Given as goal
 
 -- the mutants so far, followed by those of the other values, are those of all values

@@ -1,9 +1,9 @@
-use Rattle.std.proofs.Common.{arith, ◌≡◌, ◌∙◌, Some, Ok, ap}
+use Rattle.mothra_job.proofs.Common.{◌≡◌, Some, ap, ◌∙◌, Ok, arith}
 use Rattle.std.specs.Result.{result_ok}
 use Rattle.std.proofs.lemmas.Str.Pattern.{starts_char}
 use Rattle.mothra_job.proofs.Entries.{never_led_by, not_led_by, ok_is, read_back, written}
-use Rattle.mothra_job.proofs.equivalent.number.Goals as goal
 use Rattle.mothra_job.proofs.equivalent.number.Goals.{then-starts_with-via-then-starts_with, then-starts_with-via-else-starts_with+then-starts_with-2}
+use Rattle.mothra_job.proofs.equivalent.number.Goals as goal
 
 pub returns-then-starts_with-clause-known : goal.returns-then-starts_with-clause-known
 returns-then-starts_with-clause-known c = λ n some few is.

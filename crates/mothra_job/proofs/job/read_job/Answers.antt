@@ -1,12 +1,9 @@
-use Rattle.std.proofs.Common.{rules, ◌≡◌, ◌⊎◌, ◌∙◌, ◌<◌, ◌≤◌, sym, ap, refl, subst, true, false, Bool, List, ℕ, length, Option, Some, None, inl, inr, IsUtf8, Err}
-use Rattle.std.proofs.lemmas.Bool.{le-ltb, lt-ltb}
+use Rattle.mothra_job.proofs.Common.{◌≡◌, Some, ap, ◌∙◌, List, sym, refl, Option, length, ℕ, Err, None, false, subst, ◌≤◌, Bool, rules, true, ◌<◌, inl, inr}
+use Rattle.mothra_job.proofs.Common.{◌⊎◌, le-ltb, lt-ltb, IsUtf8, fault_or, JobRead, job_faults, job_fields, job_of, json_of, value_faults, Memory, TooLarge}
+use Rattle.mothra_job.proofs.Common.{Data}
 use Rattle.std.specs.Str.{is_utf8}
 use Rattle.std.proofs.lemmas.Str.{IsUtf8-from_is_utf8, is_utf8-from_IsUtf8}
-use Rattle.serde_json.specs.Data.{Data}
 use Rattle.serde_json.specs.Read.{read}
-use Rattle.mothra_job.specs.FirstFault.{fault_or}
-use Rattle.mothra_job.specs.Job.{JobRead, job_faults, job_fields, job_of, json_of, value_faults}
-use Rattle.mothra_job.specs.declared.job.JobFault.TheVariants.{Memory, TooLarge}
 use Rattle.mothra_job.proofs.job.read_job.Goals as goal
 
 text_is : (bytes : List ℕ) (value : Data) → IsUtf8 bytes → read bytes ≡ Some value → json_of bytes ≡ Some value

@@ -1,9 +1,5 @@
-use Rattle.std.proofs.Common.{rules, ◌≡◌, ◌∙◌, ap, sym, subst, List, Option, Some, map, option_map}
-use Rattle.serde_json.specs.Data.{Data}
-use Rattle.serde_json.specs.Find.{as_array, get}
-use Rattle.serde_json.specs.View.{view, items_view}
-use Rattle.serde_json.specs.declared.value.Value.{Value}
-use Rattle.mothra_job.specs.Job.{data_listed, listed_values}
+use Rattle.mothra_job.proofs.Common.{◌≡◌, Some, ap, ◌∙◌, List, sym, option_map, map, Option, subst, rules, data_listed, listed_values, Data, as_array, get}
+use Rattle.mothra_job.proofs.Common.{items_view, view, Value}
 use Rattle.mothra_job.proofs.Suites.{listed_items}
 use Rattle.mothra_job.proofs.job.values_at.Goals as goal
 

@@ -1,13 +1,6 @@
-use Rattle.std.proofs.Common.{◌≡◌, ◌⊎◌, ◌∙◌, ◌++◌, inl, inr, sym, ap, ap₂, refl, List, [], ◌∷◌, ℕ, Some, Result, Ok, Err, map}
-use Rattle.serde_json.specs.Data.{Data}
-use Rattle.serde_json.specs.View.{view}
+use Rattle.mothra_job.proofs.Common.{◌≡◌, Some, ◌++◌, ap, ◌∙◌, List, [], sym, ◌∷◌, refl, map, ℕ, Err, Ok, Result, inl, inr, ◌⊎◌, ap₂, fault_or, JobRead}
+use Rattle.mothra_job.proofs.Common.{tests_of, JobFields, entry_faults, list_faults, suite_faults, job_with, tickets_named, JobFault, Memory, Data, view}
 use Rattle.f77_meaning.specs.declared.argument.Arg.{Arg}
-use Rattle.mothra_job.specs.Equivalent.{tickets_named, entry_faults}
-use Rattle.mothra_job.specs.FirstFault.{fault_or}
-use Rattle.mothra_job.specs.Job.{JobFields, JobRead, job_with, list_faults}
-use Rattle.mothra_job.specs.Suite.{suite_faults, tests_of}
-use Rattle.mothra_job.specs.declared.job.JobFault.{JobFault}
-use Rattle.mothra_job.specs.declared.job.JobFault.TheVariants.{Memory}
 use Rattle.mothra_job.proofs.job.with_lists.Goals as goal
 
 abbrev Tests : Type 0

@@ -1,13 +1,7 @@
-use Rattle.std.proofs.Common.{◌≡◌, ◌⊎◌, ◌∙◌, ◌++◌, inl, inr, sym, ap, refl, subst, not, true, false, Bool}
-use Rattle.std.proofs.Common.{List, [], ◌∷◌, ℕ, Option, Some, None, String, Err, map, option_map, string_bytes, Global, find}
+use Rattle.mothra_job.proofs.Common.{◌≡◌, Some, ◌++◌, ap, ◌∙◌, List, [], sym, ◌∷◌, option_map, refl, map, Option, ℕ, Err, None, false, subst, Bool, true, inl}
+use Rattle.mothra_job.proofs.Common.{inr, ◌⊎◌, Global, String, find, not, string_bytes, fault_or, JobRead, JobFields, list_faults, job_with, unknown_keys}
+use Rattle.mothra_job.proofs.Common.{is_known, member_faults, JobFault, Memory, Key, Data, view, members_view, Value}
 use Rattle.std.specs.Map.{keys_of}
-use Rattle.serde_json.specs.Data.{Data}
-use Rattle.serde_json.specs.View.{view, members_view}
-use Rattle.serde_json.specs.declared.value.Value.{Value}
-use Rattle.mothra_job.specs.FirstFault.{fault_or}
-use Rattle.mothra_job.specs.Job.{JobFields, JobRead, is_known, job_with, list_faults, member_faults, unknown_keys}
-use Rattle.mothra_job.specs.declared.job.JobFault.{JobFault}
-use Rattle.mothra_job.specs.declared.job.JobFault.TheVariants.{Memory, Key}
 use Rattle.mothra_job.proofs.job.with_members.Goals as goal
 
 abbrev Entries : Type 0

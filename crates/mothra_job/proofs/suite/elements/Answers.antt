@@ -1,8 +1,6 @@
-use Rattle.std.proofs.Common.{◌≡◌, ◌∙◌, ◌==◌, refl, sym, ℤ, length, false, true≢false, List, [], ◌∷◌, Some}
-use Rattle.serde_json.specs.View.{items_view}
-use Rattle.serde_json.specs.declared.value.Value.{Value}
+use Rattle.mothra_job.proofs.Common.{◌≡◌, Some, ◌∙◌, List, [], sym, ◌∷◌, refl, length, false, true≢false, ℤ, ◌==◌, each, integer, array_of_items, items_view}
+use Rattle.mothra_job.proofs.Common.{Value}
 use Rattle.f77_meaning.specs.declared.argument.Arg.TheVariants.{Ints}
-use Rattle.mothra_job.specs.Suite.{each, array_of_items, integer}
 use Rattle.mothra_job.proofs.suite.elements.Goals as goal
 
 all_numbers : (values : List Value) (zs : List ℤ) → (length values == 0) ≡ false → each integer (items_view values) ≡ Some zs

@@ -1,6 +1,4 @@
-use Rattle.std.proofs.Common.{rules, ◌≡◌, ◌∙◌, ◌+◌, ◌++◌, ◌∷◌, [], ap, sym, drop, option_map, Some}
-use Rattle.serde_json.specs.View.{items_view}
-use Rattle.mothra_job.specs.Suite.{each, integer}
+use Rattle.mothra_job.proofs.Common.{◌≡◌, Some, ◌++◌, ap, ◌∙◌, [], drop, sym, ◌∷◌, option_map, ◌+◌, rules, each, integer, items_view}
 use Rattle.mothra_job.proofs.EachValue.{each_more, each_stopped, each_ended}
 use Rattle.mothra_job.proofs.suite.integers.Goals as goal
 

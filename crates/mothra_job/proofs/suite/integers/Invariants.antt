@@ -1,6 +1,4 @@
-use Rattle.std.proofs.Common.{◌≡◌, ◌++◌, drop, option_map}
-use Rattle.serde_json.specs.View.{items_view}
-use Rattle.mothra_job.specs.Suite.{integer, each}
+use Rattle.mothra_job.proofs.Common.{◌≡◌, ◌++◌, drop, option_map, each, integer, items_view}
 use Rattle.mothra_job.proofs.suite.integers.Given as goal
 
 abbrev pub invariant-loop-value : goal.invariant-loop-value

@@ -1,7 +1,4 @@
-use Rattle.std.proofs.Common.{◌≡◌, ◌+◌, ◌++◌, drop, map}
-use Rattle.serde_json.specs.View.{view}
-use Rattle.mothra_job.specs.FirstFault.{fault_or}
-use Rattle.mothra_job.specs.Suite.{test_faults, tests_of}
+use Rattle.mothra_job.proofs.Common.{◌≡◌, ◌++◌, drop, map, ◌+◌, fault_or, tests_of, test_faults, view}
 use Rattle.mothra_job.proofs.suite.tests.Given as goal
 
 -- the tests so far, followed by those of the other values, are those of all values

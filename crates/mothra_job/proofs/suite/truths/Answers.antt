@@ -1,7 +1,4 @@
-use Rattle.std.proofs.Common.{◌≡◌, ◌∙◌, ◌+◌, ◌++◌, ◌∷◌, [], ap, sym, drop, option_map, Some}
-use Rattle.serde_json.specs.Find.{as_bool}
-use Rattle.serde_json.specs.View.{items_view}
-use Rattle.mothra_job.specs.Suite.{each}
+use Rattle.mothra_job.proofs.Common.{◌≡◌, Some, ◌++◌, ap, ◌∙◌, [], drop, sym, ◌∷◌, option_map, ◌+◌, each, as_bool, items_view}
 use Rattle.mothra_job.proofs.EachValue.{each_more, each_stopped, each_ended}
 use Rattle.mothra_job.proofs.suite.truths.Goals as goal
 

@@ -1,7 +1,4 @@
-use Rattle.std.proofs.Common.{◌≡◌, ◌++◌, drop, option_map}
-use Rattle.serde_json.specs.Find.{as_bool}
-use Rattle.serde_json.specs.View.{items_view}
-use Rattle.mothra_job.specs.Suite.{each}
+use Rattle.mothra_job.proofs.Common.{◌≡◌, ◌++◌, drop, option_map, each, as_bool, items_view}
 use Rattle.mothra_job.proofs.suite.truths.Given as goal
 
 abbrev pub invariant-loop-value : goal.invariant-loop-value

@@ -1,16 +1,5 @@
-use Rattle.std.proofs.Common.{◌≡◌, ◌-◌, ℕ, Option, Some, None, map, ap, sym, ◌∙◌, refl, inr, subst}
-use Rattle.std.specs.Prelude.{IfSome, option_map}
-use Rattle.f77_check.specs.Checked.{CheckedFields}
-use Rattle.f77_program.specs.Program.{line_of}
-use Rattle.f77_program.specs.Patching.{Fits, patched}
-use Rattle.f77_legal.specs.Alone.{StandsAlone}
-use Rattle.f77_legal.specs.Legal.{IsLegal}
-use Rattle.f77_tree.specs.Statement.{Statement, statement_of}
-use Rattle.mothra_ops.specs.code.Drawn.{lines_of}
-use Rattle.mothra_ops.specs.code.Edits.{IsMadeBy}
-use Rattle.mothra_ops.specs.Made.{IsMadeMutant}
-use Rattle.mothra_ops.specs.declared.edit.Edit.{Edit}
-use Rattle.mothra_ops.specs.declared.mutant.Mutant.{Mutant}
+use Rattle.mothra_ops.proofs.Common.{◌≡◌, ◌∙◌, ap, sym, map, refl, Some, subst, ℕ, None, ◌-◌, inr, Option, option_map, IfSome, CheckedFields, StandsAlone}
+use Rattle.mothra_ops.proofs.Common.{IsLegal, Fits, patched, line_of, statement_of, Statement, IsMadeMutant, lines_of, IsMadeBy, Edit, Mutant}
 use Rattle.mothra_ops.specs.declared.original.Original.{Original}
 use Rattle.mothra_ops.proofs.editing.apply.Goals as goal
 

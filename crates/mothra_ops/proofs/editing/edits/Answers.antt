@@ -1,11 +1,5 @@
-use Rattle.std.proofs.Common.{arith, rules, ◌≡◌, ◌∙◌, map, ap, subst, sym}
-use Rattle.std.proofs.lemmas.List.{take_all}
-use Rattle.f77_check.specs.Checked.{CheckedFields}
-use Rattle.f77_program.specs.Program.{line_of}
-use Rattle.mothra_ops.specs.Edits.{IsList, IsNoList}
-use Rattle.mothra_ops.specs.Listing.{edits_in}
-use Rattle.mothra_ops.specs.code.Drawn.{lines_of}
-use Rattle.mothra_ops.specs.declared.mutant.Mutant.{Mutant}
+use Rattle.mothra_ops.proofs.Common.{◌≡◌, ◌∙◌, ap, sym, map, arith, subst, rules, take_all, CheckedFields, line_of, edits_in, IsNoList, IsList, lines_of}
+use Rattle.mothra_ops.proofs.Common.{Mutant}
 use Rattle.mothra_ops.proofs.editing.edits.Goals as goal
 
 pub returns-in_err-listing-clause-refused : goal.returns-in_err-listing-clause-refused

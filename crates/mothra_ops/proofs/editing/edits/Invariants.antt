@@ -1,5 +1,4 @@
-use Rattle.std.proofs.Common.{◌≡◌, map, take}
-use Rattle.mothra_ops.specs.declared.mutant.Mutant.{Mutant}
+use Rattle.mothra_ops.proofs.Common.{◌≡◌, map, take, Mutant}
 use Rattle.mothra_ops.proofs.editing.edits.Given as goal
 
 abbrev pub invariant-loop-mutant : goal.invariant-loop-mutant

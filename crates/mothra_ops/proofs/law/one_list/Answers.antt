@@ -1,4 +1,4 @@
-use Rattle.mothra_ops.specs.Edits.{IsMember}
+use Rattle.mothra_ops.proofs.Common.{IsMember}
 use Rattle.mothra_ops.proofs.OrderedLists as lists
 use Rattle.mothra_ops.proofs.law.one_list.Goals as goal
 

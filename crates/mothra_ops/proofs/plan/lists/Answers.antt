@@ -1,26 +1,14 @@
-use Rattle.std.proofs.Common.{rules, ◌≡◌, ◌∙◌, ap, map, arith, subst, sym, ℕ, ◌+◌, ◌++◌, ◌∷◌, List, [], nat_eq}
+use Rattle.mothra_ops.proofs.Common.{◌≡◌, ◌∙◌, ap, sym, List, map, arith, subst, ℕ, [], ◌+◌, ◌∷◌, ◌++◌, rules, nat_eq, not_from_Decides, All-nil, All-cons}
+use Rattle.mothra_ops.proofs.Common.{All-append, Decides-contains, contains_decides, All, CheckedFields, line_of, Op, IsMadeMutant, copied, edits_in, IsNoList}
+use Rattle.mothra_ops.proofs.Common.{IsCountedList, AreMade, IsMadeList, IsNoPlan, lines_of, Edit, OpsFault}
 use Rattle.mothra_codes.specs.contracts.op.OpPartialEq.TheImpl.{ghosts}
-use Rattle.std.proofs.lemmas.Bool.Decides.{not_from_Decides}
-use Rattle.std.specs.List.{All}
-use Rattle.std.proofs.lemmas.List.Elements.{All-append, All-cons, All-nil, Decides-contains, contains_decides}
-use Rattle.f77_program.specs.Program.{line_of}
-use Rattle.f77_check.specs.Checked.{CheckedFields}
-use Rattle.mothra_ops.specs.Copies.{copied}
-use Rattle.mothra_ops.specs.Edits.{IsCountedList, IsNoList}
-use Rattle.mothra_ops.specs.Listing.{edits_in}
-use Rattle.mothra_ops.specs.Made.{AreMade, IsMadeMutant, IsMadeList}
-use Rattle.mothra_ops.specs.code.Drawn.{lines_of}
 use Rattle.mothra_codes.specs.Op.{index}
 use Rattle.mothra_codes.specs.code.Op.{op_at}
-use Rattle.mothra_ops.specs.Plan.{IsNoPlan}
-use Rattle.mothra_codes.specs.declared.op.Op.{Op}
-use Rattle.mothra_ops.specs.declared.edit.Edit.{Edit}
-use Rattle.mothra_replacements.specs.declared.fault.OpsFault.{OpsFault}
-use Rattle.mothra_ops.specs.declared.original.Original.{Original}
 use Rattle.mothra_codes.proofs.Operators.{index-op_at}
+use Rattle.mothra_ops.specs.declared.original.Original.{Original}
 use Rattle.mothra_ops.proofs.Plans.{HasLists, no_lists, one_more_listed, none_more, one_op, no_plan, is_asked, was_asked, is_plan}
-use Rattle.mothra_ops.proofs.plan.lists.Goals as goal
 use Rattle.mothra_ops.proofs.plan.lists.Goals.{then-contains+in_ok-listing+in_ok-push, else-contains}
+use Rattle.mothra_ops.proofs.plan.lists.Goals as goal
 
 same_answer : (a b : Op) → ghosts.eq a b ≡ nat_eq (index a) (index b)
 same_answer a b = grind (arith)

@@ -1,8 +1,4 @@
-use Rattle.std.specs.Prelude.{◌≡◌, map}
-use Rattle.f77_program.specs.Program.{line_of}
-use Rattle.mothra_ops.specs.Copies.{copied, statements_in}
-use Rattle.mothra_ops.specs.Made.{AreMade}
-use Rattle.mothra_ops.specs.code.Drawn.{lines_of}
+use Rattle.mothra_ops.proofs.Common.{◌≡◌, map, line_of, copied, statements_in, AreMade, lines_of}
 use Rattle.mothra_ops.proofs.Plans.{HasLists}
 use Rattle.mothra_ops.proofs.plan.lists.Given as goal
 

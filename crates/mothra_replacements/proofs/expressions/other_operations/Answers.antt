@@ -1,8 +1,4 @@
-use Rattle.std.proofs.Common.{not, sym, refl, ◌∙◌}
-use Rattle.f77_tree.specs.Comparing.{same_operator}
-use Rattle.f77_tree.specs.Tree.{Tree}
-use Rattle.f77_tree.specs.View.{tree_of}
-use Rattle.f77_tree.specs.declared.operator.Operator.{Operator}
+use Rattle.mothra_replacements.proofs.Common.{refl, ◌∙◌, sym, not, same_operator, Tree, tree_of, Operator}
 use Rattle.mothra_replacements.proofs.Filters.{pushed, skipped}
 use Rattle.mothra_replacements.proofs.expressions.other_operations.Goals.{then-is_another+in_ok-between+in_ok-push, else-is_another}
 use Rattle.mothra_replacements.proofs.expressions.other_operations.Goals as goal

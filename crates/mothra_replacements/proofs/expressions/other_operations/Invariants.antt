@@ -1,7 +1,4 @@
-use Rattle.std.proofs.Common.{◌≡◌, not, map, filter, take}
-use Rattle.f77_tree.specs.Comparing.{same_operator}
-use Rattle.f77_tree.specs.Tree.{Tree}
-use Rattle.f77_tree.specs.View.{tree_of}
+use Rattle.mothra_replacements.proofs.Common.{◌≡◌, map, filter, not, take, same_operator, Tree, tree_of}
 use Rattle.mothra_replacements.proofs.expressions.other_operations.Given as goal
 
 abbrev pub invariant-loop-other : goal.invariant-loop-other

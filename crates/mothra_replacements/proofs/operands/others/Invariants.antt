@@ -1,9 +1,4 @@
-use Rattle.std.proofs.Common.{◌≡◌, not, map, filter, take}
-use Rattle.std.specs.Prelude.{◌&&◌}
-use Rattle.f77_tree.specs.Comparing.{same_tree, same_kind}
-use Rattle.f77_tree.specs.View.{tree_of}
-use Rattle.f77_legal.specs.NameTable.{kind_at}
-use Rattle.mothra_replacements.specs.Replacements.{kind_of_expression}
+use Rattle.mothra_replacements.proofs.Common.{◌≡◌, map, filter, not, take, ◌&&◌, kind_at, same_tree, same_kind, tree_of, kind_of_expression}
 use Rattle.mothra_replacements.proofs.operands.others.Given as goal
 
 abbrev pub invariant-loop-operand : goal.invariant-loop-operand

@@ -1,9 +1,5 @@
-use Rattle.std.proofs.Common.{sym, ◌∙◌, ap, subst, get_or, length, ◌<◌}
-use Rattle.f77_legal.specs.Names.{Symbol}
-use Rattle.f77_tree.specs.Tree.{Tree}
-use Rattle.f77_tree.specs.View.{tree_of, trees, reference_fields}
-use Rattle.mothra_replacements.specs.Pools.{pool_fields}
-use Rattle.mothra_replacements.specs.Replacements.{is_comparable}
+use Rattle.mothra_replacements.proofs.Common.{ap, ◌∙◌, sym, get_or, length, ◌<◌, subst, Symbol, Tree, tree_of, reference_fields, trees, is_comparable}
+use Rattle.mothra_replacements.proofs.Common.{pool_fields}
 use Rattle.mothra_replacements.proofs.Elements.{named}
 use Rattle.mothra_replacements.proofs.Filters.{pushed, skipped}
 use Rattle.mothra_replacements.proofs.operands.with_subscripts.Goals.{then-is_comparable+in_ok-renamed+in_ok-push, else-is_comparable}

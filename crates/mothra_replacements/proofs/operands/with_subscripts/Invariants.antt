@@ -1,8 +1,4 @@
-use Rattle.std.proofs.Common.{◌≡◌, map, filter, take}
-use Rattle.f77_tree.specs.Tree.{Tree}
-use Rattle.f77_tree.specs.View.{tree_of, trees, reference_fields}
-use Rattle.mothra_replacements.specs.Pools.{pool_fields}
-use Rattle.mothra_replacements.specs.Replacements.{is_comparable}
+use Rattle.mothra_replacements.proofs.Common.{◌≡◌, map, filter, take, Tree, tree_of, reference_fields, trees, is_comparable, pool_fields}
 use Rattle.mothra_replacements.proofs.operands.with_subscripts.Given as goal
 
 abbrev pub invariant-loop-name : goal.invariant-loop-name

@@ -1,6 +1,4 @@
-use Rattle.std.proofs.Common.{◌≡◌, map, take}
-use Rattle.f77_tree.specs.Node.{node_of}
-use Rattle.f77_program.specs.Program.{line_of}
+use Rattle.mothra_replacements.proofs.Common.{◌≡◌, map, take, line_of, node_of}
 use Rattle.mothra_replacements.specs.Pools as model
 use Rattle.mothra_replacements.proofs.pools.executable_nodes.Given as goal
 

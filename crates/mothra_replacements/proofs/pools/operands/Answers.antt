@@ -1,14 +1,9 @@
-use Rattle.std.proofs.Common.{◌≡◌, sym, ap, ◌∙◌, None}
-use Rattle.std.specs.Prelude.{option_map}
-use Rattle.std.specs.List.{list_any}
-use Rattle.f77_tree.specs.Comparing.{same_tree}
-use Rattle.f77_tree.specs.Node.{node_of}
+use Rattle.mothra_replacements.proofs.Common.{◌≡◌, ap, ◌∙◌, sym, None, option_map, list_any, same_tree, node_of, tree_of, operand_at}
 use Rattle.f77_tree.specs.SameTrees.{tree_equiv}
-use Rattle.f77_tree.specs.View.{tree_of}
 use Rattle.f77_tree.specs.declared.tree.Expr.{Expr}
-use Rattle.mothra_replacements.specs.Pools.{operand_at}
 use Rattle.mothra_replacements.proofs.PoolLists.{passed_over, known_before, listed_new}
-use Rattle.mothra_replacements.proofs.pools.operands.Goals.{in-Some+then-not-contains+in_ok-push, in_default, in_default-via-in-None-1, in_default-via-in-Some+else-not-contains}
+use Rattle.mothra_replacements.proofs.pools.operands.Goals.{in-Some+then-not-contains+in_ok-push, in_default, in_default-via-in-None-1}
+use Rattle.mothra_replacements.proofs.pools.operands.Goals.{in_default-via-in-Some+else-not-contains}
 use Rattle.mothra_replacements.proofs.pools.operands.Goals as goal
 
 pub loop-node-preserved : goal.loop-node-preserved

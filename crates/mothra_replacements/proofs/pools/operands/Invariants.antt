@@ -1,9 +1,4 @@
-use Rattle.std.proofs.Common.{◌≡◌, map, take}
-use Rattle.std.specs.List.{filter_map}
-use Rattle.f77_tree.specs.Comparing.{same_tree}
-use Rattle.f77_tree.specs.Node.{node_of}
-use Rattle.f77_tree.specs.View.{tree_of}
-use Rattle.mothra_replacements.specs.Pools.{each_once, operand_at}
+use Rattle.mothra_replacements.proofs.Common.{◌≡◌, map, take, filter_map, same_tree, node_of, tree_of, each_once, operand_at}
 use Rattle.mothra_replacements.proofs.pools.operands.Given as goal
 
 abbrev pub invariant-loop-node : goal.invariant-loop-node

@@ -1,10 +1,5 @@
-use Rattle.std.proofs.Common.{◌≡◌, ◌++◌, not, map, filter}
-use Rattle.std.specs.Prelude.{is_some}
+use Rattle.mothra_replacements.proofs.Common.{◌≡◌, map, filter, not, ◌++◌, is_some, array_bounds, some_items, tree_of, scalar}
 use Rattle.indexmap.specs.IndexMap.{keys}
-use Rattle.f77_legal.specs.Names.{some_items}
-use Rattle.f77_legal.specs.NameTable.{array_bounds}
-use Rattle.f77_tree.specs.View.{tree_of}
-use Rattle.mothra_replacements.specs.Pools.{scalar}
 use Rattle.mothra_replacements.proofs.pools.scalars_and_arrays.Given as goal
 
 abbrev pub invariant-loop-name : goal.invariant-loop-name

@@ -1,6 +1,4 @@
-use Rattle.std.proofs.Common.{◌≡◌, map}
-use Rattle.f77_tree.specs.Node.{NodeOf}
-use Rattle.f77_tree.specs.Replacement.{replacement_of}
+use Rattle.mothra_replacements.proofs.Common.{◌≡◌, map, NodeOf, replacement_of}
 use Rattle.mothra_replacements.proofs.replacing.next_values.Given as goal
 
 abbrev pub invariant-loop-constant : goal.invariant-loop-constant

@@ -1,6 +1,4 @@
-use Rattle.std.proofs.Common.{◌≡◌, not, map, filter, take, nat_eq}
-use Rattle.f77_tree.specs.Node.{NodeOf}
-use Rattle.f77_tree.specs.Replacement.{replacement_of}
+use Rattle.mothra_replacements.proofs.Common.{◌≡◌, map, filter, not, take, nat_eq, NodeOf, replacement_of}
 use Rattle.mothra_replacements.proofs.replacing.other_labels.Given as goal
 
 abbrev pub invariant-loop-label : goal.invariant-loop-label

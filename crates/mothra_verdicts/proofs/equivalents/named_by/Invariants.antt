@@ -1,4 +1,4 @@
-use Rattle.std.proofs.Common.{take}
+use Rattle.mothra_verdicts.proofs.Common.{take}
 use Rattle.mothra_verdicts.proofs.BenchEntries.{AreNoted}
 use Rattle.mothra_verdicts.proofs.equivalents.named_by.Given as goal
 

@@ -1,14 +1,6 @@
-use Rattle.std.proofs.Common.{◌≡◌, ◌<◌, ◌*◌, ◌∙◌, Some, length, map, refl, sym, ap, subst, arith, rules}
-use Rattle.std.specs.Prelude.{slice_get}
-use Rattle.std.proofs.lemmas.Option.{same_Some, slice_get_read}
-use Rattle.std.proofs.lemmas.Slice.Zip.{AllZip-long}
-use Rattle.f77_check.specs.Checked.{CheckedFields}
-use Rattle.f77_program.specs.Program.{line_of}
-use Rattle.f77_run.specs.Changed.{changed_program}
-use Rattle.f77_meaning.specs.Interpreter.{IsOutcomeOf}
-use Rattle.f77_run.specs.Visits.{IsFollowed}
+use Rattle.mothra_verdicts.proofs.Common.{◌≡◌, subst, sym, ◌∙◌, ap, map, arith, length, Some, refl, slice_get, ◌<◌, rules, ◌*◌, same_Some, slice_get_read}
+use Rattle.mothra_verdicts.proofs.Common.{AllZip-long, CheckedFields, IsOutcomeOf, line_of, changed_program, IsFollowed, program_of}
 use Rattle.f77_run.specs.declared.visits.Visits.{Visits}
-use Rattle.mothra_ops.specs.Mutants.{program_of}
 use Rattle.mothra_verdicts.proofs.Kills.{is_kill}
 use Rattle.mothra_verdicts.proofs.KillsInTurn.{paired}
 use Rattle.mothra_verdicts.proofs.killing.kill.Goals as goal

@@ -1,11 +1,5 @@
-use Rattle.std.proofs.Common.{◌≡◌, ◌∙◌, List, Some, None, length, map, refl, sym, ap, subst, arith}
-use Rattle.std.specs.Prelude.{All, slice_get}
-use Rattle.std.proofs.lemmas.Option.{same_Some, slice_get_read}
-use Rattle.std.proofs.lemmas.Slice.Zip.{AllZip-long}
-use Rattle.f77_program.specs.Program.{line_of}
-use Rattle.f77_meaning.specs.Interpreter.{IsOutcomeOf, refusal}
-use Rattle.f77_meaning.specs.declared.argument.Arg.{Arg}
-use Rattle.mothra_ops.specs.Mutants.{program_of}
+use Rattle.mothra_verdicts.proofs.Common.{◌≡◌, subst, List, sym, ◌∙◌, ap, map, arith, length, All, None, Some, refl, slice_get, same_Some, slice_get_read}
+use Rattle.mothra_verdicts.proofs.Common.{AllZip-long, IsOutcomeOf, refusal, Arg, line_of, program_of}
 use Rattle.mothra_verdicts.proofs.BenchTests.{test_fits}
 use Rattle.mothra_verdicts.proofs.Kills.{is_kill}
 use Rattle.mothra_verdicts.proofs.KillsInTurn.{paired}

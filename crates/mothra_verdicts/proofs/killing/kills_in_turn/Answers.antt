@@ -1,12 +1,5 @@
-use Rattle.std.proofs.Common.{◌∙◌, List, length, map, ap, sym, subst, arith}
-use Rattle.std.specs.Prelude.{All, None, ◌≡◌, slice_get, Some}
-use Rattle.std.proofs.lemmas.List.{take_all}
-use Rattle.f77_program.specs.Program.{line_of}
-use Rattle.f77_check.specs.Checked.{CheckedFields}
-use Rattle.f77_meaning.specs.Interpreter.{refusal}
-use Rattle.f77_meaning.specs.declared.argument.Arg.{Arg}
-use Rattle.mothra_ops.specs.Mutants.{program_of}
-use Rattle.mothra_verdicts.specs.Verdict.{IsAlone, IsKill}
+use Rattle.mothra_verdicts.proofs.Common.{◌≡◌, subst, List, sym, ◌∙◌, ap, map, arith, length, All, None, Some, slice_get, take_all, CheckedFields, refusal, Arg}
+use Rattle.mothra_verdicts.proofs.Common.{line_of, program_of, IsAlone, IsKill}
 use Rattle.mothra_verdicts.proofs.KillsInTurn.{alone_next}
 use Rattle.mothra_verdicts.proofs.killing.kills_in_turn.Goals as goal
 

@@ -1,7 +1,4 @@
-use Rattle.std.proofs.Common.{◌≡◌, map, take}
-use Rattle.f77_program.specs.Program.{line_of}
-use Rattle.mothra_ops.specs.Mutants.{program_of}
-use Rattle.mothra_verdicts.specs.Verdict.{IsAlone}
+use Rattle.mothra_verdicts.proofs.Common.{◌≡◌, map, take, line_of, program_of, IsAlone}
 use Rattle.mothra_verdicts.proofs.killing.kills_in_turn.Given as goal
 
 abbrev pub invariant-loop-test : goal.invariant-loop-test

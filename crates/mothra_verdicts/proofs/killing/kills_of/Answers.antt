@@ -1,10 +1,5 @@
-use Rattle.std.proofs.Common.{◌∙◌, List, length, ap, sym, subst, arith}
-use Rattle.std.specs.Prelude.{◌≡◌, slice_get, Some}
-use Rattle.std.proofs.lemmas.List.{take_all}
-use Rattle.f77_run.specs.Changed.{ChangedFields, changed_program}
-use Rattle.f77_meaning.specs.declared.argument.Arg.{Arg}
-use Rattle.mothra_ops.specs.Mutants.{program_of}
-use Rattle.mothra_verdicts.specs.Verdict.{IsAlone, IsKill}
+use Rattle.mothra_verdicts.proofs.Common.{◌≡◌, subst, List, sym, ◌∙◌, ap, arith, length, Some, slice_get, take_all, Arg, changed_program, ChangedFields}
+use Rattle.mothra_verdicts.proofs.Common.{program_of, IsAlone, IsKill}
 use Rattle.mothra_verdicts.proofs.KillsInTurn.{alone_next}
 use Rattle.mothra_verdicts.proofs.killing.kills_of.Goals as goal
 

@@ -1,7 +1,4 @@
-use Rattle.std.proofs.Common.{◌≡◌, take}
-use Rattle.f77_run.specs.Changed.{changed_program}
-use Rattle.mothra_ops.specs.Mutants.{program_of}
-use Rattle.mothra_verdicts.specs.Verdict.{IsAlone}
+use Rattle.mothra_verdicts.proofs.Common.{◌≡◌, take, changed_program, program_of, IsAlone}
 use Rattle.mothra_verdicts.proofs.killing.kills_of.Given as goal
 
 abbrev pub invariant-loop-test : goal.invariant-loop-test

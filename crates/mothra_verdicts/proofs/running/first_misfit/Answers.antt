@@ -1,5 +1,4 @@
-use Rattle.mothra_ops.specs.Mutants.{program_of}
-use Rattle.mothra_verdicts.specs.Bench.{FitsProgram}
+use Rattle.mothra_verdicts.proofs.Common.{program_of, FitsProgram}
 use Rattle.mothra_verdicts.proofs.BenchTests.{first_not, one_more, none_left, passed, failed}
 use Rattle.mothra_verdicts.proofs.running.first_misfit.Goals as goal
 

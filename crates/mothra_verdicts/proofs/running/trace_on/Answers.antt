@@ -1,5 +1,4 @@
-use Rattle.std.proofs.Common.{map}
-use Rattle.f77_program.specs.Program.{line_of}
+use Rattle.mothra_verdicts.proofs.Common.{map, line_of}
 use Rattle.mothra_verdicts.proofs.BenchTests.{never_ends, failed}
 use Rattle.mothra_verdicts.proofs.OutOfMemory.{run_out_of_memory}
 use Rattle.mothra_verdicts.proofs.running.trace_on.Goals as goal

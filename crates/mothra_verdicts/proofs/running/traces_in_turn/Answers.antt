@@ -1,9 +1,4 @@
-use Rattle.std.proofs.Common.{◌≡◌, ◌∙◌, None, map, sym, subst}
-use Rattle.f77_program.specs.Program.{line_of}
-use Rattle.f77_check.specs.Checked.{CheckedFields}
-use Rattle.f77_meaning.specs.Interpreter.{IsOutcomeOf, refusal}
-use Rattle.f77_run.specs.Visits.{IsFollowed}
-use Rattle.mothra_verdicts.specs.Bench.{EndsOn}
+use Rattle.mothra_verdicts.proofs.Common.{◌≡◌, subst, sym, ◌∙◌, map, None, CheckedFields, IsOutcomeOf, refusal, line_of, IsFollowed, EndsOn}
 use Rattle.mothra_verdicts.proofs.BenchTests.{trace_more, traces_all, ends_all, first_not, test_fits}
 use Rattle.mothra_verdicts.proofs.running.traces_in_turn.Goals as goal
 

@@ -1,5 +1,4 @@
-use Rattle.std.proofs.Common.{◌≡◌, take}
-use Rattle.mothra_verdicts.specs.code.Running.{AreTraces}
+use Rattle.mothra_verdicts.proofs.Common.{◌≡◌, take, AreTraces}
 use Rattle.mothra_verdicts.proofs.running.traces_in_turn.Given as goal
 
 abbrev pub invariant-loop-index : goal.invariant-loop-index

@@ -1,14 +1,10 @@
-use Rattle.std.proofs.Common.{◌≡◌, ◌∙◌, ◌-◌, ℕ, List, map, ap, subst, sym}
-use Rattle.std.specs.Prelude.{OnOk}
-use Rattle.std.proofs.lemmas.Option.{same_Some}
+use Rattle.mothra_verdicts.proofs.Common.{◌≡◌, subst, List, sym, ◌∙◌, ap, map, ℕ, OnOk, ◌-◌, same_Some, line_of, changed_program}
 use Rattle.f77_legal.specs.Alone.{StandsAlone}
 use Rattle.f77_legal.specs.Legal.{IsLegal}
 use Rattle.f77_program.specs.Patching.{Fits, patched}
-use Rattle.f77_program.specs.Program.{line_of}
 use Rattle.f77_tree.specs.Node.{NodeOf}
 use Rattle.f77_tree.specs.Replacement.{replacement_of}
 use Rattle.f77_tree.specs.Statement.{Statement, statement_of}
-use Rattle.f77_run.specs.Changed.{changed_program}
 use Rattle.mothra_ops.specs.Copies.{changed_at, statements_in}
 use Rattle.mothra_ops.specs.Edits.{numbered}
 use Rattle.mothra_ops.proofs.Copied.{mutant_in_copy}

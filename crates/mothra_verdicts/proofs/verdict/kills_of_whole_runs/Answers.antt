@@ -1,13 +1,7 @@
-use Rattle.std.proofs.Common.{◌≡◌, ◌∙◌, ℕ, List, None, map, ap, subst, sym}
-use Rattle.std.specs.Prelude.{All}
-use Rattle.f77_check.specs.Checked.{CheckedFields, shapes}
+use Rattle.mothra_verdicts.proofs.Common.{◌≡◌, subst, List, sym, ◌∙◌, ap, map, ℕ, All, None, CheckedFields, shapes, refusal, line_of, program_of, PlanFields}
 use Rattle.f77_check.specs.declared.checked.Shape.{Shape}
-use Rattle.f77_meaning.specs.Interpreter.{refusal}
 use Rattle.f77_program.specs.Patching.{patched}
-use Rattle.f77_program.specs.Program.{line_of}
 use Rattle.f77_tree.specs.Statement.{Statement, statement_of}
-use Rattle.mothra_ops.specs.Mutants.{program_of}
-use Rattle.mothra_ops.specs.Plan.{PlanFields}
 use Rattle.mothra_verdicts.proofs.verdict.kills_of_whole_runs.Goals as goal
 
 pub kills_from_start-requires : goal.kills_from_start-requires

@@ -1,7 +1,4 @@
-use Rattle.std.proofs.Common.{subst}
-use Rattle.std.specs.Prelude.{IfOk, IfErr}
-use Rattle.mothra_verdicts.specs.Bench.{BenchFields}
-use Rattle.mothra_verdicts.specs.Verdict.{IsVerdict, IsNoVerdict}
+use Rattle.mothra_verdicts.proofs.Common.{subst, IfErr, IfOk, BenchFields, IsVerdict, IsNoVerdict}
 use Rattle.mothra_verdicts.proofs.verdict.verdict_of.Goals as goal
 
 pub returns-clause-kills : goal.returns-clause-kills

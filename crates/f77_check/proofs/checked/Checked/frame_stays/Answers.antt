@@ -1,9 +1,4 @@
-use Rattle.std.proofs.Common.{◌-◌, ◌==◌, ap, length, sym, refl, subst, get_or, ◌∙◌}
-use Rattle.f77_program.specs.Program.{LineFields}
-use Rattle.f77_tree.specs.Statement.{statement_of}
-use Rattle.f77_actions.specs.declared.resolved.Resolved.{Resolved}
-use Rattle.f77_legal.specs.Frames.{framed}
-use Rattle.f77_check.specs.Checked.{IsChecked}
+use Rattle.f77_check.proofs.Common.{ap, ◌∙◌, sym, subst, refl, length, get_or, ◌-◌, ◌==◌, Resolved, IsChecked, framed, LineFields, statement_of}
 use Rattle.f77_check.proofs.Changes.{line_read, may_stand_by}
 use Rattle.f77_check.proofs.checked.Checked.frame_stays.Goals as goal
 

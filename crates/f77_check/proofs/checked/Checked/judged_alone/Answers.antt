@@ -1,19 +1,9 @@
-use Rattle.std.proofs.Common.{◌≡◌, ◌-◌, ◌∙◌, ℕ, List, Some, true, map, refl, sym, ap, get_or, subst}
-use Rattle.std.specs.Prelude.{option_map}
-use Rattle.f77_program.specs.Program.{line_of}
-use Rattle.f77_program.specs.declared.program.Line.{Line}
-use Rattle.f77_tree.specs.Statement.{Statement, statement_of}
+use Rattle.f77_check.proofs.Common.{◌≡◌, ap, ◌∙◌, sym, map, subst, List, refl, ℕ, Some, true, get_or, ◌-◌, option_map, CanResolve, CheckedFields, Resolver}
+use Rattle.f77_check.proofs.Common.{first_clause, has_name, names_pass, Serve, line_of, Line, Statement, statement_of}
 use Rattle.f77_legal.specs.Broken.{clause_found, has_known_names}
 use Rattle.f77_legal.specs.Clause.{clause_fault}
-use Rattle.f77_legal.specs.Legal.{first_clause}
-use Rattle.f77_legal.specs.NameTable.{has_name}
-use Rattle.f77_legal.specs.Patches.{names_pass}
-use Rattle.f77_legal.specs.Tables.{Serve}
 use Rattle.f77_legal.specs.Alone.{StandsAlone}
 use Rattle.f77_legal.specs.declared.broken.Broken.{Broken}
-use Rattle.f77_check.specs.Checked.{CheckedFields}
-use Rattle.f77_check.specs.Ready.{CanResolve}
-use Rattle.f77_check.specs.declared.resolve.Resolver.{Resolver}
 use Rattle.f77_check.proofs.Changes.{line_read, found_alone, found_fault, found_legal}
 use Rattle.f77_check.proofs.checked.Checked.judged_alone.Goals as goal
 

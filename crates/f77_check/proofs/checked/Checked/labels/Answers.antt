@@ -1,8 +1,4 @@
-use Rattle.std.proofs.Common.{arith, ◌≡◌, ◌∷◌, ◌++◌, [], map, take, ap, sym, ◌∙◌}
-use Rattle.std.proofs.lemmas.Grind.{common_steps}
-use Rattle.f77_program.specs.Program.{line_of}
-use Rattle.f77_program.specs.declared.program.Line.{Line}
-use Rattle.f77_legal.specs.Labels.{labels}
+use Rattle.f77_check.proofs.Common.{◌≡◌, ap, ◌∙◌, sym, map, [], arith, ◌∷◌, ◌++◌, take, common_steps, labels, line_of, Line}
 use Rattle.f77_check.proofs.StatementLabels.{unlabelled, one_label}
 use Rattle.f77_check.proofs.checked.Checked.labels.Goals.{in-Some+in_ok-push, in_default}
 use Rattle.f77_check.proofs.checked.Checked.labels.Goals as goal

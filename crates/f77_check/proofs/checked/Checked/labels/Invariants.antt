@@ -1,6 +1,4 @@
-use Rattle.std.proofs.Common.{◌≡◌, map, take}
-use Rattle.f77_program.specs.Program.{line_of}
-use Rattle.f77_legal.specs.Labels.{labels}
+use Rattle.f77_check.proofs.Common.{◌≡◌, map, take, labels, line_of}
 use Rattle.f77_check.proofs.checked.Checked.labels.Given as goal
 
 abbrev pub invariant-loop-line : goal.invariant-loop-line

@@ -1,15 +1,5 @@
-use Rattle.std.proofs.Common.{◌≡◌, ◌-◌, ◌∙◌, None, ap, map, sym, subst}
-use Rattle.indexmap.specs.IndexMap.{keys}
-use Rattle.f77_program.specs.Patching.{patched}
-use Rattle.f77_program.specs.Program.{IsProgram, line_of}
-use Rattle.f77_tree.specs.Statement.{statement_of}
-use Rattle.f77_legal.specs.Legal.{IsLegal}
-use Rattle.f77_check.specs.Checked.{CheckedFields, IsChecked}
-use Rattle.f77_check.specs.CheckedView.{checked_fields}
-use Rattle.f77_check.specs.Ready.{CanResolve}
-use Rattle.f77_check.specs.Resolved.{AreResolved}
-use Rattle.f77_check.specs.code.Patching.{IsChangedAlone}
-use Rattle.f77_check.specs.declared.resolve.Resolver.{Resolver}
+use Rattle.f77_check.proofs.Common.{◌≡◌, ap, ◌∙◌, sym, map, subst, None, ◌-◌, CanResolve, IsChecked, CheckedFields, AreResolved, checked_fields, IsChangedAlone}
+use Rattle.f77_check.proofs.Common.{Resolver, IsLegal, patched, line_of, IsProgram, statement_of, keys}
 use Rattle.f77_check.proofs.Changes.{changed_parts, statement_within}
 use Rattle.f77_check.proofs.checked.Checked.patched_alone.Goals as goal
 

@@ -1,10 +1,5 @@
-use Rattle.std.proofs.Common.{◌-◌, map, refl, subst, sym}
+use Rattle.f77_check.proofs.Common.{sym, map, subst, refl, ◌-◌, IsChecked, IsResolved, patched, line_of, statement_of}
 use Rattle.f77_program.proofs.Patches.{changed_program}
-use Rattle.f77_program.specs.Patching.{patched}
-use Rattle.f77_program.specs.Program.{line_of}
-use Rattle.f77_tree.specs.Statement.{statement_of}
-use Rattle.f77_check.specs.Checked.{IsChecked}
-use Rattle.f77_check.specs.Resolved.{IsResolved}
 use Rattle.f77_check.proofs.Changes.{changed_in_place}
 use Rattle.f77_check.proofs.checked.Checked.resolved.Goals as goal
 

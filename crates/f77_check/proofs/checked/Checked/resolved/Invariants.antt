@@ -1,7 +1,4 @@
-use Rattle.std.proofs.Common.{map}
-use Rattle.f77_program.specs.Patching.{replaced}
-use Rattle.f77_program.specs.Program.{line_of}
-use Rattle.f77_tree.specs.Statement.{statement_of}
+use Rattle.f77_check.proofs.Common.{map, replaced, line_of, statement_of}
 use Rattle.f77_check.proofs.checked.Checked.resolved.Given as goal
 
 -- the changed program

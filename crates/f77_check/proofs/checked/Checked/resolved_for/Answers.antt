@@ -1,12 +1,4 @@
-use Rattle.std.proofs.Common.{◌∙◌, ap, map, subst}
-use Rattle.std.specs.Prelude.{IfOk}
-use Rattle.indexmap.specs.IndexMap.{keys}
-use Rattle.f77_program.specs.Program.{line_of}
-use Rattle.f77_tree.specs.Statement.{statement_of}
-use Rattle.f77_check.specs.Checked.{CheckedFields, IsChecked}
-use Rattle.f77_check.specs.Ready.{CanResolve}
-use Rattle.f77_check.specs.Resolved.{IsResolved}
-use Rattle.f77_check.specs.declared.resolve.Resolver.{Resolver}
+use Rattle.f77_check.proofs.Common.{ap, ◌∙◌, map, subst, IfOk, CanResolve, IsChecked, CheckedFields, IsResolved, Resolver, line_of, statement_of, keys}
 use Rattle.f77_check.proofs.Changes.{changed_resolvable}
 use Rattle.f77_check.proofs.checked.Checked.resolved_for.Goals as goal
 

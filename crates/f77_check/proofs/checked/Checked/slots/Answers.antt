@@ -1,5 +1,4 @@
-use Rattle.std.proofs.Common.{◌≤◌, sym, subst}
-use Rattle.f77_check.specs.Slots.{most_slots}
+use Rattle.f77_check.proofs.Common.{sym, subst, ◌≤◌, most_slots}
 use Rattle.f77_check.proofs.CheckedParts.{checked_few}
 use Rattle.f77_check.proofs.checked.Checked.slots.Goals as goal
 

@@ -1,5 +1,4 @@
-use Rattle.std.proofs.Common.{◌<◌, ◌∙◌, ap, length, set, sym, subst}
-use Rattle.f77_check.specs.Checked.{CheckedFields}
+use Rattle.f77_check.proofs.Common.{ap, ◌∙◌, sym, subst, length, ◌<◌, set, CheckedFields}
 use Rattle.f77_check.proofs.Changes.{same_items}
 use Rattle.f77_check.proofs.checked.Checked.statements_with.Goals as goal
 

@@ -1,9 +1,4 @@
-use Rattle.std.proofs.Common.{◌≡◌, ◌∙◌, Some, ap, sym, subst}
-use Rattle.f77_tree.specs.View.{tree_of}
-use Rattle.f77_tree.specs.declared.tree.Kind.TheVariants.{Integer, Logical}
-use Rattle.f77_tree.proofs.Views.{binary_view}
-use Rattle.f77_actions.specs.Operators.{relation_of}
-use Rattle.f77_check.specs.code.Lookup.{IsReadyTree}
+use Rattle.f77_check.proofs.Common.{◌≡◌, ap, ◌∙◌, sym, subst, Some, relation_of, IsReadyTree, binary_view, tree_of, Integer, Logical}
 use Rattle.f77_check.proofs.Readiness.{related_ready}
 use Rattle.f77_check.proofs.resolve.Resolver.+condition.Goals as goal
 

@@ -1,8 +1,5 @@
-use Rattle.std.proofs.Common.{rules, arith, ap, sym, ◌∙◌, ◌≡◌, ◌<◌, ◌+◌, ◌-◌, suc, length}
-use Rattle.std.proofs.lemmas.Grind.{common_steps}
-use Rattle.f77_check.specs.code.Boxed.{HoldsNumber}
+use Rattle.f77_check.proofs.Common.{◌≡◌, ap, ◌∙◌, sym, arith, length, ◌+◌, ◌<◌, ◌-◌, suc, rules, common_steps, HoldsNumber, takes}
 use Rattle.f77_tree.specs.declared.intrinsic.Intrinsic.TheVariants.{Min0, Max0}
-use Rattle.f77_legal.specs.Dimensions.{takes}
 use Rattle.f77_check.proofs.Deepest.{most_at}
 use Rattle.f77_check.proofs.Items.{some_items, items_ready, item_ready}
 use Rattle.f77_check.proofs.Chosen.{chosen_last, chosen_more}

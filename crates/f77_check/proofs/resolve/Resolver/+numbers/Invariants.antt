@@ -1,8 +1,4 @@
-use Rattle.std.proofs.Common.{drop}
-use Rattle.std.specs.Prelude.{map}
-use Rattle.f77_tree.specs.View.{tree_of, trees}
-use Rattle.f77_check.specs.Expression.{IsChosen}
-use Rattle.f77_check.specs.code.Lookup.{by_tables}
+use Rattle.f77_check.proofs.Common.{map, drop, IsChosen, by_tables, tree_of, trees}
 use Rattle.f77_check.proofs.resolve.Resolver.+numbers.Given as goal
 
 -- the choice among the items from here on

@@ -1,7 +1,4 @@
-use Rattle.std.proofs.Common.{◌∙◌, ap, subst}
-use Rattle.f77_tree.specs.Statement.{statement_of}
-use Rattle.f77_tree.proofs.Views.{loop_view}
-use Rattle.f77_check.specs.code.Ready.{CanBeResolved}
+use Rattle.f77_check.proofs.Common.{ap, ◌∙◌, subst, CanBeResolved, loop_view, statement_of}
 use Rattle.f77_check.proofs.Readiness.{first_ready, last_ready, step_ready, inner_ready}
 use Rattle.f77_check.proofs.resolve.Resolver.action.Goals as goal
 

@@ -1,11 +1,5 @@
-use Rattle.std.proofs.Common.{◌≡◌, ◌+◌, is_some, sym, subst, ap, ◌∙◌}
-use Rattle.std.specs.Prelude.{Some}
-use Rattle.indexmap.specs.IndexMap.{keys}
-use Rattle.f77_tree.specs.Statement.{Statement, statement_of}
-use Rattle.f77_check.specs.Resolved.{IsResolved}
-use Rattle.f77_legal.specs.Blocks.{statement_behind}
-use Rattle.f77_legal.specs.Labels.{nth_statement}
-use Rattle.f77_legal.proofs.Flow.{some_behind}
+use Rattle.f77_check.proofs.Common.{◌≡◌, ap, ◌∙◌, sym, subst, Some, ◌+◌, is_some, IsResolved, some_behind, statement_behind, nth_statement, Statement}
+use Rattle.f77_check.proofs.Common.{statement_of, keys}
 use Rattle.f77_check.proofs.Sites.{one_more, resolved_here, AreFirst}
 use Rattle.f77_check.proofs.resolve.Resolver.all.Goals as goal
 

@@ -1,4 +1,4 @@
-use Rattle.indexmap.specs.IndexMap.{keys}
+use Rattle.f77_check.proofs.Common.{keys}
 use Rattle.f77_check.proofs.Sites.{AreFirst}
 use Rattle.f77_check.proofs.resolve.Resolver.all.Given as goal
 

@@ -1,9 +1,4 @@
-use Rattle.std.proofs.Common.{◌≡◌, List, ℕ, map, ap, sym, subst, ◌∙◌}
-use Rattle.f77_tree.specs.Tree.{Tree}
-use Rattle.f77_tree.specs.View.{reference_fields, tree_of, trees}
-use Rattle.f77_tree.specs.declared.tree.Expr.{Expr}
-use Rattle.f77_tree.proofs.Views.{ref_view}
-use Rattle.f77_check.specs.code.Lookup.{IsReadyTree}
+use Rattle.f77_check.proofs.Common.{◌≡◌, ap, ◌∙◌, sym, map, subst, List, ℕ, IsReadyTree, ref_view, Tree, tree_of, trees, reference_fields, Expr}
 use Rattle.f77_check.proofs.Readiness.{target_ready}
 use Rattle.f77_check.proofs.resolve.Resolver.assignment.Goals as goal
 

@@ -1,9 +1,4 @@
-use Rattle.std.proofs.Common.{◌∷◌, ◌++◌, [], ℕ, Option, map, get_or, Some, sym, ap, ◌∙◌}
-use Rattle.std.proofs.lemmas.List.{map_more, map-append}
-use Rattle.indexmap.specs.IndexMap.{keys}
-use Rattle.f77_legal.specs.Names.{Symbol}
-use Rattle.f77_legal.specs.NameTable.{array_bounds}
-use Rattle.f77_check.specs.Slots.{first_slot}
+use Rattle.f77_check.proofs.Common.{ap, ◌∙◌, sym, map, ℕ, [], ◌∷◌, Some, ◌++◌, get_or, Option, map-append, map_more, first_slot, array_bounds, Symbol, keys}
 use Rattle.f77_check.proofs.resolve.Resolver.first_slots.Goals as goal
 
 pub loop-name-preserved : goal.loop-name-preserved

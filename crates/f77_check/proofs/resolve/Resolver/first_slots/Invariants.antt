@@ -1,7 +1,4 @@
-use Rattle.std.proofs.Common.{◌≡◌, map, take, Some}
-use Rattle.indexmap.specs.IndexMap.{keys}
-use Rattle.f77_legal.specs.NameTable.{array_bounds}
-use Rattle.f77_check.specs.Slots.{first_slot}
+use Rattle.f77_check.proofs.Common.{◌≡◌, map, Some, take, first_slot, array_bounds, keys}
 use Rattle.f77_check.proofs.resolve.Resolver.first_slots.Given as goal
 
 abbrev pub invariant-loop-name : goal.invariant-loop-name

@@ -1,6 +1,4 @@
-use Rattle.std.proofs.Common.{ap, ◌∙◌}
-use Rattle.std.specs.List.{list_all}
-use Rattle.f77_check.specs.code.Kept.{is_kept}
+use Rattle.f77_check.proofs.Common.{ap, ◌∙◌, list_all, is_kept}
 use Rattle.f77_check.proofs.DataNames.{group_kept}
 use Rattle.f77_check.proofs.resolve.Resolver.give_groups.Goals as goal
 

@@ -1,8 +1,5 @@
-use Rattle.std.proofs.Common.{◌≡◌, map, take}
-use Rattle.indexmap.specs.IndexMap.{keys}
+use Rattle.f77_check.proofs.Common.{◌≡◌, map, take, give_groups, array_bounds, keys}
 use Rattle.f77_tree.specs.Data.{data_group_of}
-use Rattle.f77_check.specs.code.Initial.{give_groups}
-use Rattle.f77_legal.specs.NameTable.{array_bounds}
 use Rattle.f77_check.proofs.resolve.Resolver.give_groups.Given as goal
 
 abbrev pub invariant-loop-group : goal.invariant-loop-group

@@ -1,12 +1,5 @@
-use Rattle.std.proofs.Common.{rules, arith, ◌≡◌, ◌++◌, map, take, drop, length, ap, ◌∙◌}
-use Rattle.std.proofs.lemmas.Grind.{common_steps}
-use Rattle.std.proofs.lemmas.List.{take_all}
-use Rattle.indexmap.specs.IndexMap.{keys}
-use Rattle.f77_program.specs.Program.{line_of}
-use Rattle.f77_tree.specs.Statement.{statement_of}
-use Rattle.f77_check.specs.code.Initial.{give_groups, groups_kept}
-use Rattle.f77_legal.specs.NameTable.{array_bounds}
-use Rattle.f77_legal.specs.InitialValues.{groups_of}
+use Rattle.f77_check.proofs.Common.{◌≡◌, ap, ◌∙◌, map, arith, length, ◌++◌, take, drop, rules, take_all, common_steps, give_groups, groups_kept, groups_of}
+use Rattle.f77_check.proofs.Common.{array_bounds, line_of, statement_of, keys}
 use Rattle.f77_check.proofs.DataNames.{has_slots}
 use Rattle.f77_check.proofs.InitialValues.{initial_by, none_initial, line_kept, line_given}
 use Rattle.f77_check.proofs.resolve.Resolver.initial.Goals as goal

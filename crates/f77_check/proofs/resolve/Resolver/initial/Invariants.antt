@@ -1,5 +1,4 @@
-use Rattle.std.proofs.Common.{◌≡◌, map, take}
-use Rattle.f77_program.specs.Program.{line_of}
+use Rattle.f77_check.proofs.Common.{◌≡◌, map, take, line_of}
 use Rattle.f77_check.proofs.InitialValues.{initial_by}
 use Rattle.f77_check.proofs.resolve.Resolver.initial.Given as goal
 

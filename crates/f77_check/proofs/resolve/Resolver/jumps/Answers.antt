@@ -1,5 +1,4 @@
-use Rattle.std.proofs.Common.{◌+◌, take, sym, subst}
-use Rattle.f77_check.specs.Action.{AreJumps}
+use Rattle.f77_check.proofs.Common.{sym, subst, take, ◌+◌, AreJumps}
 use Rattle.f77_check.proofs.Jumps.{jumps_more, found_label}
 use Rattle.f77_check.proofs.resolve.Resolver.jumps.Goals as goal
 

@@ -1,5 +1,4 @@
-use Rattle.std.proofs.Common.{take}
-use Rattle.f77_check.specs.Action.{AreJumps}
+use Rattle.f77_check.proofs.Common.{take, AreJumps}
 use Rattle.f77_check.proofs.resolve.Resolver.jumps.Given as goal
 
 abbrev pub ghost-jump : goal.ghost-jump

@@ -1,6 +1,4 @@
-use Rattle.std.proofs.Common.{arith, ◌≡◌, ◌+◌, ◌-◌, ◌^◌, ◌++◌, min, replicate, ap, ◌∙◌}
-use Rattle.f77_legal.specs.NameTable.{array_bounds}
-use Rattle.f77_legal.specs.InitialValues.{product}
+use Rattle.f77_check.proofs.Common.{◌≡◌, ap, ◌∙◌, arith, ◌++◌, ◌+◌, ◌-◌, replicate, ◌^◌, min, product, array_bounds}
 use Rattle.f77_check.proofs.SlotKinds.{none_listed, next_within, next_listed, all_listed, grown}
 use Rattle.f77_check.proofs.resolve.Resolver.kinds.Goals as goal
 

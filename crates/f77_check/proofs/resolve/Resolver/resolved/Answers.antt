@@ -1,4 +1,4 @@
-use Rattle.f77_legal.proofs.Flow.{are_nested}
+use Rattle.f77_check.proofs.Common.{are_nested}
 use Rattle.f77_check.proofs.Sites.{ready_at, ends_at, found_at, resolved_at}
 use Rattle.f77_check.proofs.resolve.Resolver.resolved.Goals as goal
 

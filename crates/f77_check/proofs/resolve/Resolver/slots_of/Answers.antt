@@ -1,16 +1,5 @@
-use Rattle.std.proofs.Common.{◌≡◌, ◌+◌, ◌≤◌, ◌++◌, [], ◌∷◌, map, take, arith, sym, ap, ◌∙◌, append_assoc, append-nil}
-use Rattle.std.specs.List.{flat_map}
-use Rattle.std.specs.Option.{option_map_or}
-use Rattle.std.proofs.lemmas.Grind.{flat_map-append}
-use Rattle.indexmap.specs.IndexMap.{keys}
-use Rattle.f77_legal.specs.Blocks.{first_numbers}
-use Rattle.f77_legal.specs.NameTable.{array_bounds}
-use Rattle.f77_legal.specs.InitialValues.{product}
-use Rattle.f77_legal.proofs.FirstNumbers.{table_more}
-use Rattle.f77_legal.proofs.Listing.{one_more}
-use Rattle.f77_check.specs.Slots.{slot_count}
-use Rattle.f77_check.specs.code.Initial.{slots_of}
-use Rattle.f77_check.specs.code.Kept.{is_kept}
+use Rattle.f77_check.proofs.Common.{◌≡◌, ap, ◌∙◌, sym, map, [], arith, ◌∷◌, ◌++◌, take, ◌+◌, ◌≤◌, append-nil, append_assoc, flat_map-append, flat_map}
+use Rattle.f77_check.proofs.Common.{option_map_or, slot_count, is_kept, slots_of, table_more, one_more, first_numbers, product, array_bounds, keys}
 use Rattle.f77_check.proofs.Cells.{slots_end}
 use Rattle.f77_check.proofs.DataNames.{all_at, kept_among}
 use Rattle.f77_check.proofs.resolve.Resolver.slots_of.Goals as goal

@@ -1,9 +1,4 @@
-use Rattle.std.proofs.Common.{◌≡◌, ◌+◌, ◌++◌, map, take}
-use Rattle.std.specs.List.{flat_map}
-use Rattle.indexmap.specs.IndexMap.{keys}
-use Rattle.f77_legal.specs.Blocks.{first_numbers}
-use Rattle.f77_legal.specs.NameTable.{array_bounds}
-use Rattle.f77_check.specs.code.Initial.{slots_of}
+use Rattle.f77_check.proofs.Common.{◌≡◌, map, ◌++◌, take, ◌+◌, flat_map, slots_of, first_numbers, array_bounds, keys}
 use Rattle.f77_check.proofs.resolve.Resolver.slots_of.Given as goal
 
 -- the slots of the names so far

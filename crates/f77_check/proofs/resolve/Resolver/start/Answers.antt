@@ -1,13 +1,6 @@
-use Rattle.std.proofs.Common.{is_some, map, sym, ap, ◌∙◌}
-use Rattle.std.specs.List.{list_all}
-use Rattle.indexmap.specs.IndexMap.{keys}
-use Rattle.f77_program.specs.Program.{line_of}
-use Rattle.f77_check.specs.code.Kept.{is_kept}
-use Rattle.f77_check.specs.Slots.{first_slot, slot_kinds}
-use Rattle.f77_tree.specs.Statement.{is_executable_statement}
+use Rattle.f77_check.proofs.Common.{ap, ◌∙◌, sym, map, is_some, list_all, first_slot, slot_kinds, is_kept, position-map, line_of, is_executable_statement, keys}
 use Rattle.f77_check.proofs.DataNames.{has_slots, dummies_kept}
 use Rattle.f77_check.proofs.FirstExecutable.{first_executable}
-use Rattle.f77_legal.proofs.Positions.{position-map}
 use Rattle.f77_check.proofs.resolve.Resolver.start.Goals as goal
 
 pub unwrap-requires : goal.unwrap-requires

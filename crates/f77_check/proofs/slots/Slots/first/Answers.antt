@@ -1,8 +1,5 @@
-use Rattle.std.proofs.Common.{rules, ◌<◌, ◌∙◌, ap, is_some, length, sym}
-use Rattle.indexmap.specs.IndexMap.{keys}
+use Rattle.f77_check.proofs.Common.{ap, ◌∙◌, sym, length, ◌<◌, is_some, rules, bytes_eq, array_bounds, keys}
 use Rattle.indexmap.proofs.MapLemmas.{some_index}
-use Rattle.std.specs.Str.{bytes_eq}
-use Rattle.f77_legal.specs.NameTable.{array_bounds}
 use Rattle.f77_check.proofs.SlotCounts.{start_read, start_within}
 use Rattle.f77_check.proofs.slots.Slots.first.Goals as goal
 

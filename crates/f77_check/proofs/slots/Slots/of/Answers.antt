@@ -1,7 +1,4 @@
-use Rattle.std.proofs.Common.{arith, ◌≡◌, ◌+◌, ◌-◌, ◌^◌, min, sym, ap, subst, ◌∙◌}
-use Rattle.indexmap.specs.IndexMap.{keys}
-use Rattle.f77_legal.specs.NameTable.{array_bounds}
-use Rattle.f77_legal.specs.InitialValues.{product}
+use Rattle.f77_check.proofs.Common.{◌≡◌, ap, ◌∙◌, sym, subst, arith, ◌+◌, ◌-◌, ◌^◌, min, product, array_bounds, keys}
 use Rattle.f77_check.proofs.SlotCounts.{IsCounted, part_within, counted_more, counted_all}
 use Rattle.f77_check.proofs.slots.Slots.of.Goals as goal
 

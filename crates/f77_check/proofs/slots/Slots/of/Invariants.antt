@@ -1,5 +1,4 @@
-use Rattle.indexmap.specs.IndexMap.{keys}
-use Rattle.f77_legal.specs.NameTable.{array_bounds}
+use Rattle.f77_check.proofs.Common.{array_bounds, keys}
 use Rattle.f77_check.proofs.SlotCounts.{IsCounted}
 use Rattle.f77_check.proofs.slots.Slots.of.Given as goal
 

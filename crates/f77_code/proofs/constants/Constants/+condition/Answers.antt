@@ -1,5 +1,5 @@
+use Rattle.f77_code.proofs.Common.{IsTestTerm, IsRelationOf}
 use Rattle.std.proofs.lemmas.Result.{IfOk-weaker}
-use Rattle.f77_code.specs.code.Compile.{IsTestTerm, IsRelationOf}
 use Rattle.f77_code.proofs.Tests.{related_test}
 use Rattle.f77_code.proofs.constants.Constants.+condition.Goals as goal
 

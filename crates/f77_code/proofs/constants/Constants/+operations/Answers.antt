@@ -1,9 +1,6 @@
-use Rattle.std.proofs.Common.{arith, ◌≡◌, true, sym, ap, subst}
-use Rattle.std.proofs.lemmas.Bool.{and_parts}
+use Rattle.f77_code.proofs.Common.{◌≡◌, ap, sym, arith, subst, true, and_parts, can_compile, condition_within, IsCompiled, IsTesting, IsAssigning}
+use Rattle.f77_code.proofs.Common.{IsConditional}
 use Rattle.std.proofs.lemmas.Result.{IfOk-weaker}
-use Rattle.f77_code.specs.Compiling.{can_compile}
-use Rattle.f77_code.specs.code.Compiling.{IsTesting, IsAssigning, IsConditional, IsCompiled}
-use Rattle.f77_code.specs.Evaluation.{condition_within}
 use Rattle.f77_code.proofs.Depth.{action_depth}
 use Rattle.f77_code.proofs.Operations.{number_assigned, truth_assigned, goto_conditional}
 use Rattle.f77_code.proofs.constants.Constants.+operations.Goals as goal

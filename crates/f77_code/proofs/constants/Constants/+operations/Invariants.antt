@@ -1,4 +1,4 @@
-use Rattle.std.proofs.Common.{◌+◌, ◌*◌}
+use Rattle.f77_code.proofs.Common.{◌+◌, ◌*◌}
 use Rattle.f77_code.proofs.Depth.{action_depth}
 use Rattle.f77_code.proofs.constants.Constants.+operations.Given as goal
 

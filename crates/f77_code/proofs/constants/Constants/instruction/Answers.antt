@@ -1,6 +1,5 @@
-use Rattle.std.proofs.Common.{◌≡◌, ◌∙◌, ap, refl}
+use Rattle.f77_code.proofs.Common.{◌≡◌, ◌∙◌, ap, refl, onward}
 use Rattle.f77_code.proofs.OneReplaced.{left_same, places_same}
-use Rattle.f77_code.specs.Instructions.{onward}
 use Rattle.f77_code.proofs.Instructed.{branch_stands, do_stands, other_stands}
 use Rattle.f77_code.proofs.Terms.{number_later}
 use Rattle.f77_code.proofs.constants.Constants.instruction.Goals as goal

@@ -1,4 +1,4 @@
-use Rattle.std.proofs.Common.{◌≡◌, ◌∙◌, length, take, sym, ap}
+use Rattle.f77_code.proofs.Common.{◌≡◌, ◌∙◌, ap, sym, length, take}
 use Rattle.f77_code.proofs.KeptSteps.{same_numbers, same_turns}
 use Rattle.f77_code.proofs.kept_step.KeptStep.is_met.Goals as goal
 

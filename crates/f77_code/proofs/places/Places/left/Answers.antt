@@ -1,6 +1,4 @@
-use Rattle.std.proofs.Common.{◌≡◌, ◌∙◌, Some, ap}
-use Rattle.std.specs.Prelude.{slice_get}
-use Rattle.f77_code.specs.Instructions.{round}
+use Rattle.f77_code.proofs.Common.{◌≡◌, ◌∙◌, ap, Some, slice_get, round}
 use Rattle.f77_code.proofs.Placed.{read_at, round_there, left_onward}
 use Rattle.f77_code.proofs.places.Places.left.Goals as goal
 

@@ -1,5 +1,4 @@
-use Rattle.std.proofs.Common.{arith, ◌≡◌, Some}
-use Rattle.std.specs.Prelude.{slice_get}
+use Rattle.f77_code.proofs.Common.{◌≡◌, arith, Some, slice_get}
 use Rattle.f77_code.proofs.Placed.{read_at, next_place, places_more}
 use Rattle.f77_code.proofs.places.Places.new.Goals as goal
 

@@ -1,6 +1,4 @@
-use Rattle.std.proofs.Common.{◌≡◌, ℕ, ◌+◌, length}
-use Rattle.std.specs.Prelude.{Some, slice_get}
-use Rattle.f77_code.specs.Holds.{do_rank}
+use Rattle.f77_code.proofs.Common.{◌≡◌, ℕ, length, ◌+◌, Some, slice_get, do_rank}
 use Rattle.f77_code.proofs.places.Places.new.Given as goal
 
 abbrev pub invariant-loop-i : goal.invariant-loop-i

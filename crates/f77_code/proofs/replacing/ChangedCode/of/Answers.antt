@@ -1,4 +1,4 @@
-use Rattle.std.proofs.Common.{length, ap}
+use Rattle.f77_code.proofs.Common.{ap, length}
 use Rattle.f77_code.proofs.Replaced.{begins_own}
 use Rattle.f77_code.proofs.replacing.ChangedCode.of.Goals as goal
 

@@ -1,7 +1,4 @@
-use Rattle.std.proofs.Common.{arith, ◌≡◌, ◌∙◌, true, Some, length, sym, ap, refl, subst}
-use Rattle.std.specs.Prelude.{slice_get, slice_set}
-use Rattle.std.proofs.lemmas.Option.{slice_get_read}
-use Rattle.f77_code.specs.Compiled.{are_ready, AreCompiled}
+use Rattle.f77_code.proofs.Common.{◌≡◌, ◌∙◌, ap, sym, arith, refl, subst, length, true, Some, slice_get, slice_set, slice_get_read, AreCompiled, are_ready}
 use Rattle.f77_code.proofs.Replaced.{failed_is, failed_same, own_changed, place_within, put_compiled, put_is, put_others, put_places, put_same, still_one}
 use Rattle.f77_code.proofs.replacing.ChangedCode.replace.Goals as goal
 

@@ -1,6 +1,4 @@
-use Rattle.std.proofs.Common.{None, false, get_or, ap, ◌∙◌}
-use Rattle.std.specs.Prelude.{◌&&◌, nat_lt}
-use Rattle.std.specs.Option.{option_map_or}
+use Rattle.f77_legal.proofs.Common.{◌∙◌, ap, false, None, ◌&&◌, get_or, nat_lt, option_map_or}
 use Rattle.f77_legal.proofs.BlockTables.{branch_end_held, branch_holds_at}
 use Rattle.f77_legal.proofs.blocks.Blocks.branch_end.Goals as goal
 

@@ -1,7 +1,4 @@
-use Rattle.std.proofs.Common.{map, arith, sym, ◌∙◌}
-use Rattle.std.proofs.lemmas.List.{length-map}
-use Rattle.f77_program.specs.Program.{line_of}
-use Rattle.f77_tree.specs.Statement.{statement_of}
+use Rattle.f77_legal.proofs.Common.{◌∙◌, map, sym, arith, length-map, line_of, statement_of}
 use Rattle.f77_legal.proofs.BlockTables.{breaks_here}
 use Rattle.f77_legal.proofs.blocks.Blocks.breaks.Goals as goal
 

@@ -1,10 +1,5 @@
-use Rattle.std.proofs.Common.{ℕ, List, ◌≡◌, ◌+◌, ◌≤◌, ◌++◌, ◌∷◌, [], length, map, take, arith, sym, ◌∙◌}
-use Rattle.std.proofs.lemmas.List.{length-map}
-use Rattle.f77_program.specs.Program.{line_of}
-use Rattle.f77_tree.specs.Statement.{statement_of}
-use Rattle.f77_legal.specs.Blocks.{first_numbers, is_in_block}
-use Rattle.f77_legal.specs.BlockTable.{block_end_at, else_end_at, branch_end_at}
-use Rattle.f77_legal.specs.code.BlockTable.{is_before_end}
+use Rattle.f77_legal.proofs.Common.{◌≡◌, ◌∙◌, map, sym, List, ℕ, [], ◌∷◌, length, arith, ◌++◌, ◌+◌, take, ◌≤◌, length-map, first_numbers, branch_end_at}
+use Rattle.f77_legal.proofs.Common.{is_in_block, block_end_at, else_end_at, is_before_end, line_of, statement_of}
 use Rattle.f77_legal.proofs.BlockTables.{block_at, else_at, branch_at, inside_at}
 use Rattle.f77_legal.proofs.FirstNumbers.{table_more}
 use Rattle.f77_legal.proofs.blocks.Blocks.of.Goals as goal

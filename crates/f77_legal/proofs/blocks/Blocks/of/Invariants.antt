@@ -1,7 +1,4 @@
-use Rattle.std.proofs.Common.{◌≡◌, map}
-use Rattle.f77_program.specs.Program.{line_of}
-use Rattle.f77_legal.specs.Blocks.{first_numbers}
-use Rattle.f77_legal.specs.BlockTable.{block_end_at, else_end_at, branch_end_at}
+use Rattle.f77_legal.proofs.Common.{◌≡◌, map, first_numbers, branch_end_at, block_end_at, else_end_at, line_of}
 use Rattle.f77_legal.proofs.blocks.Blocks.of.Given as goal
 
 abbrev pub invariant-loop-i : goal.invariant-loop-i

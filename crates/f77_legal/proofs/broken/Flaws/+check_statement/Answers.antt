@@ -1,6 +1,4 @@
-use Rattle.std.proofs.Common.{◌∙◌, rules}
-use Rattle.std.specs.Prelude.{option_map}
-use Rattle.f77_tree.specs.View.{tree_of}
+use Rattle.f77_legal.proofs.Common.{◌∙◌, rules, option_map, tree_of}
 use Rattle.f77_legal.proofs.Flaws.{assign_adds, logical_adds, loop_adds}
 use Rattle.f77_legal.proofs.broken.Flaws.+check_statement.Goals as goal
 

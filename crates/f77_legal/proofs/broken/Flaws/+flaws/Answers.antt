@@ -1,5 +1,4 @@
-use Rattle.std.proofs.Common.{◌∙◌, map, subst, sym}
-use Rattle.f77_tree.specs.View.{tree_of, trees}
+use Rattle.f77_legal.proofs.Common.{◌∙◌, map, sym, subst, tree_of, trees}
 use Rattle.f77_legal.proofs.Flaws.{AddsItems, as_before, binary_adds, call_adds, drop_all, drop_item, joined, reference_adds}
 use Rattle.f77_legal.proofs.broken.Flaws.+flaws.Goals as goal
 

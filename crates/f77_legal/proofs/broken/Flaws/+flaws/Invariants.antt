@@ -1,11 +1,4 @@
-use Rattle.std.proofs.Common.{drop}
-use Rattle.std.specs.Prelude.{map}
-use Rattle.f77_tree.specs.View.{tree_of, trees}
-use Rattle.f77_legal.specs.Dimensions.{all_fit}
-use Rattle.f77_legal.specs.Kinds.{are_integer}
-use Rattle.f77_legal.specs.NameTable.{array_bounds, has_name, kind_at}
-use Rattle.f77_legal.specs.Patches.{items_pass}
-use Rattle.f77_legal.specs.code.Broken.{Adds}
+use Rattle.f77_legal.proofs.Common.{map, drop, array_bounds, kind_at, items_pass, all_fit, are_integer, has_name, Adds, tree_of, trees}
 use Rattle.f77_legal.specs.declared.broken.Flaws.{Flaws}
 use Rattle.f77_legal.proofs.broken.Flaws.+flaws.Given as goal
 

@@ -1,4 +1,4 @@
-use Rattle.std.proofs.Common.{sym, ◌∙◌}
+use Rattle.f77_legal.proofs.Common.{◌∙◌, sym}
 use Rattle.f77_legal.proofs.LoopTables.{no_loop, one_loop}
 use Rattle.f77_legal.proofs.enclosing.Ranges.breaks_range.Goals as goal
 

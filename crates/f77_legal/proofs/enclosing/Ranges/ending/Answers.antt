@@ -1,9 +1,5 @@
-use Rattle.std.proofs.Common.{◌≡◌, rules, tests, ap, reverse, ◌∙◌}
-use Rattle.std.specs.Prelude.{filter}
-use Rattle.std.proofs.lemmas.Result.{IfOk-at_ok}
-use Rattle.std.proofs.lemmas.Iterator.{items_from_collect, YieldsList-from_slice}
-use Rattle.std.proofs.lemmas.Iterator.Consumers.{YieldsList-from_copied, YieldsList-from_filter}
-use Rattle.f77_legal.specs.code.LoopTable.{ends_at_by_table}
+use Rattle.f77_legal.proofs.Common.{◌≡◌, ◌∙◌, ap, filter, rules, tests, reverse, YieldsList-from_slice, items_from_collect, YieldsList-from_filter}
+use Rattle.f77_legal.proofs.Common.{YieldsList-from_copied, IfOk-at_ok, ends_at_by_table}
 use Rattle.f77_legal.proofs.LoopTables.{ending_are}
 use Rattle.f77_legal.proofs.enclosing.Ranges.ending.Goals as goal
 

@@ -1,7 +1,4 @@
-use Rattle.std.proofs.Common.{rules, tests, arith}
-use Rattle.std.proofs.lemmas.Iterator.{YieldsList-from_slice}
-use Rattle.std.proofs.lemmas.Iterator.Search.{any_from_yields_List}
-use Rattle.f77_legal.specs.code.LoopTable.{separates}
+use Rattle.f77_legal.proofs.Common.{arith, rules, tests, YieldsList-from_slice, any_from_yields_List, separates}
 use Rattle.f77_legal.proofs.LoopTables.{outside_behind}
 use Rattle.f77_legal.proofs.enclosing.Ranges.ends_outside.Goals as goal
 

@@ -1,6 +1,4 @@
-use Rattle.std.proofs.Common.{◌||◌, ap, arith, sym, ◌∙◌}
-use Rattle.std.proofs.lemmas.List.{at_drop_all}
-use Rattle.f77_legal.specs.code.LoopTable.{holds_by, enters}
+use Rattle.f77_legal.proofs.Common.{◌∙◌, ap, sym, arith, ◌||◌, at_drop_all, enters, holds_by}
 use Rattle.f77_legal.proofs.LoopTables.{goes_is, entered_here, not_entered}
 use Rattle.f77_legal.proofs.enclosing.Ranges.goes_in.Goals as goal
 

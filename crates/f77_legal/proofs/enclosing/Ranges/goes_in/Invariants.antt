@@ -1,5 +1,4 @@
-use Rattle.std.proofs.Common.{◌≡◌, false, drop}
-use Rattle.f77_legal.specs.code.LoopTable.{holds_by, enters}
+use Rattle.f77_legal.proofs.Common.{◌≡◌, false, drop, enters, holds_by}
 use Rattle.f77_legal.proofs.enclosing.Ranges.goes_in.Given as goal
 
 -- the other numbers decide

@@ -1,9 +1,5 @@
-use Rattle.std.proofs.Common.{◌≡◌, rules, tests, ◌∙◌}
-use Rattle.std.specs.Prelude.{filter}
-use Rattle.std.proofs.lemmas.Result.{IfOk-at_ok}
-use Rattle.std.proofs.lemmas.Iterator.{items_from_collect, YieldsList-from_slice}
-use Rattle.std.proofs.lemmas.Iterator.Consumers.{YieldsList-from_copied, YieldsList-from_filter}
-use Rattle.f77_legal.specs.code.LoopTable.{is_left_by_table}
+use Rattle.f77_legal.proofs.Common.{◌≡◌, ◌∙◌, filter, rules, tests, YieldsList-from_slice, items_from_collect, YieldsList-from_filter, YieldsList-from_copied}
+use Rattle.f77_legal.proofs.Common.{IfOk-at_ok, is_left_by_table}
 use Rattle.f77_legal.proofs.LoopTables.{left_are}
 use Rattle.f77_legal.proofs.enclosing.Ranges.left_by.Goals as goal
 

@@ -1,8 +1,4 @@
-use Rattle.std.proofs.Common.{rules, tests, arith, length}
-use Rattle.std.proofs.lemmas.Result.{IfOk-at_ok}
-use Rattle.std.proofs.lemmas.Iterator.{items_from_collect, YieldsList-from_range}
-use Rattle.std.proofs.lemmas.Iterator.Consumers.{YieldsList-from_filter}
-use Rattle.f77_legal.specs.LoopTable.{is_head}
+use Rattle.f77_legal.proofs.Common.{length, arith, rules, tests, YieldsList-from_range, items_from_collect, YieldsList-from_filter, IfOk-at_ok, is_head}
 use Rattle.f77_legal.proofs.enclosing.Ranges.of.Goals as goal
 
 pub returns-clause-heads : goal.returns-clause-heads

@@ -1,10 +1,4 @@
-use Rattle.std.proofs.Common.{rules, tests, ◌≡◌, ap, ◌∙◌, ℕ}
-use Rattle.std.specs.Prelude.{nat_eq, option_map}
-use Rattle.std.specs.List.{find}
-use Rattle.std.specs.Map.Iter.{deref_pair}
-use Rattle.std.proofs.lemmas.Iterator.Consumers.{YieldsList-from_rest}
-use Rattle.std.proofs.lemmas.Iterator.Search.{find_from_yields_List}
-use Rattle.indexmap.specs.IndexMap.{IsUnique}
+use Rattle.f77_legal.proofs.Common.{◌≡◌, ◌∙◌, ap, ℕ, rules, option_map, tests, nat_eq, YieldsList-from_rest, find_from_yields_List, find, deref_pair, IsUnique}
 use Rattle.f77_legal.specs.declared.labels.Place.{Place}
 use Rattle.f77_legal.proofs.LabelTables.{first_double}
 use Rattle.f77_legal.proofs.labels.Labels.first_double.Goals as goal

@@ -1,6 +1,4 @@
-use Rattle.std.proofs.Common.{◌≡◌, None, rules}
-use Rattle.f77_program.specs.Program.{line_of}
-use Rattle.f77_legal.specs.declared.labels.Labels.{Labels}
+use Rattle.f77_legal.proofs.Common.{◌≡◌, None, rules, Labels, line_of}
 use Rattle.f77_legal.proofs.LabelTables.{unlabelled, labelled}
 use Rattle.f77_legal.proofs.labels.Labels.note.Goals as goal
 

@@ -1,6 +1,4 @@
-use Rattle.std.proofs.Common.{map, take}
-use Rattle.f77_program.specs.Program.{line_of}
-use Rattle.f77_legal.specs.LabelTable.{IsLabelTable}
+use Rattle.f77_legal.proofs.Common.{map, take, IsLabelTable, line_of}
 use Rattle.f77_legal.proofs.labels.Labels.of.Given as goal
 
 abbrev pub invariant-loop-i : goal.invariant-loop-i

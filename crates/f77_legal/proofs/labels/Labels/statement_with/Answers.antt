@@ -1,5 +1,4 @@
-use Rattle.std.proofs.Common.{sym, ap, ◌∙◌, Some}
-use Rattle.f77_tree.specs.Statement.{statement_of}
+use Rattle.f77_legal.proofs.Common.{◌∙◌, ap, sym, Some, statement_of}
 use borrow.Author.Tests.{ltb-true}
 use Rattle.f77_legal.proofs.LabelTables.{statement_found}
 use Rattle.f77_legal.proofs.labels.Labels.statement_with.Goals as goal

@@ -1,6 +1,4 @@
-use Rattle.std.proofs.Common.{ap, ◌∙◌, map}
-use Rattle.f77_legal.specs.NameTable.{entry_of}
-use Rattle.f77_legal.specs.code.NameTable.{with_fact, use_of}
+use Rattle.f77_legal.proofs.Common.{◌∙◌, ap, map, entry_of, with_fact, use_of}
 use Rattle.f77_legal.proofs.Noting.{said_new}
 use Rattle.f77_legal.proofs.names.Names.add.Goals as goal
 

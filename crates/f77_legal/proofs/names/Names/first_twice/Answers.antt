@@ -1,10 +1,5 @@
-use Rattle.std.proofs.Common.{rules, tests, ◌≡◌, ap, ◌∙◌, option_map}
-use Rattle.std.specs.List.{find}
-use Rattle.std.specs.Map.Iter.{deref_pair}
-use Rattle.std.proofs.lemmas.Iterator.Consumers.{YieldsList-from_rest}
-use Rattle.std.proofs.lemmas.Iterator.Search.{find_from_yields_List}
-use Rattle.f77_legal.specs.NameTable.{entry_of}
-use Rattle.f77_legal.specs.code.NameTable.{is_twice_entry}
+use Rattle.f77_legal.proofs.Common.{◌≡◌, ◌∙◌, ap, rules, option_map, tests, YieldsList-from_rest, find_from_yields_List, find, deref_pair, entry_of}
+use Rattle.f77_legal.proofs.Common.{is_twice_entry}
 use Rattle.f77_legal.proofs.Lookups.{first_twice_is}
 use Rattle.f77_legal.proofs.names.Names.first_twice.Goals as goal
 

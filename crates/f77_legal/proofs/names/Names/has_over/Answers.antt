@@ -1,9 +1,4 @@
-use Rattle.std.proofs.Common.{arith, rules, ◌≡◌, ◌-◌, ◌^◌, ◌<◌, ◌∙◌}
-use Rattle.std.specs.Prelude.{nat_lt}
-use Rattle.indexmap.specs.IndexMap.{values}
-use Rattle.f77_legal.specs.declared.names.Facts.{Facts}
-use Rattle.f77_legal.specs.NameTable.{facts_fields}
-use Rattle.f77_legal.specs.code.NameTable.{array_size}
+use Rattle.f77_legal.proofs.Common.{◌≡◌, ◌∙◌, arith, ◌<◌, rules, nat_lt, ◌-◌, ◌^◌, facts_fields, array_size, Facts, values}
 use Rattle.f77_legal.proofs.Sizes.{stopped, stopped_all, over_is}
 use Rattle.f77_legal.proofs.names.Names.has_over.Goals as goal
 

@@ -1,6 +1,4 @@
-use Rattle.std.proofs.Common.{ap, sym, ◌∙◌, map}
-use Rattle.std.proofs.lemmas.Result.{on_ok_weaker}
-use Rattle.f77_legal.specs.NameTable.{entry_of}
+use Rattle.f77_legal.proofs.Common.{◌∙◌, ap, map, sym, on_ok_weaker, entry_of}
 use Rattle.f77_legal.proofs.Noting.{said_there}
 use Rattle.f77_legal.proofs.names.Names.note.Goals as goal
 

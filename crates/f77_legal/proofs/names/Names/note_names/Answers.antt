@@ -1,11 +1,7 @@
-use Rattle.std.proofs.Common.{arith, rules, ◌≡◌, take, option_map, ap, sym, ◌∙◌}
-use Rattle.std.proofs.lemmas.Grind.{common_steps}
-use Rattle.std.specs.Prelude.{map}
-use Rattle.f77_tree.specs.Node.{node_of}
-use Rattle.f77_legal.specs.NameTable.{table_entries}
+use Rattle.f77_legal.proofs.Common.{◌≡◌, ◌∙◌, ap, map, sym, arith, take, rules, option_map, common_steps, table_entries, node_of}
 use Rattle.f77_legal.proofs.Listing.{with_name, with_names, names_more}
-use Rattle.f77_legal.proofs.names.Names.note_names.Goals as goal
 use Rattle.f77_legal.proofs.names.Names.note_names.Goals.{in-Some+in_ok-note, in_default}
+use Rattle.f77_legal.proofs.names.Names.note_names.Goals as goal
 
 pub loop-node-preserved : goal.loop-node-preserved
 loop-node-preserved c =

@@ -1,7 +1,4 @@
-use Rattle.std.proofs.Common.{◌≡◌, take}
-use Rattle.std.specs.Prelude.{map}
-use Rattle.f77_tree.specs.Node.{node_of}
-use Rattle.f77_legal.specs.NameTable.{table_entries}
+use Rattle.f77_legal.proofs.Common.{◌≡◌, map, take, table_entries, node_of}
 use Rattle.f77_legal.proofs.Listing.{with_names}
 use Rattle.f77_legal.proofs.names.Names.note_names.Given as goal
 

@@ -1,9 +1,4 @@
-use Rattle.std.proofs.Common.{◌≡◌, take}
-use Rattle.std.specs.Prelude.{map}
-use Rattle.f77_tree.specs.Declaration.{decl_of}
-use Rattle.f77_legal.specs.Names.{NameUse}
-use Rattle.f77_legal.specs.NameTable.{table_entries}
-use Rattle.f77_legal.specs.code.NameTable.{with_uses}
+use Rattle.f77_legal.proofs.Common.{◌≡◌, map, take, NameUse, table_entries, with_uses, decl_of}
 use Rattle.f77_legal.proofs.names.Names.note_typed.Given as goal
 
 abbrev pub invariant-loop-item : goal.invariant-loop-item

@@ -1,8 +1,4 @@
-use Rattle.std.proofs.Common.{arith, ◌≡◌, take, ap, sym, ◌∙◌}
-use Rattle.std.proofs.lemmas.Grind.{common_steps}
-use Rattle.f77_tree.specs.Statement.{statement_of}
-use Rattle.f77_legal.specs.Names.{uses_of}
-use Rattle.f77_legal.specs.code.NameTable.{with_uses}
+use Rattle.f77_legal.proofs.Common.{◌≡◌, ◌∙◌, ap, sym, arith, take, common_steps, uses_of, with_uses, statement_of}
 use Rattle.f77_legal.proofs.NameTables.{noted, noted_all, noted_more}
 use Rattle.f77_legal.proofs.names.Names.of.Goals as goal
 

@@ -1,5 +1,4 @@
-use Rattle.std.proofs.Common.{◌≡◌, take}
-use Rattle.f77_legal.specs.NameTable.{table_entries}
+use Rattle.f77_legal.proofs.Common.{◌≡◌, take, table_entries}
 use Rattle.f77_legal.proofs.NameTables.{noted}
 use Rattle.f77_legal.proofs.names.Names.of.Given as goal
 

@@ -1,8 +1,4 @@
-use Rattle.std.proofs.Common.{rules, tests}
-use Rattle.std.specs.Str.{bytes_eq}
-use Rattle.std.proofs.lemmas.Iterator.Consumers.{YieldsList-from_rest}
-use Rattle.std.proofs.lemmas.Iterator.Search.{position_from_yields_List}
-use Rattle.indexmap.specs.IndexMap.{keys}
+use Rattle.f77_legal.proofs.Common.{rules, tests, YieldsList-from_rest, position_from_yields_List, bytes_eq, keys}
 use Rattle.f77_legal.proofs.names.Names.place.Goals as goal
 
 pub returns : goal.returns

@@ -1,11 +1,7 @@
-use Rattle.std.proofs.Common.{◌≡◌, ℕ, List, Some, slice_get, position, sym, ap, ◌∙◌}
-use Rattle.std.specs.Map.{keys_of, lookup}
-use Rattle.std.specs.Option.{option_copied, option_map}
-use Rattle.std.specs.Str.{bytes_eq}
-use Rattle.std.proofs.lemmas.Option.{slice_get-map}
+use Rattle.f77_legal.proofs.Common.{◌≡◌, ◌∙◌, ap, sym, List, ℕ, Some, slice_get, slice_get-map, lookup, keys_of, option_copied, bytes_eq, Symbol, Facts}
+use Rattle.std.proofs.Common.{position}
+use Rattle.std.specs.Option.{option_map}
 use Rattle.indexmap.proofs.MapLemmas.{Found-position, Missing-position}
-use Rattle.f77_legal.specs.declared.names.Facts.{Facts}
-use Rattle.f77_legal.specs.Names.{Symbol}
 use Rattle.f77_legal.proofs.names.Names.said_of.Goals as goal
 
 abbrev said : Symbol × Facts → Facts

@@ -1,10 +1,6 @@
+use Rattle.f77_legal.proofs.Common.{◌∙◌, ap, map, sym, take, breaks, clauses, first_clause, breaches, earlier, line_of}
 use Rattle.std.proofs.Math.Numerals.{add-one}
-use Rattle.std.proofs.Common.{◌∙◌, ap, map, sym, take}
 use Rattle.std.specs.List.{slice_get}
-use Rattle.f77_program.specs.Program.{line_of}
-use Rattle.f77_legal.specs.Clause.{breaks}
-use Rattle.f77_legal.specs.Legal.{clauses, first_clause}
-use Rattle.f77_legal.specs.code.Broken.{breaches, earlier}
 use Rattle.f77_legal.proofs.Breaches.{breach_more}
 use Rattle.f77_legal.proofs.First.{line_here}
 use Rattle.f77_legal.proofs.Served.{own_tables_serve}

@@ -1,10 +1,5 @@
-use Rattle.std.proofs.Common.{◌≡◌, map, take}
+use Rattle.f77_legal.proofs.Common.{◌≡◌, map, take, breaks, clauses, AreTables, breaches, line_of}
 use Rattle.std.specs.List.{slice_get}
-use Rattle.f77_program.specs.Program.{line_of}
-use Rattle.f77_legal.specs.Clause.{breaks}
-use Rattle.f77_legal.specs.Legal.{clauses}
-use Rattle.f77_legal.specs.Tables.{AreTables}
-use Rattle.f77_legal.specs.code.Broken.{breaches}
 use Rattle.f77_legal.proofs.tables.Tables.first_of_all.Given as goal
 
 -- what the statements before this one break

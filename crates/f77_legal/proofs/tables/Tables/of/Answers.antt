@@ -1,5 +1,4 @@
-use Rattle.std.proofs.Common.{ap, map, ◌∙◌}
-use Rattle.f77_program.specs.Program.{line_of}
+use Rattle.f77_legal.proofs.Common.{◌∙◌, ap, map, line_of}
 use Rattle.f77_legal.proofs.Entries.{are_terminals, one_entry_each, are_branches}
 use Rattle.f77_legal.proofs.tables.Tables.of.Goals as goal
 

@@ -1,5 +1,4 @@
-use Rattle.std.proofs.Common.{ap, sym, ◌∙◌, true≢false}
-use Rattle.std.specs.Prelude.{option_map}
+use Rattle.f77_program.proofs.Common.{ap, ◌∙◌, sym, option_map, true≢false}
 use denote.Enum.Bare.{sameb}
 use Rattle.f77_program.specs.contracts.group.Group.{the_type}
 use Rattle.f77_program.proofs.Patches.{fits_there, same_group, fits_nowhere, one_group, own_group}

@@ -1,6 +1,4 @@
-use Rattle.std.proofs.Common.{None, map, sym, ◌∙◌, ap, subst}
-use Rattle.f77_program.specs.Program.{line_of, IsProgram}
-use Rattle.f77_tree.specs.Statement.{statement_of}
+use Rattle.f77_program.proofs.Common.{ap, ◌∙◌, map, sym, subst, None, line_of, IsProgram, statement_of}
 use Rattle.f77_program.proofs.Lines.{same_lines}
 use Rattle.f77_program.proofs.Patches.{changed_lines, changed_program}
 use Rattle.f77_program.proofs.program.Program.with_statement.Goals as goal

@@ -1,9 +1,6 @@
-use Rattle.std.proofs.Common.{rules, ◌∙◌, ◌-◌, ap, slice_set}
+use Rattle.f77_run.proofs.Common.{◌∙◌, ap, rules, ◌-◌, slice_set, IsCode, own_instructions, AgreeButAt}
 use Rattle.f77_tree.specs.Statement.{statement_of}
 use Rattle.f77_check.specs.Patching.{IsInPlace}
-use Rattle.f77_code.specs.Replacing.{own_instructions}
-use Rattle.f77_code.specs.Program.{IsCode}
-use Rattle.f77_code.specs.Together.{AgreeButAt}
 use Rattle.f77_run.proofs.Changing.{alone_here, can_replace, fits_here, image_begins, legal_here, none_changed, place_within, put_in_place}
 use Rattle.f77_run.proofs.changed.ChangedRunner.change.Goals as goal
 

@@ -1,18 +1,6 @@
-use Rattle.std.proofs.Common.{◌≡◌, ◌∙◌, ℤ, List, None, Some, length, map, refl, sym, ap, subst}
-use Rattle.std.specs.Bool.{Decides}
-use Rattle.std.specs.Prelude.{Option, slice_get}
-use Rattle.std.proofs.lemmas.Option.{slice_get_read}
-use Rattle.f77_program.specs.Program.{line_of}
-use Rattle.f77_check.specs.Checked.{CheckedFields}
-use Rattle.f77_code.specs.declared.code.Code.{Code}
-use Rattle.f77_meaning.specs.Interpreter.{IsOutcomeOf}
-use Rattle.f77_meaning.specs.declared.outcome.Outcome.{Outcome}
-use Rattle.f77_run.specs.declared.changed.Change.{Change}
-use Rattle.f77_run.specs.Changed.{ChangedFields, IsChanged, changed_fields, changed_program}
-use Rattle.f77_run.specs.Visits.{IsFollowed}
-use Rattle.f77_run.specs.code.Diverging.{IsDivergence, divergence_of}
-use Rattle.f77_run.specs.code.Ends.{ReportsOf}
-use Rattle.f77_run.specs.code.Site.{HoldDummies}
+use Rattle.f77_run.proofs.Common.{◌≡◌, length, sym, ◌∙◌, ap, subst, List, refl, Some, map, None, ℤ, Option, slice_get, slice_get_read, Decides, CheckedFields}
+use Rattle.f77_run.proofs.Common.{Code, IsOutcomeOf, Outcome, line_of, IsFollowed, IsChanged, changed_fields, ChangedFields, changed_program, HoldDummies}
+use Rattle.f77_run.proofs.Common.{ReportsOf, IsDivergence, divergence_of, Change}
 use Rattle.f77_run.proofs.Reporting.{outcome_fits}
 use Rattle.f77_run.proofs.Visited.{is_divergence, place_within}
 use Rattle.f77_run.proofs.changed.ChangedRunner.comes_to.Goals as goal

@@ -1,4 +1,4 @@
-use Rattle.f77_run.specs.code.Diverging.{divergence_of}
+use Rattle.f77_run.proofs.Common.{divergence_of}
 use Rattle.f77_run.proofs.changed.ChangedRunner.comes_to.Given as goal
 
 abbrev pub ghost-end_beside : goal.ghost-end_beside

@@ -1,5 +1,4 @@
-use Rattle.std.proofs.Common.{◌≡◌, subst, sym}
-use Rattle.f77_code.specs.declared.code.Code.{Code}
+use Rattle.f77_run.proofs.Common.{◌≡◌, sym, subst, Code}
 use Rattle.f77_run.proofs.changed.ChangedRunner.of.Goals as goal
 
 pub invariant_of-result : goal.invariant_of-result

@@ -1,7 +1,5 @@
-use Rattle.std.proofs.Common.{◌≡◌, ◌∙◌, ap, sym}
-use Rattle.std.specs.Bool.{Decides}
+use Rattle.f77_run.proofs.Common.{◌≡◌, sym, ◌∙◌, ap, Decides, Point, point}
 use Rattle.std.proofs.lemmas.Slice.Eq.{slice_eq-Decides}
-use Rattle.f77_code.specs.Operation.{Point, point}
 use Rattle.f77_code.proofs.KeptSteps.{turn_decides}
 use Rattle.f77_run.proofs.registers.Registers.are.Goals as goal
 

@@ -1,15 +1,5 @@
-use Rattle.std.proofs.Common.{arith, ◌≡◌, ◌++◌, ◌-◌, ◌∙◌, length, map, replicate, sym, ap}
-use Rattle.std.specs.List.{list_all}
-use Rattle.std.specs.Prelude.{option_map}
-use Rattle.std.proofs.lemmas.Bool.{and_from}
-use Rattle.std.proofs.lemmas.List.{length-map}
-use Rattle.std.proofs.lemmas.List.Folds.{list_all-append}
-use Rattle.f77_program.specs.Program.{line_of}
-use Rattle.f77_actions.specs.Number.{fits}
-use Rattle.f77_code.specs.Holds.{loop_count}
-use Rattle.f77_code.specs.Registers.{are_held, is_held}
-use Rattle.f77_meaning.specs.Start.{constant_value}
-use Rattle.f77_run.specs.Registers.{loaded, values_fit}
+use Rattle.f77_run.proofs.Common.{◌≡◌, length, sym, ◌∙◌, ap, arith, map, ◌++◌, ◌-◌, option_map, replicate, and_from, length-map, list_all-append, list_all}
+use Rattle.f77_run.proofs.Common.{fits, loop_count, are_held, is_held, constant_value, line_of, loaded, values_fit}
 use Rattle.f77_run.proofs.Loaded.{idle}
 use Rattle.f77_run.proofs.Starting.{idle_counters, initial_counted}
 use Rattle.f77_run.proofs.registers.Registers.at_start.Goals as goal

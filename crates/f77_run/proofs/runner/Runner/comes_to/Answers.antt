@@ -1,12 +1,5 @@
-use Rattle.std.proofs.Common.{◌≡◌, List, ℤ, map, refl, sym, subst}
-use Rattle.std.specs.Bool.{Decides}
-use Rattle.f77_program.specs.Program.{line_of}
-use Rattle.f77_check.specs.Checked.{CheckedFields}
-use Rattle.f77_check.specs.declared.checked.Shape.{Shape}
-use Rattle.f77_meaning.specs.Interpreter.{AreFitting, IsOutcomeOf}
-use Rattle.f77_meaning.specs.declared.outcome.Outcome.{Outcome}
-use Rattle.f77_run.specs.code.Ends.{ReportsOf}
-use Rattle.f77_run.specs.code.Site.{HoldDummies}
+use Rattle.f77_run.proofs.Common.{◌≡◌, sym, subst, List, refl, map, ℤ, Decides, CheckedFields, Shape, AreFitting, IsOutcomeOf, Outcome, line_of, HoldDummies}
+use Rattle.f77_run.proofs.Common.{ReportsOf}
 use Rattle.f77_run.proofs.Starting.{own_run, own_compiled}
 use Rattle.f77_run.proofs.runner.Runner.comes_to.Goals as goal
 

@@ -1,15 +1,5 @@
-use Rattle.std.proofs.Common.{rules, ◌≡◌, ◌∙◌, List, ℤ, length, map, sym, ap, subst}
-use Rattle.std.proofs.lemmas.List.{with_items_is}
-use Rattle.f77_program.specs.Program.{line_of}
-use Rattle.f77_check.specs.Checked.{CheckedFields}
-use Rattle.f77_check.specs.declared.checked.Shape.{Shape}
-use Rattle.f77_code.specs.declared.control.Turn.{Turn}
-use Rattle.f77_meaning.specs.Interpreter.{AreFitting, IsOutcomeOf}
-use Rattle.f77_meaning.proofs.OneAnswer.{one_answer}
-use Rattle.f77_run.specs.declared.visits.Visits.{Visits}
-use Rattle.f77_run.specs.Visits.{AreAtStart, IsFollowed}
-use Rattle.f77_run.specs.code.Ends.{ReportsOf}
-use Rattle.f77_run.specs.code.Site.{HoldDummies}
+use Rattle.f77_run.proofs.Common.{◌≡◌, length, sym, ◌∙◌, ap, subst, List, map, ℤ, rules, with_items_is, CheckedFields, Shape, Turn, one_answer, AreFitting}
+use Rattle.f77_run.proofs.Common.{IsOutcomeOf, line_of, AreAtStart, IsFollowed, HoldDummies, ReportsOf, Visits}
 use Rattle.f77_run.proofs.Followed.{dummies_there, followed, names_within, outcome_there, slots_within, statements_within, writes_below}
 use Rattle.f77_run.proofs.runner.Runner.trace.Goals as goal
 

@@ -1,5 +1,4 @@
-use Rattle.std.proofs.Common.{◌≡◌, length}
-use Rattle.f77_code.specs.Follow.{AreNone}
+use Rattle.f77_run.proofs.Common.{◌≡◌, length, AreNone}
 use Rattle.f77_run.proofs.visits.Visits.none.Given as goal
 
 abbrev pub invariant-loop-statement : goal.invariant-loop-statement

@@ -1,7 +1,4 @@
-use Rattle.std.proofs.Common.{List, ap, subst}
-use Rattle.f77_check.specs.Checked.{CheckedFields}
-use Rattle.f77_meaning.specs.declared.argument.Arg.{Arg}
-use Rattle.f77_meaning.specs.Interpreter.{AreFitting}
+use Rattle.f77_run.proofs.Common.{ap, subst, List, CheckedFields, AreFitting, Arg}
 use Rattle.f77_run.proofs.Ended.{ends_there, within_there}
 use Rattle.f77_run.proofs.workspace.Workspace.end_of.Goals as goal
 

@@ -1,8 +1,4 @@
-use Rattle.std.proofs.Common.{rules, ◌≡◌, ◌∙◌, length, ap, subst}
-use Rattle.std.specs.List.{zip}
-use Rattle.std.proofs.lemmas.List.{with_items_is}
-use Rattle.f77_meaning.specs.code.Spans.{HaveRoom}
-use Rattle.f77_meaning.proofs.Beginning.{room}
+use Rattle.f77_run.proofs.Common.{◌≡◌, length, ◌∙◌, ap, subst, rules, with_items_is, zip, room, HaveRoom}
 use Rattle.f77_run.proofs.Loaded.{loaded_room}
 use Rattle.f77_run.proofs.Starting.{arguments_put, initial_cells, initial_counted}
 use Rattle.f77_run.proofs.workspace.Workspace.restart.Goals as goal

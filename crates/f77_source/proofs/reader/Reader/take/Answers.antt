@@ -1,11 +1,6 @@
-use Rattle.std.proofs.Common.{◌≡◌, refl, ap, subst, ◌∙◌, sym, ℕ, List, Some, None, Ok, Err, true}
-use Rattle.std.specs.List.{list_all}
-use Rattle.f77_source.specs.declared.fault.FormFault.{FormFault}
-use Rattle.f77_source.specs.declared.line.LineKind.{LineKind}
-use Rattle.f77_source.specs.declared.line.LineKind.TheVariants.{Comment, Initial, Continuation}
-use Rattle.f77_source.specs.declared.fault.FormFault.TheVariants.{Memory, TooLarge, NotAscii, Tab, BadLabel, LooseContinuation, TooManyContinuations}
-use Rattle.f77_source.specs.Line.{kind, own_fault, fits_label_field, is_label_character, label_field}
-use Rattle.f77_source.specs.code.Reader.{taken, taken_by_kind, Progress, Steps}
+use Rattle.f77_source.proofs.Common.{◌≡◌, ℕ, List, ap, ◌∙◌, refl, true, None, Some, sym, Ok, Err, subst, list_all, kind, own_fault, is_label_character}
+use Rattle.f77_source.proofs.Common.{fits_label_field, label_field, Progress, taken, Steps, taken_by_kind, FormFault, TooManyContinuations, BadLabel, NotAscii}
+use Rattle.f77_source.proofs.Common.{Memory, Tab, LooseContinuation, TooLarge, LineKind, Continuation, Initial, Comment}
 use Rattle.f77_source.proofs.Faults.{sound, label_characters}
 use Rattle.f77_source.proofs.reader.Reader.take.Goals as goal
 

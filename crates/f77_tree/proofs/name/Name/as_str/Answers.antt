@@ -1,6 +1,4 @@
-use Rattle.std.proofs.Common.{sym, subst}
-use Rattle.std.specs.Prelude.{IsUtf8}
-use Rattle.f77_tree.specs.Grammar.{word}
+use Rattle.f77_tree.proofs.Common.{sym, subst, IsUtf8, word}
 use Rattle.f77_tree.proofs.Names.{name_utf8}
 use Rattle.f77_tree.proofs.name.Name.as_str.Goals as goal
 

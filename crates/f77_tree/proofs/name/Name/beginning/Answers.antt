@@ -1,7 +1,4 @@
-use Rattle.std.proofs.Common.{sym, subst, ap, ◌∙◌}
-use Rattle.f77_tree.specs.Name.{cut}
-use Rattle.f77_tree.specs.Name.{IsPadded}
-use Rattle.f77_tree.specs.Grammar.{word}
+use Rattle.f77_tree.proofs.Common.{sym, ◌∙◌, ap, subst, word, IsPadded, cut}
 use Rattle.f77_tree.proofs.Names.{cut_named, padded_word, padded_well, written_over}
 use Rattle.f77_tree.proofs.name.Name.beginning.Goals as goal
 

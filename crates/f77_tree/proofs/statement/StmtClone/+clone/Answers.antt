@@ -1,4 +1,4 @@
-use Rattle.std.proofs.Common.{rules, refl}
+use Rattle.f77_tree.proofs.Common.{refl, rules}
 use Rattle.std.proofs.lemmas.List.Elements.{same_from_all_zip}
 use Rattle.f77_tree.proofs.Copies.{same_subroutine, same_computed_goto}
 use Rattle.f77_tree.proofs.statement.StmtClone.+clone.Goals as goal

@@ -1,5 +1,4 @@
-use Rattle.std.proofs.Common.{◌≡◌, ◌≤◌, take}
-use Rattle.mothra_bench.specs.Matrix.{counts}
+use Rattle.mothra_bench.proofs.Common.{◌≡◌, take, ◌≤◌, counts}
 use Rattle.mothra_bench.proofs.counts.Counts.of.Given as goal
 
 abbrev pub invariant-loop-entry : goal.invariant-loop-entry

@@ -1,8 +1,5 @@
-use Rattle.std.proofs.Common.{◌≡◌, ◌+◌, Some, length, length-set, sym, subst, take, rules, arith}
-use Rattle.std.specs.Prelude.{ℕ, slice_get, slice_set}
-use Rattle.mothra_codes.specs.Op.{index}
-use Rattle.mothra_codes.specs.declared.op.Op.{Op}
-use Rattle.mothra_bench.specs.Matrix.{counts, entries_of}
+use Rattle.mothra_bench.proofs.Common.{◌≡◌, length, subst, sym, arith, ℕ, take, ◌+◌, Some, rules, slice_get, slice_set, length-set, counts, entries_of, index}
+use Rattle.mothra_bench.proofs.Common.{Op}
 use Rattle.mothra_bench.proofs.CountedOperators.{counted, counted_more, room_for}
 use Rattle.mothra_bench.proofs.counts.Counts.of_operators.Goals.{After-index_mut}
 use Rattle.mothra_bench.proofs.counts.Counts.of_operators.Goals as goal

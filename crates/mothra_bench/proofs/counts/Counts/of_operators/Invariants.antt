@@ -1,8 +1,4 @@
-use Rattle.std.proofs.Common.{◌≡◌, [], All, Some, length, take}
-use Rattle.std.specs.Prelude.{slice_get}
-use Rattle.mothra_codes.specs.Op.{index}
-use Rattle.mothra_codes.specs.declared.op.Op.{Op}
-use Rattle.mothra_bench.specs.Matrix.{counts, entries_of}
+use Rattle.mothra_bench.proofs.Common.{◌≡◌, length, [], All, take, Some, slice_get, counts, entries_of, index, Op}
 use Rattle.mothra_bench.proofs.counts.Counts.of_operators.Given as goal
 
 abbrev pub invariant-loop : goal.invariant-loop

@@ -1,5 +1,4 @@
-use Rattle.std.proofs.Common.{◌≡◌, rules}
-use Rattle.mothra_verdicts.specs.Verdict.{IsNoVerdict}
+use Rattle.mothra_bench.proofs.Common.{◌≡◌, rules, IsNoVerdict}
 use Rattle.mothra_bench.proofs.WorkerSteps.{first_fault}
 use Rattle.mothra_bench.proofs.results.Results.run.Goals as goal
 

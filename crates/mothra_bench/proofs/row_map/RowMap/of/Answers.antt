@@ -1,6 +1,4 @@
-use Rattle.std.proofs.Common.{◌∷◌, [], ◌++◌, List, sym, ap, ◌∙◌, append_assoc, rules}
-use Rattle.std.specs.Vec.Iter.{into_iter_items}
-use Rattle.mothra_verdicts.specs.declared.verdict.Row.{Row}
+use Rattle.mothra_bench.proofs.Common.{◌∙◌, ap, List, sym, ◌++◌, [], ◌∷◌, rules, append_assoc, into_iter_items, Row}
 use Rattle.mothra_bench.proofs.CollectRows.{double_here, has_more}
 use Rattle.mothra_bench.proofs.row_map.RowMap.of.Goals as goal
 

@@ -1,6 +1,4 @@
-use Rattle.std.proofs.Common.{◌≡◌, ◌++◌, length}
-use Rattle.std.specs.Vec.Iter.{into_iter_items}
-use Rattle.mothra_bench.specs.code.RowMap.{HasRows}
+use Rattle.mothra_bench.proofs.Common.{◌≡◌, length, ◌++◌, into_iter_items, HasRows}
 use Rattle.mothra_bench.proofs.row_map.RowMap.of.Given as goal
 
 abbrev pub invariant-loop-row : goal.invariant-loop-row

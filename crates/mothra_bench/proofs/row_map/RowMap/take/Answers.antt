@@ -1,7 +1,4 @@
-use Rattle.std.proofs.Common.{length, cond, eqb, ◌&&◌, None, refl, ap, ◌∙◌, arith}
-use Rattle.std.proofs.lemmas.Option.{slice_get_read}
-use Rattle.mothra_codes.specs.Op.{index}
-use Rattle.mothra_bench.specs.code.RowMap.{ticket_row}
+use Rattle.mothra_bench.proofs.Common.{◌∙◌, ap, length, refl, arith, None, eqb, cond, ◌&&◌, slice_get_read, ticket_row, index}
 use Rattle.mothra_bench.proofs.RowLists.{listed_set}
 use Rattle.mothra_bench.proofs.row_map.RowMap.take.Goals as goal
 

@@ -1,4 +1,4 @@
-use Rattle.std.proofs.Common.{◌∙◌, ap}
+use Rattle.mothra_cli.proofs.Common.{ap, ◌∙◌}
 use Rattle.std.specs.Str.Iter.{split_has_more, split_pattern, split_text}
 use Rattle.mothra_cli.proofs.CodeLists.{starts, goes_on, stops, ends}
 use Rattle.mothra_cli.proofs.operators.Operators.named.Goals as goal

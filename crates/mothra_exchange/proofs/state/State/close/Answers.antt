@@ -1,6 +1,4 @@
-use Rattle.std.proofs.Common.{◌<◌, length, sym, ap, ◌∙◌, rules}
-use Rattle.std.specs.Prelude.{vec_capacity}
-use Rattle.mothra_exchange.specs.Log.{log_after_close}
+use Rattle.mothra_exchange.proofs.Common.{◌<◌, ◌∙◌, sym, length, ap, rules, vec_capacity, log_after_close}
 use Rattle.mothra_exchange.proofs.Logs.{close_keeps, view_more, fits_close}
 use Rattle.mothra_exchange.proofs.state.State.close.Goals as goal
 

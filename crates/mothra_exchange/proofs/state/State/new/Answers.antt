@@ -1,5 +1,4 @@
-use Rattle.std.proofs.Common.{ap, ◌∙◌, rules}
-use Rattle.mothra_exchange.specs.State.{history, counts_of}
+use Rattle.mothra_exchange.proofs.Common.{◌∙◌, ap, rules, counts_of, history}
 use Rattle.mothra_exchange.proofs.Starts.{starts, counts_of-opening}
 use Rattle.mothra_exchange.proofs.state.State.new.Goals as goal
 

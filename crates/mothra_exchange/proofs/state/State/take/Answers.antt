@@ -1,5 +1,4 @@
-use Rattle.std.proofs.Common.{◌<◌, length, refl, sym, ◌∙◌, rules}
-use Rattle.std.specs.Prelude.{vec_capacity}
+use Rattle.mothra_exchange.proofs.Common.{◌<◌, ◌∙◌, sym, length, refl, rules, vec_capacity}
 use Rattle.mothra_exchange.proofs.Logs.{take_keeps, view_more, fits_take}
 use Rattle.mothra_exchange.proofs.state.State.take.Goals as goal
 

@@ -1,4 +1,4 @@
-use Rattle.std.proofs.Common.{◌≡◌, ℕ, subst, rules}
+use Rattle.mothra_exchange.proofs.Common.{◌≡◌, ℕ, subst, rules}
 use Rattle.mothra_exchange.proofs.Ends.{IsUnpacked, ends}
 use Rattle.mothra_exchange.proofs.table.TableExchange.close_all.Goals as goal
 

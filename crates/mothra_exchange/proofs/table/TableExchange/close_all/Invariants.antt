@@ -1,4 +1,4 @@
-use Rattle.std.proofs.Common.{◌≡◌, length}
+use Rattle.mothra_exchange.proofs.Common.{◌≡◌, length}
 use Rattle.mothra_exchange.proofs.Ends.{IsUnpacked}
 use Rattle.mothra_exchange.proofs.table.TableExchange.close_all.Given as goal
 

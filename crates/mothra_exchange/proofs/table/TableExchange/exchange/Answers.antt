@@ -1,5 +1,4 @@
-use Rattle.std.proofs.Common.{◌≡◌, ◌<◌, [], length, true≢false, sym, ◌∙◌, rules, arith, eq-eqb}
-use Rattle.std.proofs.lemmas.Bool.{eqb-true}
+use Rattle.mothra_exchange.proofs.Common.{◌≡◌, ◌<◌, ◌∙◌, sym, length, arith, [], rules, eq-eqb, true≢false, eqb-true}
 use Rattle.mothra_exchange.proofs.Exchanges.{exchanges_at, fits_after}
 use Rattle.mothra_exchange.proofs.Outcomes.{stays, won, lost}
 use Rattle.mothra_exchange.proofs.table.TableExchange.exchange.Goals as goal

@@ -1,4 +1,4 @@
-use Rattle.std.proofs.Common.{rules}
+use Rattle.mothra_exchange.proofs.Common.{rules}
 use Rattle.mothra_exchange.proofs.Steps.{loads_at}
 use Rattle.mothra_exchange.proofs.table.TableExchange.load.Goals as goal
 

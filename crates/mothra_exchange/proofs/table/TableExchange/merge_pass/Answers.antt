@@ -1,7 +1,4 @@
-use Rattle.std.proofs.Common.{◌≡◌, ◌+◌, ◌<◌, length, ap, subst, rules, arith, ◌∙◌}
-use Rattle.mothra_exchange.specs.declared.view.View.{View}
-use Rattle.mothra_exchange.specs.code.View.{settled_view}
-use Rattle.mothra_exchange.specs.code.Rule.{AgreesWithViews}
+use Rattle.mothra_exchange.proofs.Common.{◌≡◌, ◌<◌, ◌∙◌, length, ap, arith, subst, ◌+◌, rules, AgreesWithViews, settled_view, View}
 use Rattle.mothra_exchange.proofs.Halves.{joins, settles, length-joined}
 use Rattle.mothra_exchange.proofs.Overs.{merges_well}
 use Rattle.mothra_exchange.proofs.table.TableExchange.merge_pass.Goals as goal

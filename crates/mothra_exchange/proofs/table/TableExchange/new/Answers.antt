@@ -1,5 +1,4 @@
-use Rattle.std.proofs.Common.{rules}
-use Rattle.mothra_exchange.specs.Rule.{IsSoundExchange}
+use Rattle.mothra_exchange.proofs.Common.{rules, IsSoundExchange}
 use Rattle.mothra_exchange.proofs.Ends.{begins}
 use Rattle.mothra_exchange.proofs.Showing.{shows_one_log}
 use Rattle.mothra_exchange.proofs.Standings.{are_in_order}

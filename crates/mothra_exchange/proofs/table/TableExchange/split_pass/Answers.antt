@@ -1,4 +1,4 @@
-use Rattle.std.proofs.Common.{rules}
+use Rattle.mothra_exchange.proofs.Common.{rules}
 use Rattle.mothra_exchange.proofs.Halves.{splits}
 use Rattle.mothra_exchange.proofs.table.TableExchange.split_pass.Goals as goal
 

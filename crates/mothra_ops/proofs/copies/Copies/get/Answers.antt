@@ -1,9 +1,5 @@
-use Rattle.std.proofs.Common.{arith, ◌≡◌, ◌≤◌, ◌-◌, ◌∙◌, List, Some, None, length, map, ap, refl, sym}
-use Rattle.std.specs.Prelude.{option_map, slice_get}
-use Rattle.std.proofs.lemmas.Bool.{ltb-false}
-use Rattle.std.proofs.lemmas.Option.{slice_get-map, slice_get_past, slice_get_read}
-use Rattle.f77_tree.specs.Statement.{statement_of}
-use Rattle.f77_tree.specs.declared.statement.Stmt.{Stmt}
+use Rattle.mothra_ops.proofs.Common.{◌≡◌, ◌∙◌, ap, sym, List, map, arith, refl, Some, length, ◌≤◌, None, ◌-◌, slice_get, option_map, ltb-false, slice_get-map}
+use Rattle.mothra_ops.proofs.Common.{slice_get_read, slice_get_past, statement_of, Stmt}
 use Rattle.mothra_ops.proofs.MakesMutant.{counted_at}
 use Rattle.mothra_ops.proofs.copies.Copies.get.Goals as goal
 

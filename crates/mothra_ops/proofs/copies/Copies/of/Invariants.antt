@@ -1,7 +1,4 @@
-use Rattle.std.proofs.Common.{◌≡◌, map, take}
-use Rattle.f77_program.specs.Program.{line_of}
-use Rattle.f77_tree.specs.Statement.{statement_of}
-use Rattle.mothra_ops.specs.Copies.{statements_in}
+use Rattle.mothra_ops.proofs.Common.{◌≡◌, map, take, line_of, statement_of, statements_in}
 use Rattle.mothra_ops.proofs.copies.Copies.of.Given as goal
 
 abbrev pub invariant-loop-line : goal.invariant-loop-line

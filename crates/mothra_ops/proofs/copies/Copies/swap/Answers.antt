@@ -1,5 +1,4 @@
-use Rattle.std.proofs.Common.{arith}
-use Rattle.f77_tree.specs.Replacement.{replacement_of}
+use Rattle.mothra_ops.proofs.Common.{arith, replacement_of}
 use Rattle.mothra_ops.proofs.Copied.{back_at, put_at}
 use Rattle.mothra_ops.proofs.copies.Copies.swap.Goals as goal
 

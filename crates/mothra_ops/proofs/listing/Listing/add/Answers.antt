@@ -1,9 +1,5 @@
-use Rattle.std.proofs.Common.{◌≡◌, ◌%◌, ◌+◌, ◌≤◌, ◌++◌, ◌∷◌, [], ℕ, List, length, map, refl, sym, ap, ◌∙◌, inl, inr, arith}
-use Rattle.std.proofs.lemmas.List.{length-map, length_push, map-append}
-use Rattle.mothra_ops.specs.Edits.{thinned}
-use Rattle.mothra_ops.specs.declared.edit.Edit.{Edit}
-use Rattle.mothra_ops.specs.declared.listing.Listing.{Listing}
-use Rattle.mothra_ops.specs.declared.mutant.Mutant.{Mutant}
+use Rattle.mothra_ops.proofs.Common.{◌≡◌, ◌∙◌, ap, sym, List, map, arith, refl, length, ℕ, ◌≤◌, [], ◌+◌, inr, ◌∷◌, inl, ◌++◌, ◌%◌, length-map, map-append}
+use Rattle.mothra_ops.proofs.Common.{length_push, thinned, Edit, Listing, Mutant}
 use Rattle.mothra_ops.proofs.Thinned.{thinned_kept, thinned_passed}
 use Rattle.mothra_ops.proofs.listing.Listing.add.Goals.{then-self-eq0+else-len-self+in_ok-push, else-self-eq0}
 use Rattle.mothra_ops.proofs.listing.Listing.add.Goals as goal

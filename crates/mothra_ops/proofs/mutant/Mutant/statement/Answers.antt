@@ -1,10 +1,4 @@
-use Rattle.std.proofs.Common.{◌∙◌, List, ap, sym}
-use Rattle.f77_program.specs.Program.{line_at}
-use Rattle.f77_program.specs.declared.program.Line.{Line}
-use Rattle.f77_tree.specs.Node.{NodeOf}
-use Rattle.f77_tree.specs.Replacement.{replacement_of}
-use Rattle.f77_tree.specs.Sites.{changed}
-use Rattle.f77_tree.specs.Statement.{statement_of, Statement}
+use Rattle.mothra_ops.proofs.Common.{◌∙◌, ap, sym, List, line_at, Line, NodeOf, replacement_of, changed, statement_of, Statement}
 use Rattle.mothra_ops.proofs.MakesMutant.{line_stands}
 use Rattle.mothra_ops.proofs.mutant.Mutant.statement.Goals as goal
 

@@ -1,13 +1,6 @@
-use Rattle.std.proofs.Common.{arith, ◌≡◌, ◌≤◌, ◌-◌, List, Some, None, length, map, ap, sym, ◌∙◌, refl}
-use Rattle.std.specs.Prelude.{Vec, option_map, slice_get}
+use Rattle.mothra_ops.proofs.Common.{◌≡◌, ◌∙◌, ap, sym, List, map, arith, refl, Some, length, ◌≤◌, None, ◌-◌, slice_get, option_map, ltb-false, Vec}
+use Rattle.mothra_ops.proofs.Common.{slice_get_read, slice_get_past, line_of, Line, node_of, Node, nodes_at}
 use Rattle.std.specs.declared.alloc.Global.{Global}
-use Rattle.std.proofs.lemmas.Bool.{ltb-false}
-use Rattle.std.proofs.lemmas.Option.{slice_get_past, slice_get_read}
-use Rattle.f77_tree.specs.Node.{node_of}
-use Rattle.f77_program.specs.Program.{line_of}
-use Rattle.f77_tree.specs.declared.node.Node.{Node}
-use Rattle.f77_program.specs.declared.program.Line.{Line}
-use Rattle.mothra_ops.specs.code.Original.{nodes_at}
 use Rattle.mothra_ops.proofs.NodeLists.{list_found}
 use Rattle.mothra_ops.proofs.node_lists.NodeLists.at.Goals as goal
 

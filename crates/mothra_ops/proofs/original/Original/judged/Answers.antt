@@ -1,7 +1,5 @@
-use Rattle.std.proofs.Common.{sym, ◌∙◌, true≢false}
+use Rattle.mothra_ops.proofs.Common.{◌∙◌, sym, true≢false, statement_of, lines_of}
 use Rattle.f77_tree.specs.SameTrees.{statement_decides}
-use Rattle.f77_tree.specs.Statement.{statement_of}
-use Rattle.mothra_ops.specs.code.Drawn.{lines_of}
 use Rattle.mothra_ops.proofs.MakesMutant.{is_mutant, the_same}
 use Rattle.mothra_ops.proofs.original.Original.judged.Goals as goal
 

@@ -1,27 +1,7 @@
-use Rattle.std.proofs.Common.{arith, ◌≡◌, ◌+◌, ◌<◌, ◌++◌, ◌∷◌, [], List, length, map, set, sym, ◌∙◌, refl, ap, subst, inl, inr, Some, None, Option, ℕ}
-use Rattle.std.specs.Prelude.{◌⊎◌, IfNone, IfSome}
-use Rattle.std.specs.List.{All}
-use Rattle.std.proofs.lemmas.List.{length-set}
-use Rattle.std.proofs.lemmas.List.Elements.{All-push}
-use Rattle.std.proofs.lemmas.Option.{same_Some}
-use Rattle.std.proofs.lemmas.Result.{err_from_is_err_and}
-use Rattle.f77_check.specs.Checked.{CheckedFields}
-use Rattle.f77_program.specs.Program.{LineFields, line_of}
-use Rattle.f77_tree.specs.Node.{NodeOf, node_of}
-use Rattle.f77_tree.specs.Sites.{changed}
-use Rattle.f77_tree.specs.Statement.{Statement, statement_of}
-use Rattle.f77_tree.specs.Replacement.{replacement_of}
-use Rattle.mothra_codes.specs.declared.op.Op.{Op}
-use Rattle.mothra_ops.specs.Edits.{IsMutant, IsTooLong, made, numbered}
-use Rattle.mothra_ops.specs.Made.{IsMadeMutant}
-use Rattle.mothra_replacements.specs.Pools.{pools_of}
-use Rattle.mothra_replacements.specs.Pools.{pool_fields}
-use Rattle.mothra_replacements.specs.Replacements.{gives}
-use Rattle.mothra_ops.specs.code.Original.{HasStatement, StandsAt}
-use Rattle.mothra_ops.specs.code.Drawn.{lines_of}
-use Rattle.mothra_ops.specs.declared.edit.Edit.{Edit}
-use Rattle.mothra_replacements.specs.declared.fault.OpsFault.TheVariants.{Memory, TooMany}
-use Rattle.mothra_ops.specs.declared.mutant.Mutant.{Mutant}
+use Rattle.mothra_ops.proofs.Common.{◌≡◌, ◌∙◌, ap, sym, List, map, arith, refl, Some, length, subst, ℕ, None, [], ◌+◌, ◌<◌, inr, ◌∷◌, Option, inl, ◌⊎◌, IfSome}
+use Rattle.mothra_ops.proofs.Common.{◌++◌, IfNone, set, length-set, All-push, same_Some, err_from_is_err_and, All, CheckedFields, line_of, LineFields, NodeOf}
+use Rattle.mothra_ops.proofs.Common.{node_of, replacement_of, changed, statement_of, Statement, Op, numbered, IsMadeMutant, made, IsMutant, IsTooLong, lines_of}
+use Rattle.mothra_ops.proofs.Common.{HasStatement, StandsAt, Edit, Mutant, pools_of, pool_fields, gives, Memory, TooMany}
 use Rattle.mothra_ops.proofs.Comings.{Adds, Overflows, come_first, come_kept, come_passed, come_too_long, node_done, no_list, no_list_of}
 use Rattle.mothra_ops.proofs.Cursor.{edit_at}
 use Rattle.mothra_ops.proofs.Made.{candidate_count, left_more, left_next}

@@ -1,14 +1,5 @@
-use Rattle.std.proofs.Common.{◌≡◌, ◌+◌, drop, length, map}
-use Rattle.std.specs.List.{All}
-use Rattle.f77_tree.specs.Node.{node_of}
-use Rattle.f77_tree.specs.Replacement.{replacement_of}
-use Rattle.f77_tree.specs.Statement.{statement_of}
-use Rattle.mothra_ops.specs.Copies.{copied}
-use Rattle.mothra_ops.specs.Made.{IsMadeMutant}
-use Rattle.mothra_ops.specs.code.Listing.{HasCome}
-use Rattle.mothra_ops.specs.code.Drawn.{lines_of}
-use Rattle.mothra_replacements.specs.Pools.{pool_fields}
-use Rattle.mothra_replacements.specs.Replacements.{gives}
+use Rattle.mothra_ops.proofs.Common.{◌≡◌, map, length, ◌+◌, drop, All, node_of, replacement_of, statement_of, IsMadeMutant, copied, lines_of, HasCome}
+use Rattle.mothra_ops.proofs.Common.{pool_fields, gives}
 use Rattle.mothra_ops.proofs.original.Original.list_site.Given as goal
 
 abbrev pub invariant-loop-k : goal.invariant-loop-k

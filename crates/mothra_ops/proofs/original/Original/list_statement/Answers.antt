@@ -1,9 +1,4 @@
-use Rattle.std.proofs.Common.{arith, ◌≡◌, length, map, ap, sym, ◌∙◌}
-use Rattle.std.proofs.lemmas.List.{length-map}
-use Rattle.std.proofs.lemmas.Result.{err_from_is_err_and}
-use Rattle.f77_tree.specs.Node.{node_of, nodes_of}
-use Rattle.f77_tree.specs.Statement.{statement_of}
-use Rattle.mothra_ops.specs.code.Drawn.{lines_of}
+use Rattle.mothra_ops.proofs.Common.{◌≡◌, ◌∙◌, ap, sym, map, arith, length, length-map, err_from_is_err_and, nodes_of, node_of, statement_of, lines_of}
 use Rattle.mothra_ops.proofs.Comings.{statement_done, no_list_of}
 use Rattle.mothra_ops.proofs.Made.{node_listed}
 use Rattle.mothra_ops.proofs.NodeLists.{nodes_are}

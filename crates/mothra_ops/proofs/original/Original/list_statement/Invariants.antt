@@ -1,9 +1,4 @@
-use Rattle.std.proofs.Common.{◌≡◌}
-use Rattle.std.specs.List.{All}
-use Rattle.mothra_ops.specs.Copies.{copied}
-use Rattle.mothra_ops.specs.Made.{IsMadeMutant}
-use Rattle.mothra_ops.specs.code.Listing.{HasCome}
-use Rattle.mothra_ops.specs.code.Drawn.{lines_of}
+use Rattle.mothra_ops.proofs.Common.{◌≡◌, All, IsMadeMutant, copied, lines_of, HasCome}
 use Rattle.mothra_ops.proofs.original.Original.list_statement.Given as goal
 
 abbrev pub invariant-loop-position : goal.invariant-loop-position

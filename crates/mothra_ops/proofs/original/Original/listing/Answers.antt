@@ -1,14 +1,5 @@
-use Rattle.std.proofs.Common.{arith, ◌≡◌, ◌+◌, ◌<◌, List, map, length, subst, ap, refl, sym, ◌∙◌}
-use Rattle.std.proofs.lemmas.List.{length-map}
-use Rattle.std.proofs.lemmas.List.Elements.{All-nil}
-use Rattle.std.proofs.lemmas.Result.{err_from_is_err_and}
-use Rattle.f77_program.specs.Program.{line_of}
-use Rattle.f77_tree.specs.Statement.{statement_of}
-use Rattle.f77_program.specs.declared.program.Line.{Line}
-use Rattle.mothra_ops.specs.Listing.{edits_in}
-use Rattle.mothra_ops.specs.Made.{IsMadeMutant}
-use Rattle.mothra_ops.specs.code.Original.{HasStatement}
-use Rattle.mothra_ops.specs.code.Drawn.{lines_of}
+use Rattle.mothra_ops.proofs.Common.{◌≡◌, ◌∙◌, ap, sym, List, map, arith, refl, length, subst, ◌+◌, ◌<◌, length-map, All-nil, err_from_is_err_and, line_of}
+use Rattle.mothra_ops.proofs.Common.{Line, statement_of, IsMadeMutant, edits_in, lines_of, HasStatement}
 use Rattle.mothra_ops.proofs.Comings.{come_at_start, come_to_end, counted_of, no_list_of}
 use Rattle.mothra_ops.proofs.Made.{line_has}
 use Rattle.mothra_ops.proofs.original.Original.listing.Goals as goal

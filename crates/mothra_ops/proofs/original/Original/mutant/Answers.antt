@@ -1,9 +1,4 @@
-use Rattle.std.proofs.Common.{arith, ◌≡◌, ◌≤◌, ◌<◌, length, inl, inr}
-use Rattle.std.specs.Prelude.{◌⊎◌}
-use Rattle.f77_tree.specs.Replacement.{replacement_of}
-use Rattle.mothra_replacements.specs.Pools.{pools_of}
-use Rattle.mothra_ops.specs.code.Drawn.{lines_of}
-use Rattle.mothra_replacements.specs.Pools.{pool_fields}
+use Rattle.mothra_ops.proofs.Common.{◌≡◌, arith, length, ◌≤◌, ◌<◌, inr, inl, ◌⊎◌, replacement_of, lines_of, pools_of, pool_fields}
 use Rattle.mothra_ops.proofs.Applied.{mutant_found, none_made}
 use Rattle.mothra_ops.proofs.CandidateMakes.{no_replacement, replacement_puts}
 use Rattle.mothra_ops.proofs.original.Original.mutant.Goals.{then-edit-eq0-via-then-edit-eq0, then-edit-eq0-via-else-edit-eq0+then-edit-len}

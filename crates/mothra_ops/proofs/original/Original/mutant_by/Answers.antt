@@ -1,15 +1,5 @@
-use Rattle.std.proofs.Common.{◌≡◌, ◌-◌, ◌∙◌, Bool, true, List, map, Option, None, Some, ap, refl, subst, sym}
-use Rattle.std.specs.Prelude.{IfNone, IfSome}
-use Rattle.std.proofs.lemmas.Option.{same_Some}
-use Rattle.f77_legal.specs.Alone.{StandsAlone}
-use Rattle.f77_program.specs.Program.{line_at, line_of}
-use Rattle.f77_program.specs.declared.program.Line.{Line}
-use Rattle.f77_tree.specs.Replacement.{replacement_of}
-use Rattle.f77_tree.specs.declared.replacement.Replacement.{Replacement}
-use Rattle.f77_tree.specs.Sites.{changed}
-use Rattle.f77_tree.specs.Statement.{statement_of, Statement}
-use Rattle.mothra_ops.specs.Copies.{copied}
-use Rattle.mothra_ops.specs.Edits.{IsMutant, numbered}
+use Rattle.mothra_ops.proofs.Common.{◌≡◌, ◌∙◌, ap, sym, List, map, refl, Some, subst, None, ◌-◌, Option, IfSome, true, Bool, IfNone, same_Some, StandsAlone}
+use Rattle.mothra_ops.proofs.Common.{line_of, line_at, Line, replacement_of, changed, statement_of, Statement, Replacement, numbered, IsMutant, copied}
 use Rattle.mothra_ops.proofs.Copied.{copy_there, put_there}
 use Rattle.mothra_ops.proofs.MadeBy.{fits_there, mutant_there, none_there}
 use Rattle.mothra_ops.proofs.MakesMutant.{line_stands, no_line}

@@ -1,12 +1,8 @@
-use Rattle.std.proofs.Common.{rules, tests, ◌≡◌, subst, Bor}
-use Rattle.std.specs.Prelude.{IfSome}
-use Rattle.std.specs.List.{All}
+use Rattle.mothra_ops.proofs.Common.{◌≡◌, subst, IfSome, rules, tests, All, IsMadeMutant, list_fields, IsMadeList, PlanFields, list_of_operator, Listing}
+use Rattle.std.proofs.Common.{Bor}
 use Rattle.std.specs.Option.{option_map}
 use Rattle.std.proofs.lemmas.Iterator.{YieldsList-from_slice}
 use Rattle.std.proofs.lemmas.Iterator.Search.{find_from_yields_List}
-use Rattle.mothra_ops.specs.Made.{IsMadeList, IsMadeMutant}
-use Rattle.mothra_ops.specs.Plan.{PlanFields, list_fields, list_of_operator}
-use Rattle.mothra_ops.specs.declared.listing.Listing.{Listing}
 use Rattle.mothra_ops.proofs.Plans.{fields_found, holds_of_found, is_of}
 use Rattle.mothra_ops.proofs.plan.Plan.list.Goals as goal
 

@@ -1,10 +1,5 @@
-use Rattle.std.proofs.Common.{arith, ◌≡◌, ◌∙◌, List, ap, sym}
-use Rattle.std.specs.Borrow.{Bor}
+use Rattle.mothra_ops.proofs.Common.{◌≡◌, ◌∙◌, ap, sym, List, arith, Bor, numbered, IsMadeMutant, mutant_fields, Mutant}
 use Rattle.std.specs.Option.{option_map}
-use Rattle.mothra_ops.specs.Edits.{numbered}
-use Rattle.mothra_ops.specs.Made.{IsMadeMutant}
-use Rattle.mothra_ops.specs.Mutants.{mutant_fields}
-use Rattle.mothra_ops.specs.declared.mutant.Mutant.{Mutant}
 use Rattle.mothra_ops.proofs.Numbered.{edit_there, found_numbered, holds_there, mutant_listed, seen}
 use Rattle.mothra_ops.proofs.Shapes.{shapes_found}
 use Rattle.mothra_ops.proofs.plan.Plan.mutant.Goals.{After-get}

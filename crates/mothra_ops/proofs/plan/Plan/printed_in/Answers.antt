@@ -1,14 +1,7 @@
-use Rattle.std.proofs.Common.{◌≡◌, ◌∙◌, List, ap, map, subst}
-use Rattle.std.specs.Prelude.{IfOk}
+use Rattle.mothra_ops.proofs.Common.{◌≡◌, ◌∙◌, ap, List, map, subst, IfOk, same_Some, line_of, NodeOf, replacement_of, statement_of, Statement, numbered}
+use Rattle.mothra_ops.proofs.Common.{statements_in, changed_at}
 use Rattle.std.specs.String.{string_bytes}
-use Rattle.std.proofs.lemmas.Option.{same_Some}
 use Rattle.f77_program.specs.Canonical.{statement_text}
-use Rattle.f77_program.specs.Program.{line_of}
-use Rattle.f77_tree.specs.Node.{NodeOf}
-use Rattle.f77_tree.specs.Replacement.{replacement_of}
-use Rattle.f77_tree.specs.Statement.{Statement, statement_of}
-use Rattle.mothra_ops.specs.Copies.{changed_at, statements_in}
-use Rattle.mothra_ops.specs.Edits.{numbered}
 use Rattle.mothra_ops.proofs.Copied.{mutant_in_copy}
 use Rattle.mothra_ops.proofs.plan.Plan.printed_in.Goals.{In-Some}
 use Rattle.mothra_ops.proofs.plan.Plan.printed_in.Goals as goal

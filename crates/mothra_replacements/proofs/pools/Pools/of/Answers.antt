@@ -1,11 +1,6 @@
-use Rattle.std.proofs.Common.{◌≡◌, List, map, ap, ◌∙◌}
-use Rattle.std.specs.List.{filter_map}
-use Rattle.f77_tree.specs.Comparing.{same_tree}
-use Rattle.f77_tree.specs.Node.{NodeOf, node_of}
+use Rattle.mothra_replacements.proofs.Common.{◌≡◌, map, List, ap, ◌∙◌, filter_map, line_of, same_tree, NodeOf, node_of, scalar, ascending, each_once}
+use Rattle.mothra_replacements.proofs.Common.{operand_at, Operand}
 use Rattle.f77_tree.specs.declared.node.Node.{Node}
-use Rattle.f77_program.specs.Program.{line_of}
-use Rattle.mothra_replacements.specs.Pools.{ascending, each_once, operand_at, scalar}
-use Rattle.mothra_replacements.specs.declared.operands.Operand.{Operand}
 use Rattle.mothra_replacements.specs.declared.operands.Operand.TheVariants as operand
 use Rattle.mothra_replacements.proofs.PoolLines.{scalars_are, arrays_are, pools_are}
 use Rattle.mothra_replacements.proofs.pools.Pools.of.Goals as goal

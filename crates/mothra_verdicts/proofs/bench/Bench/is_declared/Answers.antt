@@ -1,9 +1,5 @@
-use Rattle.std.proofs.Common.{◌≡◌, ◌∙◌, List, ap, subst}
-use Rattle.mothra_ops.specs.Mutants.{original_number}
+use Rattle.mothra_verdicts.proofs.Common.{◌≡◌, subst, List, ◌∙◌, ap, Ticket, original_number, BenchFields, AreNamed}
 use Rattle.mothra_codes.specs.Ticket.{ticket}
-use Rattle.mothra_codes.specs.declared.ticket.Ticket.{Ticket}
-use Rattle.mothra_verdicts.specs.Bench.{BenchFields}
-use Rattle.mothra_verdicts.specs.Equivalents.{AreNamed}
 use Rattle.mothra_verdicts.proofs.BenchSets.{declared_by, none_declared}
 use Rattle.mothra_verdicts.proofs.bench.Bench.is_declared.Goals as goal
 

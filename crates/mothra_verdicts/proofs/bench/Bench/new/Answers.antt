@@ -1,10 +1,4 @@
-use Rattle.std.proofs.Common.{List, rules, subst}
-use Rattle.std.specs.Prelude.{All}
-use Rattle.f77_meaning.specs.declared.argument.Arg.{Arg}
-use Rattle.mothra_codes.specs.declared.ticket.Ticket.{Ticket}
-use Rattle.mothra_ops.specs.Mutants.{program_of}
-use Rattle.mothra_verdicts.specs.Bench.{AreOutcomes, FitsProgram, IsNoBench}
-use Rattle.mothra_verdicts.specs.code.Equivalents.{IsNoEntry}
+use Rattle.mothra_verdicts.proofs.Common.{subst, List, All, rules, Arg, Ticket, program_of, FitsProgram, AreOutcomes, IsNoBench, IsNoEntry}
 use Rattle.mothra_verdicts.proofs.BenchFaults.{entry_fault}
 use Rattle.mothra_verdicts.proofs.bench.Bench.new.Goals as goal
 

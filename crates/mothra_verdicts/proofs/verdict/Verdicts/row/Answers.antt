@@ -1,8 +1,4 @@
-use Rattle.std.proofs.Common.{sym, ap, subst, ◌∙◌}
-use Rattle.mothra_ops.specs.Mutants.{mutant_fields, mutant_of}
-use Rattle.mothra_ops.specs.Plan.{PlanFields}
-use Rattle.mothra_verdicts.specs.Bench.{BenchFields}
-use Rattle.mothra_verdicts.specs.Verdict.{IsVerdict}
+use Rattle.mothra_verdicts.proofs.Common.{subst, sym, ◌∙◌, ap, mutant_fields, mutant_of, PlanFields, BenchFields, IsVerdict}
 use Rattle.mothra_verdicts.proofs.verdict.Verdicts.row.Goals as goal
 
 pub returns-clause-kills : goal.returns-clause-kills
