@@ -1,8 +1,8 @@
--- Which slots a write may be to.
+-- Several slots.
 use Rattle.std.specs.Prelude.{◌+◌, ◌≤◌, ◌<◌, ℕ}
-use Rattle.f77_facts.specs.declared.assigning.Reach.{Reach}
+use Rattle.f77_facts.specs.declared.assigning.Slots.{Slots}
 
 -- the slot is one of these
-pub record IsSlotReached (reach : Reach) (k : ℕ) : Type 0 where
-  pub above : reach.first ≤ k
-  pub below : k < reach.first + reach.count
+pub record HasSlot (slots : Slots) (k : ℕ) : Type 0 where
+  pub above : slots.first ≤ k
+  pub below : k < slots.first + slots.count

@@ -3,14 +3,14 @@
 ghost use Rattle.std.specs.Prelude.{◌≤◌, ℕ, length, slice_set, Option, IfSome};
 ghost use Rattle.f77_actions.specs.declared.value.Value.{Value};
 ghost use Rattle.f77_code.specs.Moves.{Cells};
-ghost use Rattle.f77_facts.specs.{AreIn, SuitsFact, IsSlotReached};
+ghost use Rattle.f77_facts.specs.{AreIn, SuitsFact, HasSlot};
 ghost use Rattle.f77_facts.specs.code.{Widens};
 
 use crate::facts::{Fact, fact_at, hull_of, set};
 
-/// One of `count` slots, from `first` on.
+/// So many slots from the first one on.
 #[derive(Clone, Copy, Debug, PartialEq, Eq)]
-pub struct Reach {
+pub struct Slots {
     pub first: usize,
     pub count: usize,
 }
@@ -29,14 +29,14 @@ fn widen(facts: &mut [Fact], from: usize, end: usize, fact: Fact) -> Option<()>
 
 /// One of these slots is given what suits the fact. It is not told what is known then where they are several, and the
 /// fact of one is of another kind.
-pub fn assign(facts: &mut [Fact], reach: Reach, fact: Fact) -> Option<()>
+pub fn assign(facts: &mut [Fact], slots: Slots, fact: Fact) -> Option<()>
     ensures { IfSome result (λ _. (cells : Cells) (k : ℕ) (cell : Option Value) → AreIn facts.old cells
-        → IsSlotReached reach k → SuitsFact fact cell → AreIn facts.new (slice_set cells k cell)) }
+        → HasSlot slots k → SuitsFact fact cell → AreIn facts.new (slice_set cells k cell)) }
 {
-    if reach.count == 1 {
-        set(facts, reach.first, fact);
+    if slots.count == 1 {
+        set(facts, slots.first, fact);
         return Some(());
     }
-    let end = reach.first.saturating_add(reach.count).min(facts.len());
-    widen(facts, reach.first, end, fact)
+    let end = slots.first.saturating_add(slots.count).min(facts.len());
+    widen(facts, slots.first, end, fact)
 }

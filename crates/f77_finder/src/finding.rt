@@ -1,92 +1,88 @@
 //! Finds what is known at each cut of a program.
 
-use crate::apart::lies_in;
-use crate::reached::{Manner, Reached, follow, order_of, reach};
-use crate::search::Search;
+use crate::reached::{Reached, next_waiting, reach};
+use crate::thresholds::thresholds_of;
 use f77_check::Checked;
+use f77_code::Place;
+use f77_equivalence::start::starting_entry;
 use f77_facts::entries::Entry;
-use f77_facts::facts::is_empty;
+use f77_symbolic::cuts::cuts_of;
+use f77_symbolic::visiting::entries_behind;
 use std::alloc::{AllocError, Global};
 
 /// So many entries are gone on from for each statement, at most.
 const LOOKS: usize = 128;
 
-/// How often entries are made anew.
-const ROUNDS: usize = 3;
+/// So much work the walks from all entries may take.
+const WORK: u64 = 1_000_000;
 
-/// How many entries a cut has at most.
-const MOST_APART: usize = 4;
+/// A search for what is known at the cuts of a program.
+#[derive(Drop)]
+struct Search<'a> {
+    alloc: Global,
+    checked: &'a Checked,
+    cuts: Vec<Place>,
+    /// What bounds may be widened to.
+    thresholds: Vec<i64>,
+    list: Vec<Reached>,
+    /// So much work is left.
+    left: u64,
+}
 
-/// How many facts are kept at most where a cut has more than one entry.
-const MOST_FACTS: usize = 4_000_000;
+impl<'a> Search<'a> {
+    /// Follows control from the cut of this number, which waits no more. False where the work that is left does not do.
+    fn go_on(&mut self, number: usize) -> Result<bool, AllocError> {
+        let Some(reached) = self.list.get_mut(number) else {
+            return Ok(false);
+        };
+        reached.waits = false;
+        let statements = self.checked.statements();
+        let entry = &reached.entry;
+        let moves = entries_behind(self.alloc, statements, &self.cuts, entry, &mut self.left)?;
+        let Some(moves) = moves else {
+            return Ok(false);
+        };
+        for entry in moves {
+            reach(&mut self.list, entry, &self.thresholds)?;
+        }
+        Ok(true)
+    }
 
-/// What is known where runs start, behind the ways from those that are kept that lead back in the program, and where
-/// control comes from there. None where that is not found soon enough.
-fn found(
-    search: &mut Search<'_>,
-    kept: &[Reached],
-    manner: Manner,
-) -> Result<Option<Vec<Reached>>, AllocError> {
-    let mut list = Vec::new(search.alloc);
-    list.push(Reached::new(search.alloc, &search.start)?)?;
-    for reached in kept {
-        for entry in reached.moves.iter() {
-            if order_of(entry) <= order_of(&reached.entry) {
-                reach(search, &mut list, entry, Manner::Forward(1))?;
+    /// Follows control until no cut waits. False where that is not found soon enough.
+    fn follow(&mut self) -> Result<bool, AllocError> {
+        for _look in 0..self.checked.count().saturating_mul(LOOKS) {
+            let Some(number) = next_waiting(&self.list) else {
+                return Ok(true);
+            };
+            if !self.go_on(number)? {
+                return Ok(false);
             }
         }
+        Ok(next_waiting(&self.list).is_none())
     }
-    let most = search.checked.count().saturating_mul(LOOKS);
-    if follow(search, &mut list, manner, most)? {
-        return Ok(Some(list));
-    }
-    Ok(None)
-}
-
-/// The entry lies in one of the list, or allows nothing.
-fn is_covered(list: &[Reached], entry: &Entry) -> bool {
-    is_empty(&entry.facts)
-        || list.iter().any(|own| own.entry.place == entry.place && lies_in(entry, &own.entry))
-}
-
-/// Control comes from each entry into entries.
-fn is_inductive(list: &[Reached]) -> bool {
-    list.iter().all(|own| own.moves.iter().all(|entry| is_covered(list, entry)))
-}
-
-/// The entries, made anew a few times, and so narrower, as long as control comes from them into them.
-fn narrowed(
-    search: &mut Search<'_>,
-    list: Vec<Reached>,
-    room: usize,
-) -> Result<Vec<Reached>, AllocError> {
-    let mut kept = list;
-    for _round in 0..ROUNDS {
-        match found(search, &kept, Manner::Forward(room))? {
-            Some(narrower) if is_inductive(&narrower) => kept = narrower,
-            _ => return Ok(kept),
-        }
-    }
-    Ok(kept)
 }
 
 /// What is known where a run of the program starts and of each cut to which control comes from there: an entry for each
-/// cut, or a few that are kept apart, or the start alone where the search would take too long. Nothing is claimed of
-/// them: they are to be checked.
+/// cut, or that of the start alone where the search would take too long. Nothing is claimed of them: they are to be
+/// checked.
 pub fn entries_of(alloc: Global, checked: &Checked) -> Result<Vec<Entry>, AllocError> {
-    let mut search = Search::of(alloc, checked)?;
-    let mut entries = Vec::new(alloc);
-    let Some(widened) = found(&mut search, &[], Manner::Widened)? else {
-        entries.push(search.start)?;
-        return Ok(entries);
+    let thresholds = thresholds_of(alloc, checked)?;
+    let mut list = Vec::new(alloc);
+    reach(&mut list, starting_entry(alloc, checked)?, &thresholds)?;
+    let mut search = Search {
+        alloc,
+        checked,
+        cuts: cuts_of(alloc, checked.statements(), checked.start().entry, true)?,
+        thresholds,
+        list,
+        left: WORK,
     };
-    let facts = search.start.facts.len().saturating_add(checked.count());
-    let room = (MOST_FACTS / facts.saturating_mul(search.cuts.len()).max(1)).min(MOST_APART);
-    let mut list = narrowed(&mut search, widened, 1)?;
-    if room > 1 {
-        list = narrowed(&mut search, list, room)?;
+    let mut entries = Vec::new(alloc);
+    if !search.follow()? {
+        entries.push(starting_entry(alloc, checked)?)?;
+        return Ok(entries);
     }
-    for reached in list {
+    for reached in search.list {
         entries.push(reached.entry)?;
     }
     Ok(entries)

@@ -1,9 +1,7 @@
 //! Finds what is known at each cut of a program. Nothing is claimed of what is found: it is to be checked.
 #![tactic(auto)]
 
-mod apart;
 pub mod finding;
 mod reached;
-mod search;
 mod thresholds;
 mod widening;

@@ -6,7 +6,7 @@ pub use Rattle.std.proofs.Common.{IfOk, drop, ◌*◌, is_some, Contains, not, A
 pub use Rattle.std.proofs.Common.{◌↔◌, IsTrue}
 pub use Rattle.std.proofs.Math.IntN.{nat_abs, zero-*ℤ}
 pub use Rattle.std.proofs.lemmas.Bool.{cases_eq, ltb-true, lt-ltb, false_from_ne_true, true_from_ne_false, cond-true, cond-false, ltb-false, le-ltb, not-true}
-pub use Rattle.std.proofs.lemmas.Int.{ints, to_z-of_z, clamps, rem_below, quot-rem, quot_is, quot_fits}
+pub use Rattle.std.proofs.lemmas.Int.{ints, to_z-of_z, clamps, rem_below, quot-rem}
 pub use Rattle.std.proofs.lemmas.List.{take_all, take_more, map-append, length-set, set-set, set_comm, get_or_append_left, length_push, map-set, drop_more}
 pub use Rattle.std.proofs.lemmas.List.{drop_all}
 pub use Rattle.std.proofs.lemmas.List.Elements.{All-pop, All-push, All-more, All-weaker, All-nil, All-contains, All-contains_itself}
@@ -31,6 +31,7 @@ pub use Rattle.f77_code.specs.declared.control.Turn.{Turn}
 pub use Rattle.f77_equivalence.specs.Changed.{IsEnding, HoldAlike, IsChange}
 pub use Rattle.f77_facts.specs.Facts.{AreIn, number_of, SuitsFact, Lies, Implies}
 pub use Rattle.f77_facts.specs.Loops.{AreLeft, SuitsTurn}
+pub use Rattle.f77_facts.specs.declared.assigning.Slots.{Slots}
 pub use Rattle.f77_facts.specs.declared.entries.Entry.{Entry}
 pub use Rattle.f77_facts.specs.declared.facts.Fact.{Fact}
 pub use Rattle.f77_program.specs.Program.{line_of, LineFields}
@@ -52,7 +53,6 @@ pub use Rattle.f77_symbolic.specs.declared.memory.Write.{Write}
 pub use Rattle.f77_symbolic.specs.declared.sides.Side.{Side}
 pub use Rattle.f77_symbolic.specs.declared.sides.Step.{Step}
 pub use Rattle.f77_symbolic.specs.declared.sides.SymbolicTurn.{SymbolicTurn}
-pub use Rattle.f77_symbolic.specs.declared.values.Slots.{Slots}
 pub use Rattle.f77_symbolic.specs.declared.visiting.Visit.{Visit}
 pub use Rattle.f77_symbolic.specs.declared.visiting.Visits.{Visits}
 pub use Rattle.f77_symbolic.specs.declared.walking.Pair.{Pair}

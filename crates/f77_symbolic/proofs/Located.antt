@@ -13,11 +13,6 @@ pub slot_within : (first count : ℕ) (z : ℤ) → pos 0 ≤ℤ z → z <ℤ po
 slot_within first count (pos k) above below = omega (arith, ints, above, below)
 slot_within first count (negsuc k) above below = absurd (omega (arith, ints, above))
 
--- it is this one of them
-pub slot_at : (first k : ℕ) (z : ℤ) → z ≡ pos k → slot_behind first z ≡ first + k
-slot_at first k (pos n) e = omega (arith, ints, e)
-slot_at first k (negsuc n) e = absurd (omega (arith, ints, e))
-
 -- how far one slot lies behind another
 abbrev pub distance : ℕ → ℕ → ℤ → ℤ → ℤ
 distance first other z w = (pos first -ℤ pos other) +ℤ pos 1 *ℤ (pos 1 *ℤ z +ℤ negsuc 0 *ℤ w)

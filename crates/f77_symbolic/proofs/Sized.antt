@@ -1,9 +1,8 @@
 -- Sizes of numbers, of quotients and of what divisions leave.
 use Rattle.f77_symbolic.proofs.Common.{arith, ◌≡◌, ◌≢◌, ◌<◌, ◌≤◌, ◌/◌, ◌%◌, ◌⊎◌, inl, inr, ℕ, zero, suc, List, [], ◌∷◌, length, Some, ℤ, pos, negsuc, neg_ℤ}
-use Rattle.f77_symbolic.proofs.Common.{refl, sym, subst, ap, ◌∙◌, ◌+ℤ◌, ◌-ℤ◌, ◌*ℤ◌, ◌≤ℤ◌, int_div, int_rem, unsigned_abs, slice_get, int_max, int_min, ints}
-use Rattle.f77_symbolic.proofs.Common.{clamps, rem_below, Valuation, monomial_value, part_value, parts_value, sum_value, LiesBetween}
-use Rattle.std.proofs.Math.Nat.{div-mul-le_self, div-le_self, mul-le-mul_left, mod-le}
-use Rattle.std.proofs.lemmas.Nat.{le-div}
+use Rattle.f77_symbolic.proofs.Common.{refl, sym, subst, ap, ◌∙◌, ◌+ℤ◌, ◌-ℤ◌, ◌*ℤ◌, ◌≤ℤ◌, int_div, int_rem, unsigned_abs, int_max, int_min, ints}
+use Rattle.f77_symbolic.proofs.Common.{clamps, rem_below, slice_get, Valuation, monomial_value, part_value, parts_value, sum_value, LiesBetween}
+use Rattle.std.proofs.Math.Nat.{div-le_self, mod-le}
 use Rattle.f77_terms.specs.declared.terms.Part.{Part}
 use Rattle.f77_terms.specs.declared.terms.Term.{Term}
 
@@ -15,11 +14,6 @@ size_apart : (y : ℤ) → y ≢ pos 0 → 0 < unsigned_abs y
 size_apart (pos zero) e = absurd (e refl)
 size_apart (pos (suc n)) e = omega arith
 size_apart (negsuc n) e = omega arith
-
--- no number of a range is of less size than the end that is nearer to 0
-pub sized_least : (low high size x : ℤ) → size ≡ int_max (int_max low (pos 0 -ℤ high)) (pos 0) → LiesBetween low x high → size ≤ℤ pos (unsigned_abs x)
-sized_least low high size (pos n) is between = omega (arith, ints, clamps, is, between.below, between.above)
-sized_least low high size (negsuc n) is between = omega (arith, ints, clamps, is, between.below, between.above)
 
 -- the lesser of two numbers in ranges
 pub min_between : (a b c d low high x y : ℤ) → low ≡ int_min a c → high ≡ int_min b d → LiesBetween a x b → LiesBetween c y d → LiesBetween low (int_min x y) high
@@ -52,27 +46,15 @@ rem_within x y a b size apart first second is =
     let s = rem_below x y (size_apart y apart) in
     omega (arith, ints, clamps, is, first, second, f, s)
 
--- a quotient is at most the dividend's share in size
-shares : (n s l m : ℕ) → n ≤ s → 0 < l → l ≤ m → n / m ≤ s / l
-shares n s l m less some more = le-div (n / m) s l some (omega (arith, less, div-mul-le_self n m, mul-le-mul_left (n / m) more))
+-- a quotient is at most the dividend in size
+quot_sized : (x y : ℤ) → unsigned_abs (int_div x y) ≤ unsigned_abs x
+quot_sized (pos n) (pos m) = div-le_self n m
+quot_sized (pos n) (negsuc m) = subst (λ k. k ≤ n) (sym (size_neg (n / suc m))) (div-le_self n (suc m))
+quot_sized (negsuc n) (pos m) = subst (λ k. k ≤ suc n) (sym (size_neg (suc n / m))) (div-le_self (suc n) m)
+quot_sized (negsuc n) (negsuc m) = div-le_self (suc n) (suc m)
 
-quot_sized : (x y : ℤ) (s l : ℕ) → unsigned_abs x ≤ s → 0 < l → l ≤ unsigned_abs y → unsigned_abs (int_div x y) ≤ s / l
-quot_sized (pos n) (pos m) s l less some more = shares n s l m less some more
-quot_sized (pos n) (negsuc m) s l less some more = subst (λ k. k ≤ s / l) (sym (size_neg (n / suc m))) (shares n s l (suc m) less some more)
-quot_sized (negsuc n) (pos m) s l less some more = subst (λ k. k ≤ s / l) (sym (size_neg (suc n / m))) (shares (suc n) s l m less some more)
-quot_sized (negsuc n) (negsuc m) s l less some more = shares (suc n) s l (suc m) less some more
-
-pub quot_within : (x y a b size : ℤ) → y ≢ pos 0 → pos (unsigned_abs x) ≤ℤ a → b ≤ℤ pos (unsigned_abs y) → size ≡ int_div a (int_max b (pos 1))
-    → pos (unsigned_abs (int_div x y)) ≤ℤ size
-quot_within x y a b size apart first second is = by a (int_max b (pos 1)) first (omega (arith, ints, clamps)) (omega (arith, ints, clamps, second, some)) is
-  where
-    some : 0 < unsigned_abs y
-    some = size_apart y apart
-
-    by : (c d : ℤ) → pos (unsigned_abs x) ≤ℤ c → pos 1 ≤ℤ d → d ≤ℤ pos (unsigned_abs y) → size ≡ int_div c d → pos (unsigned_abs (int_div x y)) ≤ℤ size
-    by (pos s) (pos l) f g h e = let q = quot_sized x y s l (omega (arith, ints, f)) (omega (arith, ints, g)) (omega (arith, ints, h)) in omega (arith, ints, e, q)
-    by (negsuc s) d f g h e = absurd (omega (arith, ints, f))
-    by c (negsuc l) f g h e = absurd (omega (arith, ints, g))
+pub quot_within : (x y a : ℤ) → pos (unsigned_abs x) ≤ℤ a → pos (unsigned_abs (int_div x y)) ≤ℤ a
+quot_within x y a first = let q = quot_sized x y in omega (arith, ints, first, q)
 
 -- a quotient of two numbers of the same sign is not below 0, and one of numbers of both signs not above it
 pub quot_above : (x y : ℤ) → y ≢ pos 0 → ((pos 0 ≤ℤ x) × (pos 0 ≤ℤ y)) ⊎ ((x ≤ℤ pos 0) × (y ≤ℤ pos 0)) → pos 0 ≤ℤ int_div x y

@@ -28,7 +28,7 @@ const LEAST: i64 = -2147483648;
 const GREATEST: i64 = 2147483647;
 
 /// A product of more factors is given up.
-const MOST_FACTORS: i64 = 4;
+const MOST_FACTORS: i64 = 2;
 
 /// What a division gives, and what it leaves.
 #[derive(Drop)]
@@ -73,6 +73,7 @@ fn is_turned(term: &Term) -> bool {
     }
 }
 
+#[tactic(auto, using(crate::proofs::Extending::extending))]
 impl Evaluator {
     /// The term, if INTEGER holds it.
     pub(crate) fn ranged(&mut self, term: Term) -> Result<Term, Halt>

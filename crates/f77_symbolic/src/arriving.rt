@@ -4,7 +4,6 @@ ghost use Rattle.std.specs.Prelude.{◌<◌, ◌≤ℤ◌, not, pos, vec_len, op
 ghost use Rattle.f77_actions.specs.declared.value.Value.TheVariants.{Truth};
 ghost use Rattle.f77_actions.specs.Number.{is_same};
 ghost use Rattle.f77_code.specs.Moves.{Cells};
-ghost use Rattle.f77_facts.specs.Assigning.{IsSlotReached};
 ghost use Rattle.f77_facts.specs.Facts.{AreIn, SuitsFact, number_of};
 ghost use Rattle.f77_facts.specs.Loops.{AreLeft, SuitsTurn};
 ghost use Rattle.f77_terms.specs.Atoms.{FitsTable};
@@ -16,12 +15,12 @@ ghost use Rattle.f77_symbolic.specs.{content_of, slot_of, passes_left, state_of,
 ghost use Rattle.f77_symbolic.specs.{IsOfEntry};
 ghost use Rattle.f77_symbolic.specs.code.{Extends};
 
-use crate::bounding::{narrow_slot, reach_within};
+use crate::bounding::narrow_slot;
 use crate::evaluator::Evaluator;
 use crate::halt::{Halt, unless_unknown};
-use crate::memory::{Location, Symbolic, Write};
+use crate::memory::{Symbolic, Write, slots_of};
 use crate::sides::{Side, SymbolicTurn};
-use f77_facts::assigning::{Reach, assign};
+use f77_facts::assigning::assign;
 use f77_facts::entries::Entry;
 use f77_facts::facts::{Fact, filled};
 use f77_facts::loops::LoopFact;
@@ -33,9 +32,7 @@ use f77_terms::terms::Term;
 use f77_tree::{Kind, Shared};
 use std::alloc::AllocError;
 
-/// No DO begins with more passes.
-const MOST_PASSES: i64 = 4294967296;
-
+#[tactic(auto, using(crate::proofs::Extending::extending))]
 impl Evaluator {
     /// The least number that a term may be, which INTEGER holds.
     fn low_of(&self, term: &Term, range: Option<Range>) -> Result<i64, Halt>
@@ -90,19 +87,6 @@ impl Evaluator {
         }
     }
 
-    /// The slots of a location: some of them only, if its index is known so well.
-    fn reach_of(&self, location: &Location) -> Reach
-        ensures { (v : Valuation) → Holds v self.now.path → IsInside v location.now
-            → IsSlotReached result (slot_of v location.now) }
-    {
-        let first = location.first;
-        let count = location.count;
-        match term_range(&self.path.known, &location.index) {
-            Some(range) => reach_within(first, count, range),
-            None => Reach { first, count },
-        }
-    }
-
     /// What is known of a value.
     fn fact_of(&self, value: &Symbolic) -> Result<Fact, Halt>
         ensures { IfOk result (λ fact. (v : Valuation) → Holds v self.now.path
@@ -121,7 +105,7 @@ impl Evaluator {
             → AreIn facts.new (slice_set cells (slot_of v write.now.location) (content_of v write.now.value))) }
     {
         let fact = self.fact_of(&write.value)?;
-        assign(facts, self.reach_of(&write.location), fact).ok_or(Halt::Unknown)
+        assign(facts, slots_of(&write.location), fact).ok_or(Halt::Unknown)
     }
 
     /// Takes into account what is known of an atom.
@@ -169,16 +153,12 @@ impl Evaluator {
         ensures { IfOk result (λ range. (v : Valuation) → Holds v self.now.path
             → IsIn range (pos (passes_left (sum_value v passes.now)))) }
     {
-        if let Some(range) = term_range(&self.path.known, passes) {
-            return Ok(Range {
-                low: range.low.max(0),
-                high: range.high.max(0),
-            });
-        }
-        unless_unknown(is_bounded(self.alloc, &self.path, 1, passes, -MOST_PASSES)?)?;
+        let Some(range) = term_range(&self.path.known, passes) else {
+            return Err(Halt::Unknown);
+        };
         Ok(Range {
-            low: 0,
-            high: MOST_PASSES,
+            low: range.low.max(0),
+            high: range.high.max(0),
         })
     }
 

@@ -4,10 +4,11 @@ ghost use Rattle.std.specs.Prelude.{◌≡◌, ◌<◌, length, slice_set, IfOk}
 ghost use Rattle.f77_symbolic.specs.code.{IsReady};
 
 use crate::halt::{Halt, unless_unknown};
-use crate::values::{Slots, dummies_of};
+use crate::values::dummies_of;
 use f77_actions::Resolved;
 use f77_check::Checked;
 use f77_equivalence::ways::{goes_on_alike, resolved_in, statement_at};
+use f77_facts::assigning::Slots;
 use f77_tree::Shared;
 use std::alloc::Global;
 

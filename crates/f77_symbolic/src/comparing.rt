@@ -13,7 +13,7 @@ use crate::samples::Sign;
 use f77_actions::{Connective, Relation};
 use f77_terms::knowing::{constant_of, is_bounded};
 use f77_terms::paths::{is_apart, is_zero};
-use f77_terms::terms::{Term, copy, is_same_term};
+use f77_terms::terms::{Term, copy};
 use std::cmp::Ordering;
 
 impl Evaluator {
@@ -107,9 +107,6 @@ impl Evaluator {
         ensures { IfOk result (λ yes. yes ≡ true → (v : Valuation) → Holds v self.now.path
             → sum_value v b.now ≡ sum_value v a.now) }
     {
-        if is_same_term(a, b) {
-            return Ok(true);
-        }
         let between = self.combination(1, a, -1, b)?;
         if self.samples.show(1, &between, 0, Sign::NotZero) {
             return Ok(false);

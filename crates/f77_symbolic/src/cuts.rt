@@ -139,6 +139,7 @@ pub fn cuts_of(
     Ok(places)
 }
 
+#[tactic(auto, using(crate::proofs::Extending::extending))]
 impl Evaluator {
     /// A number of the range: a constant, or what stands behind the slots where the walk starts.
     fn unknown_number(&mut self, number: usize, range: Range) -> Result<Term, Halt>

@@ -1,6 +1,6 @@
 //! Whether a program with one statement changed is equivalent, and how many steps are to be spared.
 
-ghost use Rattle.std.specs.Prelude.{◌≡◌, ◌≤ℤ◌, ◌⊎◌, ℕ, pos, All, List, map, Some, IfOk, IfSome};
+ghost use Rattle.std.specs.Prelude.{◌≡◌, ◌≤ℤ◌, ◌⊎◌, pos, All, map, Some, IfOk, IfSome};
 ghost use Rattle.f77_check.specs.Checked.{CheckedFields};
 ghost use Rattle.f77_check.specs.Patching.{IsInPlace};
 ghost use Rattle.f77_equivalence.specs.Equivalent.{IsEquivalentWithin};
@@ -65,6 +65,7 @@ fn pairs_at(alloc: Global, visits: &[Visit], place: usize) -> Result<Vec<Pair>, 
 
 impl Visits {
     /// An evaluator that knows what the visits know, in memory of its own.
+    #[tactic(auto, using(crate::proofs::Extending::extending))]
     fn evaluator(&self, alloc: Global) -> Result<Evaluator, AllocError>
         ensures { IfOk result (λ evaluator. Extends self.now.atoms evaluator.atoms) }
     {

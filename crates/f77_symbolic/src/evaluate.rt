@@ -1,7 +1,6 @@
 //! What expressions mean, by terms.
 
-ghost use Rattle.std.specs.Prelude.{◌∷◌, ◌+◌, ◌+ℤ◌, ◌-ℤ◌, ◌*ℤ◌, ◌≤ℤ◌, ◌<ℤ◌, ◌≡◌, pos, [], Ok, Option, None, IfOk};
-ghost use Rattle.f77_actions.specs.declared.value.Value.{Value};
+ghost use Rattle.std.specs.Prelude.{◌∷◌, ◌+◌, ◌+ℤ◌, ◌-ℤ◌, ◌*ℤ◌, ◌≤ℤ◌, ◌<ℤ◌, ◌≡◌, pos, [], Ok, None, IfOk};
 ghost use Rattle.f77_actions.specs.Value as meaning;
 ghost use Rattle.f77_actions.specs.Value.{element, given};
 ghost use Rattle.f77_code.specs.Evaluation.{number_in, slot_in, truth_in};
@@ -39,6 +38,7 @@ fn located(alloc: Global, first: usize, count: usize, index: Term) -> Result<Loc
     }
 }
 
+#[tactic(auto, using(crate::proofs::Extending::extending))]
 impl Evaluator {
     /// There is a fault unless the subscript is from 1 to the bound.
     fn expect_subscript(&mut self, subscript: &Term, bound: u32) -> Result<(), Halt>

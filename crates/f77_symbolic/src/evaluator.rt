@@ -11,10 +11,8 @@ use crate::samples::{Samples, Sign, Wanted};
 use f77_facts::facts::Fact;
 use f77_terms::atoms::{Key, Table, interned};
 use f77_terms::copying::copied_path;
-use f77_terms::knowing::{
-    constant_of, is_bounded, is_plainly_bounded, know_unequal, plus_constant,
-};
-use f77_terms::paths::{Path, add_below, is_apart};
+use f77_terms::knowing::{constant_of, is_bounded, is_plainly_bounded, plus_constant};
+use f77_terms::paths::{Path, add_below, add_unequal, is_apart};
 use f77_terms::terms::{Term, combined};
 use std::alloc::Global;
 
@@ -41,6 +39,7 @@ pub struct Evaluator {
     pub samples: Samples,
 }
 
+#[tactic(auto, using(crate::proofs::Extending::extending))]
 impl Evaluator {
     /// The path is one like this, and so are the samples.
     pub(crate) fn come_on(&mut self, path: &Path) -> Result<(), Halt>
@@ -149,7 +148,7 @@ impl Evaluator {
             unless_unknown(!self.samples.show(1, term, 0, Sign::Zero))?;
             return unless_unknown(is_apart(self.alloc, &self.path, term)?);
         }
-        know_unequal(self.alloc, &mut self.path, term)?;
+        add_unequal(self.alloc, &mut self.path, term)?;
         self.samples.keep(1, term, 0, Sign::NotZero);
         Ok(())
     }

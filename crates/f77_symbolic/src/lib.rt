@@ -6,7 +6,7 @@
 //! room for steps as at first.
 //! What slots hold are terms over what they held where the walk starts, and what is known is a path condition on these.
 //! Read `equivalent::Tours::steps_to_spare` first, then `specs/Walk.antt`, which says why the walk suffices.
-#![tactic(auto, using(crate::proofs::Extending::extends_same, crate::proofs::Extending::extends_then))]
+#![tactic(auto)]
 
 mod arithmetic;
 mod arriving;

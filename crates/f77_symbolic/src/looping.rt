@@ -59,6 +59,7 @@ fn advance(
     pass(alloc, side, end, d, turn)
 }
 
+#[tactic(auto, using(crate::proofs::Extending::extending))]
 impl Evaluator {
     /// What a DO has left with so many passes: nothing where that is below 1.
     fn turn_with(&self, passes: Term, step: Term) -> Result<Option<Shared<SymbolicTurn>>, Halt>

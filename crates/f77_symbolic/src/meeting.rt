@@ -12,7 +12,7 @@ use crate::halt::{Halt, unless_unknown};
 use crate::memory::{Location, Symbolic, Write, write_at};
 use crate::samples::Sign;
 use crate::sides::{Side, SymbolicTurn};
-use crate::values::Slots;
+use f77_facts::assigning::Slots;
 use f77_terms::paths::Path;
 use f77_tree::Shared;
 
@@ -42,6 +42,7 @@ fn may_be_of(location: &Location, only: Option<&[Slots]>) -> bool
     false
 }
 
+#[tactic(auto, using(crate::proofs::Extending::extending))]
 impl Evaluator {
     /// Both values are the same.
     fn show_same_value(&self, a: &Symbolic, b: &Symbolic) -> Result<(), Halt>

@@ -3,11 +3,13 @@
 ghost use Rattle.std.specs.Prelude.{◌≡◌, ◌<◌, length, Some, slice_get, slice_set, Option, IfOk, IfSome};
 ghost use Rattle.f77_actions.specs.declared.value.Value.{Value};
 ghost use Rattle.f77_code.specs.Moves.{Cells};
+ghost use Rattle.f77_facts.specs.Assigning.{HasSlot};
 ghost use Rattle.f77_meaning.specs.Start as meaning;
 ghost use Rattle.f77_terms.specs.Terms.{Valuation};
 ghost use Rattle.f77_symbolic.specs.{AreInside, IsInside, cells_of, slot_of, content_of};
 ghost use Rattle.f77_symbolic.specs.code.{IsWriteTo};
 
+use f77_facts::assigning::Slots;
 use f77_terms::terms::{Term, constant_term, copy};
 use f77_tree::{Constant, Shared};
 use std::alloc::{AllocError, Global};
@@ -33,6 +35,14 @@ pub enum Symbolic {
 pub struct Write {
     pub location: Location,
     pub value: Symbolic,
+}
+
+/// The slots of which a location is one.
+pub(crate) fn slots_of(location: &Location) -> Slots
+    ensures { (v : Valuation) → IsInside v location.now → HasSlot result (slot_of v location.now) }
+{
+    let Location { first, count, .. } = *location;
+    Slots { first, count }
 }
 
 /// The location that is this slot.

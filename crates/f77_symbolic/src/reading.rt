@@ -23,9 +23,6 @@ use f77_terms::ranges::{Range, atom_range, is_empty};
 use f77_terms::terms::{Term, atom_term, constant_term, copy};
 use f77_tree::{Kind, Shared};
 
-/// A larger array that has not arguments of one kind alone is read by fixed subscripts.
-const MOST_ELEMENTS: usize = 40;
-
 /// The atom is above 0.
 fn is_above(known: &[Option<Range>], atom: usize) -> bool
     ensures { result ≡ true → (v : Valuation) → AreKnown v known.now → pos 1 ≤ℤ v atom }
@@ -55,6 +52,7 @@ fn is_before(a: &Location, b: &Location) -> bool
     a.first < b.first && b.first - a.first >= a.count
 }
 
+#[tactic(auto, using(crate::proofs::Extending::extending))]
 impl Evaluator {
     /// Whether two locations are one slot.
     fn is_same_slot(&self, a: &Location, b: &Location) -> Result<bool, Halt>
@@ -143,20 +141,6 @@ impl Evaluator {
         self.known_value(fact, Key::Slot(behind + slot), Key::Slot(slot))
     }
 
-    /// The slot that a location is, found by trying its slots one after another.
-    fn slot_found(&self, location: &Location) -> Result<usize, Halt>
-        ensures { IfOk result (λ slot. (v : Valuation) → Holds v self.now.path → IsInside v location.now
-            → slot_of v location.now ≡ slot) }
-    {
-        for number in 0..location.count.min(MOST_ELEMENTS) {
-            let between = self.plus(1, &location.index, -signed(number)?)?;
-            if self.is_nothing(between)? {
-                return location.first.checked_add(number).ok_or(Halt::Unknown);
-            }
-        }
-        Err(Halt::Unknown)
-    }
-
     /// What the slot of a location holds where the run starts.
     fn at_start(&mut self, location: &Location) -> Result<Symbolic, Halt>
         requires { location.now.first ≤ length self.old.atoms.facts.items }
@@ -173,10 +157,7 @@ impl Evaluator {
                 let number = Key::Element(location.first, copy(self.alloc, &location.index)?);
                 self.known_value(fact, presence, number)
             }
-            None => {
-                let slot = self.slot_found(location)?;
-                self.slot_at_start(slot)
-            }
+            None => Err(Halt::Unknown),
         }
     }
 

@@ -3,7 +3,7 @@
 
 use crate::gap::Gap;
 use crate::samples::{Sample, Samples};
-use crate::values::Slots;
+use f77_facts::assigning::Slots;
 use std::alloc::{AllocError, Global};
 
 /// Rows for one changed program, each once: the numbers of the slots of all dummy arguments, in order; those first that

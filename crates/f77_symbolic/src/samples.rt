@@ -83,20 +83,11 @@ fn atom_value(values: &[Option<i64>], atom: usize) -> Option<i64> {
     values.get(atom).copied().flatten()
 }
 
-/// The product of the values of two atoms.
-fn pair_value(values: &[Option<i64>], a: usize, b: usize) -> Option<i64> {
-    atom_value(values, a)?.checked_mul(atom_value(values, b)?)
-}
-
 /// The value of a product of atoms.
 fn monomial_value(values: &[Option<i64>], monomial: Monomial) -> Option<i64> {
     match monomial {
         Monomial::One(a) => atom_value(values, a),
-        Monomial::Two(a, b) => pair_value(values, a, b),
-        Monomial::Three(a, b, c) => pair_value(values, a, b)?.checked_mul(atom_value(values, c)?),
-        Monomial::Four(a, b, c, d) => {
-            pair_value(values, a, b)?.checked_mul(pair_value(values, c, d)?)
-        }
+        Monomial::Two(a, b) => atom_value(values, a)?.checked_mul(atom_value(values, b)?),
     }
 }
 

@@ -1,7 +1,6 @@
 //! Sides: states by terms, and where control goes from them.
 
 ghost use Rattle.std.specs.Prelude.{◌≡◌, is_some, option_map, slice_set, [], Option, IfOk};
-ghost use Rattle.f77_actions.specs.declared.value.Value.{Value};
 ghost use Rattle.f77_code.specs.Moves as moves;
 ghost use Rattle.f77_code.specs.Moves.{Cells, state};
 ghost use Rattle.f77_equivalence.specs.Alike.{site};

@@ -26,15 +26,6 @@ fn size_of(range: Range) -> i64
     range.high.max(-range.low)
 }
 
-/// The least size of a number of the range: 0 where it has numbers of both signs.
-fn least_size_of(range: Range) -> i64
-    requires { IsSmall range }
-    ensures sizes { (x : ℤ) → IsIn range x → result ≤ℤ pos (unsigned_abs x) }
-    ensures above { pos 0 ≤ℤ result }
-{
-    range.low.max(-range.high).max(0)
-}
-
 /// Neither has numbers below 0, or neither has numbers above it.
 fn are_alike(a: Range, b: Range) -> bool
     ensures { result ≡ true → (x y : ℤ) → IsIn a x → IsIn b y
@@ -74,16 +65,14 @@ fn remainder_range(dividend: Range, divisor: Range) -> Range
     sized_range(size, dividend.low >= 0, dividend.high <= 0)
 }
 
-/// The range of a quotient, which is at most the dividend in size, and the least divisor's part of it.
+/// The range of a quotient, which is at most the dividend in size.
 fn quotient_range(dividend: Range, divisor: Range) -> Range
-    requires dividend { IsSmall dividend }
-    requires divisor { IsSmall divisor }
+    requires { IsSmall dividend }
     ensures { (x y : ℤ) → IsIn dividend x → IsIn divisor y → y ≢ pos 0 → IsIn result (int_div x y) }
 {
-    let size = size_of(dividend) / least_size_of(divisor).max(1);
     let is_above = are_alike(dividend, divisor);
     let is_below = are_opposite(dividend, divisor);
-    sized_range(size, is_above, is_below)
+    sized_range(size_of(dividend), is_above, is_below)
 }
 
 /// The range of the lesser of two numbers.

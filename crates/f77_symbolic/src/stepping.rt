@@ -44,6 +44,7 @@ fn by_sign<'a>(sign: Ordering, negative: &'a Jump, zero: &'a Jump, positive: &'a
     }
 }
 
+#[tactic(auto, using(crate::proofs::Extending::extending))]
 impl Evaluator {
     /// A number is assigned. The slot is found before the value.
     fn assign_number(

@@ -5,16 +5,10 @@ ghost use Rattle.f77_symbolic.specs.code.{HaveDummies, IsKnownAt};
 
 use f77_check::Checked;
 use f77_equivalence::start::{first_at, shape_at, size};
+use f77_facts::assigning::Slots;
 use f77_facts::facts::{Fact, fact_at, hull_of};
 use f77_terms::ranges::is_empty;
 use std::alloc::{AllocError, Global};
-
-/// So many slots from the first one on.
-#[derive(Clone, Copy, Debug, PartialEq, Eq)]
-pub struct Slots {
-    pub first: usize,
-    pub count: usize,
-}
 
 /// The slots of all dummy arguments.
 pub(crate) fn dummies_of(alloc: Global, checked: &Checked) -> Result<Vec<Slots>, AllocError>

@@ -70,6 +70,7 @@ fn split_visit(
     Ok(walk.todo.push(Visit { path, side })?)
 }
 
+#[tactic(auto, using(crate::proofs::Extending::extending))]
 impl Evaluator {
     /// Where a step is no end it leads to a side: what is known there is noted at a cut, and else the visit there is
     /// to come.

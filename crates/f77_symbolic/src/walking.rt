@@ -19,8 +19,7 @@ use crate::sides::{Side, Step, statement_of};
 use f77_actions::{Action, Resolved};
 use f77_code::Place;
 use f77_terms::copying::copied_path;
-use f77_terms::knowing::know_unequal;
-use f77_terms::paths::{Path, add_below, add_equal, new_path, refuted, settle};
+use f77_terms::paths::{Path, add_below, add_equal, add_unequal, new_path, refuted, settle};
 use f77_terms::terms::Term;
 use f77_tree::Shared;
 use std::alloc::{AllocError, Global};
@@ -49,7 +48,7 @@ fn add_way(alloc: Global, path: &mut Path, split: &Split, first: bool) -> Result
         Split::Sign(term) if first => add_below(alloc, path, 1, term, 1),
         Split::Sign(term) => add_below(alloc, path, -1, term, 0),
         Split::Zero(term) if first => add_equal(alloc, path, term),
-        Split::Zero(term) => know_unequal(alloc, path, term),
+        Split::Zero(term) => add_unequal(alloc, path, term),
     }
 }
 
@@ -113,6 +112,7 @@ fn order_of(statements: &[Shared<Resolved>], place: Place) -> usize {
     }
 }
 
+#[tactic(auto, using(crate::proofs::Extending::extending))]
 impl Evaluator {
     /// The path, in the place of which there is an empty one.
     pub(crate) fn taken_path(&mut self) -> Path

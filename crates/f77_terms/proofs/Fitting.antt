@@ -13,11 +13,6 @@ module _ (n : ℕ) (v w : Valuation) (agree : (k : ℕ) → k < n → v k ≡ w 
   monomials_agree : (m : Monomial) → HasAtomsBelow n m → monomial_value v m ≡ monomial_value w m
   monomials_agree (monomial.One a) h = agree a h
   monomials_agree (monomial.Two a b) h = ap (λ z. z *ℤ v b) (agree a h.0) ∙ ap (λ z. w a *ℤ z) (agree b h.1)
-  monomials_agree (monomial.Three a b c) h =
-      ap (λ z. (z *ℤ v b) *ℤ v c) (agree a h.0) ∙ ap (λ z. (w a *ℤ z) *ℤ v c) (agree b h.1) ∙ ap (λ z. (w a *ℤ w b) *ℤ z) (agree c h.2)
-  monomials_agree (monomial.Four a b c d) h =
-      ap (λ z. ((z *ℤ v b) *ℤ v c) *ℤ v d) (agree a h.0) ∙ ap (λ z. ((w a *ℤ z) *ℤ v c) *ℤ v d) (agree b h.1)
-      ∙ ap (λ z. ((w a *ℤ w b) *ℤ z) *ℤ v d) (agree c h.2) ∙ ap (λ z. ((w a *ℤ w b) *ℤ w c) *ℤ z) (agree d h.3)
 
   parts_agree : (parts : List Part) → AreOfAtomsBelow n parts → parts_value v parts ≡ parts_value w parts
   parts_agree [] within = refl

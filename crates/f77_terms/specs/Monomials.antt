@@ -7,5 +7,3 @@ use Rattle.f77_terms.specs.declared.monomials.Monomial.TheVariants as monomial
 abbrev pub HasAtomsBelow : ℕ → Monomial → Type 0
 HasAtomsBelow n (monomial.One a) = a < n
 HasAtomsBelow n (monomial.Two a b) = (a < n) × (b < n)
-HasAtomsBelow n (monomial.Three a b c) = (a < n) × (b < n) × (c < n)
-HasAtomsBelow n (monomial.Four a b c d) = (a < n) × (b < n) × (c < n) × (d < n)

@@ -13,8 +13,6 @@ Valuation = ℕ → ℤ
 abbrev pub monomial_value : Valuation → Monomial → ℤ
 monomial_value v (monomial.One a) = v a
 monomial_value v (monomial.Two a b) = v a *ℤ v b
-monomial_value v (monomial.Three a b c) = (v a *ℤ v b) *ℤ v c
-monomial_value v (monomial.Four a b c d) = ((v a *ℤ v b) *ℤ v c) *ℤ v d
 
 -- so many times
 abbrev pub part_value : Valuation → Part → ℤ

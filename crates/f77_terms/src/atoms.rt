@@ -51,8 +51,6 @@ fn has_atoms_below(monomial: Monomial, n: usize) -> bool
     match monomial {
         Monomial::One(a) => a < n,
         Monomial::Two(a, b) => a < n && b < n,
-        Monomial::Three(a, b, c) => a < n && b < n && c < n,
-        Monomial::Four(a, b, c, d) => a < n && b < n && c < n && d < n,
     }
 }
 

@@ -1,6 +1,6 @@
 //! Whether bounds contradict each other: one monomial after another is eliminated (Fourier and Motzkin).
 
-ghost use Rattle.std.specs.Prelude.{◌≡◌, ◌≤ℤ◌, pos, true, IfOk};
+ghost use Rattle.std.specs.Prelude.{◌≡◌, true, IfOk};
 ghost use Rattle.f77_terms.specs.{Valuation, IsBelow, AreBelow, AreKnown};
 
 use crate::bounds::{add_bound, add_combined, add_tight, is_refuted};

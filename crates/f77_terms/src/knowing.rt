@@ -2,13 +2,13 @@
 
 ghost use Rattle.std.specs.Prelude.{◌≡◌, ◌≢◌, ◌+ℤ◌, ◌*ℤ◌, ◌≤ℤ◌, pos, true, int_div, int_rem, IfOk, IfSome};
 ghost use Rattle.std.specs.Int.{int_min};
-ghost use Rattle.f77_terms.specs.{IsBelow, Holds, IsUnequal, IsWorth, Valuation, sum_value};
+ghost use Rattle.f77_terms.specs.{IsBelow, Holds, IsWorth, Valuation, sum_value};
 
 use crate::facts::{add_pair_bound, add_whole, divisor_cases, order_case, sign_cases, two_cases};
 use crate::monomials::Monomial;
-use crate::paths::{Path, add_choice, add_unequal, is_below};
+use crate::paths::{Path, add_choice, is_below};
 use crate::ranges::term_range;
-use crate::terms::{Term, atom_term, combined, constant_term, copy, factor_of, is_same_term};
+use crate::terms::{Term, atom_term, combined, constant_term, factor_of};
 use std::alloc::{AllocError, Global};
 
 /// The number of a constant term.
@@ -72,16 +72,6 @@ pub fn is_bounded(
         return Ok(true);
     }
     is_below(alloc, path, &bound)
-}
-
-/// Adds that a term is not 0, once.
-pub fn know_unequal(alloc: Global, path: &mut Path, term: &Term) -> Result<(), AllocError>
-    ensures { IfOk result (λ _. (v : Valuation) → Holds v path.old → IsUnequal v term.now → Holds v path.new) }
-{
-    if path.unequal.iter().any(|other| is_same_term(other, term)) {
-        return Ok(());
-    }
-    add_unequal(path, copy(alloc, term)?)
 }
 
 /// A choice of the path is of the atom: what is known of a quotient, or of the lesser of two numbers.

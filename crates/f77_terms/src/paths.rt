@@ -8,7 +8,7 @@ use crate::bounds::{add_bound, joint_bounds};
 use crate::near::path_near;
 use crate::ranges::{Range, narrow_all, narrow_all_apart, set_within};
 use crate::splitting::{is_refuted_with, side_case};
-use crate::terms::Term;
+use crate::terms::{Term, copy};
 use f77_tree::Shared;
 use std::alloc::{AllocError, Global};
 
@@ -117,10 +117,10 @@ pub fn add_equal(alloc: Global, path: &mut Path, term: &Term) -> Result<(), Allo
 }
 
 /// Adds that a term is not 0.
-pub fn add_unequal(path: &mut Path, term: Term) -> Result<(), AllocError>
-    ensures { IfOk result (λ _. (v : Valuation) → Holds v path.old → IsUnequal v term → Holds v path.new) }
+pub fn add_unequal(alloc: Global, path: &mut Path, term: &Term) -> Result<(), AllocError>
+    ensures { IfOk result (λ _. (v : Valuation) → Holds v path.old → IsUnequal v term.now → Holds v path.new) }
 {
-    path.unequal.push(term)?;
+    path.unequal.push(copy(alloc, term)?)?;
     Ok(())
 }
 

@@ -108,28 +108,14 @@ fn sum_range(a: Range, b: Range) -> Option<Range>
     Some(Range { low, high })
 }
 
-/// The range of the product of two atoms.
-fn pair_range(known: &[Option<Range>], a: usize, b: usize) -> Option<Range>
-    ensures { IfSome result (λ range. (v : Valuation) → AreKnown v known.now → IsIn range (v a *ℤ v b)) }
-{
-    let first = atom_range(known, a)?;
-    if a == b {
-        return square_range(first);
-    }
-    product_range(first, atom_range(known, b)?)
-}
-
 /// The range of a product of atoms.
 pub fn monomial_range(known: &[Option<Range>], monomial: Monomial) -> Option<Range>
     ensures { IfSome result (λ range. (v : Valuation) → AreKnown v known.now → IsIn range (monomial_value v monomial)) }
 {
     match monomial {
         Monomial::One(a) => atom_range(known, a),
-        Monomial::Two(a, b) => pair_range(known, a, b),
-        Monomial::Three(a, b, c) => product_range(pair_range(known, a, b)?, atom_range(known, c)?),
-        Monomial::Four(a, b, c, d) => {
-            product_range(pair_range(known, a, b)?, pair_range(known, c, d)?)
-        }
+        Monomial::Two(a, b) if a == b => square_range(atom_range(known, a)?),
+        Monomial::Two(a, b) => product_range(atom_range(known, a)?, atom_range(known, b)?),
     }
 }
 

@@ -59,6 +59,7 @@ fn add(
         add_unproved(
             alloc,
             prover.plan(),
+            prover.names(),
             ticket,
             prover.rows(),
             search,

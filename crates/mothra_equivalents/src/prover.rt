@@ -11,6 +11,7 @@ ghost use Rattle.mothra_equivalents.specs.{IsProved, IsProvedMutant};
 
 use f77_check::Resolved;
 use f77_finder::finding::entries_of;
+use f77_legal::Names;
 use f77_symbolic::equivalent::Tours;
 use f77_symbolic::rows::Rows;
 use f77_tree::{Shared, Stmt};
@@ -40,6 +41,8 @@ const SHARES: u64 = 5;
 #[derive(Drop)]
 pub(crate) struct Prover<'a> {
     plan: &'a Plan,
+    /// The names of the program, in the order of their slots.
+    names: Names,
     tours: Tours<'a>,
     /// So many mutants may still be asked about.
     asked: u64,
@@ -107,6 +110,7 @@ impl<'a> Prover<'a> {
         let tours = Tours::of(alloc, checked, &entries, TOUR, FROM_START, most_rows > 0)?;
         Ok(Prover {
             plan,
+            names: Names::of(alloc, checked.program().lines())?,
             left: if tours.is_empty() { 0 } else { BUDGET },
             tours,
             asked,
@@ -123,6 +127,11 @@ impl<'a> Prover<'a> {
     /// The plan.
     pub(crate) fn plan(&self) -> &Plan {
         self.plan
+    }
+
+    /// The names of the program, in the order of their slots.
+    pub(crate) fn names(&self) -> &Names {
+        &self.names
     }
 
     /// What the proof left of the mutant that was asked about last.

@@ -4,7 +4,8 @@
 ghost use Rattle.mothra_ops.specs.Made.{IsMadeMutant};
 
 use f77_check::{Checked, Shape};
-use f77_legal::names::{Names, product};
+use f77_legal::Names;
+use f77_legal::names::product;
 use f77_meaning::{Arg, Outcome, Values};
 use f77_run::{Runner, run};
 use f77_symbolic::gap::Gap;
@@ -153,44 +154,41 @@ fn line_at(checked: &Checked, statement: usize) -> Option<u32> {
 }
 
 /// The name of the variable or array of which a slot is. Slots are given out name by name.
-fn name_at(alloc: Global, checked: &Checked, slot: usize) -> Result<Option<Name>, AllocError> {
-    let names = Names::of(alloc, checked.program().lines())?;
+fn name_at(names: &Names, slot: usize) -> Option<Name> {
     let mut end: u64 = 0;
     for name in names.facts.keys() {
         end = end.saturating_add(product(names.bounds(name)));
         if (slot as u64) < end {
-            return Ok(Some(*name));
+            return Some(*name);
         }
     }
-    Ok(None)
+    None
 }
 
 /// Where the walk was given up, if it came to statements of the program.
-fn left_at(alloc: Global, checked: &Checked, gap: Gap) -> Result<Option<Left>, AllocError> {
-    let (Some(own), Some(other)) = (line_at(checked, gap.own), line_at(checked, gap.other)) else {
-        return Ok(None);
-    };
+fn left_at(checked: &Checked, names: &Names, gap: Option<Gap>) -> Option<Left> {
+    let gap = gap?;
+    let own = line_at(checked, gap.own)?;
+    let other = line_at(checked, gap.other)?;
     let name = match gap.slot {
-        Some(slot) => name_at(alloc, checked, slot)?,
+        Some(slot) => name_at(names, slot),
         None => None,
     };
-    Ok(Some(Left { own, other, name }))
+    Some(Left { own, other, name })
 }
 
 /// Adds what is told of the ticket's mutant, if anything is; `found` is what its proof left.
 pub(crate) fn add_unproved(
     alloc: Global,
     plan: &Plan,
+    names: &Names,
     ticket: Ticket,
     found: &Rows,
     search: Search,
     others: &mut Vec<Unproved>,
 ) -> Result<(), AllocError> {
     let rows = rows_of(alloc, plan, ticket, &found.list, search)?;
-    let left = match found.gap {
-        Some(gap) => left_at(alloc, plan.program(), gap)?,
-        None => None,
-    };
+    let left = left_at(plan.program(), names, found.gap);
     if !rows.is_empty() || left.is_some() {
         others.push(Unproved { ticket, rows, left })?;
     }

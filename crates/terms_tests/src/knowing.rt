@@ -3,11 +3,11 @@
 use crate::made::{X, Y, made};
 use f77_terms::copying::copied_path;
 use f77_terms::knowing::{
-    constant_of, is_bounded, is_plainly_bounded, know_division, know_minimum, know_unequal,
+    constant_of, is_bounded, is_plainly_bounded, know_division, know_minimum,
 };
 use f77_terms::monomials::Monomial;
 use f77_terms::paths::{
-    Path, add_below, add_range, add_unequal, is_apart, is_below, new_path, refuted, settle,
+    Path, add_below, add_range, add_unequal, is_below, new_path, refuted, settle,
 };
 use f77_terms::ranges::{Range, atom_range};
 use f77_terms::terms::{atom_term, constant_term, difference};
@@ -84,24 +84,12 @@ fn settles_what_is_unequal(rt: HostRuntime) -> Result<(), Fail> {
     let alloc = rt.alloc();
     let mut path = new_path(alloc);
     add_range(&mut path, 0, Range { low: 0, high: 9 })?;
-    add_unequal(&mut path, atom_term(alloc, 0)?)?;
+    add_unequal(alloc, &mut path, &atom_term(alloc, 0)?)?;
     settle(&mut path);
     assert_eq!(rt; atom_range(&path.known, 0), Some(Range { low: 1, high: 9 }));
-    add_unequal(&mut path, made(alloc, 9, &[(-1, X)])?)?;
+    add_unequal(alloc, &mut path, &made(alloc, 9, &[(-1, X)])?)?;
     settle(&mut path);
     assert_eq!(rt; atom_range(&path.known, 0), Some(Range { low: 1, high: 8 }));
-    Ok(())
-}
-
-#[test]
-fn knows_what_is_unequal_once(rt: HostRuntime) -> Result<(), Fail> {
-    let alloc = rt.alloc();
-    let mut path = new_path(alloc);
-    let x = atom_term(alloc, 0)?;
-    know_unequal(alloc, &mut path, &x)?;
-    know_unequal(alloc, &mut path, &x)?;
-    assert!(rt; is_apart(alloc, &path, &x)?);
-    assert_eq!(rt; path.unequal.len(), 1);
     Ok(())
 }
 

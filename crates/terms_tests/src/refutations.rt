@@ -71,8 +71,8 @@ fn refutes_by_equations(rt: HostRuntime) -> Result<(), Fail> {
 fn refutes_what_is_unequal(rt: HostRuntime) -> Result<(), Fail> {
     let alloc = rt.alloc();
     let mut path = new_path(alloc);
-    add_unequal(&mut path, made(alloc, 0, &[(1, X), (-1, Y)])?)?;
-    add_unequal(&mut path, made(alloc, 0, &[(1, X), (-1, Z)])?)?;
+    add_unequal(alloc, &mut path, &made(alloc, 0, &[(1, X), (-1, Y)])?)?;
+    add_unequal(alloc, &mut path, &made(alloc, 0, &[(1, X), (-1, Z)])?)?;
     let first = made(alloc, 0, &[(1, X), (-1, Y)])?;
     let second = made(alloc, -1, &[(1, Y), (-1, X)])?;
     let third = made(alloc, 1, &[(1, Z), (-1, Y)])?;

@@ -8,8 +8,8 @@ use Rattle.f77_code.specs.Moves.{Cells}
 use Rattle.f77_equivalence.specs.code.StartSlots.{IsOfDummy}
 use Rattle.f77_facts.specs.declared.facts.Fact.{Fact}
 use Rattle.f77_facts.specs.Facts.{AreIn, SuitsFact}
+use Rattle.f77_facts.specs.declared.assigning.Slots.{Slots}
 use Rattle.f77_symbolic.specs.declared.memory.Write.{Write}
-use Rattle.f77_symbolic.specs.declared.values.Slots.{Slots}
 
 -- the slot is there, and what it holds suits the fact
 pub record IsKnownAt (facts : List Fact) (slot : ℕ) (fact : Fact) : Type 0 where

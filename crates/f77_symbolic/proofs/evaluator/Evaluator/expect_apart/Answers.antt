@@ -8,4 +8,4 @@ returns-then-z-ne0-clause-expects c v holds =
     (λ nothing. c.if-z-ne0.true (ap (of_z w64) (sym (c.in-Some.ensures v) ∙ nothing)))
 
 pub returns-clause-expects : goal.returns-clause-expects
-returns-clause-expects c v holds = ((λ apart. record { holds = c.in_ok-know_unequal.ensures v holds apart; own = refl }), inl c.if-not-self.false)
+returns-clause-expects c v holds = ((λ apart. record { holds = c.in_ok-add_unequal.ensures v holds apart; own = refl }), inl c.if-not-self.false)

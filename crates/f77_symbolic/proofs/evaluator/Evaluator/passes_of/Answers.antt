@@ -2,15 +2,15 @@ use Rattle.f77_symbolic.proofs.Common.{arith, rules, SFits, subst, sym, w64, cla
 use Rattle.f77_symbolic.proofs.Bounded.{left_max}
 use Rattle.f77_symbolic.proofs.evaluator.Evaluator.passes_of.Goals as goal
 
-pub returns-in-Some : goal.returns-in-Some
-returns-in-Some c =
+pub returns : goal.returns
+returns c =
     let low : SFits w64 c.max.result = search rules in
-    let high : SFits w64 c.max-in-Some.result = search rules in
+    let high : SFits w64 c.max-2.result = search rules in
     simp to_z-of_z
     (λ v holds.
     let inside = c.in-Some.ensures v (subst (AreKnown v) (sym c.deref.ensures.value) holds.known) in
     let left = left_max (sum_value v c.args.passes.now) in
     record {
       above = omega (arith, ints, clamps, left, inside.above, c.max.ensures.value);
-      below = omega (arith, ints, clamps, left, inside.below, c.max-in-Some.ensures.value);
+      below = omega (arith, ints, clamps, left, inside.below, c.max-2.ensures.value);
     })
