@@ -1,6 +1,6 @@
 //! What is known where runs start, whatever their arguments.
 
-ghost use Rattle.std.specs.Prelude.{◌≡◌, ◌<◌, ℕ, true, length, map, option_map, slice_get, List, Option, Some, IfOk};
+ghost use Rattle.std.specs.Prelude.{◌≡◌, true, length, map, option_map, List, Some, IfOk};
 ghost use Rattle.std.specs.List.{zip};
 ghost use Rattle.f77_actions.specs.declared.value.Value.{Value};
 ghost use Rattle.f77_check.specs.declared.checked.Shape.{Shape};
@@ -31,22 +31,6 @@ pub fn size(shape: Shape) -> usize
         Some(count) => count as usize,
         None => 1,
     }
-}
-
-/// The first slot of the dummy argument of this number, from 0.
-pub fn first_at(dummies: &[usize], n: usize) -> usize
-    requires { n < length dummies.now }
-    ensures { slice_get dummies.now n ≡ Some result }
-{
-    dummies[n]
-}
-
-/// The shape of the argument of this number, from 0.
-pub fn shape_at(shapes: &[Shape], n: usize) -> Shape
-    requires { n < length shapes.now }
-    ensures { slice_get shapes.now n ≡ Some result }
-{
-    shapes[n]
 }
 
 /// What is known of a slot that an argument of this kind gives a value.

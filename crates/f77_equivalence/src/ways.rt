@@ -1,33 +1,17 @@
-//! Statements and jumps by their numbers, and whether control goes on alike from two statements.
+//! Whether control goes on alike from two statements.
 
-ghost use Rattle.std.specs.Prelude.{◌≡◌, ◌<◌, ◌↔◌, IsTrue, true, length, slice_get, Some};
+ghost use Rattle.std.specs.Prelude.{◌≡◌, ◌↔◌, IsTrue, true};
 ghost use Rattle.f77_code.specs.Moves as moves;
 ghost use Rattle.f77_equivalence.specs.{GoOnAlike, HaveOneWayOn};
 
-use f77_actions::{Action, Jump, Resolved};
+use f77_actions::{Action, Resolved};
 use f77_tree::Shared;
-
-/// The statement of this number. Statements are numbered from 0.
-pub fn statement_at(statements: &[Shared<Resolved>], i: usize) -> &Resolved
-    requires { i < length statements.now }
-    ensures { slice_get statements.now i ≡ Some result.now }
-{
-    &statements[i]
-}
 
 /// The statement that is shared.
 pub fn resolved_in(resolved: &Shared<Resolved>) -> &Resolved
     ensures { result.now ≡ resolved.now }
 {
     resolved
-}
-
-/// The jump of this number. Jumps are numbered from 0 here.
-pub fn jump_at(jumps: &[Jump], k: usize) -> &Jump
-    requires { k < length jumps.now }
-    ensures { slice_get jumps.now k ≡ Some result.now }
-{
-    &jumps[k]
 }
 
 /// Both lists have the same numbers in the same order.

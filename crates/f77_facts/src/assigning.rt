@@ -6,7 +6,8 @@ ghost use Rattle.f77_code.specs.Moves.{Cells};
 ghost use Rattle.f77_facts.specs.{AreIn, SuitsFact, HasSlot};
 ghost use Rattle.f77_facts.specs.code.{Widens};
 
-use crate::facts::{Fact, fact_at, hull_of, set};
+use crate::facts::{Fact, hull_of, set};
+use f77_terms::items::item_at;
 
 /// So many slots from the first one on.
 #[derive(Clone, Copy, Debug, PartialEq, Eq)]
@@ -21,7 +22,7 @@ fn widen(facts: &mut [Fact], from: usize, end: usize, fact: Fact) -> Option<()>
     ensures { IfSome result (λ _. Widens facts.old facts.new from end fact) }
 {
     for slot in from..end {
-        let hull = hull_of(fact_at(facts, slot), fact)?;
+        let hull = hull_of(*item_at(facts, slot), fact)?;
         set(facts, slot, hull);
     }
     Some(())

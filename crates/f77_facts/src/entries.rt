@@ -1,11 +1,12 @@
 //! What is known at the places where control may be.
 
-ghost use Rattle.std.specs.Prelude.{◌≡◌, ◌<◌, true, length, slice_get, Some};
+ghost use Rattle.std.specs.Prelude.{◌≡◌, true};
 ghost use Rattle.f77_facts.specs.{AreCovered, GrowsEntries};
 
 use crate::facts::{Fact, is_empty, is_inside};
 use crate::loops::{LoopFact, is_loops_inside};
 use f77_code::Place;
+use f77_terms::items::item_at;
 
 /// What is known of slots and DOs where control is at this place. A place may have several entries.
 #[derive(Drop)]
@@ -13,14 +14,6 @@ pub struct Entry {
     pub place: Place,
     pub facts: Vec<Fact>,
     pub loops: Vec<LoopFact>,
-}
-
-/// The entry of this number, counted from 0.
-pub fn entry_at(entries: &[Entry], number: usize) -> &Entry
-    requires { number < length entries.now }
-    ensures { slice_get entries.now number ≡ Some result.now }
-{
-    &entries[number]
 }
 
 /// Some entry of the place allows all that these facts allow.
@@ -31,7 +24,7 @@ pub fn is_covered(entries: &[Entry], place: Place, facts: &[Fact], loops: &[Loop
         return true;
     }
     for number in 0..entries.len() {
-        let entry = entry_at(entries, number);
+        let entry = item_at(entries, number);
         if entry.place == place
             && is_inside(facts, &entry.facts)
             && is_loops_inside(loops, &entry.loops)
@@ -47,7 +40,7 @@ pub fn are_covered(entries: &[Entry], covered: &[Entry]) -> bool
     ensures { result ≡ true → GrowsEntries covered.now entries.now }
 {
     for number in 0..covered.len() {
-        let entry = entry_at(covered, number);
+        let entry = item_at(covered, number);
         if !is_covered(entries, entry.place, &entry.facts, &entry.loops) {
             return false;
         }

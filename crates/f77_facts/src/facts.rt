@@ -1,12 +1,13 @@
 //! What is known of what slots hold.
 
-ghost use Rattle.std.specs.Prelude.{◌≡◌, ◌<◌, true, length, slice_get, slice_set, Option, Some, IfSome};
+ghost use Rattle.std.specs.Prelude.{◌≡◌, true, slice_set, Option, Some, IfSome};
 ghost use Rattle.f77_actions.specs.declared.value.Value.{Value};
 ghost use Rattle.f77_actions.specs.Number.{fits};
 ghost use Rattle.f77_code.specs.Moves.{Cells};
 ghost use Rattle.f77_facts.specs.{SuitsFact, Implies, AreIn, Lies, kind_of_value, number_of};
 ghost use Rattle.f77_terms.specs.Ranges.{IsIn};
 
+use f77_terms::items::item_at;
 use f77_terms::ranges::{self, Range, hull};
 use f77_tree::Kind;
 
@@ -43,14 +44,6 @@ pub fn numbers_of(kind: Kind) -> Range
         },
         Kind::Logical => Range { low: 0, high: 1 },
     }
-}
-
-/// The fact of a slot. Slots are numbered from 0.
-pub fn fact_at(facts: &[Fact], slot: usize) -> Fact
-    requires { slot < length facts.now }
-    ensures { slice_get facts.now slot ≡ Some result }
-{
-    facts[slot]
 }
 
 /// Gives a slot another fact, if there is such a slot.
@@ -94,7 +87,7 @@ pub fn is_empty(facts: &[Fact]) -> bool
     ensures { result ≡ true → (cells : Cells) → ¬ (AreIn facts.now cells) }
 {
     for slot in 0..facts.len() {
-        if is_void(fact_at(facts, slot)) {
+        if is_void(*item_at(facts, slot)) {
             return true;
         }
     }
@@ -109,8 +102,8 @@ pub fn is_inside(inner: &[Fact], outer: &[Fact]) -> bool
         return false;
     }
     for slot in 0..inner.len() {
-        let a = fact_at(inner, slot);
-        let b = fact_at(outer, slot);
+        let a = *item_at(inner, slot);
+        let b = *item_at(outer, slot);
         if !is_within(a, b) {
             return false;
         }

@@ -1,27 +1,20 @@
 //! What is known of which DOs are active, and of what they have left.
 
-ghost use Rattle.std.specs.Prelude.{◌≡◌, ◌<◌, true, length, slice_get, Option, Some};
+ghost use Rattle.std.specs.Prelude.{◌≡◌, true, Option};
 ghost use Rattle.f77_code.specs.declared.control.Turn.{Turn};
 ghost use Rattle.f77_code.specs.Moves.{TurnList};
 ghost use Rattle.f77_facts.specs.{SuitsTurn, AreLeft};
 
+use f77_terms::items::item_at;
 use f77_terms::ranges::{Range, is_within};
 
-/// What is known of a DO.
+/// What is known of a DO, which goes by its statement.
 #[derive(Clone, Copy, Debug, PartialEq, Eq)]
 pub enum LoopFact {
     /// It is not active.
     Inactive,
     /// It is active, with so many passes to make, and such an incrementation parameter.
     Active { passes: Range, step: Range },
-}
-
-/// The fact of a DO, which goes by its statement. Statements are numbered from 0.
-pub fn loop_at(loops: &[LoopFact], d: usize) -> LoopFact
-    requires { d < length loops.now }
-    ensures { slice_get loops.now d ≡ Some result }
-{
-    loops[d]
 }
 
 fn is_loop_within(a: LoopFact, b: LoopFact) -> bool
@@ -48,8 +41,8 @@ pub fn is_loops_inside(inner: &[LoopFact], outer: &[LoopFact]) -> bool
         return false;
     }
     for d in 0..inner.len() {
-        let a = loop_at(inner, d);
-        let b = loop_at(outer, d);
+        let a = *item_at(inner, d);
+        let b = *item_at(outer, d);
         if !is_loop_within(a, b) {
             return false;
         }

@@ -13,12 +13,11 @@ use crate::halt::Halt;
 use crate::spans::is_constant_zero;
 use f77_actions::Arithmetic;
 use f77_actions::number::power;
-use f77_terms::atoms::{Function, Key, is_in_order, key_at};
+use f77_terms::atoms::{Function, Key, is_in_order};
+use f77_terms::items::item_at;
 use f77_terms::knowing::{constant_of, know_division, know_minimum};
 use f77_terms::monomials::Monomial;
-use f77_terms::terms::{
-    Part, Term, atom_term, constant_term, copy, difference, part_at, product, sum,
-};
+use f77_terms::terms::{Part, Term, atom_term, constant_term, copy, difference, product, sum};
 use std::alloc::Global;
 
 /// The least number that INTEGER holds.
@@ -57,7 +56,7 @@ fn alone_in(term: &Term) -> Option<Part>
     if term.constant != 0 || term.parts.len() != 1 {
         return None;
     }
-    let part = part_at(&term.parts, 0);
+    let part = *item_at(&term.parts, 0);
     if part.factor != 1 && part.factor != -1 {
         return None;
     }
@@ -236,7 +235,7 @@ impl Evaluator {
         if atom >= self.atoms.table.keys.len() {
             return Ok(None);
         }
-        let key = key_at(&self.atoms.table.keys, atom);
+        let key = &**item_at(&self.atoms.table.keys, atom);
         let Key::Function(function, a, b) = key else {
             return Ok(None);
         };

@@ -24,7 +24,8 @@ use f77_facts::assigning::assign;
 use f77_facts::entries::Entry;
 use f77_facts::facts::{Fact, filled};
 use f77_facts::loops::LoopFact;
-use f77_terms::atoms::{Key, key_at};
+use f77_terms::atoms::Key;
+use f77_terms::items::item_at;
 use f77_terms::knowing::is_bounded;
 use f77_terms::paths::settle;
 use f77_terms::ranges::{Range, atom_range, term_range};
@@ -117,7 +118,7 @@ impl Evaluator {
         let Some(range) = atom_range(&self.path.known, atom) else {
             return;
         };
-        let Key::Slot(number) = key_at(&self.atoms.table.keys, atom) else {
+        let Key::Slot(number) = &**item_at(&self.atoms.table.keys, atom) else {
             return;
         };
         narrow_slot(facts, *number, range);

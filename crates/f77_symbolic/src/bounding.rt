@@ -6,7 +6,8 @@ ghost use Rattle.f77_facts.specs.Facts.{AreIn, SuitsFact, number_of};
 ghost use Rattle.f77_terms.specs.Ranges.{IsIn};
 ghost use Rattle.f77_symbolic.specs.{AreNumbers, presence_of, Start};
 
-use f77_facts::facts::{Fact, fact_at, set};
+use f77_facts::facts::{Fact, set};
+use f77_terms::items::item_at;
 use f77_terms::ranges::{Range, common};
 
 /// What is known of a slot whose number is in a range too.
@@ -36,13 +37,13 @@ pub(crate) fn narrow_slot(facts: &mut [Fact], number: usize, range: Range)
 {
     let slots = facts.len();
     if number < slots {
-        let fact = narrowed(fact_at(facts, number), range);
+        let fact = narrowed(*item_at(facts, number), range);
         set(facts, number, fact);
         return;
     }
     if number - slots >= slots || range.low < 1 {
         return;
     }
-    let fact = present(fact_at(facts, number - slots));
+    let fact = present(*item_at(facts, number - slots));
     set(facts, number - slots, fact);
 }

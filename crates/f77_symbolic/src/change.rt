@@ -7,8 +7,9 @@ use crate::halt::{Halt, unless_unknown};
 use crate::values::dummies_of;
 use f77_actions::Resolved;
 use f77_check::Checked;
-use f77_equivalence::ways::{goes_on_alike, resolved_in, statement_at};
+use f77_equivalence::ways::{goes_on_alike, resolved_in};
 use f77_facts::assigning::Slots;
+use f77_terms::items::item_at;
 use f77_tree::Shared;
 use std::alloc::Global;
 
@@ -37,7 +38,7 @@ pub(crate) fn change_of(
         change.statements.items ≡ slice_set checked.now.statements place resolved.now) }
 {
     let own = checked.statements();
-    unless_unknown(goes_on_alike(statement_at(own, place), resolved_in(resolved)))?;
+    unless_unknown(goes_on_alike(resolved_in(item_at(own, place)), resolved_in(resolved)))?;
     let mut statements = own.to_vec(alloc)?;
     statements[place] = resolved.clone()?;
     let dummies = dummies_of(alloc, checked)?;

@@ -16,8 +16,9 @@ use crate::sides::{SymbolicTurn, first_side};
 use crate::visiting::Visit;
 use f77_actions::{Action, Resolved};
 use f77_code::Place;
-use f77_facts::loops::{LoopFact, loop_at};
+use f77_facts::loops::LoopFact;
 use f77_terms::atoms::Key;
+use f77_terms::items::item_at;
 use f77_terms::paths::add_range;
 use f77_terms::ranges::Range;
 use f77_terms::terms::{Term, atom_term, constant_term};
@@ -192,7 +193,7 @@ impl Evaluator {
     {
         let mut turns = Vec::with_capacity(self.alloc, count)?;
         for d in 0..count {
-            let turn = self.turn_known(d, count, loop_at(loops, d))?;
+            let turn = self.turn_known(d, count, *item_at(loops, d))?;
             turns.push(turn)?;
         }
         let side = first_side(self.alloc, place, turns)?;

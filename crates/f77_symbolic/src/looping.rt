@@ -15,7 +15,7 @@ use crate::halt::{Halt, unless_unknown};
 use crate::memory::{Symbolic, fixed};
 use crate::sides::{Side, Step, SymbolicTurn, come_to, go_on};
 use f77_actions::{Action, Resolved};
-use f77_equivalence::ways::statement_at;
+use f77_terms::items::item_at;
 use f77_terms::terms::{Term, copy, sum};
 use f77_tree::Shared;
 use std::alloc::Global;
@@ -100,15 +100,8 @@ impl Evaluator {
         let dividend = self.combination(1, &distance, 1, &step)?;
         let division = self.divided(&dividend, &step)?;
         let turn = self.turn_with(division.quotient, step)?;
-        advance(
-            self.alloc,
-            side,
-            statement_at(statements, terminal),
-            d,
-            variable,
-            first,
-            turn,
-        )
+        let end = &**item_at(statements, terminal);
+        advance(self.alloc, side, end, d, variable, first, turn)
     }
 
     /// The DO d begins.
@@ -172,14 +165,7 @@ impl Evaluator {
         let number = self.ranged(next)?;
         let passes = self.plus(1, &turn.passes, -1)?;
         let left = self.turn_with(passes, copy(self.alloc, &turn.step)?)?;
-        advance(
-            self.alloc,
-            side,
-            statement_at(statements, *terminal),
-            d,
-            *variable,
-            number,
-            left,
-        )
+        let end = &**item_at(statements, *terminal);
+        advance(self.alloc, side, end, d, *variable, number, left)
     }
 }

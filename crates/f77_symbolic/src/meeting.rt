@@ -1,6 +1,6 @@
 //! Whether both sides of a pair hold the same.
 
-ghost use Rattle.std.specs.Prelude.{◌≡◌, ◌<◌, ℕ, All, Some, true, false, length, option_map, slice_get, IfOk};
+ghost use Rattle.std.specs.Prelude.{◌≡◌, ℕ, All, false, option_map, IfOk};
 ghost use Rattle.f77_terms.specs.Paths.{Holds};
 ghost use Rattle.f77_terms.specs.Terms.{Valuation};
 ghost use Rattle.f77_symbolic.specs.{Interprets, AreInside, IsInside, Start, cells_of, slot_of};
@@ -9,20 +9,13 @@ ghost use Rattle.f77_symbolic.specs.code.{Extends, Always, StaysOn, HoldSameIn, 
 
 use crate::evaluator::Evaluator;
 use crate::halt::{Halt, unless_unknown};
-use crate::memory::{Location, Symbolic, Write, write_at};
+use crate::memory::{Location, Symbolic, Write};
 use crate::samples::Sign;
 use crate::sides::{Side, SymbolicTurn};
 use f77_facts::assigning::Slots;
+use f77_terms::items::item_at;
 use f77_terms::paths::Path;
 use f77_tree::Shared;
-
-/// What a DO has left, by its number.
-fn turn_in(turns: &[Option<Shared<SymbolicTurn>>], d: usize) -> &Option<Shared<SymbolicTurn>>
-    requires { d < length turns.now }
-    ensures { slice_get turns.now d ≡ Some result.now }
-{
-    &turns[d]
-}
 
 /// The location may be one of these slots, if some are given.
 fn may_be_of(location: &Location, only: Option<&[Slots]>) -> bool
@@ -115,7 +108,7 @@ impl Evaluator {
         ensures extends { Extends self.old.atoms self.new.atoms }
     {
         for k in 0..writes.len() {
-            self.show_same_at(left, right, &write_at(writes, k).location, only)?;
+            self.show_same_at(left, right, &item_at(writes, k).location, only)?;
         }
         Ok(())
     }
@@ -170,7 +163,7 @@ impl Evaluator {
             return Err(Halt::Unknown);
         }
         for d in 0..a.len() {
-            self.show_same_turn(turn_in(a, d), turn_in(b, d))?;
+            self.show_same_turn(item_at(a, d), item_at(b, d))?;
         }
         Ok(())
     }

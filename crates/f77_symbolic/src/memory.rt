@@ -1,6 +1,6 @@
 //! What slots hold: what they held where the run started, and what was written since.
 
-ghost use Rattle.std.specs.Prelude.{◌≡◌, ◌<◌, length, Some, slice_get, slice_set, Option, IfOk, IfSome};
+ghost use Rattle.std.specs.Prelude.{◌≡◌, Some, slice_set, Option, IfOk, IfSome};
 ghost use Rattle.f77_actions.specs.declared.value.Value.{Value};
 ghost use Rattle.f77_code.specs.Moves.{Cells};
 ghost use Rattle.f77_facts.specs.Assigning.{HasSlot};
@@ -10,6 +10,7 @@ ghost use Rattle.f77_symbolic.specs.{AreInside, IsInside, cells_of, slot_of, con
 ghost use Rattle.f77_symbolic.specs.code.{IsWriteTo};
 
 use f77_facts::assigning::Slots;
+use f77_terms::items::item_at;
 use f77_terms::terms::{Term, constant_term, copy};
 use f77_tree::{Constant, Shared};
 use std::alloc::{AllocError, Global};
@@ -77,20 +78,12 @@ fn constant_value(alloc: Global, constant: Constant) -> Symbolic
     }
 }
 
-/// The write of this number.
-pub(crate) fn write_at(writes: &[Shared<Write>], place: usize) -> &Write
-    requires { place < length writes.now }
-    ensures { slice_get writes.now place ≡ Some result.now }
-{
-    &writes[place]
-}
-
 /// The place of a write to this one slot, if there is one.
 fn place_of(writes: &[Shared<Write>], slot: usize) -> Option<usize>
     ensures { IfSome result (λ place. IsWriteTo writes.now place slot) }
 {
     for place in 0..writes.len() {
-        let location = &write_at(writes, place).location;
+        let location = &item_at(writes, place).location;
         if location.count == 1 && location.first == slot {
             return Some(place);
         }

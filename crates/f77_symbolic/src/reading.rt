@@ -14,10 +14,11 @@ ghost use Rattle.f77_symbolic.specs.code.{StaysOn};
 
 use crate::evaluator::Evaluator;
 use crate::halt::{Halt, signed, unless_unknown};
-use crate::memory::{Location, Symbolic, Write, copied_value, write_at};
+use crate::memory::{Location, Symbolic, Write, copied_value};
 use crate::values::known_of_all;
-use f77_facts::facts::{Fact, fact_at};
+use f77_facts::facts::Fact;
 use f77_terms::atoms::Key;
+use f77_terms::items::item_at;
 use f77_terms::paths::add_range;
 use f77_terms::ranges::{Range, atom_range, is_empty};
 use f77_terms::terms::{Term, atom_term, constant_term, copy};
@@ -137,7 +138,7 @@ impl Evaluator {
         if slot >= behind {
             return Err(Halt::Unknown);
         }
-        let fact = fact_at(&self.atoms.facts, slot);
+        let fact = *item_at(&self.atoms.facts, slot);
         self.known_value(fact, Key::Slot(behind + slot), Key::Slot(slot))
     }
 
@@ -175,7 +176,7 @@ impl Evaluator {
             return Err(Halt::Unknown);
         }
         for behind in 0..writes.len() {
-            let write = write_at(writes, writes.len() - 1 - behind);
+            let write = &**item_at(writes, writes.len() - 1 - behind);
             if self.is_same_slot(&write.location, location)? {
                 return Ok(copied_value(self.alloc, &write.value)?);
             }

@@ -14,7 +14,8 @@ use crate::memory::Symbolic;
 use crate::sides::{Side, Step, come_to, go_on, jump, turn_at};
 use f77_actions::{Action, Condition, Element, Jump, Number, Resolved};
 use f77_code::Place;
-use f77_equivalence::ways::{is_executed, jump_at, statement_at};
+use f77_equivalence::ways::is_executed;
+use f77_terms::items::item_at;
 use f77_terms::knowing::constant_of;
 use f77_terms::paths::Path;
 use f77_terms::terms::constant_term;
@@ -99,7 +100,7 @@ impl Evaluator {
                 let number = self.number_of(&side.writes, value)?;
                 match self.item_of(&number, jumps.len())? {
                     Some(place) if place < jumps.len() => {
-                        Ok(jump(self.alloc, side, jump_at(jumps, place))?)
+                        Ok(jump(self.alloc, side, item_at(jumps, place))?)
                     }
                     Some(_) => Err(Halt::Unknown),
                     None => Ok(go_on(side, resolved)),
@@ -179,7 +180,7 @@ impl Evaluator {
         if i >= statements.len() {
             return Err(Halt::Unknown);
         }
-        let resolved = statement_at(statements, i);
+        let resolved = &**item_at(statements, i);
         if !is_executed(&resolved.action) {
             return Err(Halt::Unknown);
         }
@@ -201,13 +202,8 @@ impl Evaluator {
             return Err(Halt::Unknown);
         }
         let turn = turn_at(&side.turns, d)?.ok_or(Halt::Unknown)?;
-        self.increment(
-            side,
-            statements,
-            d,
-            &statement_at(statements, d).action,
-            &turn,
-        )
+        let resolved = &**item_at(statements, d);
+        self.increment(side, statements, d, &resolved.action, &turn)
     }
 
     /// One step of a program.

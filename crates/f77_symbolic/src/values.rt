@@ -4,9 +4,10 @@ ghost use Rattle.std.specs.Prelude.{◌+◌, ◌<◌, ℕ, IfOk, IfSome};
 ghost use Rattle.f77_symbolic.specs.code.{HaveDummies, IsKnownAt};
 
 use f77_check::Checked;
-use f77_equivalence::start::{first_at, shape_at, size};
+use f77_equivalence::start::size;
 use f77_facts::assigning::Slots;
-use f77_facts::facts::{Fact, fact_at, hull_of};
+use f77_facts::facts::{Fact, hull_of};
+use f77_terms::items::item_at;
 use f77_terms::ranges::is_empty;
 use std::alloc::{AllocError, Global};
 
@@ -18,10 +19,9 @@ pub(crate) fn dummies_of(alloc: Global, checked: &Checked) -> Result<Vec<Slots>,
     let shapes = checked.arguments();
     let mut list = Vec::new(alloc);
     for n in 0..start.dummies.len().min(shapes.len()) {
-        list.push(Slots {
-            first: first_at(&start.dummies, n),
-            count: size(shape_at(shapes, n)),
-        })?;
+        let first = *item_at(&start.dummies, n);
+        let count = size(*item_at(shapes, n));
+        list.push(Slots { first, count })?;
     }
     Ok(list)
 }
@@ -33,7 +33,7 @@ fn filled_at(facts: &[Fact], slot: usize) -> Option<Fact>
     if slot >= facts.len() {
         return None;
     }
-    let fact = fact_at(facts, slot);
+    let fact = *item_at(facts, slot);
     if is_empty(fact.range) {
         return None;
     }

@@ -15,9 +15,10 @@ use crate::sides::{Side, Step};
 use crate::walking::path_on;
 use f77_actions::Resolved;
 use f77_code::Place;
-use f77_facts::entries::{Entry, are_covered, entry_at};
+use f77_facts::entries::{Entry, are_covered};
 use f77_facts::facts::is_inside;
 use f77_terms::atoms::{law_of_atoms, new_table};
+use f77_terms::items::item_at;
 use f77_terms::paths::{Path, new_path};
 use f77_tree::Shared;
 use std::alloc::{AllocError, Global};
@@ -220,7 +221,7 @@ pub(crate) fn tour_of(
     let mut left = work;
     let mut each = Vec::new(alloc);
     for number in 0..entries.len() {
-        let entry = entry_at(entries, number);
+        let entry = item_at(entries, number);
         if is_cut(cuts, entry.place) {
             let visits = visits_from(alloc, statements, cuts, entry, &mut left, seeks)?;
             unless_unknown(are_covered(entries, &visits.arrivals))?;

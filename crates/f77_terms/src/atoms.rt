@@ -1,11 +1,12 @@
 //! Atoms: numbers with a meaning.
 
-ghost use Rattle.std.specs.Prelude.{◌≡◌, ◌<◌, true, length, slice_get, Some, IfOk, IfSome};
+ghost use Rattle.std.specs.Prelude.{◌≡◌, true, IfOk, IfSome};
 ghost use Rattle.f77_terms.specs.{Valuation, FitsTable, IsOfAtomsBelow, IsOfEarlierAtoms, Numbers};
 ghost use Rattle.f77_terms.specs.{key_value, HasAtomsBelow};
 
+use crate::items::item_at;
 use crate::monomials::Monomial;
-use crate::terms::{Term, is_same_term, part_at};
+use crate::terms::{Term, is_same_term};
 use f77_tree::Shared;
 use std::alloc::{AllocError, Global};
 
@@ -59,7 +60,7 @@ fn is_within(term: &Term, n: usize) -> bool
     ensures { result ≡ true → IsOfAtomsBelow n term.now }
 {
     for place in 0..term.parts.len() {
-        if !has_atoms_below(part_at(&term.parts, place).monomial, n) {
+        if !has_atoms_below(item_at(&term.parts, place).monomial, n) {
             return false;
         }
     }
@@ -91,21 +92,13 @@ fn is_same_key(a: &Key, b: &Key) -> bool
     }
 }
 
-/// The key at a place.
-pub fn key_at(keys: &[Shared<Key>], place: usize) -> &Key
-    requires { place < length keys.now }
-    ensures { slice_get keys.now place ≡ Some result.now }
-{
-    &keys[place]
-}
-
 /// The atom with a key, if there is one.
 fn atom_with(table: &Table, key: &Key) -> Option<usize>
     ensures { IfSome result (λ atom. (held : Numbers) (v : Valuation) → FitsTable held v table.now
         → v atom ≡ key_value held v key.now) }
 {
     for place in 0..table.keys.len() {
-        let other = key_at(&table.keys, place);
+        let other = item_at(&table.keys, place);
         if is_same_key(other, key) && is_in_order(other, place) {
             return Some(place);
         }

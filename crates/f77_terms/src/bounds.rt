@@ -4,8 +4,9 @@ ghost use Rattle.std.specs.Prelude.{◌≡◌, ◌+ℤ◌, ◌*ℤ◌, ◌≤ℤ
 ghost use Rattle.f77_terms.specs.{Valuation, parts_value, sum_value, IsBelow, AreBelow};
 
 use crate::copying::copied_terms;
+use crate::items::item_at;
 use crate::numbers::{ceiling, divisor_of};
-use crate::terms::{Part, Term, add_multiple, combined, constant_term, copy, part_at};
+use crate::terms::{Part, Term, add_multiple, combined, constant_term, copy};
 use std::alloc::{AllocError, Global};
 
 /// The parts, each of which is so many times one of these.
@@ -15,7 +16,7 @@ fn divided_parts(alloc: Global, parts: &[Part], g: i64) -> Result<Option<Vec<Par
 {
     let mut divided = Vec::new(alloc);
     for place in 0..parts.len() {
-        let part = part_at(parts, place);
+        let part = *item_at(parts, place);
         let Some(factor) = part.factor.checked_div(g) else {
             return Ok(None);
         };

@@ -11,6 +11,7 @@ mod bounds;
 pub mod copying;
 mod elimination;
 mod facts;
+pub mod items;
 pub mod knowing;
 pub mod monomials;
 mod near;

@@ -5,9 +5,10 @@ ghost use Rattle.std.specs.Prelude.{slice_get, Some, IfSome, All};
 ghost use Rattle.f77_terms.specs.{Valuation, monomial_value, part_value, parts_value, sum_value};
 ghost use Rattle.f77_terms.specs.{IsBelow, AreBelow, IsIn, AreKnown, IsUnequal};
 
+use crate::items::item_at;
 use crate::monomials::Monomial;
 use crate::numbers::ceiling;
-use crate::terms::{Part, Term, part_at};
+use crate::terms::{Part, Term};
 
 /// The numbers from the low to the high one.
 #[derive(Clone, Copy, Debug, PartialEq, Eq)]
@@ -125,7 +126,7 @@ fn parts_range(known: &[Option<Range>], parts: &[Part]) -> Option<Range>
 {
     let mut range = Range { low: 0, high: 0 };
     for place in 0..parts.len() {
-        let part = part_at(parts, place);
+        let part = *item_at(parts, place);
         let monomial = monomial_range(known, part.monomial)?;
         range = sum_range(range, multiple_range(monomial, part.factor)?)?;
     }
@@ -191,7 +192,7 @@ fn narrowed_at(known: &[Option<Range>], bound: &Term, place: usize) -> Option<(u
     ensures { IfSome result (λ left. (v : Valuation) → AreKnown v known.now → IsBelow v bound.now
         → IsIn left.1 (v left.0)) }
 {
-    let part = part_at(&bound.parts, place);
+    let part = *item_at(&bound.parts, place);
     let Monomial::One(atom) = part.monomial else {
         return None;
     };
@@ -258,7 +259,7 @@ fn narrow_apart(known: &mut [Option<Range>], term: &Term)
     if term.parts.len() != 1 {
         return;
     }
-    let part = part_at(&term.parts, 0);
+    let part = *item_at(&term.parts, 0);
     let Monomial::One(atom) = part.monomial else {
         return;
     };

@@ -5,6 +5,7 @@ ghost use Rattle.std.specs.Prelude.{slice_get, Some, IfOk, IfSome};
 ghost use Rattle.f77_terms.specs.{Valuation, monomial_value, part_value, parts_value, sum_value};
 ghost use Rattle.f77_terms.specs.{IsWorth, AddsIfDone};
 
+use crate::items::item_at;
 use crate::monomials::{Monomial, monomial_product};
 use std::alloc::{AllocError, Global};
 
@@ -59,14 +60,6 @@ pub fn copy(alloc: Global, term: &Term) -> Result<Term, AllocError>
     Ok(Term { constant, parts })
 }
 
-/// The part at a place.
-pub fn part_at(parts: &[Part], place: usize) -> Part
-    requires { place < length parts.now }
-    ensures { slice_get parts.now place ≡ Some result }
-{
-    parts[place]
-}
-
 /// The place of the part with a monomial, or where it is to stand if there is none.
 fn place_of(parts: &[Part], monomial: Monomial) -> usize
     ensures { result ≤ length parts.now }
@@ -88,7 +81,7 @@ fn add_factor(parts: &mut Vec<Part>, place: usize, more: i64) -> bool
     ensures { result ≡ true → (v : Valuation) (part : Part) → slice_get parts.old.items place ≡ Some part
         → parts_value v parts.new.items ≡ parts_value v parts.old.items +ℤ more *ℤ monomial_value v part.monomial }
 {
-    let part = part_at(parts, place);
+    let part = *item_at(parts, place);
     let Some(factor) = part.factor.checked_add(more) else {
         return false;
     };
@@ -108,7 +101,7 @@ fn add_part(term: &mut Term, part: Part) -> Result<bool, AllocError>
         return Ok(true);
     }
     let place = place_of(&term.parts, part.monomial);
-    if place < term.parts.len() && part_at(&term.parts, place).monomial == part.monomial {
+    if place < term.parts.len() && item_at(&term.parts, place).monomial == part.monomial {
         return Ok(add_factor(&mut term.parts, place, part.factor));
     }
     term.parts.insert(place, part)?;
@@ -120,7 +113,7 @@ fn add_parts(term: &mut Term, m: i64, parts: &[Part]) -> Result<bool, AllocError
     ensures { IfOk result (λ done. AddsIfDone term.old term.new done (λ v. m *ℤ parts_value v parts.now)) }
 {
     for place in 0..parts.len() {
-        let part = part_at(parts, place);
+        let part = *item_at(parts, place);
         let Some(factor) = m.checked_mul(part.factor) else {
             return Ok(false);
         };
@@ -166,7 +159,7 @@ fn add_part_times(term: &mut Term, part: Part, other: &Term) -> Result<bool, All
         return Ok(false);
     }
     for place in 0..other.parts.len() {
-        let Some(product) = part_product(part, part_at(&other.parts, place)) else {
+        let Some(product) = part_product(part, *item_at(&other.parts, place)) else {
             return Ok(false);
         };
         if !add_part(term, product)? {
@@ -223,7 +216,7 @@ pub fn product(alloc: Global, a: &Term, b: &Term) -> Result<Option<Term>, AllocE
         return Ok(None);
     }
     for place in 0..a.parts.len() {
-        if !add_part_times(&mut term, part_at(&a.parts, place), b)? {
+        if !add_part_times(&mut term, *item_at(&a.parts, place), b)? {
             return Ok(None);
         }
     }

@@ -5,7 +5,7 @@ use Rattle.f77_facts.proofs.facts.is_inside.Goals as goal
 pub loop-slot-preserved : goal.loop-slot-preserved
 loop-slot-preserved c =
     below_more _ _ c.loop-slot.invariant
-    (one_within SuitsFact c.args.inner.now c.args.outer.now c.loop-slot.slot c.fact_at-a.result c.fact_at-b.result c.fact_at-a.ensures c.fact_at-b.ensures
+    (one_within SuitsFact c.args.inner.now c.args.outer.now c.loop-slot.slot c.item_at-a.result.now c.item_at-b.result.now c.item_at-a.ensures c.item_at-b.ensures
     (c.is_within.ensures c.if-not-is_within.false))
 
 pub returns : goal.returns

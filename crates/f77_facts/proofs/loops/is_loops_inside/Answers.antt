@@ -5,7 +5,7 @@ use Rattle.f77_facts.proofs.loops.is_loops_inside.Goals as goal
 pub loop-d-preserved : goal.loop-d-preserved
 loop-d-preserved c =
     below_more _ _ c.loop-d.invariant
-    (one_within SuitsTurn c.args.inner.now c.args.outer.now c.loop-d.d c.loop_at-a.result c.loop_at-b.result c.loop_at-a.ensures c.loop_at-b.ensures
+    (one_within SuitsTurn c.args.inner.now c.args.outer.now c.loop-d.d c.item_at-a.result.now c.item_at-b.result.now c.item_at-a.ensures c.item_at-b.ensures
     (c.is_loop_within.ensures c.if-not-is_loop_within.false))
 
 pub returns : goal.returns

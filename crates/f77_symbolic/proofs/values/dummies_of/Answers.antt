@@ -9,10 +9,10 @@ loop-n-preserved c =
     (λ k below slot shape of.
     rw c.in_ok-push.ensures.items (slot_more slot c.loop-n.list.items _ (c.loop-n.invariant k below slot shape of)))
     (λ slot other of.
-    let starts = rw c.deref.ensures.value at c.first_at.ensures in
-    let it = of_dummy c.start-start.result.now.dummies.items c.arguments-shapes.result.now slot c.loop-n.n c.first_at.result c.shape_at.result starts
-    c.shape_at.ensures other of in
-    rw c.in_ok-push.ensures.items (Any-push _ c.loop-n.list.items _ (it.0, omega (arith, it.1, c.size.ensures))))
+    let starts = rw c.deref.ensures.value at c.item_at-first.ensures in
+    let it = of_dummy c.start-start.result.now.dummies.items c.arguments-shapes.result.now slot c.loop-n.n c.item_at-first.result.now
+    c.item_at.result.now starts c.item_at.ensures other of in
+    rw c.in_ok-push.ensures.items (Any-push _ c.loop-n.list.items _ (it.0, omega (arith, it.1, c.size-count.ensures))))
 
 pub returns : goal.returns
 returns c slot n shape of =

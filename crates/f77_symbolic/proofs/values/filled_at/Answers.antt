@@ -2,4 +2,4 @@ use Rattle.f77_symbolic.proofs.Read.{known_at}
 use Rattle.f77_symbolic.proofs.values.filled_at.Goals as goal
 
 pub returns : goal.returns
-returns c = known_at c.args.facts.now c.args.slot c.fact_at-fact.result c.fact_at-fact.ensures
+returns c = known_at c.args.facts.now c.args.slot c.item_at-fact.result.now c.item_at-fact.ensures

@@ -11,7 +11,7 @@ use Rattle.f77_symbolic.proofs.visiting.tour_of.Goals.{then-is_cut+in_ok-visits+
 pub loop-number-preserved : goal.loop-number-preserved
 loop-number-preserved c =
     let entries = c.args.entries.now in
-    let entry = c.entry_at-entry.result.now in
+    let entry = c.item_at-entry.result.now in
     let old = c.loop-number.each.items in
     let new = c.if-is_cut.each.items in
     let Walked : Entry → Visits → Type 0 = IsWalked c.args.statements.now c.args.cuts.now entries in
@@ -31,7 +31,7 @@ loop-number-preserved c =
     ] in
     All-more (Toured new) entries c.loop-number.number entry (omega arith)
     (All-weaker (Toured old) (Toured new) it.0 (take c.loop-number.number entries) c.loop-number.invariant)
-    (subst (Toured new) (sym (get_or_from_slice_get entries c.loop-number.number entry entry c.entry_at-entry.ensures)) it.1)
+    (subst (Toured new) (sym (get_or_from_slice_get entries c.loop-number.number entry entry c.item_at-entry.ensures)) it.1)
 
 pub returns : goal.returns
 returns c k entry is =

@@ -5,10 +5,10 @@ use Rattle.f77_terms.proofs.ranges.narrow_apart.Goals as goal
 pub returns-in-Some : goal.returns-in-Some
 returns-in-Some c v known apart =
     let constant : SFits w64 c.args.term.now.constant = search rules in
-    let factor : SFits w64 c.part_at-part.result.factor = search rules in
+    let factor : SFits w64 c.item_at-part.result.now.factor = search rules in
     let fits : SFits w64 c.in-Some.root = search rules in
     let one = c.if-len-ne1.false in
-    let only = parts_only v c.args.term.now.parts.items c.part_at-part.result (omega (arith, one)) (rw c.deref.ensures.value at c.part_at-part.ensures) in
-    let value = only ∙ ap (λ m. c.part_at-part.result.factor *ℤ monomial_value v m) c.in-One.is in
+    let only = parts_only v c.args.term.now.parts.items c.item_at-part.result.now (omega (arith, one)) (rw c.deref.ensures.value at c.item_at-part.ensures) in
+    let value = only ∙ ap (λ m. c.item_at-part.result.now.factor *ℤ monomial_value v m) c.in-One.is in
     (simp to_z-of_z at c.leave_out.ensures) v known (λ root. apart (ap (λ z. c.args.term.now.constant +ℤ z) value
     ∙ (simp to_z-of_z at c.in-Some.ensures) (v c.in-One.atom) root))

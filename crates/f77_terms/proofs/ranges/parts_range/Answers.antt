@@ -4,7 +4,7 @@ use Rattle.f77_terms.proofs.ranges.parts_range.Goals as goal
 
 pub loop-place-preserved : goal.loop-place-preserved
 loop-place-preserved c v inside =
-    let factor : SFits w64 c.part_at-part.result.factor = search rules in
-    subst (λ (z : ℤ). IsIn c.in_ok-range.range z) (sym (parts_more v c.args.parts.now c.loop-place.place c.part_at-part.result c.part_at-part.ensures))
-    (c.in_ok-range.ensures (parts_value v (take c.loop-place.place c.args.parts.now)) (part_value v c.part_at-part.result) (c.loop-place.invariant v inside)
-    (simp to_z-of_z at (c.in_ok-multiple_range.ensures (monomial_value v c.part_at-part.result.monomial) (c.in_ok-monomial.ensures v inside))))
+    let factor : SFits w64 c.item_at-part.result.now.factor = search rules in
+    subst (λ (z : ℤ). IsIn c.in_ok-range.range z) (sym (parts_more v c.args.parts.now c.loop-place.place c.item_at-part.result.now c.item_at-part.ensures))
+    (c.in_ok-range.ensures (parts_value v (take c.loop-place.place c.args.parts.now)) (part_value v c.item_at-part.result.now) (c.loop-place.invariant v inside)
+    (simp to_z-of_z at (c.in_ok-multiple_range.ensures (monomial_value v c.item_at-part.result.now.monomial) (c.in_ok-monomial.ensures v inside))))

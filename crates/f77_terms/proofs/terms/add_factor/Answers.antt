@@ -21,18 +21,18 @@ changed v ps k part old m factor at there sum =
 
 pub returns-then-factor-eq0 : goal.returns-then-factor-eq0
 returns-then-factor-eq0 c e v part at =
-    let old : SFits w64 c.part_at-part.result.factor = search rules in
+    let old : SFits w64 c.item_at-part.result.now.factor = search rules in
     let more : SFits w64 c.args.more = c.ranges.more in
     let factor : SFits w64 c.in-Some.factor = search rules in
     let none : c.in-Some.factor ≡ pos 0 = omega (arith, ints) in
     ap (parts_value v) c.remove.ensures.items
-    ∙ gone v c.args.parts.now.items c.args.place part c.part_at-part.result c.args.more c.in-Some.factor at
-    (rw c.deref.ensures.value at c.part_at-part.ensures) (simp to_z-of_z at c.in-Some.ensures.1) none
+    ∙ gone v c.args.parts.now.items c.args.place part c.item_at-part.result.now c.args.more c.in-Some.factor at
+    (rw c.deref.ensures.value at c.item_at-part.ensures) (simp to_z-of_z at c.in-Some.ensures.1) none
 
 pub returns : goal.returns
 returns c e v part at =
-    let old : SFits w64 c.part_at-part.result.factor = search rules in
+    let old : SFits w64 c.item_at-part.result.now.factor = search rules in
     let more : SFits w64 c.args.more = c.ranges.more in
     let factor : SFits w64 c.in-Some.factor = search rules in
-    simp to_z-of_z (changed v c.args.parts.now.items c.args.place part c.part_at-part.result c.args.more c.in-Some.factor at
-    (rw c.deref.ensures.value at c.part_at-part.ensures) (simp to_z-of_z at c.in-Some.ensures.1))
+    simp to_z-of_z (changed v c.args.parts.now.items c.args.place part c.item_at-part.result.now c.args.more c.in-Some.factor at
+    (rw c.deref.ensures.value at c.item_at-part.ensures) (simp to_z-of_z at c.in-Some.ensures.1))

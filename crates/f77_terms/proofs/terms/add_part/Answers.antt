@@ -5,8 +5,8 @@ use Rattle.f77_terms.proofs.terms.add_part.Goals as goal
 pub returns-then-eq : goal.returns-then-eq
 returns-then-eq c e v =
     let factor : SFits w64 c.args.part.factor = search rules in
-    let same : c.part_at.result.monomial ≡ c.args.part.monomial = search rules in
-    let added = (simp to_z-of_z at c.add_factor.ensures) e v c.part_at.result (rw c.deref-then-place-len.ensures.value at c.part_at.ensures) in
+    let same : c.item_at.result.now.monomial ≡ c.args.part.monomial = search rules in
+    let added = (simp to_z-of_z at c.add_factor.ensures) e v c.item_at.result.now (rw c.deref-then-place-len.ensures.value at c.item_at.ensures) in
     let value = ap (λ m. c.args.part.factor *ℤ monomial_value v m) same in
     omega (arith, ints, added, value)
 

@@ -15,8 +15,8 @@ loop-place-init c v =
 
 pub loop-place-preserved : goal.loop-place-preserved
 loop-place-preserved c v =
-    let at = rw c.deref.ensures.value at c.part_at.ensures in
-    let more = times_more v c.args.other.now.parts.items c.loop-place.place c.part_at.result (part_value v c.args.part) at in
+    let at = rw c.deref.ensures.value at c.item_at.ensures in
+    let more = times_more v c.args.other.now.parts.items c.loop-place.place c.item_at.result.now (part_value v c.args.part) at in
     let before = c.loop-place.invariant v in
     let product = c.in-Some-part_product.ensures v in
     let added = c.in_ok-add_part-2.ensures c.if-not-branch-2.false v in

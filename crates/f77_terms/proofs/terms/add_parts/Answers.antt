@@ -5,10 +5,10 @@ use Rattle.f77_terms.proofs.terms.add_parts.Goals as goal
 pub loop-place-preserved : goal.loop-place-preserved
 loop-place-preserved c v =
     let m : SFits w64 c.args.m = c.ranges.m in
-    let old : SFits w64 c.part_at-part.result.factor = search rules in
+    let old : SFits w64 c.item_at-part.result.now.factor = search rules in
     let factor : SFits w64 c.in-Some.factor = search rules in
-    let more = times_more v c.args.parts.now c.loop-place.place c.part_at-part.result c.args.m c.part_at-part.ensures in
+    let more = times_more v c.args.parts.now c.loop-place.place c.item_at-part.result.now c.args.m c.item_at-part.ensures in
     let before = simp to_z-of_z at (c.loop-place.invariant v) in
-    let product = factor_times c.in-Some.factor c.args.m c.part_at-part.result.factor (monomial_value v c.part_at-part.result.monomial) (simp to_z-of_z at c.in-Some.ensures.1) in
+    let product = factor_times c.in-Some.factor c.args.m c.item_at-part.result.now.factor (monomial_value v c.item_at-part.result.now.monomial) (simp to_z-of_z at c.in-Some.ensures.1) in
     let added = simp to_z-of_z at (c.in_ok-add_part.ensures c.if-not-branch.false v) in
     simp to_z-of_z (omega (arith, ints, more, before, product, added))

@@ -13,8 +13,8 @@ loop-place-init c v =
 
 pub loop-place-preserved : goal.loop-place-preserved
 loop-place-preserved c v =
-    let at = rw c.deref.ensures.value at c.part_at.ensures in
-    let more = more_times v c.args.a.now.parts.items c.loop-place.place c.part_at.result (sum_value v c.args.b.now) at in
+    let at = rw c.deref.ensures.value at c.item_at.ensures in
+    let more = more_times v c.args.a.now.parts.items c.loop-place.place c.item_at.result.now (sum_value v c.args.b.now) at in
     let before = c.loop-place.invariant v in
     let added = c.in_ok-add_part_times.ensures c.if-not-branch-2.false v in
     omega (arith, ints, more, before, added)

@@ -38,6 +38,6 @@ returns-clause-steps c =
     let set = slice_set cells c.args.variable (Some (held.Number first)) in
     moved_to start.cells v c.args.self.now.own c.divided.new.self.path c.args.side.now c.advance.new.side found _ made.0 divides.0.holds made.1
     (begun_some c.args.statements.now c.args.d c.args.variable c.args.terminal first last step cells turns apart
-    ∙ passing_there c.args.statements.now c.args.terminal c.args.d _ step set turns c.statement_at.result.now c.statement_at.ensures
-    ∙ ap (λ n. passing c.statement_at.result.now c.args.d n step set turns) trips
+    ∙ passing_there c.args.statements.now c.args.terminal c.args.d _ step set turns c.deref-end.result.now (rw (sym c.deref-end.ensures) at c.item_at.ensures)
+    ∙ ap (λ n. passing c.deref-end.result.now c.args.d n step set turns) trips
     ∙ made.2))

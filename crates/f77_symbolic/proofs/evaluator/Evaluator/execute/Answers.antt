@@ -9,6 +9,6 @@ returns-clause-steps c =
     let cells = cells_of start.cells v c.args.side.now.writes.items in
     let turns = turns_of v c.args.side.now.turns.items in
     subst (λ move. Stepped start.cells v c.args.self.now.own c.act.new.self.path c.args.side.now c.act.new.side step move)
-    (sym (moved_execute c.args.statements.now c.args.i c.statement_at-resolved.result.now cells turns c.statement_at-resolved.ensures
-    (sym c.is_executed.ensures ∙ c.if-not-is_executed.false)))
+    (sym (moved_execute c.args.statements.now c.args.i c.deref-resolved.result.now cells turns
+    (rw (sym c.deref-resolved.ensures) at c.item_at.ensures) (sym c.is_executed.ensures ∙ c.if-not-is_executed.false)))
     (claim start v there holds inside))

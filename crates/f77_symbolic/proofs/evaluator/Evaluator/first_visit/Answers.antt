@@ -14,7 +14,7 @@ loop-d-preserved c = record {
       let within : c.loop-d.d < length turns = omega arith in
       let it =
       c.in_ok-turn.ensures.stands start v is before.0 turns (subst (λ k. AreTurnNumbers k c.args.count turns start) same numbers)
-      (left.each c.loop-d.d c.loop_at.result c.loop_at.ensures) c.loop-d-test.true in (
+      (left.each c.loop-d.d c.item_at.result.now c.item_at.ensures) c.loop-d-test.true in (
         it.0.holds,
         turns_next v c.loop-d.turns.items c.push.new.self.items c.in_ok-turn.turn turns c.loop-d.d within c.in_ok-push.ensures.items it.1 before.1,
       );

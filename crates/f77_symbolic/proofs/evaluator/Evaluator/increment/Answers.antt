@@ -27,7 +27,7 @@ returns-clause-steps c =
     let read = whole_read v old mid (held_in cells slot) c.in_ok-value.value (λ z. value ≡ z) it
     (λ holds. c.in_ok-before.ensures start v here holds) in
     let sum = (rw c.in_ok-next.ensures.ok_part at c.in_ok-sum.ensures) v in
-    let end = c.statement_at.result.now in
+    let end = c.deref-end.result.now in
     let statements = c.args.statements.now in
     let passes = one_less (sum_value v c.args.turn.now.passes) (sum_value v c.in_ok-passes.passes) (c.in_ok-passes.ensures v) in
     let next : ℤ → Move = λ next.
@@ -41,7 +41,7 @@ returns-clause-steps c =
     (λ holds.
     let made = claim start.cells v (passes_left (sum_value v c.in_ok-passes.passes)) turn.step inside (rw (c.in_ok-copy.ensures.value v) at (c.in_ok-left.ensures v holds)) in
     moved_to start.cells v new.own new.path before after found _ made.0 holds made.1
-    (passing_there statements c.in-Loop.terminal c.args.d (turn.passes - 1) turn.step set turns end c.statement_at.ensures
+    (passing_there statements c.in-Loop.terminal c.args.d (turn.passes - 1) turn.step set turns end (rw (sym c.deref-end.ensures) at c.item_at.ensures)
     ∙ ap (λ n. passing end c.args.d n turn.step set turns) (sym passes)
     ∙ made.2)))))
 

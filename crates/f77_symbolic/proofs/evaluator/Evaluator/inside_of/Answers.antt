@@ -7,8 +7,9 @@ pub returns : goal.returns
 returns c start v interprets =
     let a = sum_value v c.in-Function.a in
     let b = sum_value v c.in-Function.b in
-    let here = subst (λ keys. slice_get keys c.in-One.atom ≡ Some c.key_at-key.result.now) c.deref.ensures.value c.key_at-key.ensures in
-    let fits = interprets.fits c.in-One.atom c.key_at-key.result.now here (c.if-not-is_in_order.ensures refl) in
+    let there = subst (λ keys. slice_get keys c.in-One.atom ≡ Some c.item_at.result.now) c.deref.ensures.value c.item_at.ensures in
+    let here = there ∙ ap Some (sym c.deref-key.ensures) in
+    let fits = interprets.fits c.in-One.atom c.deref-key.result.now here (c.if-not-is_in_order.ensures refl) in
     let is : v c.in-One.atom ≡ int_min a b = fits ∙ ap (key_value start.numbers v) c.in-Function.is
     ∙ ap (λ f. function_value f a b) c.in-Minimum.is in
     let size = min_sized a b (v c.in-One.atom) (sum_value v c.in_ok-both.both) is (c.in_ok-both.ensures v) (c.if-not-is_constant_zero.ensures refl v) in

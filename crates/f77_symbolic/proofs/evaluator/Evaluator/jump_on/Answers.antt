@@ -28,10 +28,10 @@ returns-in-Some-clause-acts c statements i start v there holds inside =
     (λ holds.
     let has = c.in_ok-place-in-ComputedGoto.ensures v holds in
     goes_stepped start.cells v new.own new.path c.args.side.now c.jump-in-Some.new.side c.in_ok-jump-in-Some.field-0 c.args.side.now
-    (λ cells turns. jump_to c.jump_at.result.now cells turns) _ (c.in_ok-jump-in-Some.ensures v) holds inside
+    (λ cells turns. jump_to c.item_at.result.now cells turns) _ (c.in_ok-jump-in-Some.ensures v) holds inside
     (ap (λ o. option_map_or (λ jump. jump_to jump cells turns) o (go_on c.args.resolved.now cells turns))
-    (item_there c.in-ComputedGoto.jumps.items number c.in-Some.place c.jump_at.result.now
-    (subst (λ item. HasItem item c.len.result number) c.in-Some.is has).1 (rw c.deref-in-Some.ensures.value at c.jump_at.ensures)))))
+    (item_there c.in-ComputedGoto.jumps.items number c.in-Some.place c.item_at.result.now
+    (subst (λ item. HasItem item c.len.result number) c.in-Some.is has).1 (rw c.deref-in-Some.ensures.value at c.item_at.ensures)))))
 
 pub returns-in-ComputedGoto-clause-acts : goal.returns-in-ComputedGoto-clause-acts
 returns-in-ComputedGoto-clause-acts c statements i start v there holds inside =

@@ -11,16 +11,18 @@ loop-behind-init c cells v holds are is =
 
 pub loop-behind-preserved : goal.loop-behind-preserved
 loop-behind-preserved c cells v holds are is =
-    let write = c.write_at-write.result.now in
-    let same = c.in_ok-is_same_slot.ensures v holds (inside_at v c.args.writes.now _ write c.write_at-write.ensures are) is in
+    let write = c.deref-write.result.now in
+    let last = rw (sym c.deref-write.ensures) at c.item_at.ensures in
+    let same = c.in_ok-is_same_slot.ensures v holds (inside_at v c.args.writes.now _ write last are) is in
     c.loop-behind.invariant cells v holds are is
     ∙ past_from_last v cells c.args.writes.now (slot_of v c.args.location.now) c.loop-behind.behind write c.loop-behind-test.true
-    c.write_at-write.ensures (λ here. let told = same.1 here in absurd (cc (told, c.if-branch.false)))
+    last (λ here. let told = same.1 here in absurd (cc (told, c.if-branch.false)))
 
 pub returns-then-branch-clause-reads : goal.returns-then-branch-clause-reads
 returns-then-branch-clause-reads c start v there holds are is =
-    let write = c.write_at-write.result.now in
-    let same = c.in_ok-is_same_slot.ensures v holds (inside_at v c.args.writes.now _ write c.write_at-write.ensures are) is in
+    let write = c.deref-write.result.now in
+    let last = rw (sym c.deref-write.ensures) at c.item_at.ensures in
+    let same = c.in_ok-is_same_slot.ensures v holds (inside_at v c.args.writes.now _ write last are) is in
     let count = there.known.count in
     let below = slot_within c.args.location.now.first c.args.location.now.count _ is.above is.below in
     let within : slot_of v c.args.location.now < length start.cells =
@@ -29,7 +31,7 @@ returns-then-branch-clause-reads c start v there holds are is =
       stays_same v c.args.self.now holds,
       c.loop-behind.invariant start.cells v holds are is
           ∙ there_from_last v start.cells c.args.writes.now (slot_of v c.args.location.now) c.loop-behind.behind write c.loop-behind-test.true
-          c.write_at-write.ensures (same.0 c.if-branch.true) within
+          last (same.0 c.if-branch.true) within
           ∙ sym (c.in_ok-copied_value.ensures v),
     )
 

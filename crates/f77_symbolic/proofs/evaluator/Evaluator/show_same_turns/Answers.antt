@@ -7,8 +7,8 @@ loop-d-preserved c v holds =
     below_more
     (λ k. option_map (option_map (turn_of v)) (slice_get c.args.b.now k) ≡ option_map (option_map (turn_of v)) (slice_get c.args.a.now k)) c.loop-d.d
     (c.loop-d.invariant v holds)
-    (ap (option_map (option_map (turn_of v))) c.turn_in-in-loop-d.ensures ∙ ap (λ t. Some t) (c.in_ok-show_same_turn.ensures v holds)
-    ∙ sym (ap (option_map (option_map (turn_of v))) c.turn_in.ensures))
+    (ap (option_map (option_map (turn_of v))) c.item_at-in-loop-d.ensures ∙ ap (λ t. Some t) (c.in_ok-show_same_turn.ensures v holds)
+    ∙ sym (ap (option_map (option_map (turn_of v))) c.item_at.ensures))
 
 pub returns : goal.returns
 returns c v holds =
