@@ -1,21 +1,13 @@
 -- Which mutants of the program of a job are named, and the text that names them.
 use Rattle.std.specs.Prelude.{◌≡◌, ℕ, List, Result, Ok, Err}
-use Rattle.f77_program.specs.Program.{LineFields}
-use Rattle.f77_meaning.specs.declared.argument.Arg.{Arg}
+use Rattle.equivalents_app.specs.Prelude.{LineFields, Arg, Fault, Ops, Op, Equivalent, Unproved, JobFields}
+use Rattle.equivalents_app.specs.Prelude.{IsFirstTooLong, PlanFields, Inquiry}
 use Rattle.mothra_app.specs.Program.{IsLegalProgramOf}
 use Rattle.mothra_app.specs.Reporting.{IsPlanOf}
-use Rattle.mothra_app.specs.declared.fault.Fault.{Fault}
-use Rattle.mothra_app.specs.declared.fault.Fault.TheVariants.{Ops}
-use Rattle.mothra_codes.specs.declared.op.Op.{Op}
-use Rattle.mothra_equivalents.specs.declared.equivalents.Equivalent.{Equivalent}
-use Rattle.mothra_equivalents.specs.declared.unproved.Unproved.{Unproved}
-use Rattle.mothra_job.specs.Job.{JobFields}
-use Rattle.mothra_ops.specs.Plan.{IsFirstTooLong, PlanFields}
 use Rattle.mothra_replacements.specs.declared.fault.OpsFault.TheVariants.{TooMany}
 use Rattle.equivalents_app.specs.Room.{AreNamedMutants}
 use Rattle.equivalents_app.specs.Rendering.{written_text}
 use Rattle.equivalents_app.specs.Unproved.{AreUnprovedFor}
-use Rattle.equivalents_app.specs.declared.words.Inquiry.{Inquiry}
 
 -- The text names mutants of the plan, for each of which the tests leave room under the limit on
 -- steps; where rows are asked for, it has rows of others, and tells where their proofs were given

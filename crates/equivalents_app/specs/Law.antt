@@ -1,7 +1,6 @@
 -- What the equivalence of mutants that are named for a job means for its tests.
 use Rattle.std.specs.Prelude.{◌≡◌, ℕ, Bool, false, All, List, Ok}
-use Rattle.mothra_equivalents.specs.declared.equivalents.Equivalent.{Equivalent}
-use Rattle.mothra_job.specs.Job.{JobFields, JobRead, job_of}
+use Rattle.equivalents_app.specs.Prelude.{Equivalent, JobFields, JobRead, job_of}
 use Rattle.mothra_verdicts.specs.Bench.{BenchFields, IsBench}
 use Rattle.mothra_verdicts.specs.Verdict.{IsVerdict}
 use Rattle.equivalents_app.specs.Room.{AreNamedMutants}

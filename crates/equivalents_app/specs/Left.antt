@@ -1,11 +1,7 @@
 -- Where the proofs of mutants that are not named were given up.
 use Rattle.std.specs.Prelude.{◌++◌, ℕ, List, [], Option, Some, None, codes}
-use Rattle.std.specs.Fmt.{decimal}
-use Rattle.std.specs.Option.{option_map_or}
-use Rattle.mothra_codes.specs.declared.ticket.Ticket.{Ticket}
+use Rattle.equivalents_app.specs.Prelude.{decimal, option_map_or, Ticket, Unproved, mutant_name}
 use Rattle.mothra_equivalents.specs.declared.unproved.Left.{Left}
-use Rattle.mothra_equivalents.specs.declared.unproved.Unproved.{Unproved}
-use Rattle.mothra_ops.specs.Mutants.{mutant_name}
 
 abbrev pub compared_text : Option (List ℕ) → List ℕ
 compared_text (Some name) = codes " VALUES " ++ name

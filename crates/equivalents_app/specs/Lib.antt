@@ -1,3 +1,4 @@
+pub mod Prelude
 pub mod Words
 pub mod Unproved
 pub mod Rows

@@ -1,18 +1,12 @@
 -- The text that names the mutants of a plan that are proved equivalent.
 use Rattle.std.specs.Prelude.{ℕ, zero, suc, Bool, List, [], ◌++◌, Option, Some, None, codes}
 use Rattle.std.specs.Prelude.{filter_map, flat_map, if◌then◌else◌, length, nat_le}
-use Rattle.std.specs.Fmt.{decimal}
-use Rattle.std.specs.Option.{option_map_or}
-use Rattle.mothra_app.specs.Listing.{asked_total}
-use Rattle.mothra_codes.specs.Ticket.{ticket}
-use Rattle.mothra_codes.specs.declared.ticket.Ticket.{Ticket}
+use Rattle.equivalents_app.specs.Prelude.{decimal, option_map_or, asked_total, ticket, Ticket, Equivalent, Unproved}
+use Rattle.equivalents_app.specs.Prelude.{mutant_name, mutant_of, original_number, program_of, PlanFields}
 use Rattle.equivalents_app.specs.Left.{left_lines}
 use Rattle.equivalents_app.specs.Rows.{json_list, row_lines}
-use Rattle.mothra_equivalents.specs.declared.equivalents.Equivalent.{Equivalent}
-use Rattle.mothra_equivalents.specs.declared.unproved.Unproved.{Unproved}
 use Rattle.mothra_job.specs.Equivalent.{ticket_text}
-use Rattle.mothra_ops.specs.Mutants.{MutantFields, change_text, mutant_name, mutant_of, original_number, program_of}
-use Rattle.mothra_ops.specs.Plan.{PlanFields}
+use Rattle.mothra_ops.specs.Mutants.{MutantFields, change_text}
 
 -- ---- in lines
 

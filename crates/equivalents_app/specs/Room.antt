@@ -1,13 +1,8 @@
 -- Whether the tests leave room for mutants that may take more steps than the program.
 use Rattle.std.specs.Prelude.{◌≤◌, ◌+◌, ⊤, ℕ, zero, suc, All, List}
-use Rattle.f77_program.specs.Program.{LineFields}
-use Rattle.f77_meaning.specs.Interpreter.{IsEnd, IsOutcomeOf}
-use Rattle.f77_meaning.specs.declared.argument.Arg.{Arg}
+use Rattle.equivalents_app.specs.Prelude.{LineFields, IsEnd, IsOutcomeOf, Arg, Equivalent, program_of, PlanFields}
 use Rattle.f77_meaning.specs.declared.outcome.Outcome.{Outcome}
 use Rattle.mothra_equivalents.specs.Equivalents.{AreEquivalents}
-use Rattle.mothra_equivalents.specs.declared.equivalents.Equivalent.{Equivalent}
-use Rattle.mothra_ops.specs.Mutants.{program_of}
-use Rattle.mothra_ops.specs.Plan.{PlanFields}
 
 -- the program returns or stops on the test at least `room` steps before the limit
 abbrev pub LeavesRoomOn : List LineFields → ℕ → ℕ → List Arg → Type 0

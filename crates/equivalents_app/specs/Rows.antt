@@ -1,12 +1,8 @@
 -- Rows: tests that may kill mutants which are not named, as the key `suite` of a job has them.
 use Rattle.std.specs.Prelude.{◌++◌, ℕ, Bool, true, false, List, codes, flat_map}
-use Rattle.std.specs.Fmt.{signed_decimal}
-use Rattle.f77_meaning.specs.declared.argument.Arg.{Arg}
+use Rattle.equivalents_app.specs.Prelude.{signed_decimal, Arg, Ticket, Unproved, mutant_name}
 use Rattle.f77_meaning.specs.declared.argument.Arg.TheVariants.{Int, Truth, Ints, Truths}
 use Rattle.f77_program.specs.Joined.{enclosed_text}
-use Rattle.mothra_codes.specs.declared.ticket.Ticket.{Ticket}
-use Rattle.mothra_equivalents.specs.declared.unproved.Unproved.{Unproved}
-use Rattle.mothra_ops.specs.Mutants.{mutant_name}
 
 abbrev pub truth_text : Bool → List ℕ
 truth_text true = codes "true"

@@ -1,21 +1,16 @@
 -- What is written for words and all the bytes of the reader: a status and a text.
 use Rattle.std.specs.Prelude.{◌≡◌, ℕ, List, ◌∷◌, Contains, Some, Ok, Err}
-use Rattle.clap.specs.Words.{Text, fault_of}
+use Rattle.equivalents_app.specs.Prelude.{Text, of_mutants, bad_operators, Fault, Job, JobRead, job_of, Inquiry}
+use Rattle.clap.specs.Words.{fault_of}
 use Rattle.clap.specs.Kinds.{IsAmong}
 use Rattle.clap.specs.declared.error.kind.ErrorKind.{ErrorKind}
 use Rattle.mothra_app.specs.Answer.{IsRefusal, Outcome}
-use Rattle.mothra_app.specs.Fault.{of_mutants}
 use Rattle.mothra_app.specs.Line.{fault_line}
-use Rattle.mothra_app.specs.Serving.{bad_operators}
-use Rattle.mothra_app.specs.declared.fault.Fault.{Fault}
-use Rattle.mothra_app.specs.declared.fault.Fault.TheVariants.{Job}
 use Rattle.mothra_app.specs.declared.status.Status.{Status}
 use Rattle.mothra_app.specs.declared.status.Status.TheVariants as status
-use Rattle.mothra_job.specs.Job.{JobRead, job_of}
 use Rattle.mothra_job.specs.declared.job.JobFault.TheVariants as job
 use Rattle.equivalents_app.specs.Finding.{IsFound}
 use Rattle.equivalents_app.specs.Words.{HasBadInquiryOperators, IsInquiryBounded, equivalents, inquiry_of}
-use Rattle.equivalents_app.specs.declared.words.Inquiry.{Inquiry}
 
 -- ---- the answer to an inquiry
 

@@ -1,11 +1,6 @@
 -- Which mutants that are not named something is told of.
 use Rattle.std.specs.Prelude.{◌≡◌, ◌≢◌, ◌≤◌, ℕ, All, AllPairs, IsSome, List, [], Option, Some, None, length}
-use Rattle.f77_meaning.specs.Interpreter.{AreFitting}
-use Rattle.mothra_codes.specs.Ticket.{Before}
-use Rattle.mothra_equivalents.specs.declared.equivalents.Equivalent.{Equivalent}
-use Rattle.mothra_equivalents.specs.declared.unproved.Unproved.{Unproved}
-use Rattle.mothra_ops.specs.Mutants.{mutant_of}
-use Rattle.mothra_ops.specs.Plan.{PlanFields}
+use Rattle.equivalents_app.specs.Prelude.{AreFitting, Before, Equivalent, Unproved, mutant_of, PlanFields}
 
 -- the mutant is one of the plan that is not named; its rows fit the dummy arguments, they differ,
 -- and there are at most so many

@@ -1,19 +1,16 @@
 -- The command line of `equivalents`, which has no subcommand, and what its words ask for.
 use Rattle.std.specs.Prelude.{◌≡◌, ◌≤◌, ℕ, Bool, true, false, [], ◌∷◌, List, Option, Some, None, codes, if◌then◌else◌}
-use Rattle.std.specs.Option.{option_map_or}
 use Rattle.std.specs.Str.{bytes_eq}
-use Rattle.clap.specs.Words.{App, HasKind, Row, Rule, Text, fault_of, matches_of, new_rule, one_of}
+use Rattle.equivalents_app.specs.Prelude.{option_map_or, Text, Op, WordsFault, Inquiry}
+use Rattle.clap.specs.Words.{App, HasKind, Row, Rule, fault_of, matches_of, new_rule, one_of}
 use Rattle.clap.specs.Simple.{new_shape}
 use Rattle.clap.specs.Walk.{is_empty}
 use Rattle.clap.specs.declared.builder.action.ArgAction.TheVariants.{SetTrue}
 use Rattle.clap.specs.declared.builder.value_parser.ValueParser.TheVariants.{Unsigned}
 use Rattle.clap.specs.declared.error.Error.{Error}
-use Rattle.mothra_codes.specs.declared.op.Op.{Op}
 use Rattle.mothra_cli.specs.Command.{every_rule, ops_rule, steps_rule}
 use Rattle.mothra_cli.specs.Request.{option_number, operators_at}
-use Rattle.mothra_cli.specs.declared.request.WordsFault.{WordsFault}
 use Rattle.mothra_cli.specs.declared.request.WordsFault.TheVariants as fault
-use Rattle.equivalents_app.specs.declared.words.Inquiry.{Inquiry}
 
 -- `--json`, which takes no value
 abbrev pub json_rule : Rule

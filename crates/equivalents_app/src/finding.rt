@@ -2,11 +2,9 @@
 
 ghost use Rattle.std.specs.Prelude.{◌≤◌, ◌⊎◌, ℕ, List, Ok, Err, Contains, IfOk, IfSome, MatchResult};
 ghost use Rattle.std.specs.Prelude.{length, string_bytes};
-ghost use Rattle.mothra_app.specs.Fault.{of_mutants};
-ghost use Rattle.equivalents_app.specs.{IsFound, IsNamedIn, AreNamedMutants, LeavesRoom};
-ghost use Rattle.equivalents_app.specs.{IsInquiryBounded};
+ghost use Rattle.equivalents_app.specs.Prelude.{of_mutants, program_of};
+ghost use Rattle.equivalents_app.specs.{IsFound, IsNamedIn, AreNamedMutants, LeavesRoom, IsInquiryBounded};
 ghost use Rattle.f77_meaning.specs.declared.argument.Arg.{Arg as Given};
-ghost use Rattle.mothra_ops.specs.Mutants.{program_of};
 
 use crate::killed::{bench_of, killed_on};
 use crate::rendering::text_of;

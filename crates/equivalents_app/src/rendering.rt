@@ -1,11 +1,9 @@
 //! The text that names mutants of a plan.
 
 ghost use Rattle.std.specs.Prelude.{◌≡◌, ◌++◌, IfOk, OnOk, flat_map, string_bytes};
-ghost use Rattle.mothra_app.specs.Listing.{asked_total};
+ghost use Rattle.equivalents_app.specs.Prelude.{asked_total, mutant_fields, original_number};
 ghost use Rattle.mothra_ops.specs.Made.{IsMadeMutant};
-ghost use Rattle.mothra_ops.specs.Mutants.{mutant_fields, original_number};
-ghost use Rattle.equivalents_app.specs.{entry_text, equivalent_line, json_line, last_line};
-ghost use Rattle.equivalents_app.specs.{lines_text, promise_line};
+ghost use Rattle.equivalents_app.specs.{entry_text, equivalent_line, json_line, last_line, lines_text, promise_line};
 ghost use Rattle.equivalents_app.specs.Rendering as definition;
 
 use crate::left::push_left;
@@ -22,7 +20,8 @@ const MOST: u64 = 1_048_575;
 
 /// Adds the front of a mutant's line: what is promised of it, and its name.
 fn push_promise(text: &mut String, every: u32, equivalent: Equivalent) -> Result<(), AllocError>
-    ensures { OnOk result (string_bytes text.new ≡ string_bytes text.old ++ definition.promise_text every equivalent) }
+    ensures { OnOk result (string_bytes text.new ≡ string_bytes text.old
+        ++ definition.promise_text every equivalent) }
 {
     match equivalent.spare {
         0 => text.push_str("EQUIVALENT ")?,
@@ -41,7 +40,8 @@ fn push_mutant(
 ) -> Result<(), AllocError>
     requires { IsMadeMutant plan.now.checked mutant.now }
     ensures { OnOk result
-        (string_bytes text.new ≡ string_bytes text.old ++ promise_line plan.now equivalent (mutant_fields mutant.now)) }
+        (string_bytes text.new ≡ string_bytes text.old
+        ++ promise_line plan.now equivalent (mutant_fields mutant.now)) }
 {
     push_promise(text, plan.every(), equivalent)?;
     plan.push_change(text, mutant)?;

@@ -1,8 +1,7 @@
 //! The room that the tests of a job leave: how many steps before the limit the program returns or stops.
 
 ghost use Rattle.std.specs.Prelude.{◌≡◌, ◌≤◌, ◌+◌, IfOk, IfSome, filter, map};
-ghost use Rattle.f77_meaning.specs.Interpreter.{IsEnd};
-ghost use Rattle.f77_program.specs.Program.{line_of};
+ghost use Rattle.equivalents_app.specs.Prelude.{IsEnd, line_of};
 ghost use Rattle.equivalents_app.specs.{LeavesRoom, LeavesRoomOn};
 ghost use Rattle.equivalents_app.specs.code.Room as definition;
 

@@ -1,7 +1,7 @@
 //! The text of rows: tests that may kill mutants which are not named, as the key `suite` of a job has them.
 
 ghost use Rattle.std.specs.Prelude.{◌≡◌, ◌++◌, OnOk, flat_map, string_bytes};
-ghost use Rattle.std.specs.Fmt.{signed_decimal};
+ghost use Rattle.equivalents_app.specs.Prelude.{signed_decimal};
 ghost use Rattle.equivalents_app.specs.{json_value, row_line, row_lines, truth_text};
 
 use f77_meaning::Arg;

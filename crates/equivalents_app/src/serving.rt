@@ -2,12 +2,10 @@
 
 ghost use Rattle.std.specs.Prelude.{◌≡◌, ◌≢◌, ◌⊎◌, List, Some, false, Ok, Err, Contains, IfOk, MatchResult, map};
 ghost use Rattle.std.specs.Prelude.{string_bytes};
-ghost use Rattle.clap.specs.Words.{Text};
-ghost use Rattle.mothra_app.specs.Serving.{IsAnswered, WritesFront, WritesWhole};
+ghost use Rattle.equivalents_app.specs.Prelude.{Text, IsAnswered, WritesFront, WritesWhole, job_of};
 ghost use Rattle.mothra_app.specs.Status.{is_read_fault, is_write_fault};
 ghost use Rattle.mothra_cli.specs.Input.{limit, TakesAtMost};
 ghost use Rattle.mothra_cli.specs.Watched.{inside, has_failed};
-ghost use Rattle.mothra_job.specs.Job.{job_of};
 ghost use Rattle.equivalents_app.specs.{IsInquiryAnswer, IsInquiryBounded, IsInquiryOutcome};
 ghost use Rattle.equivalents_app.specs.{MayBeWrittenByInquiry, memory_faults};
 ghost use Rattle.equivalents_app.specs.Words as asked;

@@ -1,9 +1,7 @@
 //! Mutants that are not named of which something is told: which may be.
 
 ghost use Rattle.std.specs.Prelude.{◌≡◌, ◌≢◌, ◌≤◌, ◌++◌, ◌∷◌, [], true, All, AllPairs, IfOk, IsSome, length};
-ghost use Rattle.f77_meaning.specs.Interpreter.{AreFitting};
-ghost use Rattle.mothra_codes.specs.Ticket.{Before};
-ghost use Rattle.mothra_ops.specs.Mutants.{mutant_of};
+ghost use Rattle.equivalents_app.specs.Prelude.{AreFitting, Before, mutant_of};
 ghost use Rattle.equivalents_app.specs.{AreUnprovedFor, StandInOrder};
 
 use f77_check::Checked;

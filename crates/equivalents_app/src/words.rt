@@ -4,9 +4,8 @@ ghost use Rattle.std.specs.Prelude.{◌≡◌, IfErr, IfOk, Ok, OnOk, Some, fals
 ghost use Rattle.clap.specs.Words.{FailsBy, app_of, fault_of, found_of, matches_of, rows_of, rule_of};
 ghost use Rattle.clap.specs.declared.builder.command.Command.TheViews.{out-Command};
 ghost use Rattle.mothra_cli.specs.Command.{steps_rule};
-ghost use Rattle.equivalents_app.specs.{equivalents, flag_at, json_rule, rows_rule};
-ghost use Rattle.equivalents_app.specs.{IsInquiryBounded, IsInquiryTaken, inquiry_meaning};
-ghost use Rattle.equivalents_app.specs.{options_meaning, IsInquiryFault};
+ghost use Rattle.equivalents_app.specs.{equivalents, flag_at, json_rule, rows_rule, IsInquiryBounded, IsInquiryTaken};
+ghost use Rattle.equivalents_app.specs.{inquiry_meaning, options_meaning, IsInquiryFault};
 ghost use Rattle.equivalents_app.specs.code.{ReadsInquiry};
 ghost use Rattle.equivalents_app.specs.Words as asked;
 
@@ -41,7 +40,7 @@ fn steps_option<'a>(alloc: Global) -> Arg<'a>
     Arg::new(alloc, "steps")
         .long("steps")
         .help(
-            "The limit on steps of a run: a mutant is named by SPARE-n where each test leaves n of them",
+            "The limit on steps of a run: a mutant is named by SPARE n where each test leaves n of them",
         )
         .value_parser(ValueParser::unsigned(1, 1_000_000))
         .default_value("10000")
@@ -79,9 +78,9 @@ fn command<'a>(alloc: Global) -> Result<Command<'a>, AllocError>
         .about(
             "Names mutants of a FORTRAN 77 subroutine that no test can kill, each by a proof: whatever the arguments, \
              where the subroutine returns or stops, the mutant does so too, with the same values. A mutant with the \
-             word SPARE-n does so in up to n steps more: it is named only where on each test of the job the \
-             subroutine returns or stops n steps before the limit on steps, and only a test on which that is not so \
-             can kill it. Of arguments on which the subroutine itself fails, or does not end within the limit on \
+             word SPARE and a number n does so in up to n steps more: it is named only where on each test of the job \
+             the subroutine returns or stops n steps before the limit on steps, and only a test on which that is not \
+             so can kill it. Of arguments on which the subroutine itself fails, or does not end within the limit on \
              steps, nothing is said: no suite may have them. A mutant that is not named may be equivalent too. The \
              job is read from standard input",
         )

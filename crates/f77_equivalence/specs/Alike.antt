@@ -1,9 +1,7 @@
 -- What two programs do alike.
 use Rattle.std.specs.Prelude.{◌≡◌, ◌≢◌, ℕ, ℤ, List, slice_get}
-use Rattle.f77_actions.specs.declared.resolved.Resolved.{Resolved}
+use Rattle.f77_equivalence.specs.Prelude.{Resolved, Cells, TurnList, go_on, passing_at, statement_number}
 use Rattle.f77_code.specs.declared.control.Place.{Place}
-use Rattle.f77_code.specs.Moves.{Cells, TurnList, go_on, passing_at}
-use Rattle.f77_meaning.specs.Reached.{statement_number}
 use Rattle.f77_meaning.specs.States.{placed_in_run}
 
 -- the statements are the same but for the one of this number

@@ -4,15 +4,11 @@ use Rattle.std.specs.Prelude.{◌≡◌, ℕ, List, None, map}
 use Rattle.f77_program.specs.Program.{LineFields, IsProgram, line_of}
 use Rattle.f77_legal.specs.Frames.{HaveOneFrame}
 use Rattle.f77_legal.specs.Legal.{IsLegal}
-use Rattle.f77_check.specs.Checked.{CheckedFields, IsChecked}
+use Rattle.f77_equivalence.specs.Prelude.{CheckedFields, IsChecked, Resolved, Cells, AreSameBut, argument_values}
 use Rattle.f77_check.specs.Resolved.{AreResolved}
-use Rattle.f77_actions.specs.declared.resolved.Resolved.{Resolved}
 use Rattle.f77_actions.specs.declared.finish.Finish.{Finish}
 use Rattle.f77_actions.specs.declared.finish.Finish.TheVariants.{Returned, Stopped}
-use Rattle.f77_code.specs.Moves.{Cells}
-use Rattle.f77_meaning.specs.Reached.{AreSameBut}
 use Rattle.f77_meaning.specs.Site.{held}
-use Rattle.f77_meaning.specs.Start.{argument_values}
 
 -- The changed program is legal, of the frame of the other, and the
 -- same but for the statement i; these are its statements resolved.

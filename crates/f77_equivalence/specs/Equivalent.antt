@@ -1,10 +1,8 @@
 -- When no test can tell a changed program from the program.
 use Rattle.std.specs.Prelude.{◌+◌, ℕ, List}
 use Rattle.f77_program.specs.Program.{LineFields}
-use Rattle.f77_check.specs.Checked.{shapes}
-use Rattle.f77_meaning.specs.declared.argument.Arg.{Arg}
+use Rattle.f77_equivalence.specs.Prelude.{shapes, Arg, AreFitting, IsEnd, IsOutcomeOf}
 use Rattle.f77_meaning.specs.declared.outcome.Outcome.{Outcome}
-use Rattle.f77_meaning.specs.Interpreter.{AreFitting, IsEnd, IsOutcomeOf}
 use Rattle.f77_equivalence.specs.Storable.{AreStorable}
 
 -- with these arguments, and whatever the limit on steps, where the

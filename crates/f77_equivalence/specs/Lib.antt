@@ -1,3 +1,4 @@
+pub mod Prelude
 pub mod Alike
 pub mod Ways
 pub mod Storable

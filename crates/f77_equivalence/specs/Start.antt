@@ -1,17 +1,11 @@
 -- Where the runs of a checked program start, and when entries say what is there.
 use Rattle.std.specs.Prelude.{◌≡◌, List, None, length, map, option_map, replicate}
-use Rattle.std.specs.List.{zip}
-use Rattle.f77_check.specs.Checked.{CheckedFields}
+use Rattle.f77_equivalence.specs.Prelude.{zip, CheckedFields, Cells, TurnList, State, state, AreIn, Arg, AreFitting}
+use Rattle.f77_equivalence.specs.Prelude.{all_filled, constant_value}
 use Rattle.f77_code.specs.declared.control.Place.TheVariants.{Execute}
-use Rattle.f77_code.specs.Moves.{Cells, TurnList, State, state}
 use Rattle.f77_facts.specs.declared.entries.Entry.{Entry}
 use Rattle.f77_facts.specs.Entries.{IsAmong}
-use Rattle.f77_facts.specs.Facts.{AreIn}
 use Rattle.f77_facts.specs.Loops.{AreLeft}
-use Rattle.f77_meaning.specs.declared.argument.Arg.{Arg}
-use Rattle.f77_meaning.specs.Interpreter.{AreFitting}
-use Rattle.f77_meaning.specs.Spans.{all_filled}
-use Rattle.f77_meaning.specs.Start.{constant_value}
 use Rattle.f77_equivalence.specs.Storable.{AreStorable}
 
 -- the slots hold what DATA gives them, and those of the dummy arguments the arguments

@@ -1,11 +1,8 @@
 -- Arguments whose numbers are ones that INTEGER holds.
 use Rattle.std.specs.Prelude.{◌≡◌, Bool, true, List}
-use Rattle.std.specs.List.{list_all}
-use Rattle.f77_actions.specs.declared.value.Value.{Value}
+use Rattle.f77_equivalence.specs.Prelude.{list_all, Value, Arg, values_in}
 use Rattle.f77_actions.specs.declared.value.Value.TheVariants as held
 use Rattle.f77_actions.specs.Number.{fits}
-use Rattle.f77_meaning.specs.declared.argument.Arg.{Arg}
-use Rattle.f77_meaning.specs.Interpreter.{values_in}
 
 abbrev pub is_storable : Value → Bool
 is_storable (held.Number z) = fits z

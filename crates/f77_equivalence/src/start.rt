@@ -1,15 +1,8 @@
 //! What is known where runs start, whatever their arguments.
 
 ghost use Rattle.std.specs.Prelude.{◌≡◌, true, length, map, option_map, List, Some, IfOk};
-ghost use Rattle.std.specs.List.{zip};
-ghost use Rattle.f77_actions.specs.declared.value.Value.{Value};
-ghost use Rattle.f77_check.specs.declared.checked.Shape.{Shape};
-ghost use Rattle.f77_code.specs.Moves.{Cells};
-ghost use Rattle.f77_facts.specs.Facts.{AreIn, SuitsFact};
-ghost use Rattle.f77_meaning.specs.declared.argument.Arg.{Arg};
-ghost use Rattle.f77_meaning.specs.Interpreter.{AreFitting};
-ghost use Rattle.f77_meaning.specs.Spans.{all_filled, size_of};
-ghost use Rattle.f77_meaning.specs.Start.{constant_value};
+ghost use Rattle.f77_equivalence.specs.Prelude.{zip, Value, Shape, Cells, AreIn, SuitsFact, Arg, AreFitting};
+ghost use Rattle.f77_equivalence.specs.Prelude.{all_filled, size_of, constant_value};
 ghost use Rattle.f77_meaning.specs.code.Typed.{has_kind};
 ghost use Rattle.f77_equivalence.specs.{HoldsStart, IsStartEntry, AreStorable, is_storable};
 ghost use Rattle.f77_equivalence.specs.code.{facts_given};

@@ -1,10 +1,8 @@
 -- For places of control what is known there, by one or more entries.
 use Rattle.std.specs.Prelude.{◌≡◌, ℕ, List, Some, slice_get}
 use Rattle.f77_code.specs.declared.control.Place.{Place}
-use Rattle.f77_code.specs.Moves.{Cells, TurnList}
+use Rattle.f77_facts.specs.Prelude.{Cells, TurnList, Fact, LoopFact}
 use Rattle.f77_facts.specs.declared.entries.Entry.{Entry}
-use Rattle.f77_facts.specs.declared.facts.Fact.{Fact}
-use Rattle.f77_facts.specs.declared.loops.LoopFact.{LoopFact}
 use Rattle.f77_facts.specs.Facts.{AreIn}
 use Rattle.f77_facts.specs.Loops.{AreLeft}
 

@@ -1,11 +1,8 @@
 -- What is known of what slots hold.
 use Rattle.std.specs.Prelude.{◌≡◌, ℕ, ℤ, pos, true, false, List, length, Option, Some, None, slice_get}
-use Rattle.f77_actions.specs.declared.value.Value.{Value}
+use Rattle.f77_facts.specs.Prelude.{Value, Cells, Fact, IsIn}
 use Rattle.f77_actions.specs.declared.value.Value.TheVariants as held
 use Rattle.f77_code.specs.Evaluation.{held_in}
-use Rattle.f77_code.specs.Moves.{Cells}
-use Rattle.f77_facts.specs.declared.facts.Fact.{Fact}
-use Rattle.f77_terms.specs.Ranges.{IsIn}
 use Rattle.f77_tree.specs.declared.tree.Kind.{Kind}
 use Rattle.f77_tree.specs.declared.tree.Kind.TheVariants.{Integer, Logical}
 

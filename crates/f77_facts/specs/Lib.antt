@@ -1,3 +1,4 @@
+pub mod Prelude
 pub mod Facts
 pub mod Loops
 pub mod Assigning

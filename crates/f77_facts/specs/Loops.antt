@@ -1,10 +1,7 @@
 -- What is known of what DOs have left.
 use Rattle.std.specs.Prelude.{◌≡◌, ℕ, pos, List, length, Option, Some, None, slice_get}
-use Rattle.f77_code.specs.declared.control.Turn.{Turn}
-use Rattle.f77_code.specs.Moves.{TurnList, turn_at}
-use Rattle.f77_facts.specs.declared.loops.LoopFact.{LoopFact}
+use Rattle.f77_facts.specs.Prelude.{Turn, TurnList, turn_at, LoopFact, IsIn}
 use Rattle.f77_facts.specs.declared.loops.LoopFact.TheVariants.{Inactive, Active}
-use Rattle.f77_terms.specs.Ranges.{IsIn}
 
 -- what a DO may have left, if it is active
 abbrev pub SuitsTurn : LoopFact → Option Turn → Type 0

@@ -1,8 +1,7 @@
 //! What is known after an assignment.
 
-ghost use Rattle.std.specs.Prelude.{◌≤◌, ℕ, length, slice_set, Option, IfSome};
-ghost use Rattle.f77_actions.specs.declared.value.Value.{Value};
-ghost use Rattle.f77_code.specs.Moves.{Cells};
+ghost use Rattle.std.specs.Prelude.{◌≡◌, ◌≤◌, ℕ, length, slice_set, Option, IfSome, IsSome};
+ghost use Rattle.f77_facts.specs.Prelude.{Value, Cells};
 ghost use Rattle.f77_facts.specs.{AreIn, SuitsFact, HasSlot};
 ghost use Rattle.f77_facts.specs.code.{Widens};
 
@@ -31,8 +30,9 @@ fn widen(facts: &mut [Fact], from: usize, end: usize, fact: Fact) -> Option<()>
 /// One of these slots is given what suits the fact. It is not told what is known then where they are several, and the
 /// fact of one is of another kind.
 pub fn assign(facts: &mut [Fact], slots: Slots, fact: Fact) -> Option<()>
-    ensures { IfSome result (λ _. (cells : Cells) (k : ℕ) (cell : Option Value) → AreIn facts.old cells
+    ensures known { IfSome result (λ _. (cells : Cells) (k : ℕ) (cell : Option Value) → AreIn facts.old cells
         → HasSlot slots k → SuitsFact fact cell → AreIn facts.new (slice_set cells k cell)) }
+    ensures told { slots.count ≡ 1 → IsSome result }
 {
     if slots.count == 1 {
         set(facts, slots.first, fact);

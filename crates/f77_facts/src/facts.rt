@@ -1,11 +1,9 @@
 //! What is known of what slots hold.
 
-ghost use Rattle.std.specs.Prelude.{◌≡◌, true, slice_set, Option, Some, IfSome};
-ghost use Rattle.f77_actions.specs.declared.value.Value.{Value};
+ghost use Rattle.std.specs.Prelude.{◌≡◌, true, slice_set, Option, Some, IfSome, IsSome};
+ghost use Rattle.f77_facts.specs.Prelude.{Value, Cells, IsIn};
 ghost use Rattle.f77_actions.specs.Number.{fits};
-ghost use Rattle.f77_code.specs.Moves.{Cells};
 ghost use Rattle.f77_facts.specs.{SuitsFact, Implies, AreIn, Lies, kind_of_value, number_of};
-ghost use Rattle.f77_terms.specs.Ranges.{IsIn};
 
 use f77_terms::items::item_at;
 use f77_terms::ranges::{self, Range, hull};
@@ -59,6 +57,7 @@ pub fn set(facts: &mut [Fact], slot: usize, fact: Fact)
 pub fn hull_of(a: Fact, b: Fact) -> Option<Fact>
     ensures first { IfSome result (λ fact. Implies a fact) }
     ensures second { IfSome result (λ fact. Implies b fact) }
+    ensures told { a.kind ≡ b.kind → IsSome result }
 {
     if a.kind != b.kind {
         return None;

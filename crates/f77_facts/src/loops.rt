@@ -1,8 +1,7 @@
 //! What is known of which DOs are active, and of what they have left.
 
 ghost use Rattle.std.specs.Prelude.{◌≡◌, true, Option};
-ghost use Rattle.f77_code.specs.declared.control.Turn.{Turn};
-ghost use Rattle.f77_code.specs.Moves.{TurnList};
+ghost use Rattle.f77_facts.specs.Prelude.{Turn, TurnList};
 ghost use Rattle.f77_facts.specs.{SuitsTurn, AreLeft};
 
 use f77_terms::items::item_at;

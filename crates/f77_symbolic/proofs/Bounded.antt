@@ -4,7 +4,6 @@ use Rattle.f77_symbolic.proofs.Common.{Option, Some, sym, ap, subst, ℤ, pos, n
 use Rattle.f77_symbolic.proofs.Common.{option_and_then, int_max, clamps, ints, map-append, take_more, slice_get_within, Value, held_in, Cells, TurnList}
 use Rattle.f77_symbolic.proofs.Common.{turn_at, Turn, Fact, AreIn, SuitsFact, number_of, AreLeft, SuitsTurn, IsIn, Valuation, Write, SymbolicTurn, AreNumbers}
 use Rattle.f77_symbolic.proofs.Common.{presence_of, Start, cells_of, content_of, slot_of, passes_left, turn_of, turns_of}
-use Rattle.std.proofs.Math.Seq.{take-append_seam}
 use Rattle.f77_code.proofs.Listed.{get_left, pushed}
 use Rattle.f77_facts.specs.declared.loops.LoopFact.{LoopFact}
 use Rattle.f77_facts.proofs.Slots.{set_one}
@@ -37,10 +36,6 @@ module _ (facts : List Fact) (slot : ℕ) (old new : Fact) (start : Start) (ther
 pub left_max : (z : ℤ) → pos (passes_left z) ≡ int_max z (pos 0)
 left_max (pos n) = omega (arith, ints, clamps)
 left_max (negsuc n) = omega (arith, ints, clamps)
-
--- a slice is written back as it is
-pub written_back : {A : Type 0} (xs rest : List A) (n : ℕ) → length xs ≡ n → take n (xs ++ rest) ≡ xs
-written_back xs rest n long = subst (λ k. take k (xs ++ rest) ≡ xs) long (take-append_seam xs rest)
 
 module _ (v : Valuation) where
   -- one write more

@@ -43,7 +43,7 @@ unfoldable pub use Rattle.f77_symbolic.specs.{together, FollowsByKeys}
 pub use Rattle.f77_symbolic.specs.code.{StaysOn, Stepped, Answers, ReadsCell, Extends, AreExplored, IsSettled, HoldSameIn, IsReady, IsKnownAt, IsBehindBy}
 pub use Rattle.f77_symbolic.specs.code.{HavePairs, IsSlotOf, FollowsAt, FollowsThere, FollowsVisit, HasItem, HasSign, IsEndOf, RestsOn, IsWithin, IsBehindOn}
 pub use Rattle.f77_symbolic.specs.code.{IsDivision, HaveDummies, GoesOnIfHeld, FollowsFrom, GoesTo, HasLeft, IsExplored, IsMet, IsMetOrExplored, IsOnWay}
-pub use Rattle.f77_symbolic.specs.code.{EndsSo, Follows, GivesWay, IsRoomLeft, IsPairOn, IsThere, IsPartOf, Whichever}
+pub use Rattle.f77_symbolic.specs.code.{AlwaysTells, EndsSo, Follows, GivesWay, IsRoomLeft, IsPairOn, IsThere, IsPartOf, Whichever}
 pub use Rattle.f77_symbolic.specs.declared.evaluator.Atoms.{Atoms}
 pub use Rattle.f77_symbolic.specs.declared.evaluator.Evaluator.{Evaluator}
 pub use Rattle.f77_symbolic.specs.declared.halt.Split.{Split}

@@ -1,24 +1,35 @@
 -- Powers with an exponent above 0.
-use Rattle.f77_symbolic.proofs.Common.{arith, ◌≡◌, ℕ, zero, suc, refl, sym, ap, ◌∙◌, ℤ, pos, negsuc, ◌+ℤ◌, ◌*ℤ◌, ◌≤ℤ◌, ints, zero-*ℤ, exact_power, in_range}
-use Rattle.f77_symbolic.proofs.Common.{power}
+use Rattle.f77_symbolic.proofs.Common.{arith, ◌≡◌, ℕ, zero, suc, refl, sym, ap, subst, ◌∙◌, ℤ, pos, negsuc, ◌+ℤ◌, ◌*ℤ◌, ◌≤ℤ◌, ints, zero-*ℤ, exact_power, in_range}
+use Rattle.f77_symbolic.proofs.Common.{power, Evaluator, Extends, AlwaysTells, Answers, StaysOn, Holds, Valuation, sum_value}
+use Rattle.f77_terms.specs.declared.terms.Term.{Term}
+use Rattle.f77_symbolic.proofs.Answering.{answers_after, stays_then}
 
-pub power_above : (a : ℤ) (n : ℕ) → power a (pos (suc n)) ≡ in_range (exact_power a (suc n))
+power_above : (a : ℤ) (n : ℕ) → power a (pos (suc n)) ≡ in_range (exact_power a (suc n))
 power_above (pos zero) n = sym (ap in_range (zero-*ℤ (exact_power (pos 0) n)))
 power_above (pos (suc k)) n = refl
 power_above (negsuc k) n = refl
 
-pub one_more_factor : (a p t : ℤ) (n : ℕ) → p ≡ exact_power a n → t ≡ a *ℤ p → t ≡ exact_power a (suc n)
-one_more_factor a p t n e is = is ∙ ap (λ z. a *ℤ z) e
-
 -- a power that is made of so many factors
-pub power_as : (a b e t : ℤ) → b ≡ e → pos 1 ≤ℤ e → ((n : ℕ) → e ≡ pos n → t ≡ exact_power a n) → in_range t ≡ power a b
-power_as a b (pos zero) t is above made = absurd (omega (arith, ints, above))
-power_as a b (pos (suc n)) t is above made = ap in_range (made (suc n) refl) ∙ sym (power_above a n) ∙ sym (ap (power a) is)
-power_as a b (negsuc n) t is above made = absurd (omega (arith, ints, above))
+pub power_answers : (v : Valuation) (old mid new : Evaluator) (a b e t : ℤ) (C : ℤ → Type 0) → b ≡ e → pos 1 ≤ℤ e
+    → ((n : ℕ) → e ≡ pos n → StaysOn v old mid × (t ≡ exact_power a n)) → (Holds v mid.path → Answers v mid new (in_range t) C)
+    → Answers v old new (power a b) C
+power_answers v old mid new a b (pos zero) t C is above made next = absurd (omega (arith, ints, above))
+power_answers v old mid new a b (pos (suc n)) t C is above made next =
+    let it = made (suc n) refl in
+    subst (λ r. Answers v old new r C) (ap in_range it.1 ∙ sym (power_above a n) ∙ sym (ap (power a) is))
+    (answers_after v old mid new (in_range t) C it.0 (next it.0.holds))
+power_answers v old mid new a b (negsuc n) t C is above made next = absurd (omega (arith, ints, above))
 
--- one more step of a count
-pub factor_counted : (a p t counter next : ℤ) (n : ℕ) → pos 1 ≤ℤ counter → next ≡ counter +ℤ pos 1 → next ≡ pos n
-    → ((k : ℕ) → counter ≡ pos k → p ≡ exact_power a k) → t ≡ a *ℤ p → t ≡ exact_power a n
-factor_counted a p t counter next zero above step is before made = absurd (omega (arith, ints, above, step, is))
-factor_counted a p t counter next (suc k) above step is before made =
-    one_more_factor a p t k (before k (omega (arith, ints, step, is))) made
+-- the term is worth so many factors
+abbrev pub IsRepeated : Evaluator → Evaluator → Term → Term → ℤ → Type 0
+IsRepeated old new a t count = (n : ℕ) → count ≡ pos n → AlwaysTells old new (λ start v. sum_value v t ≡ exact_power (sum_value v a) n)
+
+-- one factor more
+pub factor_more : (old mid new : Evaluator) (a p t : Term) (counter next : ℤ) → pos 1 ≤ℤ counter → next ≡ counter +ℤ pos 1 → Extends mid.atoms new.atoms
+    → IsRepeated old mid a p counter → AlwaysTells mid new (λ start v. sum_value v t ≡ sum_value v a *ℤ sum_value v p) → IsRepeated old new a t next
+factor_more old mid new a p t counter next above step extends before made zero is start v interprets holds =
+    absurd (omega (arith, ints, above, step, is))
+factor_more old mid new a p t counter next above step extends before made (suc k) is start v interprets holds =
+    let first = before k (omega (arith, ints, step, is)) start v (extends.back start v interprets) holds in
+    let then = made start v interprets first.0.holds in
+    (stays_then v old mid new first.0 then.0, then.1 ∙ ap (λ z. sum_value v a *ℤ z) first.1)

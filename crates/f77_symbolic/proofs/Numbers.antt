@@ -1,5 +1,5 @@
 -- What comparisons of numbers say.
-use Rattle.f77_symbolic.proofs.Common.{arith, ◌≡◌, ◌≢◌, ◌+◌, ◌≤◌, ℕ, Bool, true, false, refl, sym, ap, ◌∙◌, ℤ, pos, negsuc, ◌+ℤ◌, ◌-ℤ◌, ◌*ℤ◌, ◌≤ℤ◌, ◌<ℤ◌}
+use Rattle.f77_symbolic.proofs.Common.{arith, ◌≡◌, ◌≢◌, ◌+◌, ◌≤◌, ℕ, zero, suc, Bool, true, false, refl, sym, ap, ◌∙◌, ℤ, pos, negsuc, ◌+ℤ◌, ◌-ℤ◌, ◌*ℤ◌, ◌≤ℤ◌, ◌<ℤ◌}
 use Rattle.f77_symbolic.proofs.Common.{if◌then◌else◌, int_min, false_from_ne_true, ltb-true, true_from_ne_false, ints, clamps, is_below, is_same, without_sign}
 use Rattle.std.proofs.lemmas.Bool.Decides.{nat_tests}
 
@@ -78,6 +78,13 @@ pub size_is : (a n : ℤ) → n ≡ pos 0 +ℤ negsuc 0 *ℤ a → (if is_below 
 size_is (pos k) n e = let h : is_below (pos k) n ≡ false = le_not_below (pos k) n (omega (arith, ints, e)) in rw h refl
 size_is (negsuc k) n e =
     let h : is_below (negsuc k) n ≡ true = lt_below (negsuc k) n (omega (arith, ints, e)) in
+    rw h (omega (arith, ints, e))
+
+pub size_turned : (a n : ℤ) → n ≡ pos 0 +ℤ negsuc 0 *ℤ a → (if is_below n a then a else n) ≡ without_sign a
+size_turned (pos zero) n e = let h : is_below n (pos 0) ≡ false = le_not_below n (pos 0) (omega (arith, ints, e)) in rw h (omega (arith, ints, e))
+size_turned (pos (suc k)) n e = let h : is_below n (pos (suc k)) ≡ true = lt_below n (pos (suc k)) (omega (arith, ints, e)) in rw h refl
+size_turned (negsuc k) n e =
+    let h : is_below n (negsuc k) ≡ false = le_not_below n (negsuc k) (omega (arith, ints, e)) in
     rw h (omega (arith, ints, e))
 
 -- the sign of a number, by what is known of a copy of it

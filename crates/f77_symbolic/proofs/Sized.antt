@@ -1,10 +1,8 @@
 -- Sizes of numbers, of quotients and of what divisions leave.
-use Rattle.f77_symbolic.proofs.Common.{arith, ◌≡◌, ◌≢◌, ◌<◌, ◌≤◌, ◌/◌, ◌%◌, ◌⊎◌, inl, inr, ℕ, zero, suc, List, [], ◌∷◌, length, Some, ℤ, pos, negsuc, neg_ℤ}
-use Rattle.f77_symbolic.proofs.Common.{refl, sym, subst, ap, ◌∙◌, ◌+ℤ◌, ◌-ℤ◌, ◌*ℤ◌, ◌≤ℤ◌, int_div, int_rem, unsigned_abs, int_max, int_min, ints}
-use Rattle.f77_symbolic.proofs.Common.{clamps, rem_below, slice_get, Valuation, monomial_value, part_value, parts_value, sum_value, LiesBetween}
+use Rattle.f77_symbolic.proofs.Common.{arith, ◌≡◌, ◌≢◌, ◌<◌, ◌≤◌, ◌/◌, ◌%◌, ◌⊎◌, inl, inr, ℕ, zero, suc, ℤ, pos, negsuc, neg_ℤ}
+use Rattle.f77_symbolic.proofs.Common.{refl, sym, subst, ap, ◌+ℤ◌, ◌-ℤ◌, ◌*ℤ◌, ◌≤ℤ◌, int_div, int_rem, unsigned_abs, int_max, int_min, ints}
+use Rattle.f77_symbolic.proofs.Common.{clamps, rem_below, without_sign, LiesBetween}
 use Rattle.std.proofs.Math.Nat.{div-le_self, mod-le}
-use Rattle.f77_terms.specs.declared.terms.Part.{Part}
-use Rattle.f77_terms.specs.declared.terms.Term.{Term}
 
 size_neg : (n : ℕ) → unsigned_abs (neg_ℤ (pos n)) ≡ n
 size_neg zero = refl
@@ -83,38 +81,7 @@ rem_same (negsuc n) y z is = ap (λ k. neg_ℤ (pos (suc n % k))) is
 pub apart_same : (y z : ℤ) → unsigned_abs z ≡ unsigned_abs y → y ≢ pos 0 → z ≢ pos 0
 apart_same y z is apart none = let some = size_apart y apart in let e = ap unsigned_abs none in absurd (omega (arith, is, some, e))
 
-pub neg_sized : (a n : ℤ) → n ≡ pos 0 +ℤ negsuc 0 *ℤ a → unsigned_abs n ≡ unsigned_abs a
-neg_sized (pos k) n is =
-    let same : n ≡ neg_ℤ (pos k) = omega (arith, ints, is) in
-    ap unsigned_abs same ∙ size_neg k
-neg_sized (negsuc k) n is =
-    let same : n ≡ pos (suc k) = omega (arith, ints, is) in
-    ap unsigned_abs same
-
--- the lesser of a number and its negative has its size
-pub min_sized : (a b m s : ℤ) → m ≡ int_min a b → s ≡ pos 1 *ℤ a +ℤ pos 1 *ℤ b → s ≡ pos 0 → unsigned_abs a ≡ unsigned_abs m
-min_sized (pos n) b m s is sum none = sym (neg_sized (pos n) m (omega (arith, ints, clamps, is, sum, none)))
-min_sized (negsuc n) b m s is sum none =
-    let same : m ≡ negsuc n = omega (arith, ints, clamps, is, sum, none) in
-    ap unsigned_abs (sym same)
-
--- a term that is one part alone, but for its sign
-pub alone_sized : (v : Valuation) (term : Term) (part : Part) → term.constant ≡ pos 0 → length term.parts.items ≡ 1 → slice_get term.parts.items 0 ≡ Some part
-    → (part.factor ≡ pos 1) ⊎ (part.factor ≡ negsuc 0) → unsigned_abs (monomial_value v part.monomial) ≡ unsigned_abs (sum_value v term)
-alone_sized v term part none one is sign = by term.parts.items one is sign
-  where
-    value : (factor : ℤ) (s : ℤ) (z : ℤ) → (factor ≡ pos 1) ⊎ (factor ≡ negsuc 0) → z ≡ term.constant +ℤ (factor *ℤ s +ℤ pos 0) → unsigned_abs s ≡ unsigned_abs z
-    value factor s z (inl plus) e =
-        let same : z ≡ s = omega (arith, ints, none, e, ap (λ f. f *ℤ s) plus) in
-        ap unsigned_abs (sym same)
-    value factor s z (inr minus) e =
-        let same : z ≡ pos 0 +ℤ negsuc 0 *ℤ s = omega (arith, ints, none, e, ap (λ f. f *ℤ s) minus) in
-        sym (neg_sized s z same)
-
-    by : (parts : List Part) → length parts ≡ 1 → slice_get parts 0 ≡ Some part → (part.factor ≡ pos 1) ⊎ (part.factor ≡ negsuc 0)
-        → unsigned_abs (monomial_value v part.monomial) ≡ unsigned_abs (term.constant +ℤ parts_value v parts)
-    by [] one is sign = absurd (omega (arith, one))
-    by (x ∷ []) one is sign =
-        let same : x ≡ part = cc (is) in
-        value part.factor (monomial_value v part.monomial) (term.constant +ℤ parts_value v (x ∷ [])) sign (ap (λ (p : Part). term.constant +ℤ (part_value v p +ℤ pos 0)) same)
-    by (x ∷ y ∷ ys) one is sign = absurd (omega (arith, one))
+-- the number without its sign has its size
+pub size_same : (y z : ℤ) → z ≡ without_sign y → unsigned_abs z ≡ unsigned_abs y
+size_same (pos n) z is = ap unsigned_abs is
+size_same (negsuc n) z is = ap unsigned_abs is

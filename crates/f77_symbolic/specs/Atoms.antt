@@ -1,11 +1,6 @@
 -- What atoms mean.
 use Rattle.std.specs.Prelude.{◌≡◌, ◌+◌, ◌<◌, ℕ, ℤ, pos, Option, Some, None, length}
-use Rattle.f77_actions.specs.declared.value.Value.{Value}
-use Rattle.f77_code.specs.Evaluation.{held_in}
-use Rattle.f77_facts.specs.Facts.{AreIn, number_of}
-use Rattle.f77_terms.specs.Atoms.{FitsTable}
-use Rattle.f77_terms.specs.Terms.{Valuation}
-use Rattle.f77_symbolic.specs.declared.evaluator.Atoms.{Atoms}
+use Rattle.f77_symbolic.specs.Prelude.{Value, held_in, AreIn, number_of, FitsTable, Valuation, Atoms}
 use Rattle.f77_symbolic.specs.Memory.{Start}
 
 -- whether there is a value, as a number

@@ -1,12 +1,7 @@
 -- What a walk shows.
 use Rattle.std.specs.Prelude.{ℕ, List, map, true}
-use Rattle.f77_program.specs.Program.{LineFields, line_of}
-use Rattle.f77_actions.specs.declared.resolved.Resolved.{Resolved}
-use Rattle.f77_check.specs.Checked.{CheckedFields}
-use Rattle.f77_code.specs.Moves.{State}
-use Rattle.f77_equivalence.specs.Equivalent.{IsEquivalentWithin}
-use Rattle.f77_equivalence.specs.Alike.{AgreeBut, PassAlike}
-use Rattle.f77_equivalence.specs.Changed.{IsChange}
+use Rattle.f77_symbolic.specs.Prelude.{LineFields, line_of, Resolved, CheckedFields, State, IsEquivalentWithin}
+use Rattle.f77_symbolic.specs.Prelude.{AgreeBut, PassAlike, IsChange}
 use Rattle.f77_symbolic.specs.Machines.{IsAtSite, IsFirst, machine, together}
 use Rattle.f77_symbolic.specs.Walk.{FollowsByKeys, IsReachable}
 

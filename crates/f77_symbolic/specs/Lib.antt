@@ -1,3 +1,4 @@
+pub mod Prelude
 pub mod Walk
 pub mod Machines
 pub mod Followed

@@ -1,12 +1,7 @@
 -- A checked program and a changed one as two machines that are walked together.
 use Rattle.std.specs.Prelude.{◌≡◌, ℕ, List, Some}
-use Rattle.f77_check.specs.Checked.{CheckedFields}
-use Rattle.f77_actions.specs.declared.finish.Finish.{Finish}
-use Rattle.f77_actions.specs.declared.resolved.Resolved.{Resolved}
-use Rattle.f77_code.specs.Moves.{Cells, State, Goes, Ends, moved}
-use Rattle.f77_equivalence.specs.Alike.{site}
-use Rattle.f77_equivalence.specs.Changed.{HoldAlike, IsEnding}
-use Rattle.f77_equivalence.specs.Start.{start_state}
+use Rattle.f77_symbolic.specs.Prelude.{CheckedFields, Finish, Resolved, Cells, State, Goes, Ends, moved, site}
+use Rattle.f77_symbolic.specs.Prelude.{HoldAlike, IsEnding, start_state}
 use Rattle.f77_equivalence.specs.Storable.{AreStorable}
 use Rattle.f77_meaning.specs.declared.argument.Arg.{Arg}
 use Rattle.f77_meaning.specs.Interpreter.{AreFitting}

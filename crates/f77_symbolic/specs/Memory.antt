@@ -1,15 +1,9 @@
 -- What slots hold behind symbolic writes.
 use Rattle.std.specs.Prelude.{◌∷◌, ◌≤ℤ◌, ◌<ℤ◌, ℕ, not, List, [], All, Option, Some, slice_set, pos}
-use Rattle.f77_actions.specs.declared.value.Value.{Value}
+use Rattle.f77_symbolic.specs.Prelude.{Value, is_same, Cells, Numbers, slot_behind, Valuation, sum_value, Location}
+use Rattle.f77_symbolic.specs.Prelude.{Symbolic, Write}
 use Rattle.f77_actions.specs.declared.value.Value.TheVariants as held
-use Rattle.f77_actions.specs.Number.{is_same}
-use Rattle.f77_code.specs.Moves.{Cells}
-use Rattle.f77_terms.specs.Atoms.{Numbers, slot_behind}
-use Rattle.f77_terms.specs.Terms.{Valuation, sum_value}
-use Rattle.f77_symbolic.specs.declared.memory.Location.{Location}
-use Rattle.f77_symbolic.specs.declared.memory.Symbolic.{Symbolic}
 use Rattle.f77_symbolic.specs.declared.memory.Symbolic.TheVariants as symbolic
-use Rattle.f77_symbolic.specs.declared.memory.Write.{Write}
 
 -- where a walk starts: what the slots hold, and the numbers that atoms may stand for
 pub record Start : Type 0 where

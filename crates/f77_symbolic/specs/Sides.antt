@@ -1,10 +1,6 @@
 -- The states of symbolic sides.
 use Rattle.std.specs.Prelude.{ℕ, ℤ, pos, negsuc, List, map, Option, option_map}
-use Rattle.f77_code.specs.declared.control.Turn.{Turn}
-use Rattle.f77_code.specs.Moves.{Cells, TurnList, State, state}
-use Rattle.f77_terms.specs.Terms.{Valuation, sum_value}
-use Rattle.f77_symbolic.specs.declared.sides.Side.{Side}
-use Rattle.f77_symbolic.specs.declared.sides.SymbolicTurn.{SymbolicTurn}
+use Rattle.f77_symbolic.specs.Prelude.{Turn, Cells, TurnList, State, state, Valuation, sum_value, Side, SymbolicTurn}
 use Rattle.f77_symbolic.specs.Memory.{cells_of}
 
 -- the number, or none where it is below 0

@@ -1,23 +1,9 @@
 -- What a walk of the program alone visits.
-use Rattle.std.specs.Prelude.{◌≡◌, ◌+◌, ◌*◌, ◌==◌, ◌<◌}
-use Rattle.std.specs.Prelude.{ℕ, pos, Bool, true, false, Any, List, Some}
-use Rattle.std.specs.Prelude.{length, slice_get}
-use Rattle.std.specs.List.{list_any}
-use Rattle.f77_actions.specs.declared.resolved.Resolved.{Resolved}
-use Rattle.f77_code.specs.declared.control.Place.{Place}
+use Rattle.std.specs.Prelude.{◌≡◌, ◌+◌, ◌*◌, ◌==◌, ◌<◌, ℕ, pos, Bool, true, false, Any, List, Some, length, slice_get}
+use Rattle.f77_symbolic.specs.Prelude.{list_any, Resolved, Place, Turn, State, TurnList, Goes, moved, turn_at}
+use Rattle.f77_symbolic.specs.Prelude.{CheckedFields, HoldsStart, Entry, GrowsEntries, IsAmong, AreIn, Lies, AreLeft}
+use Rattle.f77_symbolic.specs.Prelude.{Holds, Valuation, Visit, Visits}
 use Rattle.f77_code.specs.declared.control.Place.TheVariants as place
-use Rattle.f77_code.specs.declared.control.Turn.{Turn}
-use Rattle.f77_code.specs.Moves.{State, TurnList, Goes, moved, turn_at}
-use Rattle.f77_check.specs.Checked.{CheckedFields}
-use Rattle.f77_equivalence.specs.Start.{HoldsStart}
-use Rattle.f77_facts.specs.declared.entries.Entry.{Entry}
-use Rattle.f77_facts.specs.Entries.{GrowsEntries, IsAmong}
-use Rattle.f77_facts.specs.Facts.{AreIn, Lies}
-use Rattle.f77_facts.specs.Loops.{AreLeft}
-use Rattle.f77_terms.specs.Paths.{Holds}
-use Rattle.f77_terms.specs.Terms.{Valuation}
-use Rattle.f77_symbolic.specs.declared.visiting.Visit.{Visit}
-use Rattle.f77_symbolic.specs.declared.visiting.Visits.{Visits}
 use Rattle.f77_symbolic.specs.declared.visiting.Tour.{Tour}
 use Rattle.f77_symbolic.specs.Machines.{machine}
 use Rattle.f77_symbolic.specs.Walk.{LeadsUncut}

@@ -1,23 +1,19 @@
 //! Operations on numbers.
 
-ghost use Rattle.std.specs.Prelude.{◌≡◌, ◌≢◌, ◌≤ℤ◌, ℕ, pos, unsigned_abs, IfOk, IfSome};
+ghost use Rattle.std.specs.Prelude.{◌≡◌, ◌≢◌, ◌*ℤ◌, ◌≤ℤ◌, ℕ, pos, unsigned_abs, IfOk, IfSome};
 ghost use Rattle.f77_actions.specs.Number as exact;
 ghost use Rattle.f77_actions.specs.Value as meaning;
-ghost use Rattle.f77_code.specs.Evaluation.{calculated};
-ghost use Rattle.f77_terms.specs.Terms.{Valuation, monomial_value, sum_value};
+ghost use Rattle.f77_symbolic.specs.Prelude.{calculated, Valuation, monomial_value, sum_value};
 ghost use Rattle.f77_symbolic.specs.{Interprets, Start};
-ghost use Rattle.f77_symbolic.specs.code.{Extends, Always, Calculates, IsDivision, StaysOn};
+ghost use Rattle.f77_symbolic.specs.code.{Extends, Always, AlwaysTells, Calculates, IsDivision, StaysOn};
 
 use crate::evaluator::Evaluator;
 use crate::halt::Halt;
-use crate::spans::is_constant_zero;
 use f77_actions::Arithmetic;
 use f77_actions::number::power;
-use f77_terms::atoms::{Function, Key, is_in_order};
-use f77_terms::items::item_at;
+use f77_terms::atoms::{Function, Key};
 use f77_terms::knowing::{constant_of, know_division, know_minimum};
-use f77_terms::monomials::Monomial;
-use f77_terms::terms::{Part, Term, atom_term, constant_term, copy, difference, product, sum};
+use f77_terms::terms::{Term, atom_term, constant_term, copy, difference, product, sum};
 use std::alloc::Global;
 
 /// The least number that INTEGER holds.
@@ -26,8 +22,8 @@ const LEAST: i64 = -2147483648;
 /// The greatest.
 const GREATEST: i64 = 2147483647;
 
-/// A product of more factors is given up.
-const MOST_FACTORS: i64 = 2;
+/// A power of more factors is given up.
+const MOST_FACTORS: i64 = 8;
 
 /// What a division gives, and what it leaves.
 #[derive(Drop)]
@@ -46,21 +42,6 @@ fn constant_division(alloc: Global, a: i64, b: i64) -> Option<Division>
         quotient: constant_term(alloc, quotient),
         remainder: constant_term(alloc, remainder),
     })
-}
-
-/// The part that the term is, but for its sign.
-fn alone_in(term: &Term) -> Option<Part>
-    ensures { IfSome result (λ part. (v : Valuation)
-        → unsigned_abs (monomial_value v part.monomial) ≡ unsigned_abs (sum_value v term.now)) }
-{
-    if term.constant != 0 || term.parts.len() != 1 {
-        return None;
-    }
-    let part = *item_at(&term.parts, 0);
-    if part.factor != 1 && part.factor != -1 {
-        return None;
-    }
-    Some(part)
 }
 
 /// There is a sign before the term's first part.
@@ -140,14 +121,28 @@ impl Evaluator {
         self.plus(-1, &least, 0)
     }
 
-    /// IABS: the greater of the number and its negative.
+    /// The size of a number, which is that of its negative: the greater of both, of which the one without a sign comes
+    /// first.
+    fn size(&mut self, a: &Term) -> Result<Term, Halt>
+        ensures tells { IfOk result (λ size. AlwaysTells self.old self.new
+            (λ start v. sum_value v size ≡ exact.without_sign (sum_value v a.now))) }
+        ensures extends { Extends self.old.atoms self.new.atoms }
+    {
+        let negative = self.plus(-1, a, 0)?;
+        if is_turned(a) {
+            self.greater(&negative, a)
+        } else {
+            self.greater(a, &negative)
+        }
+    }
+
+    /// IABS.
     pub(crate) fn absolute(&mut self, a: &Term) -> Result<Term, Halt>
         ensures calculates { IfOk result (λ value. Calculates self.old self.new value
             (λ v. exact.in_range (exact.without_sign (sum_value v a.now)))) }
         ensures extends { Extends self.old.atoms self.new.atoms }
     {
-        let negative = self.plus(-1, a, 0)?;
-        let size = self.greater(a, &negative)?;
+        let size = self.size(a)?;
         self.ranged(size)
     }
 
@@ -211,70 +206,34 @@ impl Evaluator {
         self.ranged(division.quotient)
     }
 
-    /// MOD: what a division leaves.
+    /// MOD: what a division leaves, which goes by the size of the divisor.
     fn modulus(&mut self, a: &Term, b: &Term) -> Result<Term, Halt>
         ensures calculates { IfOk result (λ value. Calculates self.old self.new value
             (λ v. exact.modulus (sum_value v a.now) (sum_value v b.now))) }
         ensures extends { Extends self.old.atoms self.new.atoms }
     {
         self.expect_apart(b)?;
-        let divisor = self.divisor_of(b)?;
+        let divisor = self.size(b)?;
         let division = self.divided(a, &divisor)?;
         self.ranged(division.remainder)
     }
 
-    /// The number that an atom has the size of: it stands for MIN0 of the number and its negative.
-    fn inside_of(&self, part: Part) -> Result<Option<Term>, Halt>
-        ensures { IfOk result (λ made. IfSome made (λ inside. (start : Start) (v : Valuation)
-            → Interprets self.now.atoms start v
-            → unsigned_abs (sum_value v inside) ≡ unsigned_abs (monomial_value v part.monomial))) }
+    /// The product of two numbers: an atom where it is no term.
+    fn multiplied(&mut self, a: &Term, b: &Term) -> Result<Term, Halt>
+        ensures tells { IfOk result (λ term. AlwaysTells self.old self.new
+            (λ start v. sum_value v term ≡ sum_value v a.now *ℤ sum_value v b.now)) }
+        ensures extends { Extends self.old.atoms self.new.atoms }
     {
-        let Monomial::One(atom) = part.monomial else {
-            return Ok(None);
-        };
-        if atom >= self.atoms.table.keys.len() {
-            return Ok(None);
+        if let Some(term) = product(self.alloc, a, b)? {
+            return Ok(term);
         }
-        let key = &**item_at(&self.atoms.table.keys, atom);
-        let Key::Function(function, a, b) = key else {
-            return Ok(None);
-        };
-        let Function::Minimum = function else {
-            return Ok(None);
-        };
-        if !is_in_order(key, atom) {
-            return Ok(None);
-        }
-        let both = self.combination(1, a, 1, b)?;
-        if !is_constant_zero(&both) {
-            return Ok(None);
-        }
-        Ok(Some(copy(self.alloc, a)?))
-    }
-
-    /// A divisor of the same size without IABS.
-    fn inner_divisor(&self, b: &Term) -> Result<Term, Halt>
-        ensures { IfOk result (λ divisor. (start : Start) (v : Valuation) → Interprets self.now.atoms start v
-            → unsigned_abs (sum_value v divisor) ≡ unsigned_abs (sum_value v b.now)) }
-    {
-        if let Some(part) = alone_in(b) {
-            if let Some(inside) = self.inside_of(part)? {
-                return Ok(inside);
-            }
-        }
-        Ok(copy(self.alloc, b)?)
-    }
-
-    /// A divisor of the same size, which leaves the same: without IABS, and with no sign in front.
-    fn divisor_of(&self, b: &Term) -> Result<Term, Halt>
-        ensures { IfOk result (λ divisor. (start : Start) (v : Valuation) → Interprets self.now.atoms start v
-            → unsigned_abs (sum_value v divisor) ≡ unsigned_abs (sum_value v b.now)) }
-    {
-        let divisor = self.inner_divisor(b)?;
-        if is_turned(&divisor) {
-            return self.plus(-1, &divisor, 0);
-        }
-        Ok(divisor)
+        let key = Key::Function(
+            Function::Product,
+            copy(self.alloc, a)?,
+            copy(self.alloc, b)?,
+        );
+        let atom = self.atom_of(key)?;
+        Ok(atom_term(self.alloc, atom)?)
     }
 
     /// The power of two numbers that are known.
@@ -294,13 +253,15 @@ impl Evaluator {
     }
 
     /// The product of so many factors, each of them this one.
-    fn repeated(&self, a: &Term, factors: i64) -> Result<Term, Halt>
-        ensures { IfOk result (λ term. pos 1 ≤ℤ factors → (v : Valuation) (n : ℕ) → factors ≡ pos n
-            → sum_value v term ≡ exact.exact_power (sum_value v a.now) n) }
+    fn repeated(&mut self, a: &Term, factors: i64) -> Result<Term, Halt>
+        ensures tells { IfOk result (λ term. pos 1 ≤ℤ factors → (n : ℕ) → factors ≡ pos n
+            → AlwaysTells self.old self.new
+            (λ start v. sum_value v term ≡ exact.exact_power (sum_value v a.now) n)) }
+        ensures extends { Extends self.old.atoms self.new.atoms }
     {
         let mut term = copy(self.alloc, a)?;
         for _ in 1..factors {
-            term = product(self.alloc, a, &term)?.ok_or(Halt::Unknown)?;
+            term = self.multiplied(a, &term)?;
         }
         Ok(term)
     }
@@ -343,7 +304,7 @@ impl Evaluator {
                 self.ranged(exact)
             }
             Arithmetic::Multiply => {
-                let exact = product(self.alloc, a, b)?.ok_or(Halt::Unknown)?;
+                let exact = self.multiplied(a, b)?;
                 self.ranged(exact)
             }
             Arithmetic::Divide => self.quotient(a, b),

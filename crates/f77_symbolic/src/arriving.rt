@@ -2,17 +2,10 @@
 
 ghost use Rattle.std.specs.Prelude.{◌<◌, ◌≤ℤ◌, not, pos, vec_len, option_map, slice_set, Some, IfOk, IfSome};
 ghost use Rattle.f77_actions.specs.declared.value.Value.TheVariants.{Truth};
-ghost use Rattle.f77_actions.specs.Number.{is_same};
-ghost use Rattle.f77_code.specs.Moves.{Cells};
-ghost use Rattle.f77_facts.specs.Facts.{AreIn, SuitsFact, number_of};
-ghost use Rattle.f77_facts.specs.Loops.{AreLeft, SuitsTurn};
-ghost use Rattle.f77_terms.specs.Atoms.{FitsTable};
-ghost use Rattle.f77_terms.specs.Paths.{Holds};
-ghost use Rattle.f77_terms.specs.Ranges.{IsIn};
-ghost use Rattle.f77_terms.specs.Terms.{Valuation, sum_value};
-ghost use Rattle.f77_symbolic.specs.{AreNumbers, Interprets, AreInside, IsInside, Start, cells_of};
-ghost use Rattle.f77_symbolic.specs.{content_of, slot_of, passes_left, state_of, turn_of, turns_of};
-ghost use Rattle.f77_symbolic.specs.{IsOfEntry};
+ghost use Rattle.f77_symbolic.specs.Prelude.{is_same, Cells, AreIn, SuitsFact, number_of, AreLeft, SuitsTurn};
+ghost use Rattle.f77_symbolic.specs.Prelude.{FitsTable, Holds, IsIn, Valuation, sum_value};
+ghost use Rattle.f77_symbolic.specs.{AreNumbers, Interprets, AreInside, IsInside, Start, cells_of, content_of, slot_of};
+ghost use Rattle.f77_symbolic.specs.{passes_left, state_of, turn_of, turns_of, IsOfEntry};
 ghost use Rattle.f77_symbolic.specs.code.{Extends};
 
 use crate::bounding::narrow_slot;
@@ -113,7 +106,8 @@ impl Evaluator {
     fn narrow_by(&self, facts: &mut [Fact], atom: usize)
         requires { atom < vec_len self.now.atoms.table.keys }
         ensures { (start : Start) (v : Valuation) → FitsTable start.numbers v self.now.atoms.table
-            → Holds v self.now.path → AreIn facts.old start.cells → AreNumbers start → AreIn facts.new start.cells }
+            → Holds v self.now.path → AreIn facts.old start.cells → AreNumbers start
+            → AreIn facts.new start.cells }
     {
         let Some(range) = atom_range(&self.path.known, atom) else {
             return;

@@ -1,9 +1,7 @@
 //! What ranges say of what slots hold.
 
 ghost use Rattle.std.specs.Prelude.{◌≤ℤ◌, pos, Option};
-ghost use Rattle.f77_actions.specs.declared.value.Value.{Value};
-ghost use Rattle.f77_facts.specs.Facts.{AreIn, SuitsFact, number_of};
-ghost use Rattle.f77_terms.specs.Ranges.{IsIn};
+ghost use Rattle.f77_symbolic.specs.Prelude.{Value, AreIn, SuitsFact, number_of, IsIn};
 ghost use Rattle.f77_symbolic.specs.{AreNumbers, presence_of, Start};
 
 use f77_facts::facts::{Fact, set};
@@ -22,7 +20,8 @@ fn narrowed(fact: Fact, range: Range) -> Fact
 
 /// What is known of a slot that holds a value.
 fn present(fact: Fact) -> Fact
-    ensures { (cell : Option Value) → SuitsFact fact cell → pos 1 ≤ℤ presence_of cell → SuitsFact result cell }
+    ensures { (cell : Option Value) → SuitsFact fact cell → pos 1 ≤ℤ presence_of cell
+        → SuitsFact result cell }
 {
     Fact {
         may_lack: false,

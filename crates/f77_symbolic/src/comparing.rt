@@ -1,10 +1,7 @@
 //! Which of two numbers is less, and which item a number chooses. Where a path does not decide it, it may be split.
 
 ghost use Rattle.std.specs.Prelude.{◌≡◌, ◌≤ℤ◌, pos, true, IfOk};
-ghost use Rattle.f77_actions.specs.Number.{is_below, is_same};
-ghost use Rattle.f77_code.specs.Evaluation.{compared, joined};
-ghost use Rattle.f77_terms.specs.Paths.{Holds};
-ghost use Rattle.f77_terms.specs.Terms.{Valuation, sum_value};
+ghost use Rattle.f77_symbolic.specs.Prelude.{is_below, is_same, compared, joined, Holds, Valuation, sum_value};
 ghost use Rattle.f77_symbolic.specs.code.{HasItem, HasSign};
 
 use crate::evaluator::Evaluator;
@@ -116,7 +113,8 @@ impl Evaluator {
 
     /// The number compared with 0.
     pub(crate) fn sign_of(&self, number: Term) -> Result<Ordering, Halt>
-        ensures { IfOk result (λ sign. (v : Valuation) → Holds v self.now.path → HasSign sign (sum_value v number)) }
+        ensures { IfOk result
+            (λ sign. (v : Valuation) → Holds v self.now.path → HasSign sign (sum_value v number)) }
     {
         if self.is_nothing(copy(self.alloc, &number)?)? {
             return Ok(Ordering::Equal);

@@ -2,11 +2,8 @@
 //! than one way: so no loop is without one, and few paths lead from one to the next.
 
 ghost use Rattle.std.specs.Prelude.{◌≡◌, true, length, IfOk};
-ghost use Rattle.std.specs.List.{list_any};
 ghost use Rattle.f77_code.specs.declared.control.Place.TheVariants as Place;
-ghost use Rattle.f77_terms.specs.Paths.{Holds};
-ghost use Rattle.f77_terms.specs.Ranges.{IsIn};
-ghost use Rattle.f77_terms.specs.Terms.{Valuation, sum_value};
+ghost use Rattle.f77_symbolic.specs.Prelude.{list_any, Holds, IsIn, Valuation, sum_value};
 ghost use Rattle.f77_symbolic.specs.{Interprets, Start, is_same_place};
 ghost use Rattle.f77_symbolic.specs.code.{Extends, StaysOn, IsFirstVisit, StandsForTurn};
 

@@ -1,14 +1,10 @@
 //! Whether a program with one statement changed is equivalent, and how many steps are to be spared.
 
 ghost use Rattle.std.specs.Prelude.{◌≡◌, ◌≤ℤ◌, ◌⊎◌, pos, All, map, Some, IfOk, IfSome};
-ghost use Rattle.f77_check.specs.Checked.{CheckedFields};
+ghost use Rattle.f77_symbolic.specs.Prelude.{CheckedFields, IsEquivalentWithin, IsEquivalent, HoldsStart, line_of};
 ghost use Rattle.f77_check.specs.Patching.{IsInPlace};
-ghost use Rattle.f77_equivalence.specs.Equivalent.{IsEquivalentWithin};
-ghost use Rattle.f77_equivalence.specs.Equivalent.{IsEquivalent};
-ghost use Rattle.f77_equivalence.specs.Start.{HoldsStart};
 ghost use Rattle.f77_legal.specs.Legal.{IsLegal};
 ghost use Rattle.f77_program.specs.Patching.{Fits, patched};
-ghost use Rattle.f77_program.specs.Program.{line_of};
 ghost use Rattle.f77_tree.specs.Statement.{statement_of};
 ghost use Rattle.f77_symbolic.specs.code.{Extends, HavePairs, IsBehindBy, IsBehindOn, IsPairOf};
 ghost use Rattle.f77_symbolic.specs.{IsTourOf};
@@ -121,7 +117,8 @@ impl Tour {
         work: &mut u64,
         rows: &mut Rows,
     ) -> Result<i64, Halt>
-        ensures follows { IfOk result (λ behind. IsBehindOn change.now behind (λ checked. IsTourOf checked self.now)) }
+        ensures follows { IfOk result
+            (λ behind. IsBehindOn change.now behind (λ checked. IsTourOf checked self.now)) }
         ensures above { IfOk result (λ behind. pos 0 ≤ℤ behind) }
     {
         let mut most = 0;
@@ -217,7 +214,8 @@ fn add_tour(
     list: &mut Vec<Tour>,
 ) -> Result<(), AllocError>
     requires { HoldsStart checked.now entries.now }
-    ensures { IfOk result (λ _. All (IsTourOf checked.now) list.old.items → All (IsTourOf checked.now) list.new.items) }
+    ensures { IfOk result
+        (λ _. All (IsTourOf checked.now) list.old.items → All (IsTourOf checked.now) list.new.items) }
 {
     let statements = checked.statements();
     let cuts = cuts_of(alloc, statements, checked.start().entry, joins)?;

@@ -3,9 +3,7 @@
 ghost use Rattle.std.specs.Prelude.{◌∷◌, ◌+◌, ◌+ℤ◌, ◌-ℤ◌, ◌*ℤ◌, ◌≤ℤ◌, ◌<ℤ◌, ◌≡◌, pos, [], Ok, None, IfOk};
 ghost use Rattle.f77_actions.specs.Value as meaning;
 ghost use Rattle.f77_actions.specs.Value.{element, given};
-ghost use Rattle.f77_code.specs.Evaluation.{number_in, slot_in, truth_in};
-ghost use Rattle.f77_terms.specs.Atoms.{slot_behind};
-ghost use Rattle.f77_terms.specs.Terms.{Valuation, sum_value};
+ghost use Rattle.f77_symbolic.specs.Prelude.{number_in, slot_in, truth_in, slot_behind, Valuation, sum_value};
 ghost use Rattle.f77_symbolic.specs.code.{Extends, Always, Answers, Calculates, Expects};
 ghost use Rattle.f77_symbolic.specs.code.{YieldsNumber, YieldsSlot, YieldsTruth};
 ghost use Rattle.f77_symbolic.specs.{IsInside, slot_of, content_of};
@@ -20,16 +18,17 @@ use f77_terms::terms::{Term, constant_term};
 use f77_tree::Shared;
 use std::alloc::Global;
 
-/// The location with this index: a slot of its own where the index is a constant.
+/// The location with this index, which is one of so many: a slot of its own where the index is a constant.
 fn located(alloc: Global, first: usize, count: usize, index: Term) -> Result<Location, Halt>
-    ensures { IfOk result (λ location. (v : Valuation) → pos 0 ≤ℤ sum_value v index → sum_value v index <ℤ pos count
+    ensures { IfOk result
+        (λ location. (v : Valuation) → pos 0 ≤ℤ sum_value v index → sum_value v index <ℤ pos count
         → IsInside v location × (slot_of v location ≡ slot_behind first (sum_value v index))) }
 {
     match constant_of(&index) {
-        Some(z) => match usize::try_from(z) {
-            Ok(behind) => Ok(fixed(alloc, first.checked_add(behind).ok_or(Halt::Unknown)?)),
-            Err(_) => Err(Halt::Unknown),
-        },
+        Some(z) => {
+            let behind = usize::try_from(z).unwrap_or(0);
+            Ok(fixed(alloc, first.checked_add(behind).ok_or(Halt::Unknown)?))
+        }
         None => Ok(Location {
             first,
             count,

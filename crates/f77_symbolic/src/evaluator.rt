@@ -1,9 +1,7 @@
 //! What evaluates expressions of a program, where a path holds.
 
 ghost use Rattle.std.specs.Prelude.{◌≡◌, ◌≢◌, ◌+ℤ◌, ◌*ℤ◌, ◌≤ℤ◌, pos, IfOk};
-ghost use Rattle.f77_terms.specs.Atoms.{key_value};
-ghost use Rattle.f77_terms.specs.Paths.{Holds};
-ghost use Rattle.f77_terms.specs.Terms.{Valuation, sum_value};
+ghost use Rattle.f77_symbolic.specs.Prelude.{key_value, Holds, Valuation, sum_value};
 ghost use Rattle.f77_symbolic.specs.code.{Extends, AlwaysTells, Expects};
 
 use crate::halt::{Halt, unless_unknown};

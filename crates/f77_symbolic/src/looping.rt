@@ -1,12 +1,9 @@
 //! DOs that begin, and that are incremented.
 
 ghost use Rattle.std.specs.Prelude.{◌≡◌, ℕ, ℤ, Some, slice_set, true, IfOk};
-ghost use Rattle.f77_actions.specs.declared.resolved.Resolved.{Resolved};
+ghost use Rattle.f77_symbolic.specs.Prelude.{Resolved, Cells, Holds, Valuation, sum_value};
 ghost use Rattle.f77_actions.specs.declared.value.Value.TheVariants as held;
 ghost use Rattle.f77_code.specs.Moves as moves;
-ghost use Rattle.f77_code.specs.Moves.{Cells};
-ghost use Rattle.f77_terms.specs.Paths.{Holds};
-ghost use Rattle.f77_terms.specs.Terms.{Valuation, sum_value};
 ghost use Rattle.f77_symbolic.specs.code.{Extends, GoesTo, HasLeft, AlwaysSteps};
 ghost use Rattle.f77_symbolic.specs.{AreInside, cells_of, passes_left, state_of, turn_of, turns_of};
 

@@ -1,8 +1,7 @@
 //! Whether both sides of a pair hold the same.
 
 ghost use Rattle.std.specs.Prelude.{◌≡◌, ℕ, All, false, option_map, IfOk};
-ghost use Rattle.f77_terms.specs.Paths.{Holds};
-ghost use Rattle.f77_terms.specs.Terms.{Valuation};
+ghost use Rattle.f77_symbolic.specs.Prelude.{Holds, Valuation};
 ghost use Rattle.f77_symbolic.specs.{Interprets, AreInside, IsInside, Start, cells_of, slot_of};
 ghost use Rattle.f77_symbolic.specs.{content_of, state_of, turn_of, turns_of};
 ghost use Rattle.f77_symbolic.specs.code.{Extends, Always, StaysOn, HoldSameIn, IsAsked};
@@ -39,7 +38,8 @@ fn may_be_of(location: &Location, only: Option<&[Slots]>) -> bool
 impl Evaluator {
     /// Both values are the same.
     fn show_same_value(&self, a: &Symbolic, b: &Symbolic) -> Result<(), Halt>
-        ensures { IfOk result (λ _. (v : Valuation) → Holds v self.now.path → content_of v b.now ≡ content_of v a.now) }
+        ensures { IfOk result
+            (λ _. (v : Valuation) → Holds v self.now.path → content_of v b.now ≡ content_of v a.now) }
     {
         match (a, b) {
             (Symbolic::Number(x), Symbolic::Number(y)) => unless_unknown(self.are_equal(x, y)?),
@@ -78,7 +78,8 @@ impl Evaluator {
         only: Option<&[Slots]>,
     ) -> Result<(), Halt>
         ensures same { IfOk result (λ _. Always self.old self.new (λ start v. self.old.own ≡ false
-            → AreInside v left.now → AreInside v right.now → IsInside v location.now → StaysOn v self.old self.new
+            → AreInside v left.now → AreInside v right.now → IsInside v location.now
+            → StaysOn v self.old self.new
             × HoldSameIn (option_map (λ list. list.now) only.entry)
             (cells_of start.cells v left.now) (cells_of start.cells v right.now) (slot_of v location.now))) }
         ensures extends { Extends self.old.atoms self.new.atoms }
@@ -101,7 +102,8 @@ impl Evaluator {
         only: Option<&[Slots]>,
     ) -> Result<(), Halt>
         ensures same { IfOk result (λ _. Always self.old self.new (λ start v. self.old.own ≡ false
-            → AreInside v left.now → AreInside v right.now → AreInside v writes.now → StaysOn v self.old self.new
+            → AreInside v left.now → AreInside v right.now → AreInside v writes.now
+            → StaysOn v self.old self.new
             × All (λ write. HoldSameIn (option_map (λ list. list.now) only.entry)
             (cells_of start.cells v left.now) (cells_of start.cells v right.now)
             (slot_of v write.location)) writes.now)) }
@@ -157,7 +159,8 @@ impl Evaluator {
         a: &[Option<Shared<SymbolicTurn>>],
         b: &[Option<Shared<SymbolicTurn>>],
     ) -> Result<(), Halt>
-        ensures { IfOk result (λ _. (v : Valuation) → Holds v self.now.path → turns_of v b.now ≡ turns_of v a.now) }
+        ensures { IfOk result
+            (λ _. (v : Valuation) → Holds v self.now.path → turns_of v b.now ≡ turns_of v a.now) }
     {
         if a.len() != b.len() {
             return Err(Halt::Unknown);

@@ -1,11 +1,9 @@
 //! What slots hold: what they held where the run started, and what was written since.
 
 ghost use Rattle.std.specs.Prelude.{◌≡◌, Some, slice_set, Option, IfOk, IfSome};
-ghost use Rattle.f77_actions.specs.declared.value.Value.{Value};
-ghost use Rattle.f77_code.specs.Moves.{Cells};
+ghost use Rattle.f77_symbolic.specs.Prelude.{Value, Cells, Valuation};
 ghost use Rattle.f77_facts.specs.Assigning.{HasSlot};
 ghost use Rattle.f77_meaning.specs.Start as meaning;
-ghost use Rattle.f77_terms.specs.Terms.{Valuation};
 ghost use Rattle.f77_symbolic.specs.{AreInside, IsInside, cells_of, slot_of, content_of};
 ghost use Rattle.f77_symbolic.specs.code.{IsWriteTo};
 

@@ -1,16 +1,10 @@
 //! What the slot of a location holds.
 
 ghost use Rattle.std.specs.Prelude.{◌≡◌, ◌<◌, ◌≤◌, ◌≤ℤ◌, ◌↔◌, [], Option, Some, pos, length, true, IfOk, IsTrue};
-ghost use Rattle.f77_actions.specs.declared.value.Value.{Value};
-ghost use Rattle.f77_code.specs.Evaluation.{held_in};
-ghost use Rattle.f77_facts.specs.Facts.{SuitsFact, kind_of_value, number_of};
-ghost use Rattle.f77_terms.specs.Atoms.{key_value};
-ghost use Rattle.f77_terms.specs.Paths.{Holds};
-ghost use Rattle.f77_terms.specs.Ranges.{AreKnown};
-ghost use Rattle.f77_terms.specs.Terms.{Valuation, sum_value};
+ghost use Rattle.f77_symbolic.specs.Prelude.{Value, held_in, SuitsFact, kind_of_value, number_of, key_value, Holds};
+ghost use Rattle.f77_symbolic.specs.Prelude.{AreKnown, Valuation, sum_value};
 ghost use Rattle.f77_symbolic.specs.{presence_of, IsInside, slot_of, content_of};
-ghost use Rattle.f77_symbolic.specs.code.{Extends, Always, GoesOnIfHeld, ReadsCell, ReadsSlot};
-ghost use Rattle.f77_symbolic.specs.code.{StaysOn};
+ghost use Rattle.f77_symbolic.specs.code.{Extends, Always, GoesOnIfHeld, ReadsCell, ReadsSlot, StaysOn};
 
 use crate::evaluator::Evaluator;
 use crate::halt::{Halt, signed, unless_unknown};
@@ -36,7 +30,8 @@ fn is_above(known: &[Option<Range>], atom: usize) -> bool
 
 /// A value of this kind, by its number.
 fn value_of(kind: Kind, term: Term) -> Symbolic
-    ensures { (v : Valuation) (held : Value) → kind_of_value held ≡ kind → sum_value v term ≡ number_of (Some held)
+    ensures { (v : Valuation) (held : Value) → kind_of_value held ≡ kind
+        → sum_value v term ≡ number_of (Some held)
         → content_of v result ≡ Some held }
 {
     match kind {
@@ -57,7 +52,8 @@ fn is_before(a: &Location, b: &Location) -> bool
 impl Evaluator {
     /// Whether two locations are one slot.
     fn is_same_slot(&self, a: &Location, b: &Location) -> Result<bool, Halt>
-        ensures { IfOk result (λ same. (v : Valuation) → Holds v self.now.path → IsInside v a.now → IsInside v b.now
+        ensures { IfOk result
+            (λ same. (v : Valuation) → Holds v self.now.path → IsInside v a.now → IsInside v b.now
             → (IsTrue same ↔ (slot_of v a.now ≡ slot_of v b.now))) }
     {
         if is_before(a, b) || is_before(b, a) {

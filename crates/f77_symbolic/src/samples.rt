@@ -5,6 +5,7 @@
 ghost use Rattle.std.specs.Prelude.{◌<◌};
 
 use crate::gap::Gap;
+use crate::sides::Side;
 use f77_facts::facts::Fact;
 use f77_terms::atoms::{Function, Key, Table};
 use f77_terms::monomials::Monomial;
@@ -24,6 +25,9 @@ const STATEMENTS: u64 = 12;
 
 /// So many times more a turn costs where no sample is on the path.
 const NO_SAMPLE: u64 = 8;
+
+/// To compare so many pairs of writes costs one unit.
+const WRITES: u64 = 64;
 
 /// The numbers of slots, and the value of each atom, if it has one.
 #[derive(Drop)]
@@ -128,6 +132,7 @@ impl Sample {
             Key::Function(Function::Quotient, a, b) => self.value(a)?.checked_div(self.value(b)?),
             Key::Function(Function::Remainder, a, b) => self.value(a)?.checked_rem(self.value(b)?),
             Key::Function(Function::Minimum, a, b) => Some(self.value(a)?.min(self.value(b)?)),
+            Key::Function(Function::Product, a, b) => self.value(a)?.checked_mul(self.value(b)?),
         }
     }
 
@@ -306,9 +311,9 @@ impl Samples {
         }
     }
 
-    /// What a turn on this path costs, where a program has so many statements: more where more is known, and much more
-    /// where no sample is on the path, so that each question needs a refutation.
-    pub fn cost(&self, path: &Path, statements: usize) -> u64
+    /// What a turn from this side costs: more where more is known or was written, and much more where no sample is on
+    /// the path, so that each question needs a refutation.
+    pub fn cost(&self, path: &Path, side: &Side) -> u64
         ensures { 0 < result }
     {
         let parts = path.unequal.len().saturating_add(path.choices.len());
@@ -319,7 +324,9 @@ impl Samples {
         } else {
             turn.saturating_mul(NO_SAMPLE)
         };
-        turn.saturating_add(statements as u64 / STATEMENTS)
+        let writes = side.writes.len() as u64;
+        turn.saturating_add(writes.saturating_mul(writes) / WRITES)
+            .saturating_add(side.turns.len() as u64 / STATEMENTS)
     }
 
     /// Some are on the path.

@@ -2,11 +2,8 @@
 
 ghost use Rattle.std.specs.Prelude.{◌≡◌, is_some, option_map, slice_set, [], Option, IfOk};
 ghost use Rattle.f77_code.specs.Moves as moves;
-ghost use Rattle.f77_code.specs.Moves.{Cells, state};
-ghost use Rattle.f77_equivalence.specs.Alike.{site};
-ghost use Rattle.f77_terms.specs.Terms.{Valuation};
-ghost use Rattle.f77_symbolic.specs.{AreInside, IsInside, cells_of, slot_of, content_of, turn_of};
-ghost use Rattle.f77_symbolic.specs.{turns_of};
+ghost use Rattle.f77_symbolic.specs.Prelude.{Cells, state, site, Valuation};
+ghost use Rattle.f77_symbolic.specs.{AreInside, IsInside, cells_of, slot_of, content_of, turn_of, turns_of};
 ghost use Rattle.f77_symbolic.specs.code.{GoesTo};
 
 use crate::memory::{Location, Symbolic, Write, put};
@@ -190,7 +187,8 @@ impl Side {
         ensures cells { IfOk result (λ _. (start : Cells) (v : Valuation) → AreInside v self.old.writes.items
             → IsInside v location → cells_of start v self.new.writes.items
             ≡ slice_set (cells_of start v self.old.writes.items) (slot_of v location) (content_of v value)) }
-        ensures inside { IfOk result (λ _. (v : Valuation) → AreInside v self.old.writes.items → IsInside v location
+        ensures inside { IfOk result
+            (λ _. (v : Valuation) → AreInside v self.old.writes.items → IsInside v location
             → AreInside v self.new.writes.items) }
         ensures turns { self.new.turns ≡ self.old.turns }
     {

@@ -1,12 +1,9 @@
 //! Ranges of atoms that stand for functions of terms, by the ranges of these. Most questions on a
 //! remainder, a quotient or a size are answered by them, and need no elimination.
 
-ghost use Rattle.std.specs.Prelude.{◌≡◌, ◌≢◌, ◌⊎◌, ◌≤ℤ◌, ℤ, pos, true, IfOk, IfSome};
-ghost use Rattle.std.specs.Prelude.{int_div, int_rem, unsigned_abs};
+ghost use Rattle.std.specs.Prelude.{◌≡◌, ◌≢◌, ◌⊎◌, ◌≤ℤ◌, ℤ, pos, true, IfOk, IfSome, int_div, int_rem, unsigned_abs};
 ghost use Rattle.std.specs.Int.{int_min};
-ghost use Rattle.f77_terms.specs.Paths.{Holds};
-ghost use Rattle.f77_terms.specs.Ranges.{IsIn};
-ghost use Rattle.f77_terms.specs.Terms.{Valuation, sum_value};
+ghost use Rattle.f77_symbolic.specs.Prelude.{Holds, IsIn, Valuation, sum_value};
 ghost use Rattle.f77_symbolic.specs.code.{StaysOn, IsSmall};
 
 use crate::evaluator::Evaluator;
@@ -103,7 +100,7 @@ fn is_small(range: Range) -> bool
 }
 
 /// The term is the constant 0.
-pub(crate) fn is_constant_zero(term: &Term) -> bool
+fn is_constant_zero(term: &Term) -> bool
     ensures { result ≡ true → (v : Valuation) → sum_value v term.now ≡ pos 0 }
 {
     constant_of(term) == Some(0)

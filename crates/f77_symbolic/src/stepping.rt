@@ -1,11 +1,8 @@
 //! One step of a program from a side, and what a statement does to it.
 
 ghost use Rattle.std.specs.Prelude.{◌≡◌, ℤ, true, Some, IfOk};
-ghost use Rattle.f77_actions.specs.declared.resolved.Resolved.{Resolved};
+ghost use Rattle.f77_symbolic.specs.Prelude.{Resolved, acted, moved, state, Holds, Valuation};
 ghost use Rattle.f77_code.specs.Choice as choice;
-ghost use Rattle.f77_code.specs.Moves.{acted, moved, state};
-ghost use Rattle.f77_terms.specs.Paths.{Holds};
-ghost use Rattle.f77_terms.specs.Terms.{Valuation};
 ghost use Rattle.f77_symbolic.specs.code.{Extends, HasSign, Acts, AlwaysSteps, StepsFrom};
 
 use crate::evaluator::Evaluator;
@@ -15,6 +12,7 @@ use crate::sides::{Side, Step, come_to, go_on, jump, turn_at};
 use f77_actions::{Action, Condition, Element, Jump, Number, Resolved};
 use f77_code::Place;
 use f77_equivalence::ways::is_executed;
+use f77_terms::bounds::is_refuted;
 use f77_terms::items::item_at;
 use f77_terms::knowing::constant_of;
 use f77_terms::paths::Path;
@@ -22,7 +20,8 @@ use f77_terms::terms::constant_term;
 use f77_tree::Shared;
 use std::cmp::Ordering;
 
-/// The path expects of 0 that it is not 0: it holds nowhere, since the program itself faults.
+/// The path expects of 0 that it is not 0, or of a number above 0 that it is at most 0: it holds nowhere, since the
+/// program itself faults.
 fn is_ruled_out(path: &Path) -> bool
     ensures { result ≡ true → (v : Valuation) → ¬ (Holds v path.now) }
 {
@@ -31,7 +30,7 @@ fn is_ruled_out(path: &Path) -> bool
             return true;
         }
     }
-    false
+    is_refuted(&path.below)
 }
 
 /// The jump of an arithmetic IF for a number of this sign.

@@ -8,7 +8,6 @@ use f77_equivalence::start::size;
 use f77_facts::assigning::Slots;
 use f77_facts::facts::{Fact, hull_of};
 use f77_terms::items::item_at;
-use f77_terms::ranges::is_empty;
 use std::alloc::{AllocError, Global};
 
 /// The slots of all dummy arguments.
@@ -26,27 +25,23 @@ pub(crate) fn dummies_of(alloc: Global, checked: &Checked) -> Result<Vec<Slots>,
     Ok(list)
 }
 
-/// What is known of a slot that may hold a value.
-fn filled_at(facts: &[Fact], slot: usize) -> Option<Fact>
+/// What is known of a slot, if there is one.
+fn known_at(facts: &[Fact], slot: usize) -> Option<Fact>
     ensures { IfSome result (λ fact. IsKnownAt facts.now slot fact) }
 {
     if slot >= facts.len() {
         return None;
     }
-    let fact = *item_at(facts, slot);
-    if is_empty(fact.range) {
-        return None;
-    }
-    Some(fact)
+    Some(*item_at(facts, slot))
 }
 
-/// What is known of each of so many slots from this one on, if all may hold values, which are of one kind.
+/// What is known of each of so many slots from this one on, if all are of one kind.
 pub(crate) fn known_of_all(facts: &[Fact], first: usize, count: usize) -> Option<Fact>
     ensures { IfSome result (λ fact. (behind : ℕ) → behind < count → IsKnownAt facts.now (first + behind) fact) }
 {
-    let mut fact = filled_at(facts, first)?;
+    let mut fact = known_at(facts, first)?;
     for behind in 1..count {
-        let next = filled_at(facts, first.checked_add(behind)?)?;
+        let next = known_at(facts, first.checked_add(behind)?)?;
         fact = hull_of(fact, next)?;
     }
     Some(fact)

@@ -1,9 +1,7 @@
 //! Where the program comes by itself: it is walked alone once, for all its mutants.
 
-ghost use Rattle.std.specs.Prelude.{List, IfOk};
-ghost use Rattle.f77_actions.specs.declared.resolved.Resolved.{Resolved};
-ghost use Rattle.f77_code.specs.declared.control.Place.{Place};
-ghost use Rattle.f77_symbolic.specs.declared.evaluator.Atoms.{Atoms};
+ghost use Rattle.std.specs.Prelude.{◌≡◌, List, true, IfOk};
+ghost use Rattle.f77_symbolic.specs.Prelude.{Resolved, Place, Atoms, Holds, Valuation};
 ghost use Rattle.f77_symbolic.specs.code.{Extends, AreExplored, Arrives, GivesWayAlone, Whichever};
 ghost use Rattle.f77_symbolic.specs.{AreVisits, IsTour};
 
@@ -19,7 +17,7 @@ use f77_facts::entries::{Entry, are_covered};
 use f77_facts::facts::is_inside;
 use f77_terms::atoms::{law_of_atoms, new_table};
 use f77_terms::items::item_at;
-use f77_terms::paths::{Path, new_path};
+use f77_terms::paths::{Path, new_path, refuted};
 use f77_tree::Shared;
 use std::alloc::{AllocError, Global};
 
@@ -73,8 +71,15 @@ fn split_visit(
 
 #[tactic(auto, using(crate::proofs::Extending::extending))]
 impl Evaluator {
-    /// Where a step is no end it leads to a side: what is known there is noted at a cut, and else the visit there is
-    /// to come.
+    /// It is shown that the path holds nowhere. Where a sample is on it that is not asked.
+    fn is_dead(&self) -> Result<bool, AllocError>
+        ensures { IfOk result (λ yes. yes ≡ true → (v : Valuation) → ¬ (Holds v self.now.path)) }
+    {
+        Ok(!self.samples.are_any() && refuted(self.alloc, &self.path, &[])?)
+    }
+
+    /// Where a step is no end, and the path may hold, it leads to a side: what is known there is noted at a cut, and
+    /// else the visit there is to come.
     fn arrive(
         &mut self,
         cuts: &[Place],
@@ -86,7 +91,7 @@ impl Evaluator {
             → Arrives statements cuts.now self.old step side walk.old walk.new) }
         ensures extends { Extends self.old.atoms self.new.atoms }
     {
-        if step != Step::Moves {
+        if step != Step::Moves || self.is_dead()? {
             return Ok(());
         }
         if is_cut(cuts, side.place) {
@@ -146,7 +151,7 @@ impl Evaluator {
             let Some(visit) = walk.todo.pop() else {
                 return Ok(walk);
             };
-            *work = work.saturating_sub(self.samples.cost(&visit.path, statements.len()));
+            *work = work.saturating_sub(self.samples.cost(&visit.path, &visit.side));
             self.step_alone(statements, cuts, visit, &mut walk)?;
         }
         Err(Halt::Unknown)

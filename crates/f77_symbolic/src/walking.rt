@@ -1,13 +1,8 @@
 //! The walk of a program and a changed one: pair by pair, each of which gives way to those that its step leads to.
 
 ghost use Rattle.std.specs.Prelude.{◌≡◌, ◌≤ℤ◌, pos, false, true, IfNone, IfOk};
-ghost use Rattle.f77_actions.specs.declared.finish.Finish.{Finish};
-ghost use Rattle.f77_check.specs.Checked.{CheckedFields};
-ghost use Rattle.f77_terms.specs.Paths.{Holds};
-ghost use Rattle.f77_terms.specs.Terms.{Valuation};
+ghost use Rattle.f77_symbolic.specs.Prelude.{Finish, CheckedFields, Holds, Valuation, Change, Atoms};
 ghost use Rattle.f77_symbolic.specs.{Interprets, AreInside, Start, state_of};
-ghost use Rattle.f77_symbolic.specs.declared.change.Change.{Change};
-ghost use Rattle.f77_symbolic.specs.declared.evaluator.Atoms.{Atoms};
 ghost use Rattle.f77_symbolic.specs.code.{Extends, Always, IsOnWay, AreSettled, EndsSo, GivesWay};
 ghost use Rattle.f77_symbolic.specs.code.{IsPairOn, IsReady, IsThere, RestsOn, IsEndOf};
 
@@ -20,7 +15,6 @@ use f77_actions::{Action, Resolved};
 use f77_code::Place;
 use f77_terms::copying::copied_path;
 use f77_terms::paths::{Path, add_below, add_equal, add_unequal, new_path, refuted, settle};
-use f77_terms::terms::Term;
 use f77_tree::Shared;
 use std::alloc::{AllocError, Global};
 use std::mem;
@@ -42,7 +36,8 @@ pub struct Pair {
 
 /// Adds to the path that it is on one of the two ways.
 fn add_way(alloc: Global, path: &mut Path, split: &Split, first: bool) -> Result<(), AllocError>
-    ensures { IfOk result (λ _. (v : Valuation) → Holds v path.old → IsOnWay v split.now first → Holds v path.new) }
+    ensures { IfOk result
+        (λ _. (v : Valuation) → Holds v path.old → IsOnWay v split.now first → Holds v path.new) }
 {
     match split {
         Split::Sign(term) if first => add_below(alloc, path, 1, term, 1),
@@ -124,7 +119,8 @@ impl Evaluator {
 
     /// They met, and the changed program made no more steps. It is false too where that is not told.
     fn is_met(&mut self, pair: &Pair) -> Result<bool, Halt>
-        ensures made { IfOk result (λ yes. yes ≡ true → (pair.now.fresh ≡ false) × (pos 0 ≤ℤ pair.now.credit)) }
+        ensures made { IfOk result
+            (λ yes. yes ≡ true → (pair.now.fresh ≡ false) × (pos 0 ≤ℤ pair.now.credit)) }
         ensures met { IfOk result (λ yes. yes ≡ true → (start : Start) (v : Valuation)
             → Interprets self.new.atoms start v → IsThere v pair.now
             → state_of start.cells v pair.now.right ≡ state_of start.cells v pair.now.left) }
@@ -319,7 +315,7 @@ impl Evaluator {
                 return Ok(behind);
             };
             behind = behind.max(pair.credit.checked_neg().ok_or(Halt::Unknown)?);
-            *work = work.saturating_sub(self.samples.cost(&pair.path, pair.left.turns.len()));
+            *work = work.saturating_sub(self.samples.cost(&pair.path, &pair.left));
             let (own, other) = (
                 statement_of(pair.left.place),
                 statement_of(pair.right.place),

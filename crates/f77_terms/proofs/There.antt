@@ -1,6 +1,7 @@
 -- One of several is there, where cases are added.
 use Rattle.f77_terms.proofs.Common.{arith, ◌≡◌, ◌<◌, ◌≤◌, ◌+◌, ◌⊎◌, inl, inr, ℕ, zero, suc, List, [], ◌∷◌, ◌++◌, length, length-append, take, get_or, ap, sym}
 use Rattle.f77_terms.proofs.Common.{subst, ◌∙◌, All, Any, get_or_append_left, take_more, take_all}
+use Rattle.std.proofs.Math.Seq.{take-append_seam}
 
 pub any_before : {X : Type 0} (P : X → Type 0) (xs ys : List X) → Any P xs → Any P (xs ++ ys)
 any_before P xs ys there =
@@ -31,3 +32,7 @@ any_of_all P xs n all there = subst (Any P) (sym (take_all n xs all)) there
 
 pub at_item : {X : Type 0} (P : X → Type 0) (xs : List X) (i : ℕ) (x : X) → i < length xs → x ≡ get_or xs i x → All P xs → P x
 at_item P xs i x within is all = subst P (sym is) (all i x within)
+
+-- a slice is written back as it is
+pub written_back : {A : Type 0} (xs rest : List A) (n : ℕ) → length xs ≡ n → take n (xs ++ rest) ≡ xs
+written_back xs rest n long = subst (λ k. take k (xs ++ rest) ≡ xs) long (take-append_seam xs rest)

@@ -1,5 +1,5 @@
 -- The meaning of atoms.
-use Rattle.std.specs.Prelude.{◌≡◌, ◌+◌, ℕ, ℤ, pos, negsuc, List, Some, slice_get, int_div, int_rem}
+use Rattle.std.specs.Prelude.{◌≡◌, ◌+◌, ◌*ℤ◌, ℕ, ℤ, pos, negsuc, List, Some, slice_get, int_div, int_rem}
 use Rattle.std.specs.Int.{int_min}
 use Rattle.f77_terms.specs.declared.atoms.Function.{Function}
 use Rattle.f77_terms.specs.declared.atoms.Function.TheVariants as function
@@ -25,6 +25,7 @@ abbrev pub function_value : Function → ℤ → ℤ → ℤ
 function_value function.Quotient a b = int_div a b
 function_value function.Remainder a b = int_rem a b
 function_value function.Minimum a b = int_min a b
+function_value function.Product a b = a *ℤ b
 
 -- the number that a key means
 abbrev pub key_value : Numbers → Valuation → Key → ℤ

@@ -17,8 +17,8 @@ struct Assigned {
 
 /// The numbers of monomials. Others have a number of their range.
 #[derive(Drop)]
-pub struct Assignment {
-    known: Vec<Option<Range>>,
+pub struct Assignment<'a> {
+    known: &'a [Option<Range>],
     list: Vec<Assigned>,
 }
 
@@ -37,14 +37,14 @@ fn number_in(range: Range, offset: i64) -> i64 {
     }
 }
 
-impl Assignment {
+impl<'a> Assignment<'a> {
     /// The number of a monomial.
     fn number_of(&self, monomial: Monomial) -> i64 {
         let mut numbers = self.list.iter();
         if let Some(assigned) = numbers.find(|assigned| assigned.monomial == monomial) {
             return assigned.number;
         }
-        monomial_range(&self.known, monomial).map_or(0, |range| range.low.max(0).min(range.high))
+        monomial_range(self.known, monomial).map_or(0, |range| range.low.max(0).min(range.high))
     }
 
     /// The number of a term, but for the part with this monomial, if there is one.
@@ -85,9 +85,9 @@ impl Assignment {
     /// Numbers for the monomials that were eliminated, the last of them first.
     pub fn of(
         alloc: Global,
-        known: Vec<Option<Range>>,
+        known: &'a [Option<Range>],
         levels: &[Level],
-    ) -> Result<Assignment, AllocError> {
+    ) -> Result<Assignment<'a>, AllocError> {
         let mut made = Assignment {
             known,
             list: Vec::with_capacity(alloc, levels.len())?,

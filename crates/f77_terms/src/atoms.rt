@@ -18,6 +18,8 @@ pub enum Function {
     /// What a division leaves.
     Remainder,
     Minimum,
+    /// The product, where it is no term.
+    Product,
 }
 
 /// What an atom is.
@@ -80,7 +82,8 @@ pub fn is_in_order(key: &Key, n: usize) -> bool
 
 /// Both are the same key.
 fn is_same_key(a: &Key, b: &Key) -> bool
-    ensures { result ≡ true → (held : Numbers) (v : Valuation) → key_value held v a.now ≡ key_value held v b.now }
+    ensures { result ≡ true → (held : Numbers) (v : Valuation)
+        → key_value held v a.now ≡ key_value held v b.now }
 {
     match (a, b) {
         (Key::Slot(i), Key::Slot(j)) => *i == *j,

@@ -62,7 +62,8 @@ pub fn add_tight(alloc: Global, bounds: &mut Vec<Term>, bound: Term) -> Result<(
 
 /// The bounds of two cases.
 pub fn joint_bounds(alloc: Global, a: &[Term], b: &[Term]) -> Result<Vec<Term>, AllocError>
-    ensures { IfOk result (λ bounds. (v : Valuation) → AreBelow v a.now → AreBelow v b.now → AreBelow v bounds.items) }
+    ensures { IfOk result
+        (λ bounds. (v : Valuation) → AreBelow v a.now → AreBelow v b.now → AreBelow v bounds.items) }
 {
     let mut bounds = copied_terms(alloc, a)?;
     for bound in b {

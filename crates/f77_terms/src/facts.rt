@@ -34,7 +34,8 @@ fn divisor_case(alloc: Global, m: i64, divisor: &Term, rest: &Term) -> Result<Ca
     ensures { IfOk result (λ case. (v : Valuation)
         → (pos 1 +ℤ m *ℤ sum_value v divisor.now) ≤ℤ pos 0
         → (pos 1 +ℤ pos 1 *ℤ (m *ℤ sum_value v divisor.now +ℤ pos 1 *ℤ sum_value v rest.now)) ≤ℤ pos 0
-        → (pos 1 +ℤ pos 1 *ℤ (m *ℤ sum_value v divisor.now +ℤ negsuc 0 *ℤ sum_value v rest.now)) ≤ℤ pos 0
+        → (pos 1 +ℤ pos 1 *ℤ (m *ℤ sum_value v divisor.now +ℤ negsuc 0 *ℤ sum_value v rest.now))
+        ≤ℤ pos 0
         → AreBelow v case.bounds.items) }
 {
     let mut bounds = Vec::new(alloc);
@@ -60,7 +61,8 @@ pub fn divisor_cases(
 
 /// One of two cases is there.
 pub fn two_cases(alloc: Global, first: Case, second: Case) -> Result<Shared<Choice>, AllocError>
-    ensures { IfOk result (λ choice. (v : Valuation) → AreBelow v first.bounds.items ⊎ AreBelow v second.bounds.items
+    ensures { IfOk result
+        (λ choice. (v : Valuation) → AreBelow v first.bounds.items ⊎ AreBelow v second.bounds.items
         → HasCase v choice) }
 {
     let cases = vec![in alloc; first, second]?;

@@ -7,7 +7,7 @@
 
 mod assignment;
 pub mod atoms;
-mod bounds;
+pub mod bounds;
 pub mod copying;
 mod elimination;
 mod facts;

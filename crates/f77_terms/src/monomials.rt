@@ -20,7 +20,8 @@ pub(crate) fn atoms_of(monomial: Monomial) -> [usize; 2] {
 
 /// The product of both, unless it has too many atoms.
 pub fn monomial_product(m: Monomial, n: Monomial) -> Option<Monomial>
-    ensures { IfSome result (λ p. (v : Valuation) → monomial_value v p ≡ monomial_value v m *ℤ monomial_value v n) }
+    ensures { IfSome result
+        (λ p. (v : Valuation) → monomial_value v p ≡ monomial_value v m *ℤ monomial_value v n) }
 {
     match (m, n) {
         (Monomial::One(a), Monomial::One(b)) if a <= b => Some(Monomial::Two(a, b)),

@@ -39,24 +39,34 @@ pub struct Path {
     pub choices: Vec<Shared<Choice>>,
 }
 
-/// Where the path holds, not all of these terms are at most 0.
+/// Where the path holds, not all of these terms are at most 0. Where there are none it is shown that it holds nowhere.
 pub fn refuted(alloc: Global, path: &Path, extra: &[Term]) -> Result<bool, AllocError>
-    ensures { IfOk result (λ yes. yes ≡ true → (v : Valuation) → Holds v path.now → ¬ (AreBelow v extra.now)) }
-{
-    if extra.len() == 0 {
-        return is_refuted_whole(alloc, path, extra);
-    }
-    let near = path_near(alloc, path, extra)?;
-    is_refuted_whole(alloc, &near, extra)
-}
-
-/// The same, by all that the path knows.
-fn is_refuted_whole(alloc: Global, path: &Path, extra: &[Term]) -> Result<bool, AllocError>
-    ensures { IfOk result (λ yes. yes ≡ true → (v : Valuation) → Holds v path.now → ¬ (AreBelow v extra.now)) }
+    ensures { IfOk result
+        (λ yes. yes ≡ true → (v : Valuation) → Holds v path.now → ¬ (AreBelow v extra.now)) }
 {
     let mut work = MOST_WORK;
-    let bounds = joint_bounds(alloc, &path.below, extra)?;
-    is_refuted_with(alloc, &mut work, path, &bounds, 0, MOST_SPLITS)
+    if extra.len() == 0 {
+        return is_refuted_with(
+            alloc,
+            &mut work,
+            path,
+            &path.known,
+            &path.below,
+            0,
+            MOST_SPLITS,
+        );
+    }
+    let near = path_near(alloc, path, extra)?;
+    let bounds = joint_bounds(alloc, &near.below, extra)?;
+    is_refuted_with(
+        alloc,
+        &mut work,
+        &near,
+        &near.known,
+        &bounds,
+        0,
+        MOST_SPLITS,
+    )
 }
 
 /// A path on which nothing is known.

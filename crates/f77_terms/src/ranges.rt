@@ -111,7 +111,8 @@ fn sum_range(a: Range, b: Range) -> Option<Range>
 
 /// The range of a product of atoms.
 pub fn monomial_range(known: &[Option<Range>], monomial: Monomial) -> Option<Range>
-    ensures { IfSome result (λ range. (v : Valuation) → AreKnown v known.now → IsIn range (monomial_value v monomial)) }
+    ensures { IfSome result
+        (λ range. (v : Valuation) → AreKnown v known.now → IsIn range (monomial_value v monomial)) }
 {
     match monomial {
         Monomial::One(a) => atom_range(known, a),
@@ -122,7 +123,8 @@ pub fn monomial_range(known: &[Option<Range>], monomial: Monomial) -> Option<Ran
 
 /// The range of the sum of parts.
 fn parts_range(known: &[Option<Range>], parts: &[Part]) -> Option<Range>
-    ensures { IfSome result (λ range. (v : Valuation) → AreKnown v known.now → IsIn range (parts_value v parts.now)) }
+    ensures { IfSome result
+        (λ range. (v : Valuation) → AreKnown v known.now → IsIn range (parts_value v parts.now)) }
 {
     let mut range = Range { low: 0, high: 0 };
     for place in 0..parts.len() {
@@ -157,7 +159,8 @@ fn set_range(known: &mut [Option<Range>], atom: usize, range: Range) -> bool
 
 /// What is left of a range where the rest and a number of it, so many times, are at most 0.
 pub(crate) fn limited(range: Range, factor: i64, rest: i64) -> Option<Range>
-    ensures { IfSome result (λ left. (x : ℤ) → IsIn range x → (rest +ℤ factor *ℤ x) ≤ℤ pos 0 → IsIn left x) }
+    ensures { IfSome result
+        (λ left. (x : ℤ) → IsIn range x → (rest +ℤ factor *ℤ x) ≤ℤ pos 0 → IsIn left x) }
 {
     if factor > 0 {
         let high = ceiling(rest, factor).checked_neg()?.min(range.high);

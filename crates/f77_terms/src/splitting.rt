@@ -26,7 +26,9 @@ fn is_impossible(
     bounds: &[Term],
     levels: &mut Vec<Level>,
 ) -> Result<bool, AllocError>
-    ensures { IfOk result (λ yes. yes ≡ true → (v : Valuation) → AreKnown v ranges.old → ¬ (AreBelow v bounds.now)) }
+    ensures told { IfOk result (λ yes. yes ≡ true → (v : Valuation) → AreKnown v ranges.old
+        → ¬ (AreBelow v bounds.now)) }
+    ensures kept { (v : Valuation) → AreKnown v ranges.old → AreBelow v bounds.now → AreKnown v ranges.new }
 {
     if *work == 0 {
         return Ok(false);
@@ -64,7 +66,8 @@ fn sides(alloc: Global, term: &Term) -> Result<Shared<Choice>, AllocError>
 
 /// A choice of the path: the sides of what is not 0 come before its choices.
 fn choice_at(alloc: Global, path: &Path, place: usize) -> Result<Option<Shared<Choice>>, AllocError>
-    ensures { IfOk result (λ found. IfSome found (λ choice. (v : Valuation) → Holds v path.now → HasCase v choice)) }
+    ensures { IfOk result
+        (λ found. IfSome found (λ choice. (v : Valuation) → Holds v path.now → HasCase v choice)) }
 {
     if place < path.unequal.len() {
         return Ok(Some(sides(alloc, &path.unequal[place])?));
@@ -76,20 +79,22 @@ fn choice_at(alloc: Global, path: &Path, place: usize) -> Result<Option<Shared<C
     Ok(None)
 }
 
-/// Where the path holds, not all of the bounds are at most 0. Cases are split so many times, one in another; `next` is
-/// what is to split a case where numbers do not tell it.
+/// Where the path holds and this is known of atoms, not all of the bounds are at most 0. Cases are split so many times,
+/// one in another; `next` is what is to split a case where numbers do not tell it.
 #[cycle(refuting)]
 pub fn is_refuted_with(
     alloc: Global,
     work: &mut u64,
     path: &Path,
+    known: &[Option<Range>],
     bounds: &[Term],
     next: usize,
     splits: usize,
 ) -> Result<bool, AllocError>
-    ensures { IfOk result (λ yes. yes ≡ true → (v : Valuation) → Holds v path.now → ¬ (AreBelow v bounds.now)) }
+    ensures { IfOk result (λ yes. yes ≡ true → (v : Valuation) → Holds v path.now → AreKnown v known.now
+        → ¬ (AreBelow v bounds.now)) }
 {
-    let mut ranges = Vec::from_slice(alloc, &path.known)?;
+    let mut ranges = Vec::from_slice(alloc, known)?;
     let mut levels = Vec::new(alloc);
     if is_impossible(alloc, work, &mut ranges, bounds, &mut levels)? {
         return Ok(true);
@@ -97,7 +102,7 @@ pub fn is_refuted_with(
     if splits == 0 {
         return Ok(false);
     }
-    let assignment = Assignment::of(alloc, ranges, &levels)?;
+    let assignment = Assignment::of(alloc, &ranges, &levels)?;
     let Some(place) = assignment.split_of(path, bounds, next) else {
         return Ok(false);
     };
@@ -105,7 +110,16 @@ pub fn is_refuted_with(
         return Ok(false);
     };
     let after = next.saturating_add(usize::from(place == next));
-    are_refuted_with(alloc, work, path, bounds, &choice.cases, after, splits - 1)
+    are_refuted_with(
+        alloc,
+        work,
+        path,
+        &ranges,
+        bounds,
+        &choice.cases,
+        after,
+        splits - 1,
+    )
 }
 
 /// Where the path holds and the bounds are at most 0, none of the cases is there.
@@ -114,17 +128,18 @@ fn are_refuted_with(
     alloc: Global,
     work: &mut u64,
     path: &Path,
+    known: &[Option<Range>],
     bounds: &[Term],
     cases: &[Case],
     next: usize,
     splits: usize,
 ) -> Result<bool, AllocError>
-    ensures { IfOk result (λ yes. yes ≡ true → (v : Valuation) → Holds v path.now → AreBelow v bounds.now
-        → ¬ (IsOneOf v cases.now)) }
+    ensures { IfOk result (λ yes. yes ≡ true → (v : Valuation) → Holds v path.now → AreKnown v known.now
+        → AreBelow v bounds.now → ¬ (IsOneOf v cases.now)) }
 {
     for case in cases {
         let both = joint_bounds(alloc, bounds, &case.bounds)?;
-        if !is_refuted_with(alloc, work, path, &both, next, splits)? {
+        if !is_refuted_with(alloc, work, path, known, &both, next, splits)? {
             return Ok(false);
         }
     }

@@ -79,7 +79,8 @@ pub fn factor_of(term: &Term, monomial: Monomial) -> i64 {
 fn add_factor(parts: &mut Vec<Part>, place: usize, more: i64) -> bool
     requires { place < vec_len parts.old }
     ensures { result ≡ true → (v : Valuation) (part : Part) → slice_get parts.old.items place ≡ Some part
-        → parts_value v parts.new.items ≡ parts_value v parts.old.items +ℤ more *ℤ monomial_value v part.monomial }
+        → parts_value v parts.new.items
+        ≡ parts_value v parts.old.items +ℤ more *ℤ monomial_value v part.monomial }
 {
     let part = *item_at(parts, place);
     let Some(factor) = part.factor.checked_add(more) else {

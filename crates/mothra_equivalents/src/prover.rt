@@ -28,7 +28,7 @@ const TOUR: u64 = 400_000;
 const FROM_START: u64 = 20_000;
 
 /// So much all mutants of a plan may take.
-const BUDGET: u64 = 5_000_000;
+const BUDGET: u64 = 5_500_000;
 
 /// So much a mutant may take at least, and at most; and so many times its share of what is left.
 const FEWEST: u64 = 1_000;

@@ -5,10 +5,7 @@ use f77_terms::copying::copied_path;
 use f77_terms::knowing::{
     constant_of, is_bounded, is_plainly_bounded, know_division, know_minimum,
 };
-use f77_terms::monomials::Monomial;
-use f77_terms::paths::{
-    Path, add_below, add_range, add_unequal, is_below, new_path, refuted, settle,
-};
+use f77_terms::paths::{Path, add_below, add_range, add_unequal, new_path, refuted, settle};
 use f77_terms::ranges::{Range, atom_range};
 use f77_terms::terms::{atom_term, constant_term, difference};
 use std::alloc::{AllocError, Global};

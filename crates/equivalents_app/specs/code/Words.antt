@@ -1,11 +1,9 @@
 -- The command line of `equivalents`, which has no subcommand, and what its words ask for.
 -- Only private functions and proofs cite these definitions.
 use Rattle.std.specs.Prelude.{◌≡◌, Option, Some, None, Result, Ok, Err}
-use Rattle.clap.specs.Words.{kind_of}
+use Rattle.equivalents_app.specs.Prelude.{kind_of, WordsFault, Inquiry}
 use Rattle.clap.specs.declared.error.kind.ErrorKind.TheVariants as kind
-use Rattle.mothra_cli.specs.declared.request.WordsFault.{WordsFault}
 use Rattle.mothra_cli.specs.declared.request.WordsFault.TheVariants as fault
-use Rattle.equivalents_app.specs.declared.words.Inquiry.{Inquiry}
 use Rattle.equivalents_app.specs.Words.{InquiryMeaning, refused, bad_operators, inquiry}
 
 -- the result is the inquiry of this meaning, or says why it is none, or that memory ran out

@@ -1,8 +1,7 @@
 -- The slots of dummy arguments, and what is known of slots that are given values.
 use Rattle.std.specs.Prelude.{◌≡◌, ◌+◌, ◌≤◌, ◌<◌, ℕ, zero, suc, List, Some, slice_get, slice_set}
-use Rattle.f77_check.specs.declared.checked.Shape.{Shape}
+use Rattle.f77_equivalence.specs.Prelude.{Shape, size_of}
 use Rattle.f77_facts.specs.declared.facts.Fact.{Fact}
-use Rattle.f77_meaning.specs.Spans.{size_of}
 
 -- the slot is one of the dummy argument n, which has this shape
 pub record IsOfDummy (dummies : List ℕ) (shapes : List Shape) (slot n : ℕ) (shape : Shape) : Type 0 where

@@ -1,8 +1,6 @@
 -- What is known after an assignment.
 use Rattle.std.specs.Prelude.{◌≤◌, ◌<◌, ℕ, List, Option, slice_set}
-use Rattle.f77_actions.specs.declared.value.Value.{Value}
-use Rattle.f77_code.specs.Moves.{Cells}
-use Rattle.f77_facts.specs.declared.facts.Fact.{Fact}
+use Rattle.f77_facts.specs.Prelude.{Value, Cells, Fact}
 use Rattle.f77_facts.specs.Facts.{SuitsFact, AreIn}
 
 -- what suits the old facts suits the new ones where one of these

@@ -1,9 +1,7 @@
 -- What atoms mean.
 -- Private functions and proofs alone cite what stands here.
-use Rattle.f77_terms.specs.Terms.{Valuation}
-use Rattle.f77_symbolic.specs.declared.evaluator.Atoms.{Atoms}
-use Rattle.f77_symbolic.specs.Memory.{Start}
-use Rattle.f77_symbolic.specs.Atoms.{Interprets}
+use Rattle.f77_symbolic.specs.Prelude.{Valuation, Atoms}
+use Rattle.f77_symbolic.specs.{Start, Interprets}
 
 -- what interprets the new atoms interprets the old ones
 pub record Extends (old new : Atoms) : Type 0 where

@@ -5,21 +5,12 @@ use Rattle.std.specs.Prelude.{Bool, true, false, List, Option, Some, None, Resul
 use Rattle.std.specs.declared.cmp.Ordering.{Ordering}
 use Rattle.std.specs.declared.cmp.Ordering.TheVariants.{Less, Equal, Greater}
 use Rattle.f77_actions.specs.declared.finish.Fault.{Fault}
-use Rattle.f77_actions.specs.declared.value.Value.{Value}
-use Rattle.f77_code.specs.Evaluation.{held_in}
-use Rattle.f77_code.specs.Moves.{Cells}
-use Rattle.f77_terms.specs.Paths.{Holds}
-use Rattle.f77_terms.specs.Terms.{Valuation, sum_value}
+use Rattle.f77_symbolic.specs.Prelude.{Value, held_in, Cells, Holds, Valuation, sum_value, Evaluator, Split, Location}
+use Rattle.f77_symbolic.specs.Prelude.{Symbolic, Write}
 use Rattle.f77_terms.specs.declared.terms.Term.{Term}
 use Rattle.f77_symbolic.specs.declared.arithmetic.Division.{Division}
-use Rattle.f77_symbolic.specs.declared.evaluator.Evaluator.{Evaluator}
-use Rattle.f77_symbolic.specs.declared.halt.Split.{Split}
 use Rattle.f77_symbolic.specs.declared.halt.Split.TheVariants as split
-use Rattle.f77_symbolic.specs.declared.memory.Location.{Location}
-use Rattle.f77_symbolic.specs.declared.memory.Symbolic.{Symbolic}
-use Rattle.f77_symbolic.specs.declared.memory.Write.{Write}
-use Rattle.f77_symbolic.specs.Atoms.{Interprets}
-use Rattle.f77_symbolic.specs.Memory.{AreInside, IsInside, Start, cells_of, slot_of, content_of}
+use Rattle.f77_symbolic.specs.{Interprets, AreInside, IsInside, Start, cells_of, slot_of, content_of}
 
 -- the new path holds, and the evaluator is of the same program
 pub record StaysOn (v : Valuation) (old new : Evaluator) : Type 0 where
@@ -36,7 +27,8 @@ abbrev pub AlwaysTells : Evaluator → Evaluator → (Start → Valuation → Ty
 AlwaysTells old new Claim = Always old new (λ start v. StaysOn v old new × Claim start v)
 
 -- The claim is true of the value, and the new path holds. Only the program's own faults are left out.
-abbrev pub Answers : {A : Type 0} → Valuation → Evaluator → Evaluator → Result A Fault → (A → Type 0) → Type 0
+abbrev pub Answers : {A : Type 0} → Valuation → Evaluator → Evaluator → Result A Fault → (A → Type 0)
+    → Type 0
 Answers v old new (Ok x) Claim = StaysOn v old new × Claim x
 Answers v old new (Err fault) Claim = old.own ≡ true
 
@@ -67,7 +59,8 @@ YieldsSlot old new writes location meaning =
 
 -- what is read is this value, or there is none and the program itself reads it
 abbrev pub ReadsCell : Valuation → Evaluator → Evaluator → Option Value → Symbolic → Type 0
-ReadsCell v old new cell value = (StaysOn v old new × (cell ≡ content_of v value)) ⊎ ((old.own ≡ true) × (cell ≡ None))
+ReadsCell v old new cell value = (StaysOn v old new × (cell ≡ content_of v value))
+    ⊎ ((old.own ≡ true) × (cell ≡ None))
 
 -- the slot of the location is read behind these writes
 abbrev pub ReadsSlot : Evaluator → Evaluator → List Write → Location → Symbolic → Type 0

@@ -1,15 +1,11 @@
 -- What slots hold where some were written to, by terms over what they held at the start.
 -- Private functions and proofs alone cite what stands here.
 use Rattle.std.specs.Prelude.{◌≡◌, ◌≤◌, ◌<◌, ◌+◌, ℕ, List, Any, length, Option, Some, None, slice_get}
-use Rattle.f77_check.specs.Checked.{CheckedFields}
+use Rattle.f77_symbolic.specs.Prelude.{CheckedFields, held_in, Cells, AreIn, SuitsFact, Write}
 use Rattle.f77_check.specs.declared.checked.Shape.{Shape}
-use Rattle.f77_code.specs.Evaluation.{held_in}
-use Rattle.f77_code.specs.Moves.{Cells}
 use Rattle.f77_equivalence.specs.code.StartSlots.{IsOfDummy}
 use Rattle.f77_facts.specs.declared.facts.Fact.{Fact}
-use Rattle.f77_facts.specs.Facts.{AreIn, SuitsFact}
 use Rattle.f77_facts.specs.declared.assigning.Slots.{Slots}
-use Rattle.f77_symbolic.specs.declared.memory.Write.{Write}
 
 -- the slot is there, and what it holds suits the fact
 pub record IsKnownAt (facts : List Fact) (slot : ℕ) (fact : Fact) : Type 0 where

@@ -1,25 +1,11 @@
 -- What the walk of a program and a changed one is to show.
 -- Private functions and proofs alone cite what stands here.
 use Rattle.std.specs.Prelude.{◌≡◌, ◌+ℤ◌, ◌≤ℤ◌, ℕ, ℤ, pos, All, Bool, IfSome, List, Option, Some}
-use Rattle.f77_actions.specs.declared.finish.Finish.{Finish}
-use Rattle.f77_check.specs.Checked.{CheckedFields, IsChecked}
-use Rattle.f77_code.specs.Moves.{Cells, Ends, moved}
-use Rattle.f77_equivalence.specs.Alike.{AgreeBut, PassAlike}
-use Rattle.f77_equivalence.specs.Changed.{HoldAlike}
-use Rattle.f77_terms.specs.Paths.{Holds}
-use Rattle.f77_terms.specs.Terms.{Valuation}
-use Rattle.f77_symbolic.specs.declared.change.Change.{Change}
-use Rattle.f77_symbolic.specs.declared.evaluator.Atoms.{Atoms}
-use Rattle.f77_symbolic.specs.declared.halt.Split.{Split}
-use Rattle.f77_symbolic.specs.declared.walking.Pair.{Pair}
-use Rattle.f77_symbolic.specs.declared.sides.Side.{Side}
-use Rattle.f77_symbolic.specs.Machines.{together}
-use Rattle.f77_symbolic.specs.Walk.{FollowsByKeys}
-use Rattle.f77_symbolic.specs.Atoms.{Interprets}
-use Rattle.f77_symbolic.specs.Memory.{AreInside, Start, cells_of}
+use Rattle.f77_symbolic.specs.Prelude.{Finish, CheckedFields, IsChecked, Cells, Ends, moved, AgreeBut, PassAlike}
+use Rattle.f77_symbolic.specs.Prelude.{HoldAlike, Holds, Valuation, Change, Atoms, Split, Pair, Side}
+use Rattle.f77_symbolic.specs.{together, FollowsByKeys, Interprets, AreInside, Start, cells_of, state_of}
 use Rattle.f77_symbolic.specs.code.Memory.{HaveDummies}
 use Rattle.f77_symbolic.specs.code.Evaluation.{IsOnWay}
-use Rattle.f77_symbolic.specs.Sides.{state_of}
 
 -- the changed statement alone is another one, DOs pass it alike, and these are the dummy arguments
 pub record IsReady (checked : CheckedFields) (change : Change) : Type 0 where

@@ -2,21 +2,12 @@
 -- Private functions and proofs alone cite what stands here.
 use Rattle.std.specs.Prelude.{◌≡◌, ◌≢◌, ℕ, ℤ, Bool, true, List, Option, Some, None}
 use Rattle.f77_actions.specs.declared.action.Action.{Action}
-use Rattle.f77_actions.specs.declared.finish.Finish.{Finish}
+use Rattle.f77_symbolic.specs.Prelude.{Finish, Resolved, Cells, TurnList, Move, Goes, Ends, acted, Holds, Valuation}
+use Rattle.f77_symbolic.specs.Prelude.{Evaluator, Side, SymbolicTurn, Step}
 use Rattle.f77_actions.specs.declared.finish.Finish.TheVariants.{Returned, Stopped, Failed}
-use Rattle.f77_actions.specs.declared.resolved.Resolved.{Resolved}
-use Rattle.f77_code.specs.Moves.{Cells, TurnList, Move, Goes, Ends, acted}
-use Rattle.f77_terms.specs.Paths.{Holds}
-use Rattle.f77_terms.specs.Terms.{Valuation}
 use Rattle.f77_terms.specs.declared.paths.Path.{Path}
-use Rattle.f77_symbolic.specs.declared.evaluator.Evaluator.{Evaluator}
-use Rattle.f77_symbolic.specs.declared.sides.Side.{Side}
-use Rattle.f77_symbolic.specs.declared.sides.SymbolicTurn.{SymbolicTurn}
-use Rattle.f77_symbolic.specs.declared.sides.Step.{Step}
 use Rattle.f77_symbolic.specs.declared.sides.Step.TheVariants as step
-use Rattle.f77_symbolic.specs.Atoms.{Interprets}
-use Rattle.f77_symbolic.specs.Memory.{AreInside, Start, cells_of}
-use Rattle.f77_symbolic.specs.Sides.{turn_of, turns_of, state_of}
+use Rattle.f77_symbolic.specs.{Interprets, AreInside, Start, cells_of, turn_of, turns_of, state_of}
 
 -- a run ends so where this is the step
 abbrev pub IsEndOf : Step → Finish → Type 0
@@ -38,7 +29,8 @@ Stepped start v own path before after made (Some (Ends finish cells)) =
 abbrev pub StepsFrom : Path → Bool → Evaluator → Side → Side → Step
     → (Valuation → Cells → TurnList → Option Move) → Type 0
 StepsFrom path own new before after step meaning =
-    (start : Start) (v : Valuation) → Interprets new.atoms start v → Holds v path → AreInside v before.writes.items
+    (start : Start) (v : Valuation) → Interprets new.atoms start v → Holds v path
+    → AreInside v before.writes.items
     → Stepped start.cells v own new.path before after step
     (meaning v (cells_of start.cells v before.writes.items) (turns_of v before.turns.items))
 
@@ -54,7 +46,8 @@ Acts old new before after step resolved action =
     → AlwaysSteps old new before after step (λ v cells turns. Some (acted statements i resolved action cells turns))
 
 -- the step is a move, from the states of one side to those of the other, and nothing is written
-pub record GoesTo (v : Valuation) (before after : Side) (made : Step) (move : Cells → TurnList → Move) : Type 0 where
+pub record GoesTo (v : Valuation) (before after : Side) (made : Step)
+    (move : Cells → TurnList → Move) : Type 0 where
   pub moves : made ≡ step.Moves
   pub goes : (start : Cells) → move (cells_of start v before.writes.items) (turns_of v before.turns.items)
       ≡ Goes (state_of start v after)

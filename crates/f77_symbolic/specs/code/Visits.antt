@@ -2,37 +2,17 @@
 -- Private functions and proofs alone cite what stands here.
 use Rattle.std.specs.Prelude.{◌≡◌, ◌<◌, ◌≤ℤ◌, ℕ, ℤ, pos, true, false, All, Contains, List, Option, Some}
 use Rattle.std.specs.Prelude.{length, option_map}
-use Rattle.f77_actions.specs.declared.resolved.Resolved.{Resolved}
-use Rattle.f77_code.specs.declared.control.Place.{Place}
-use Rattle.f77_code.specs.Moves.{State, TurnList, Goes, moved, turn_at}
-use Rattle.f77_check.specs.Checked.{CheckedFields}
-use Rattle.f77_equivalence.specs.Alike.{site}
-use Rattle.f77_facts.specs.declared.entries.Entry.{Entry}
+use Rattle.f77_symbolic.specs.Prelude.{Resolved, Place, State, TurnList, Goes, moved, turn_at, CheckedFields, site}
+use Rattle.f77_symbolic.specs.Prelude.{Entry, IsAmong, AreLeft, SuitsTurn, Holds, Valuation, Atoms, Evaluator, Side}
+use Rattle.f77_symbolic.specs.Prelude.{SymbolicTurn, Pair, Step, Visit, Visits, Change}
 use Rattle.f77_facts.specs.declared.loops.LoopFact.{LoopFact}
-use Rattle.f77_facts.specs.Entries.{IsAmong}
-use Rattle.f77_facts.specs.Loops.{AreLeft, SuitsTurn}
-use Rattle.f77_terms.specs.Paths.{Holds}
-use Rattle.f77_terms.specs.Terms.{Valuation}
-use Rattle.f77_symbolic.specs.declared.evaluator.Atoms.{Atoms}
-use Rattle.f77_symbolic.specs.declared.evaluator.Evaluator.{Evaluator}
-use Rattle.f77_symbolic.specs.declared.sides.Side.{Side}
-use Rattle.f77_symbolic.specs.declared.sides.SymbolicTurn.{SymbolicTurn}
-use Rattle.f77_symbolic.specs.declared.walking.Pair.{Pair}
-use Rattle.f77_symbolic.specs.declared.sides.Step.{Step}
 use Rattle.f77_symbolic.specs.declared.sides.Step.TheVariants as step
-use Rattle.f77_symbolic.specs.declared.visiting.Visit.{Visit}
-use Rattle.f77_symbolic.specs.declared.visiting.Visits.{Visits}
 use Rattle.f77_symbolic.specs.declared.visiting.Walk.{Walk}
-use Rattle.f77_symbolic.specs.declared.change.Change.{Change}
-use Rattle.f77_symbolic.specs.Machines.{IsAtSite, IsFirst, machine, together}
-use Rattle.f77_symbolic.specs.Walk.{FollowsByKeys, IsReachable}
-use Rattle.f77_symbolic.specs.Atoms.{Interprets}
-use Rattle.f77_symbolic.specs.Memory.{AreInside, Start}
+use Rattle.f77_symbolic.specs.{IsAtSite, IsFirst, machine, together, FollowsByKeys, IsReachable, Interprets, AreInside}
+use Rattle.f77_symbolic.specs.{Start, state_of, turn_of, AreTurnNumbers, AreVisits, IsOfEntry, IsVisit, IsVisitNoted}
+use Rattle.f77_symbolic.specs.{LeadsTo, is_cut_in}
 use Rattle.f77_symbolic.specs.code.Evaluation.{Always, StaysOn}
 use Rattle.f77_symbolic.specs.code.Pairs.{IsReady, IsSettled}
-use Rattle.f77_symbolic.specs.Sides.{state_of, turn_of}
-use Rattle.f77_symbolic.specs.Visits.{AreTurnNumbers, AreVisits, IsOfEntry, IsVisit, IsVisitNoted}
-use Rattle.f77_symbolic.specs.Visits.{LeadsTo, is_cut_in}
 
 -- what is known of the state is among the arrivals
 abbrev pub IsMet : List Entry → State → Type 0
@@ -67,14 +47,16 @@ pub record IsPartOf (statements : List Resolved) (places : List Place) (whole : 
 abbrev pub StandsForTurn : Evaluator → Evaluator → ℕ → ℕ → LoopFact → Option SymbolicTurn → Type 0
 StandsForTurn old new d count fact turn =
     Always old new (λ start v. (turns : TurnList)
-    → AreTurnNumbers (length old.atoms.facts.items) count turns start → SuitsTurn fact (turn_at turns d) → d < count
+    → AreTurnNumbers (length old.atoms.facts.items) count turns start → SuitsTurn fact (turn_at turns d)
+    → d < count
     → StaysOn v old new × (option_map (turn_of v) turn ≡ turn_at turns d))
 
 -- where a state is of the entry, the visit is of the state
 abbrev pub IsFirstVisit : Evaluator → Evaluator → ℕ → Place → List LoopFact → Visit → Type 0
 IsFirstVisit old new count place loops visit =
     Always old new (λ start v. (s : State) → start.cells ≡ s.cells
-    → AreTurnNumbers (length old.atoms.facts.items) count s.turns start → place ≡ s.place → AreLeft loops s.turns
+    → AreTurnNumbers (length old.atoms.facts.items) count s.turns start → place ≡ s.place
+    → AreLeft loops s.turns
     → IsVisit start v s visit)
 
 -- whatever the atoms mean

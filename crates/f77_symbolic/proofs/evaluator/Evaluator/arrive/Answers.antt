@@ -4,13 +4,17 @@ use Rattle.f77_symbolic.specs.contracts.sides.Step.{the_type}
 use Rattle.f77_symbolic.specs.declared.sides.Step.TheVariants as step
 use Rattle.f77_symbolic.proofs.Toured.{met_by}
 use Rattle.f77_symbolic.proofs.evaluator.Evaluator.arrive.Goals as goal
+use Rattle.f77_symbolic.proofs.evaluator.Evaluator.arrive.Goals.{then-ne-via-then-ne, then-ne-via-else-ne+in_ok-is_dead+then-branch}
 
 pub returns-then-ne-clause-arrives : goal.returns-then-ne-clause-arrives
 returns-then-ne-clause-arrives c statements start v is whole part = (
   part,
-  λ moves.
-      let e : true ≡ false = sym c.if-ne.true ∙ c.ne.ensures ∙ ap (λ made. not (sameb the_type made step.Moves)) moves in
-      absurd (cc (e)),
+  elim c.then-ne.branch [
+    | then-ne-via-then-ne w ↦ λ moves.
+        let e : true ≡ false = sym w.if-ne.true ∙ c.ne.ensures ∙ ap (λ made. not (sameb the_type made step.Moves)) moves in
+        absurd (cc (e))
+    | then-ne-via-else-ne+in_ok-is_dead+then-branch w ↦ λ moves holds inside. absurd (w.in_ok-is_dead.ensures w.if-branch.true v holds)
+  ],
 )
 
 pub returns-then-is_cut-clause-arrives : goal.returns-then-is_cut-clause-arrives

@@ -1,5 +1,5 @@
 use Rattle.f77_symbolic.proofs.Common.{arith, ◌≡◌, length, subst, sym, AreIn}
-use Rattle.f77_symbolic.proofs.Bounded.{written_back}
+use Rattle.f77_terms.proofs.There.{written_back}
 use Rattle.f77_symbolic.proofs.evaluator.Evaluator.facts_at_start.Goals as goal
 
 pub loop-atom-preserved : goal.loop-atom-preserved

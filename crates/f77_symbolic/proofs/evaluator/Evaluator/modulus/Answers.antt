@@ -1,7 +1,7 @@
 use Rattle.f77_symbolic.proofs.Common.{◌≡◌, ◌∙◌, int_rem, in_range, ok_then, sum_value}
-use Rattle.f77_symbolic.proofs.Answering.{answers_at}
+use Rattle.f77_symbolic.proofs.Answering.{answers_at, stays_then}
 use Rattle.f77_symbolic.proofs.Expecting.{modulus_answers}
-use Rattle.f77_symbolic.proofs.Sized.{apart_same, rem_same}
+use Rattle.f77_symbolic.proofs.Sized.{apart_same, rem_same, size_same}
 use Rattle.f77_symbolic.proofs.evaluator.Evaluator.modulus.Goals as goal
 
 pub returns-clause-calculates : goal.returns-clause-calculates
@@ -14,7 +14,9 @@ returns-clause-calculates c =
     (λ apart on.
     let means = c.ranged.ensures.extends.back start v interprets in
     let d = sum_value v c.in_ok-divisor.divisor in
-    let same = c.in_ok-divisor.ensures start v (c.in_ok-division.ensures.extends.back start v means) in
-    let it = c.in_ok-division.ensures.divides start v means on (apart_same b d same apart) in
+    let sized = c.in_ok-divisor.ensures.tells start v (c.in_ok-division.ensures.extends.back start v means) on in
+    let same = size_same b d sized.1 in
+    let it = c.in_ok-division.ensures.divides start v means sized.0.holds (apart_same b d same apart) in
     answers_at v c.expect_apart.new.self c.divided.new.self c.ranged.new.self in_range (sum_value v c.in_ok-division.division.remainder) (int_rem a b)
-    (λ x. sum_value v value ≡ x) it.0 (it.1.remainder ∙ rem_same a b d same) (claim start v interprets)))
+    (λ x. sum_value v value ≡ x) (stays_then v c.expect_apart.new.self c.size.new.self c.divided.new.self sized.0 it.0)
+    (it.1.remainder ∙ rem_same a b d same) (claim start v interprets)))

@@ -1,7 +1,7 @@
-use Rattle.f77_symbolic.proofs.Common.{arith, rules, ◌≡◌, ℤ, pos, subst, w64, ◌≤ℤ◌, Ok, ints, to_z-of_z, ok_then, Valuation, sum_value, Answers, SFits}
+use Rattle.f77_symbolic.proofs.Common.{arith, rules, ◌≡◌, ℤ, pos, w64, ◌≤ℤ◌, Ok, ints, to_z-of_z, ok_then, Valuation, sum_value, SFits}
 use Rattle.f77_symbolic.specs.declared.halt.Halt.{Halt}
 use Rattle.f77_symbolic.proofs.Expecting.{some_told}
-use Rattle.f77_symbolic.proofs.Factors.{power_as}
+use Rattle.f77_symbolic.proofs.Factors.{power_answers}
 use Rattle.f77_symbolic.proofs.evaluator.Evaluator.power_of.Goals as goal
 
 pub returns-clause-calculates : goal.returns-clause-calculates
@@ -13,7 +13,7 @@ returns-clause-calculates c =
     c.in_ok-exponent.ensures.ok_part c.constant_of.ensures in
     ok_then c.ranged.result c.ranged.ensures.calculates
     (λ value claim start v interprets holds.
-    subst (λ r. Answers v c.args.self.now c.ranged.new.self r (λ x. sum_value v value ≡ x))
-    (power_as (sum_value v c.args.a.now) (sum_value v c.args.b.now) c.in_ok-exponent.exponent (sum_value v c.in_ok-term.term) (exponent v) above
-    ((simp to_z-of_z at c.in_ok-term.ensures) above v))
-    (claim start v interprets holds))
+    power_answers v c.args.self.now c.repeated.new.self c.ranged.new.self (sum_value v c.args.a.now) (sum_value v c.args.b.now) c.in_ok-exponent.exponent
+    (sum_value v c.in_ok-term.term) (λ x. sum_value v value ≡ x) (exponent v) above
+    (λ n is. (simp to_z-of_z at c.in_ok-term.ensures.tells) above n is start v (c.ranged.ensures.extends.back start v interprets) holds)
+    (claim start v interprets))

@@ -1,4 +1,4 @@
-use Rattle.f77_symbolic.proofs.Common.{arith, ◌∙◌, option_map, Write, cells_of, slot_of, HoldSameIn}
+use Rattle.f77_symbolic.proofs.Common.{arith, ◌∙◌, sym, option_map, Write, cells_of, slot_of, HoldSameIn}
 use Rattle.f77_symbolic.proofs.Answering.{stays_then}
 use Rattle.f77_symbolic.proofs.Matching.{all_more}
 use Rattle.f77_symbolic.proofs.Written.{inside_at}
