@@ -118,6 +118,13 @@ class Sweeping(unittest.TestCase):
         self.assertEqual(list(sweep.faults_of(tried)), [])
         self.assertEqual((self.tried([1], rows=0).led, len(self.tried([1], rows=0).tests)), (set(), 1))
 
+    def test_a_program_is_given_up_where_nothing_is_proved_and_mutants_are_not_finished(self) -> None:
+        tried = self.tried([1])
+        given_up = tried._replace(answer=Answer([], 2), tests=())
+        self.assertTrue(sweep.line_on_made([tried, given_up]).endswith(", 0 killed, 0 without a test, 1 given up"))
+        without = [tried._replace(tests=()), given_up._replace(answer=Answer([]))]
+        self.assertTrue(sweep.line_on_made(without).endswith(", 1 without a test, 0 given up"))
+
     def test_a_test_that_kills_is_told_with_the_program(self) -> None:
         told, *source = list(sweep.faults_of(self.tried([1, -5], [-7])))
         killed = "equivalent: killed by [-5, 1, 0] with --steps 10000"

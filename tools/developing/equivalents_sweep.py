@@ -12,7 +12,8 @@ small limits, on which the program ends too. A mutant with steps to spare has to
 that room.
 
 There is a line for each program that is named, one for all that were made, and one for each mutant that is killed, with
-the source of a made program below it. The exit status is 1 where there is one.
+the source of a made program below it. A made program is given up where nothing is proved of it and mutants are not
+finished: mostly the walk of the program itself did not come to an end. The exit status is 1 where there is one.
 """
 
 import argparse
@@ -195,6 +196,13 @@ def line_on(what: str, every: Sequence[Tried]) -> str:
     return f"{what}: {mutants} mutants, {proved}, {tests}, {killed} killed"
 
 
+def line_on_made(every: Sequence[Tried]) -> str:
+    """The line on programs that were made: also how many have proofs and no test, and how many were given up."""
+    without = sum(not each.tests for each in every if each.answer.proofs)
+    given_up = sum(not each.answer.proofs for each in every if each.answer.unfinished)
+    return f"{line_on(plural(len(every), 'made program'), every)}, {without} without a test, {given_up} given up"
+
+
 def faults_of(case: Tried) -> Iterator[str]:
     """What is wrong with a program, and its source where it was made."""
     if case.refused:
@@ -248,8 +256,7 @@ def run(given: argparse.Namespace, name: str) -> int:
             faults += faults_of(case)
         results = list(pool.map(partial(tried, programs), made))
     if results:
-        without = sum(not each.tests for each in results if each.answer.proofs)
-        print(f"{line_on(plural(len(results), 'made program'), results)}, {without} without a test")
+        print(line_on_made(results))
     faults += [line for case in results for line in faults_of(case)]
     print("\n".join(faults) or "no mutant is killed that is proved equivalent")
     return FAULT if faults else SUCCESS
