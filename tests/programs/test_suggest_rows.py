@@ -49,7 +49,8 @@ class Rows(Room):
     def test_rows_of_failed_proofs_decide_more_than_chance_does(self) -> None:
         without, out = self.told(self.older()), self.told(EQUIVALENTS)
         self.assertNotIn("Failed proofs", without)
-        has(self, out, ", 1 round, seed 1.", "\nFailed proofs led to ")
+        has(self, without, ", 1 round, seed 1.")
+        has(self, out, "\nFailed proofs led to ")
         (every, *parts), (same, *others) = self.decided(out), self.decided(without)
         self.assertEqual((every, sum(parts), sum(others)), (same, every, every))
         self.assertLess(parts[-1], others[-1])

@@ -14,7 +14,7 @@ use std::alloc::{AllocError, Global};
 const LOOKS: usize = 128;
 
 /// So much work the walks from all entries may take.
-const WORK: u64 = 1_000_000;
+const WORK: u64 = 4_000_000;
 
 /// A search for what is known at the cuts of a program.
 #[derive(Drop)]

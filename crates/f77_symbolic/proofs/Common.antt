@@ -41,7 +41,7 @@ pub use Rattle.f77_symbolic.specs.{AreVisits, IsTour, LeadsTo, IsReachable, IsVi
 pub use Rattle.f77_symbolic.specs.{Machine, Pairing, FollowsFor, IsEarlier, Under, KeysFollow, LeadsUncut, diagonal}
 unfoldable pub use Rattle.f77_symbolic.specs.{together, FollowsByKeys}
 pub use Rattle.f77_symbolic.specs.code.{StaysOn, Stepped, Answers, ReadsCell, Extends, AreExplored, IsSettled, HoldSameIn, IsReady, IsKnownAt, IsBehindBy}
-pub use Rattle.f77_symbolic.specs.code.{HavePairs, IsSlotOf, FollowsAt, FollowsThere, FollowsVisit, HasItem, HasSign, IsEndOf, RestsOn, IsWithin, IsBehindOn}
+pub use Rattle.f77_symbolic.specs.code.{HavePairs, IsSlotOf, FollowsAt, FollowsThere, FollowsVisit, HasItem, IsEndOf, RestsOn, IsWithin, IsBehindOn}
 pub use Rattle.f77_symbolic.specs.code.{IsDivision, HaveDummies, GoesOnIfHeld, FollowsFrom, GoesTo, HasLeft, IsExplored, IsMet, IsMetOrExplored, IsOnWay}
 pub use Rattle.f77_symbolic.specs.code.{AlwaysTells, EndsSo, Follows, GivesWay, IsRoomLeft, IsPairOn, IsThere, IsPartOf, Whichever}
 pub use Rattle.f77_symbolic.specs.declared.evaluator.Atoms.{Atoms}
@@ -58,6 +58,7 @@ pub use Rattle.f77_symbolic.specs.declared.visiting.Visits.{Visits}
 pub use Rattle.f77_symbolic.specs.declared.walking.Pair.{Pair}
 pub use Rattle.f77_terms.proofs.Values.{ok_then}
 pub use Rattle.f77_terms.specs.Atoms.{slot_behind, FitsTable, key_value}
+pub use Rattle.f77_terms.specs.Bounds.{HasSign}
 pub use Rattle.f77_terms.specs.Paths.{Holds}
 pub use Rattle.f77_terms.specs.Ranges.{IsIn, AreKnown, LiesBetween}
 pub use Rattle.f77_terms.specs.Terms.{sum_value, Valuation, monomial_value, part_value, parts_value}

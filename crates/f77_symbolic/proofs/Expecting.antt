@@ -1,5 +1,5 @@
 -- What is answered where it is expected that there is no fault.
-use Rattle.f77_symbolic.proofs.Common.{arith, ◌≡◌, ◌≢◌, ◌⊎◌, inl, inr, zero, suc, Bool, true, false, refl, subst, ℤ, pos, negsuc, ◌^◌, ◌+ℤ◌, ◌*ℤ◌, ◌≤ℤ◌}
+use Rattle.f77_symbolic.proofs.Common.{arith, ◌≡◌, ◌≢◌, ◌⊎◌, inl, inr, zero, suc, Bool, true, false, refl, subst, ℤ, pos, negsuc, ◌^◌, ◌+ℤ◌, ◌*ℤ◌, ◌≤ℤ◌, ◌<ℤ◌}
 use Rattle.f77_symbolic.proofs.Common.{if◌then◌else◌, int_div, int_rem, Result, Ok, Err, Option, IfOk, IfSome, result_ok, ltb-true, lt-ltb, ints, Fault, fits}
 use Rattle.f77_symbolic.proofs.Common.{in_range, quotient, modulus, pushed, Holds, Valuation, Evaluator, Answers, StaysOn}
 use Rattle.f77_actions.specs.declared.finish.Fault.TheVariants.{Overflow}
@@ -9,6 +9,11 @@ use Rattle.f77_symbolic.proofs.Answering.{own_before, stays_same, stays_then, an
 pub some_told : {A E : Type 0} (P : A → Type 0) (o : Option A) (r : Result A E) → o ≡ result_ok r → IfSome o P → IfOk r P
 some_told P o (Ok x) e told = subst (λ o. IfSome o P) e told
 some_told P o (Err x) e told = tt
+
+pub at_most_zero : (z : ℤ) → ¬ (pos 0 <ℤ z) → z ≤ℤ pos 0
+at_most_zero (pos zero) never = omega (arith, ints)
+at_most_zero (pos (suc n)) never = absurd (never (omega (arith, ints)))
+at_most_zero (negsuc n) never = omega (arith, ints)
 
 -- where the claim is true the path goes on, and where it is not the program itself faults
 abbrev pub Expected : Valuation → Evaluator → Evaluator → Type 0 → Type 0

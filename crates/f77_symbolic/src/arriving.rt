@@ -19,12 +19,12 @@ use f77_facts::facts::{Fact, filled};
 use f77_facts::loops::LoopFact;
 use f77_terms::atoms::Key;
 use f77_terms::items::item_at;
-use f77_terms::knowing::is_bounded;
 use f77_terms::paths::settle;
 use f77_terms::ranges::{Range, atom_range, term_range};
 use f77_terms::terms::Term;
 use f77_tree::{Kind, Shared};
 use std::alloc::AllocError;
+use std::cmp::Ordering;
 
 #[tactic(auto, using(crate::proofs::Extending::extending))]
 impl Evaluator {
@@ -39,7 +39,7 @@ impl Evaluator {
                 return Ok(range.low);
             }
         }
-        unless_unknown(is_bounded(self.alloc, &self.path, -1, term, least)?)?;
+        unless_unknown(self.never_has(&self.plus(-1, term, least)?, Ordering::Greater)?)?;
         Ok(least)
     }
 
@@ -54,7 +54,7 @@ impl Evaluator {
                 return Ok(range.high);
             }
         }
-        unless_unknown(is_bounded(self.alloc, &self.path, 1, term, -most)?)?;
+        unless_unknown(self.never_has(&self.plus(1, term, -most)?, Ordering::Greater)?)?;
         Ok(most)
     }
 

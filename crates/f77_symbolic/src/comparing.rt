@@ -1,15 +1,12 @@
 //! Which of two numbers is less, and which item a number chooses. Where a path does not decide it, it may be split.
 
 ghost use Rattle.std.specs.Prelude.{◌≡◌, ◌≤ℤ◌, pos, true, IfOk};
-ghost use Rattle.f77_symbolic.specs.Prelude.{is_below, is_same, compared, joined, Holds, Valuation, sum_value};
-ghost use Rattle.f77_symbolic.specs.code.{HasItem, HasSign};
+ghost use Rattle.f77_symbolic.specs.Prelude.{is_below, is_same, compared, joined, HasSign, Holds, Valuation, sum_value};
+ghost use Rattle.f77_symbolic.specs.code.{HasItem};
 
 use crate::evaluator::Evaluator;
 use crate::halt::{Halt, Split, signed};
-use crate::samples::Sign;
 use f77_actions::{Connective, Relation};
-use f77_terms::knowing::{constant_of, is_bounded};
-use f77_terms::paths::{is_apart, is_zero};
 use f77_terms::terms::{Term, copy};
 use std::cmp::Ordering;
 
@@ -19,17 +16,10 @@ impl Evaluator {
         ensures { IfOk result (λ b. (v : Valuation) → Holds v self.now.path
             → is_below (sum_value v term) (pos 0) ≡ b) }
     {
-        if let Some(z) = constant_of(&term) {
-            return Ok(z < 0);
-        }
-        if !self.samples.show(1, &term, 0, Sign::NotNegative)
-            && is_bounded(self.alloc, &self.path, 1, &term, 1)?
-        {
+        if self.never_has(&self.plus(1, &term, 1)?, Ordering::Greater)? {
             return Ok(true);
         }
-        if !self.samples.show(1, &term, 0, Sign::Negative)
-            && is_bounded(self.alloc, &self.path, -1, &term, 0)?
-        {
+        if self.never_has(&term, Ordering::Less)? {
             return Ok(false);
         }
         Err(Halt::Split(Split::Sign(term)))
@@ -40,15 +30,10 @@ impl Evaluator {
         ensures { IfOk result (λ b. (v : Valuation) → Holds v self.now.path
             → is_same (sum_value v term) (pos 0) ≡ b) }
     {
-        if let Some(z) = constant_of(&term) {
-            return Ok(z == 0);
-        }
-        if !self.samples.show(1, &term, 0, Sign::Zero) && is_apart(self.alloc, &self.path, &term)? {
+        if self.never_has(&term, Ordering::Equal)? {
             return Ok(false);
         }
-        if !self.samples.show(1, &term, 0, Sign::NotZero)
-            && is_zero(self.alloc, &self.path, &term)?
-        {
+        if self.is_zero(&term)? {
             return Ok(true);
         }
         Err(Halt::Split(Split::Zero(term)))
@@ -93,10 +78,7 @@ impl Evaluator {
             → sum_value v a.now ≤ℤ sum_value v b.now) }
     {
         let between = self.combination(1, a, -1, b)?;
-        if self.samples.show(1, &between, 0, Sign::Positive) {
-            return Ok(false);
-        }
-        Ok(is_bounded(self.alloc, &self.path, 1, &between, 0)?)
+        Ok(self.never_has(&between, Ordering::Greater)?)
     }
 
     /// The numbers are equal. It is false too where the path does not decide it.
@@ -105,10 +87,7 @@ impl Evaluator {
             → sum_value v b.now ≡ sum_value v a.now) }
     {
         let between = self.combination(1, a, -1, b)?;
-        if self.samples.show(1, &between, 0, Sign::NotZero) {
-            return Ok(false);
-        }
-        Ok(is_zero(self.alloc, &self.path, &between)?)
+        Ok(self.is_zero(&between)?)
     }
 
     /// The number compared with 0.

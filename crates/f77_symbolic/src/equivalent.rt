@@ -98,6 +98,7 @@ impl Visits {
         *work = work.saturating_sub(self.atoms.facts.len() as u64 / FACTS);
         let mut evaluator = self.evaluator(alloc)?;
         let followed = evaluator.follow(change, todo, work);
+        *work = work.saturating_sub(evaluator.samples.take_spent());
         if followed.is_err() {
             rows.add_all(alloc, &evaluator.samples, &change.dummies)?;
         }

@@ -5,14 +5,15 @@ ghost use Rattle.f77_symbolic.specs.Prelude.{key_value, Holds, Valuation, sum_va
 ghost use Rattle.f77_symbolic.specs.code.{Extends, AlwaysTells, Expects};
 
 use crate::halt::{Halt, unless_unknown};
-use crate::samples::{Samples, Sign, Wanted};
+use crate::samples::{Samples, Wanted};
 use f77_facts::facts::Fact;
 use f77_terms::atoms::{Key, Table, interned};
 use f77_terms::copying::copied_path;
-use f77_terms::knowing::{constant_of, is_bounded, is_plainly_bounded, plus_constant};
-use f77_terms::paths::{Path, add_below, add_unequal, is_apart};
+use f77_terms::knowing::{is_ranged_off, plus_constant};
+use f77_terms::paths::{Path, add_below, add_unequal};
 use f77_terms::terms::{Term, combined};
 use std::alloc::Global;
+use std::cmp::Ordering;
 
 /// With so many atoms no more are made.
 const MOST_ATOMS: usize = 2000;
@@ -47,6 +48,12 @@ impl Evaluator {
     {
         self.path = copied_path(self.alloc, path)?;
         self.samples.choose(&self.path);
+        let wanted = Wanted {
+            table: &self.atoms.table,
+            path: &self.path,
+            goal: None,
+        };
+        self.samples.find(self.alloc, wanted)?;
         Ok(())
     }
 
@@ -78,56 +85,21 @@ impl Evaluator {
         plus_constant(self.alloc, m, term, constant)?.ok_or(Halt::Unknown)
     }
 
-    /// A sample is looked for on which a term has this sign, if there is none.
-    pub(crate) fn look_for(&mut self, term: &Term, sign: Sign) -> Result<(), Halt>
-        ensures atoms { self.new.atoms ≡ self.old.atoms }
-        ensures path { self.new.path ≡ self.old.path }
-        ensures own { self.new.own ≡ self.old.own }
-    {
-        let wanted = Wanted {
-            table: &self.atoms.table,
-            path: &self.path,
-            term,
-            sign,
-        };
-        Ok(self.samples.mend(self.alloc, wanted)?)
-    }
-
-    /// The same, if rows are asked for, of a term, m times, and a constant.
-    pub(crate) fn seek(
-        &mut self,
-        m: i64,
-        term: &Term,
-        constant: i64,
-        sign: Sign,
-    ) -> Result<(), Halt>
-        ensures atoms { self.new.atoms ≡ self.old.atoms }
-        ensures path { self.new.path ≡ self.old.path }
-        ensures own { self.new.own ≡ self.old.own }
-    {
-        if self.samples.seeks {
-            let sum = self.plus(m, term, constant)?;
-            self.look_for(&sum, sign)?;
-        }
-        Ok(())
-    }
-
     /// There is a fault unless a term, m times, and a constant are at most 0.
     pub(crate) fn expect_below(&mut self, m: i64, term: &Term, constant: i64) -> Result<(), Halt>
         ensures expects { IfOk result (λ _. Expects self.old self.new
             (λ v. (constant +ℤ m *ℤ sum_value v term.now) ≤ℤ pos 0)) }
         ensures extends { Extends self.old.atoms self.new.atoms }
     {
+        let bound = self.plus(m, term, constant)?;
         if !self.own {
-            self.seek(m, term, constant, Sign::Positive)?;
-            unless_unknown(!self.samples.show(m, term, constant, Sign::Positive))?;
-            return unless_unknown(is_bounded(self.alloc, &self.path, m, term, constant)?);
+            return unless_unknown(self.never_has(&bound, Ordering::Greater)?);
         }
-        if is_plainly_bounded(self.alloc, &self.path, m, term, constant)? {
+        if is_ranged_off(&self.path, &bound, Ordering::Greater) {
             return Ok(());
         }
-        add_below(self.alloc, &mut self.path, m, term, constant)?;
-        self.samples.keep(m, term, constant, Sign::NotPositive);
+        add_below(self.alloc, &mut self.path, 1, &bound, 0)?;
+        self.samples.keep(&bound, Ordering::Greater);
         Ok(())
     }
 
@@ -136,18 +108,14 @@ impl Evaluator {
         ensures expects { IfOk result (λ _. Expects self.old self.new (λ v. sum_value v term.now ≢ pos 0)) }
         ensures extends { Extends self.old.atoms self.new.atoms }
     {
-        if let Some(z) = constant_of(term) {
-            if z != 0 {
-                return Ok(());
-            }
-        }
         if !self.own {
-            self.seek(1, term, 0, Sign::Zero)?;
-            unless_unknown(!self.samples.show(1, term, 0, Sign::Zero))?;
-            return unless_unknown(is_apart(self.alloc, &self.path, term)?);
+            return unless_unknown(self.never_has(term, Ordering::Equal)?);
+        }
+        if is_ranged_off(&self.path, term, Ordering::Equal) {
+            return Ok(());
         }
         add_unequal(self.alloc, &mut self.path, term)?;
-        self.samples.keep(1, term, 0, Sign::NotZero);
+        self.samples.keep(term, Ordering::Equal);
         Ok(())
     }
 }

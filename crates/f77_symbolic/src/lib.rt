@@ -10,6 +10,7 @@
 
 mod arithmetic;
 mod arriving;
+mod asking;
 mod bounding;
 mod change;
 mod comparing;

@@ -9,7 +9,6 @@ ghost use Rattle.f77_symbolic.specs.code.{Extends, Always, StaysOn, HoldSameIn, 
 use crate::evaluator::Evaluator;
 use crate::halt::{Halt, unless_unknown};
 use crate::memory::{Location, Symbolic, Write};
-use crate::samples::Sign;
 use crate::sides::{Side, SymbolicTurn};
 use f77_facts::assigning::Slots;
 use f77_terms::items::item_at;
@@ -48,27 +47,6 @@ impl Evaluator {
         }
     }
 
-    /// Two values of a slot are compared. A sample is looked for on which they differ, if rows are asked for and there
-    /// is none.
-    fn seek_apart(&mut self, slot: usize, a: &Symbolic, b: &Symbolic) -> Result<(), Halt>
-        ensures atoms { self.new.atoms ≡ self.old.atoms }
-        ensures path { self.new.path ≡ self.old.path }
-        ensures own { self.new.own ≡ self.old.own }
-    {
-        self.samples.compare(slot);
-        if !self.samples.seeks {
-            return Ok(());
-        }
-        match (a, b) {
-            (Symbolic::Number(x), Symbolic::Number(y)) | (Symbolic::Truth(x), Symbolic::Truth(y)) =>
-                {
-                    let between = self.combination(1, x, -1, y)?;
-                    self.look_for(&between, Sign::NotZero)
-                }
-            _ => Ok(()),
-        }
-    }
-
     /// Both sides hold the same in the slot of a location, if that is of the list.
     fn show_same_at(
         &mut self,
@@ -89,7 +67,7 @@ impl Evaluator {
         }
         let own = self.read(left, location)?;
         let other = self.read(right, location)?;
-        self.seek_apart(location.first, &own, &other)?;
+        self.samples.compare(location.first);
         self.show_same_value(&own, &other)
     }
 

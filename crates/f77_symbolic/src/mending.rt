@@ -1,13 +1,19 @@
-//! Samples are mended: the number of one slot is changed, so that a sample is on a path and a term has a sign there.
+//! Samples are mended: numbers of slots are changed, one after another, so that a sample is on a path and a term has a
+//! sign there.
 
-use crate::samples::{Sample, Samples, Sign, Wanted};
+use crate::samples::{Sample, Samples, Wanted, atom_value, has_sign};
 use f77_terms::atoms::{Function, Key, Table};
 use f77_terms::monomials::Monomial;
+use f77_terms::ranges::Range;
 use f77_terms::terms::{Part, Term};
 use std::alloc::{AllocError, Global};
+use std::cmp::Ordering;
 
-/// So many samples are tried to be changed for one question.
-const MOST_TRIES: usize = 6;
+/// So many samples are tried to be changed for one question, the last made first.
+const MOST_TRIES: usize = 4;
+
+/// So often one of them is changed.
+const MOST_CHANGES: usize = 8;
 
 /// With so many samples no more are made.
 const MOST_SAMPLES: usize = 160;
@@ -20,6 +26,9 @@ const TRIED: [i64; 6] = [-1, 0, 1, 2, 2147483647, -2147483648];
 
 /// Larger common multiples of divisors are left.
 const MOST_MULTIPLE: i64 = 1_000_000;
+
+/// To change one costs a unit of work for so many atoms.
+const ATOMS: u64 = 2;
 
 /// The number divided, and rounded away from 0.
 fn rounded(distance: i64, by: i64) -> Option<i64> {
@@ -34,15 +43,14 @@ fn rounded(distance: i64, by: i64) -> Option<i64> {
     }
 }
 
-/// By how much the term is to be changed, so that it gets this sign.
-fn distance_to(now: i64, factor: i64, sign: Sign) -> Option<i64> {
-    let target = match sign {
-        Sign::Negative => -1,
-        Sign::Zero | Sign::NotNegative | Sign::NotPositive => 0,
-        Sign::NotZero => now.checked_add(factor)?,
-        Sign::Positive => 1,
+/// By how much a number is to be changed to get this sign.
+fn distance_to(now: i64, sign: Ordering) -> i64 {
+    let target: i64 = match sign {
+        Ordering::Less => -1,
+        Ordering::Equal => 0,
+        Ordering::Greater => 1,
     };
-    target.checked_sub(now)
+    target.saturating_sub(now)
 }
 
 /// The greatest common divisor.
@@ -84,6 +92,20 @@ fn common_multiple(table: &Table) -> i64 {
     multiple
 }
 
+/// What is tried in place of a number that is to be changed by so much: one so changed, one changed by a multiple of
+/// divisors, so that remainders stay, and those of the list.
+fn tried(table: &Table, now: i64, by: i64, way: usize) -> i64 {
+    match way {
+        0 => now.saturating_add(by),
+        1 => {
+            let multiple = common_multiple(table);
+            let times = rounded(by, multiple).unwrap_or(0);
+            now.saturating_add(times.saturating_mul(multiple))
+        }
+        _ => TRIED.get(way - 2).copied().unwrap_or(now),
+    }
+}
+
 impl Sample {
     /// The slot that an atom is of.
     fn slot_of(&self, table: &Table, atom: usize) -> Option<usize> {
@@ -106,89 +128,122 @@ impl Sample {
         None
     }
 
-    /// The same for an atom that is a function of terms.
-    fn change_inside(&self, table: &Table, atom: usize, by: i64) -> Option<(usize, i64)> {
+    /// The same for a part, of which the atom may be a function of terms, or one of two that are multiplied.
+    fn change_of(&self, table: &Table, part: Part, by: i64) -> Option<(usize, i64)> {
+        let (atom, factor) = match part.monomial {
+            Monomial::One(atom) => (atom, part.factor),
+            Monomial::Two(atom, other) => {
+                let times = atom_value(&self.values, other)?;
+                (atom, part.factor.checked_mul(times)?)
+            }
+        };
+        let by = rounded(by, factor)?;
         match &**table.keys.get(atom)? {
+            Key::Slot(slot) => Some((*slot, by)),
+            Key::Element(first, index) => Some((self.slot_behind(*first, index)?, by)),
             Key::Function(Function::Quotient, a, b) => {
                 self.change_in(table, a, by.checked_mul(self.value(b)?)?)
             }
             Key::Function(_, a, _) => self.change_in(table, a, by),
-            _ => None,
         }
     }
 
-    /// Which slot is to be changed, and by how much, so that the sample is as wanted. The arguments of functions are
-    /// looked into only where rows are asked for.
-    fn change(&self, wanted: Wanted, part: Part, seeks: bool) -> Option<(usize, i64)> {
-        let Monomial::One(atom) = part.monomial else {
-            return None;
-        };
-        let distance = distance_to(self.value(wanted.term)?, part.factor, wanted.sign)?;
-        let by = rounded(distance, part.factor)?;
-        match self.slot_of(wanted.table, atom) {
-            Some(slot) => Some((slot, by)),
-            None if seeks => self.change_inside(wanted.table, atom, by),
-            None => None,
+    /// A term that keeps the sample from what is wanted, and by how much it is to be changed.
+    fn lack<'a>(&self, wanted: Wanted<'a>) -> Option<(&'a Term, i64)> {
+        if let Some((term, sign)) = wanted.goal {
+            let now = self.value(term);
+            if !has_sign(now, sign) {
+                return Some((term, distance_to(now.unwrap_or(0), sign)));
+            }
+        }
+        for term in &wanted.path.below {
+            let now = self.value(term).unwrap_or(1);
+            if now > 0 {
+                return Some((term, now.saturating_neg()));
+            }
+        }
+        let mut unequal = wanted.path.unequal.iter();
+        let equal = unequal.find(|term| self.value(term).unwrap_or(0) == 0)?;
+        Some((equal, 1))
+    }
+
+    /// Numbers of slots that are not in the range of their atom are moved there.
+    fn move_within(&mut self, table: &Table, known: &[Option<Range>]) {
+        for atom in 0..known.len() {
+            let slot = self.slot_of(table, atom);
+            if let (Some(range), Some(slot)) = (known[atom], slot) {
+                if let Some(number) = self.held.get_mut(slot) {
+                    *number = (*number).max(range.low).min(range.high);
+                }
+            }
         }
     }
 
-    /// A sample like this one, but for the number of one slot, if it is as wanted.
-    fn with(
-        &self,
-        alloc: Global,
-        slot: usize,
-        number: i64,
-        wanted: Wanted,
-    ) -> Result<Option<Sample>, AllocError> {
-        if number < -2147483648 || number > 2147483647 {
-            return Ok(None);
+    /// One slot is changed, so that the sample lacks less. False where that is not told.
+    fn change(&mut self, wanted: Wanted, term: &Term, by: i64, changes: usize, way: usize) -> bool {
+        let count = term.parts.len();
+        for more in 0..count {
+            let place = changes.saturating_add(more) % count;
+            let Some((slot, by)) = self.change_of(wanted.table, term.parts[place], by) else {
+                continue;
+            };
+            if let Some(number) = self.held.get_mut(slot) {
+                let way = if changes == 0 { way } else { way.min(1) };
+                let next = tried(wanted.table, *number, by, way);
+                if next != *number && next >= -2147483648 && next <= 2147483647 {
+                    *number = next;
+                    return true;
+                }
+            }
         }
-        let mut held = self.held.to_vec(alloc)?;
-        if slot >= held.len() {
-            return Ok(None);
-        }
-        held[slot] = number;
-        Sample::wanted(alloc, held, wanted)
+        false
     }
 
-    /// A sample like this one, but for the slot of one part, if it is as wanted. More numbers are tried where rows are
-    /// asked for.
+    /// The values of all atoms are worked out anew.
+    fn renew(&mut self, table: &Table) -> Result<(), AllocError> {
+        self.values.clear();
+        self.extend(table)
+    }
+
+    /// A sample as wanted that is found from this one.
     fn mended(
         &self,
         alloc: Global,
-        part: Part,
         wanted: Wanted,
-        seeks: bool,
+        way: usize,
     ) -> Result<Option<Sample>, AllocError> {
-        let Some((slot, by)) = self.change(wanted, part, seeks) else {
-            return Ok(None);
+        let mut sample = Sample {
+            held: self.held.to_vec(alloc)?,
+            values: self.values.to_vec(alloc)?,
+            is_on_path: true,
         };
-        let now = self.held.get(slot).copied().unwrap_or(0);
-        let mut made = self.with(alloc, slot, now.saturating_add(by), wanted)?;
-        if made.is_some() || !seeks {
-            return Ok(made);
-        }
-        let multiple = common_multiple(wanted.table);
-        if let Some(times) = rounded(by, multiple) {
-            let more = times.saturating_mul(multiple);
-            made = self.with(alloc, slot, now.saturating_add(more), wanted)?;
-        }
-        for number in TRIED {
-            if made.is_none() {
-                made = self.with(alloc, slot, number, wanted)?;
+        for changes in 0..MOST_CHANGES {
+            sample.move_within(wanted.table, &wanted.path.known);
+            sample.renew(wanted.table)?;
+            let Some((term, by)) = sample.lack(wanted) else {
+                return Ok(sample.is_on(wanted.path).then_some(sample));
+            };
+            if !sample.change(wanted, term, by, changes, way) {
+                return Ok(None);
             }
         }
-        Ok(made)
+        Ok(None)
     }
 }
 
 impl Samples {
-    /// A sample that is on the path is made from another one by a change of one slot, so that it is as wanted.
+    /// A sample as wanted is made from others.
     fn made(&self, alloc: Global, wanted: Wanted) -> Result<Option<Sample>, AllocError> {
-        let on_path = self.list.iter().filter(|sample| sample.is_on_path);
-        for sample in on_path.take(MOST_TRIES) {
-            for part in &wanted.term.parts {
-                let made = sample.mended(alloc, *part, wanted, self.seeks)?;
+        let ways = if self.seeks && wanted.goal.is_some() {
+            2 + TRIED.len()
+        } else {
+            1
+        };
+        let list = self.list()?;
+        for sample in list.iter().rev().take(MOST_TRIES) {
+            for way in 0..ways {
+                self.spend(wanted.table.keys.len() as u64 / ATOMS + 1);
+                let made = sample.mended(alloc, wanted, way)?;
                 if made.is_some() {
                     return Ok(made);
                 }
@@ -197,19 +252,30 @@ impl Samples {
         Ok(None)
     }
 
-    /// A sample as wanted is made, if there is none and not too many were made.
-    pub fn mend(&mut self, alloc: Global, wanted: Wanted) -> Result<(), AllocError> {
+    /// There is a sample as wanted: it is made if none is there and not too many were made.
+    pub(crate) fn find(&self, alloc: Global, wanted: Wanted) -> Result<bool, AllocError> {
+        let is_there = match wanted.goal {
+            Some((term, sign)) => self.show(term, sign),
+            None => self.are_any(),
+        };
+        if is_there {
+            return Ok(true);
+        }
         let most = if self.seeks {
             MOST_SOUGHT
         } else {
             MOST_SAMPLES
         };
-        if self.list.len() >= most || self.show(1, wanted.term, 0, wanted.sign) {
-            return Ok(());
+        if self.list()?.len() >= most {
+            return Ok(false);
         }
-        if let Some(sample) = self.made(alloc, wanted)? {
-            self.list.push(sample)?;
+        let made = self.made(alloc, wanted)?;
+        match made {
+            Some(sample) => {
+                self.add(sample)?;
+                Ok(true)
+            }
+            None => Ok(false),
         }
-        Ok(())
     }
 }

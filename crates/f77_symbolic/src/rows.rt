@@ -65,13 +65,14 @@ impl Rows {
         samples: &Samples,
         dummies: &[Slots],
     ) -> Result<(), AllocError> {
-        self.gap = self.gap.or(samples.gap);
-        for sample in samples.list.iter().rev() {
+        self.gap = self.gap.or(samples.gap());
+        let list = samples.list()?;
+        for sample in list.iter().rev() {
             if sample.is_on_path {
                 self.add(alloc, sample, dummies)?;
             }
         }
-        for sample in samples.list.iter().rev() {
+        for sample in list.iter().rev() {
             self.add(alloc, sample, dummies)?;
         }
         Ok(())

@@ -13,6 +13,8 @@ use f77_terms::paths::Path;
 use f77_terms::ranges::Range;
 use f77_terms::terms::Term;
 use std::alloc::{AllocError, Global};
+use std::cell::{Cell, Ref, RefCell};
+use std::cmp::Ordering;
 
 /// So many samples are made at first.
 const FIRST_SAMPLES: usize = 24;
@@ -22,9 +24,6 @@ const LEAST_COST: u64 = 4;
 
 /// To copy what is known of the DOs of so many statements costs one unit.
 const STATEMENTS: u64 = 12;
-
-/// So many times more a turn costs where no sample is on the path.
-const NO_SAMPLE: u64 = 8;
 
 /// To compare so many pairs of writes costs one unit.
 const WRITES: u64 = 64;
@@ -37,53 +36,39 @@ pub struct Sample {
     pub is_on_path: bool,
 }
 
-/// The samples.
+/// The samples, where the walk is, and what it took. It all changes behind a shared reference, since nothing is claimed
+/// of it.
 #[derive(Drop)]
 pub struct Samples {
-    pub list: Vec<Sample>,
+    list: RefCell<Vec<Sample>>,
     /// Where the walk of both programs is, if there is one.
-    pub gap: Option<Gap>,
-    /// Rows are asked for: where two programs may differ a sample is looked for that shows it.
+    gap: Cell<Option<Gap>>,
+    /// What questions took since the last turn.
+    spent: Cell<u64>,
+    /// Rows are asked for: more is tried to find a sample that shows where two programs differ.
     pub seeks: bool,
 }
 
-/// A sign of a number.
-#[derive(Clone, Copy, PartialEq, Eq)]
-pub enum Sign {
-    Negative,
-    Zero,
-    NotNegative,
-    NotZero,
-    Positive,
-    NotPositive,
-}
-
-/// What a sample is to have: it is on a path, and a term has this sign there.
+/// What a sample is to have: it is on a path, and the term of a goal has this sign there.
 #[derive(Clone, Copy)]
 pub struct Wanted<'a> {
     pub table: &'a Table,
     pub path: &'a Path,
-    pub term: &'a Term,
-    pub sign: Sign,
+    pub goal: Option<(&'a Term, Ordering)>,
 }
 
 /// The number, if there is one, has this sign.
-fn has_sign(number: Option<i64>, sign: Sign) -> bool {
-    let Some(z) = number else {
-        return false;
-    };
-    match sign {
-        Sign::Negative => z < 0,
-        Sign::Zero => z == 0,
-        Sign::NotNegative => z >= 0,
-        Sign::NotZero => z != 0,
-        Sign::Positive => z > 0,
-        Sign::NotPositive => z <= 0,
-    }
+pub(crate) fn has_sign(number: Option<i64>, sign: Ordering) -> bool {
+    matches!(number, Some(z) if z.cmp(&0) == sign)
+}
+
+/// There is a number, which has not this sign.
+fn lacks_sign(number: Option<i64>, sign: Ordering) -> bool {
+    matches!(number, Some(z) if z.cmp(&0) != sign)
 }
 
 /// The value of an atom.
-fn atom_value(values: &[Option<i64>], atom: usize) -> Option<i64> {
+pub(crate) fn atom_value(values: &[Option<i64>], atom: usize) -> Option<i64> {
     values.get(atom).copied().flatten()
 }
 
@@ -114,11 +99,6 @@ impl Sample {
         Some(sum)
     }
 
-    /// The value of a term, m times, and a constant.
-    fn scaled_value(&self, m: i64, term: &Term, constant: i64) -> Option<i64> {
-        m.checked_mul(self.value(term)?)?.checked_add(constant)
-    }
-
     /// The slot that lies so far behind this one as the index says.
     pub(crate) fn slot_behind(&self, first: usize, index: &Term) -> Option<usize> {
         first.checked_add(usize::try_from(self.value(index)?).ok()?)
@@ -137,7 +117,7 @@ impl Sample {
     }
 
     /// Adds the values of new atoms.
-    fn extend(&mut self, table: &Table) -> Result<(), AllocError> {
+    pub(crate) fn extend(&mut self, table: &Table) -> Result<(), AllocError> {
         for place in self.values.len()..table.keys.len() {
             let value = self.key_value(&table.keys[place]);
             self.values.push(value)?;
@@ -157,39 +137,13 @@ impl Sample {
         true
     }
 
-    /// Each of the terms has this sign.
-    fn have_sign(&self, terms: &[Term], sign: Sign) -> bool {
-        for term in terms {
-            if !has_sign(self.value(term), sign) {
-                return false;
-            }
-        }
-        true
-    }
-
     /// The sample is on the path.
-    fn is_on(&self, path: &Path) -> bool {
+    pub(crate) fn is_on(&self, path: &Path) -> bool {
+        let mut unequal = path.unequal.iter();
+        let mut below = path.below.iter();
         self.is_within(&path.known)
-            && self.have_sign(&path.unequal, Sign::NotZero)
-            && self.have_sign(&path.below, Sign::NotPositive)
-    }
-
-    /// A sample with these numbers in slots, if it is as wanted.
-    pub(crate) fn wanted(
-        alloc: Global,
-        held: Vec<i64>,
-        wanted: Wanted,
-    ) -> Result<Option<Sample>, AllocError> {
-        let mut sample = Sample {
-            held,
-            values: Vec::with_capacity(alloc, wanted.table.keys.len())?,
-            is_on_path: true,
-        };
-        sample.extend(wanted.table)?;
-        if has_sign(sample.value(wanted.term), wanted.sign) && sample.is_on(wanted.path) {
-            return Ok(Some(sample));
-        }
-        Ok(None)
+            && unequal.all(|term| lacks_sign(self.value(term), Ordering::Equal))
+            && below.all(|term| lacks_sign(self.value(term), Ordering::Greater))
     }
 }
 
@@ -248,112 +202,147 @@ pub fn first_samples(
             is_on_path: false,
         })?;
     }
-    Ok(Samples {
-        list,
-        gap: None,
+    Ok(samples_of(list, seeks))
+}
+
+/// These samples, with nothing spent.
+fn samples_of(list: Vec<Sample>, seeks: bool) -> Samples {
+    Samples {
+        list: RefCell::new(list),
+        gap: Cell::new(None),
+        spent: Cell::new(0),
         seeks,
-    })
+    }
 }
 
 /// The samples in memory of their own, none of them on a path.
 pub(crate) fn copied_samples(alloc: Global, samples: &Samples) -> Result<Samples, AllocError> {
-    let mut list = Vec::with_capacity(alloc, samples.list.len())?;
-    for sample in &samples.list {
+    let mut list = Vec::new(alloc);
+    for sample in samples.list()?.iter() {
         list.push(Sample {
             held: sample.held.to_vec(alloc)?,
             values: sample.values.to_vec(alloc)?,
             is_on_path: false,
         })?;
     }
-    Ok(Samples {
-        list,
-        gap: None,
-        seeks: samples.seeks,
-    })
+    Ok(samples_of(list, samples.seeks))
 }
 
 impl Samples {
+    /// All of them. No other use of them is under way.
+    pub(crate) fn list(&self) -> Result<Ref<'_, Vec<Sample>>, AllocError> {
+        self.list.try_borrow().map_err(|_| AllocError)
+    }
+
+    /// Adds one.
+    pub(crate) fn add(&self, sample: Sample) -> Result<(), AllocError> {
+        let Ok(mut list) = self.list.try_borrow_mut() else {
+            return Err(AllocError);
+        };
+        Ok(list.push(sample)?)
+    }
+
     /// Both programs come to these statements.
-    pub fn come_to(&mut self, own: usize, other: usize) {
-        self.gap = Some(Gap {
+    pub fn come_to(&self, own: usize, other: usize) {
+        self.gap.set(Some(Gap {
             own,
             other,
             slot: None,
-        });
+        }));
     }
 
     /// What both hold in this slot is compared, or in one of an array that begins with it.
-    pub fn compare(&mut self, slot: usize) {
-        if let Some(gap) = &mut self.gap {
-            gap.slot = Some(slot);
-        }
+    pub fn compare(&self, slot: usize) {
+        let gap = self.gap.get();
+        self.gap.set(gap.map(|gap| Gap {
+            slot: Some(slot),
+            ..gap
+        }));
+    }
+
+    /// Where the walk of both programs is, if there is one.
+    pub(crate) fn gap(&self) -> Option<Gap> {
+        self.gap.get()
+    }
+
+    /// A question took so much.
+    pub(crate) fn spend(&self, work: u64) {
+        self.spent.set(self.spent.get().saturating_add(work));
+    }
+
+    /// What questions took since the last turn.
+    pub(crate) fn take_spent(&self) -> u64 {
+        self.spent.replace(0)
+    }
+
+    /// What the questions of the last turn took, and what one from this side costs besides: more where more is known or
+    /// was written.
+    pub fn cost(&self, path: &Path, side: &Side) -> u64
+        ensures { 0 < result }
+    {
+        let parts = path.unequal.len().saturating_add(path.choices.len());
+        let known = path.below.len().saturating_add(parts.saturating_mul(2));
+        let writes = side.writes.len() as u64;
+        let turn = (known as u64).saturating_add(LEAST_COST);
+        turn.saturating_add(writes.saturating_mul(writes) / WRITES)
+            .saturating_add(side.turns.len() as u64 / STATEMENTS)
+            .saturating_add(self.take_spent())
     }
 
     /// Those stay in which an atom is in a range.
-    pub fn stay(&mut self, atom: usize, range: Range) {
-        for sample in &mut self.list {
+    pub fn stay(&self, atom: usize, range: Range) {
+        let Ok(mut list) = self.list.try_borrow_mut() else {
+            return;
+        };
+        for sample in list.iter_mut() {
             sample.is_on_path = sample.is_on_path && is_in(atom_value(&sample.values, atom), range);
         }
     }
 
+    /// Those stay in which a term has not this sign.
+    pub fn keep(&self, term: &Term, sign: Ordering) {
+        let Ok(mut list) = self.list.try_borrow_mut() else {
+            return;
+        };
+        for sample in list.iter_mut() {
+            sample.is_on_path = sample.is_on_path && lacks_sign(sample.value(term), sign);
+        }
+    }
+
     /// The values of new atoms are added.
-    pub fn learn(&mut self, table: &Table) -> Result<(), AllocError> {
-        for sample in &mut self.list {
+    pub fn learn(&self, table: &Table) -> Result<(), AllocError> {
+        let Ok(mut list) = self.list.try_borrow_mut() else {
+            return Ok(());
+        };
+        for sample in list.iter_mut() {
             sample.extend(table)?;
         }
         Ok(())
     }
 
     /// Those that are on this path are chosen.
-    pub fn choose(&mut self, path: &Path) {
-        for sample in &mut self.list {
+    pub fn choose(&self, path: &Path) {
+        let Ok(mut list) = self.list.try_borrow_mut() else {
+            return;
+        };
+        for sample in list.iter_mut() {
             sample.is_on_path = sample.is_on(path);
         }
     }
 
-    /// What a turn from this side costs: more where more is known or was written, and much more where no sample is on
-    /// the path, so that each question needs a refutation.
-    pub fn cost(&self, path: &Path, side: &Side) -> u64
-        ensures { 0 < result }
-    {
-        let parts = path.unequal.len().saturating_add(path.choices.len());
-        let known = path.below.len().saturating_add(parts.saturating_mul(2));
-        let turn = (known as u64).saturating_add(LEAST_COST);
-        let turn = if self.are_any() {
-            turn
-        } else {
-            turn.saturating_mul(NO_SAMPLE)
-        };
-        let writes = side.writes.len() as u64;
-        turn.saturating_add(writes.saturating_mul(writes) / WRITES)
-            .saturating_add(side.turns.len() as u64 / STATEMENTS)
-    }
-
     /// Some are on the path.
     pub fn are_any(&self) -> bool {
-        for sample in &self.list {
-            if sample.is_on_path {
-                return true;
-            }
-        }
-        false
+        let Ok(list) = self.list.try_borrow() else {
+            return false;
+        };
+        list.iter().any(|sample| sample.is_on_path)
     }
 
-    /// One that is on the path has this sign of a term, m times, and a constant.
-    pub fn show(&self, m: i64, term: &Term, constant: i64, sign: Sign) -> bool {
-        for sample in &self.list {
-            if sample.is_on_path && has_sign(sample.scaled_value(m, term, constant), sign) {
-                return true;
-            }
-        }
-        false
-    }
-
-    /// Those stay that have this sign of a term, m times, and a constant.
-    pub fn keep(&mut self, m: i64, term: &Term, constant: i64, sign: Sign) {
-        for sample in &mut self.list {
-            sample.is_on_path = sample.is_on_path
-                && has_sign(sample.scaled_value(m, term, constant), sign);
-        }
+    /// One that is on the path has this sign of a term.
+    pub fn show(&self, term: &Term, sign: Ordering) -> bool {
+        let Ok(list) = self.list.try_borrow() else {
+            return false;
+        };
+        list.iter().any(|sample| sample.is_on_path && has_sign(sample.value(term), sign))
     }
 }

@@ -1,9 +1,9 @@
 //! One step of a program from a side, and what a statement does to it.
 
 ghost use Rattle.std.specs.Prelude.{◌≡◌, ℤ, true, Some, IfOk};
-ghost use Rattle.f77_symbolic.specs.Prelude.{Resolved, acted, moved, state, Holds, Valuation};
+ghost use Rattle.f77_symbolic.specs.Prelude.{Resolved, acted, moved, state, HasSign, Holds, Valuation};
 ghost use Rattle.f77_code.specs.Choice as choice;
-ghost use Rattle.f77_symbolic.specs.code.{Extends, HasSign, Acts, AlwaysSteps, StepsFrom};
+ghost use Rattle.f77_symbolic.specs.code.{Extends, Acts, AlwaysSteps, StepsFrom};
 
 use crate::evaluator::Evaluator;
 use crate::halt::{Halt, unless_unknown};

@@ -17,7 +17,7 @@ use f77_facts::entries::{Entry, are_covered};
 use f77_facts::facts::is_inside;
 use f77_terms::atoms::{law_of_atoms, new_table};
 use f77_terms::items::item_at;
-use f77_terms::paths::{Path, new_path, refuted};
+use f77_terms::paths::{Path, new_path};
 use f77_tree::Shared;
 use std::alloc::{AllocError, Global};
 
@@ -71,13 +71,6 @@ fn split_visit(
 
 #[tactic(auto, using(crate::proofs::Extending::extending))]
 impl Evaluator {
-    /// It is shown that the path holds nowhere. Where a sample is on it that is not asked.
-    fn is_dead(&self) -> Result<bool, AllocError>
-        ensures { IfOk result (λ yes. yes ≡ true → (v : Valuation) → ¬ (Holds v self.now.path)) }
-    {
-        Ok(!self.samples.are_any() && refuted(self.alloc, &self.path, &[])?)
-    }
-
     /// Where a step is no end, and the path may hold, it leads to a side: what is known there is noted at a cut, and
     /// else the visit there is to come.
     fn arrive(

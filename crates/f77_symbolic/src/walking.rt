@@ -9,12 +9,11 @@ ghost use Rattle.f77_symbolic.specs.code.{IsPairOn, IsReady, IsThere, RestsOn, I
 use crate::change::Change;
 use crate::evaluator::Evaluator;
 use crate::halt::{Halt, Split, is_shown, unless_unknown};
-use crate::samples::Sign;
 use crate::sides::{Side, Step, statement_of};
 use f77_actions::{Action, Resolved};
 use f77_code::Place;
 use f77_terms::copying::copied_path;
-use f77_terms::paths::{Path, add_below, add_equal, add_unequal, new_path, refuted, settle};
+use f77_terms::paths::{Path, add_below, add_equal, add_unequal, new_path, settle};
 use f77_tree::Shared;
 use std::alloc::{AllocError, Global};
 use std::mem;
@@ -251,31 +250,14 @@ impl Evaluator {
         ensures extends { Extends self.old.atoms self.new.atoms }
     {
         match halt {
-            Halt::Split(split) => {
-                self.show_ways(path, &split)?;
-                Ok(Some(split))
-            }
+            Halt::Split(split) => Ok(Some(split)),
             Halt::Unknown => {
                 self.come_on(path)?;
-                unless_unknown(!self.samples.are_any())?;
-                unless_unknown(refuted(self.alloc, path, &[])?)?;
+                unless_unknown(self.is_dead()?)?;
                 Ok(None)
             }
             Halt::Memory => Err(Halt::Memory),
         }
-    }
-
-    /// Samples are looked for on both ways of a path that is split.
-    fn show_ways(&mut self, path: &Path, split: &Split) -> Result<(), Halt>
-        ensures extends { Extends self.old.atoms self.new.atoms }
-    {
-        self.come_on(path)?;
-        let (term, one, other) = match split {
-            Split::Sign(term) => (term, Sign::Negative, Sign::NotNegative),
-            Split::Zero(term) => (term, Sign::Zero, Sign::NotZero),
-        };
-        self.look_for(term, one)?;
-        self.look_for(term, other)
     }
 
     /// A pair gives way to those that its next step leads to, or to the two into which it is split. Where nothing is

@@ -1,13 +1,14 @@
 //! Bounds: terms that are at most 0.
 
 ghost use Rattle.std.specs.Prelude.{◌≡◌, ◌+ℤ◌, ◌*ℤ◌, ◌≤ℤ◌, ℤ, pos, true, IfOk, IfSome};
-ghost use Rattle.f77_terms.specs.{Valuation, parts_value, sum_value, IsBelow, AreBelow};
+ghost use Rattle.f77_terms.specs.{Valuation, parts_value, sum_value, IsBelow, AreBelow, HasSign};
 
 use crate::copying::copied_terms;
 use crate::items::item_at;
 use crate::numbers::{ceiling, divisor_of};
 use crate::terms::{Part, Term, add_multiple, combined, constant_term, copy};
 use std::alloc::{AllocError, Global};
+use std::cmp::Ordering;
 
 /// The parts, each of which is so many times one of these.
 fn divided_parts(alloc: Global, parts: &[Part], g: i64) -> Result<Option<Vec<Part>>, AllocError>
@@ -88,6 +89,23 @@ pub fn add_bound(
         return Ok(());
     }
     add_tight(alloc, bounds, bound)
+}
+
+/// What follows where a term has this sign.
+pub fn sign_bounds(alloc: Global, term: &Term, sign: Ordering) -> Result<Vec<Term>, AllocError>
+    ensures { IfOk result
+        (λ bounds. (v : Valuation) → HasSign sign (sum_value v term.now) → AreBelow v bounds.items) }
+{
+    let mut bounds = Vec::new(alloc);
+    match sign {
+        Ordering::Less => add_bound(alloc, &mut bounds, 1, term, 1)?,
+        Ordering::Equal => {
+            add_bound(alloc, &mut bounds, 1, term, 0)?;
+            add_bound(alloc, &mut bounds, -1, term, 0)?;
+        }
+        Ordering::Greater => add_bound(alloc, &mut bounds, -1, term, 1)?,
+    }
+    Ok(bounds)
 }
 
 /// Adds what follows from two bounds, the first m times and the second n times.

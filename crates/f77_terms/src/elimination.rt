@@ -48,13 +48,17 @@ impl Count {
         }
     }
 
+    /// So many pairs of bounds an elimination combines.
+    fn pairs(&self) -> usize {
+        self.above.saturating_mul(self.below)
+    }
+
     /// What an elimination costs: it loses no whole numbers where the factors of one side are 1, and goes first then.
     fn cost(&self) -> usize {
-        let pairs = self.above.saturating_mul(self.below);
         if self.is_one || self.is_minus_one {
-            pairs
+            self.pairs()
         } else {
-            pairs.saturating_add(LOSS)
+            self.pairs().saturating_add(LOSS)
         }
     }
 }
@@ -80,15 +84,14 @@ fn count_part(counts: &mut Vec<Count>, part: Part) -> Result<(), AllocError> {
 }
 
 /// The monomial whose elimination costs least.
-fn next_monomial(alloc: Global, bounds: &[Term]) -> Result<Option<Monomial>, AllocError> {
+fn next_count(alloc: Global, bounds: &[Term]) -> Result<Option<Count>, AllocError> {
     let mut counts = Vec::new(alloc);
     for bound in bounds {
         for part in &bound.parts {
             count_part(&mut counts, *part)?;
         }
     }
-    let least = counts.iter().min_by_key(|count| count.cost());
-    Ok(least.map(|count| count.monomial))
+    Ok(counts.iter().min_by_key(|count| count.cost()).copied())
 }
 
 /// Adds what is known of a monomial.
@@ -167,11 +170,12 @@ pub fn are_contradictory(
         if is_refuted(&left) {
             return Ok(true);
         }
-        let Some(monomial) = next_monomial(alloc, &left)? else {
+        let Some(count) = next_count(alloc, &left)? else {
             return Ok(false);
         };
-        let pairs = (left.len() as u64).saturating_mul(left.len() as u64);
-        *work = work.saturating_sub(pairs);
+        let monomial = count.monomial;
+        let looked_at = left.len().saturating_add(count.pairs());
+        *work = work.saturating_sub(looked_at as u64);
         if left.len() > MOST_BOUNDS || *work == 0 {
             return Ok(false);
         }

@@ -2,14 +2,15 @@
 
 ghost use Rattle.std.specs.Prelude.{◌≡◌, ◌≢◌, ◌+ℤ◌, ◌*ℤ◌, ◌≤ℤ◌, pos, true, int_div, int_rem, IfOk, IfSome};
 ghost use Rattle.std.specs.Int.{int_min};
-ghost use Rattle.f77_terms.specs.{IsBelow, Holds, IsWorth, Valuation, sum_value};
+ghost use Rattle.f77_terms.specs.{HasSign, Holds, IsWorth, Valuation, sum_value};
 
 use crate::facts::{add_pair_bound, add_whole, divisor_cases, order_case, sign_cases, two_cases};
 use crate::monomials::Monomial;
-use crate::paths::{Path, add_choice, is_below};
-use crate::ranges::term_range;
+use crate::paths::{Path, add_choice};
+use crate::ranges::{may_have, term_range};
 use crate::terms::{Term, atom_term, combined, constant_term, factor_of};
 use std::alloc::{AllocError, Global};
+use std::cmp::Ordering;
 
 /// The number of a constant term.
 pub fn constant_of(term: &Term) -> Option<i64>
@@ -30,48 +31,14 @@ pub fn plus_constant(
     combined(alloc, m, term, 1, &constant_term(alloc, constant))
 }
 
-/// By the ranges of its atoms alone, the term is at most 0.
-fn is_plainly_below(path: &Path, term: &Term) -> bool
-    ensures { result ≡ true → (v : Valuation) → Holds v path.now → IsBelow v term.now }
+/// By the ranges of its atoms alone, the term has not this sign.
+pub fn is_ranged_off(path: &Path, term: &Term, sign: Ordering) -> bool
+    ensures { result ≡ true → (v : Valuation) → Holds v path.now → ¬ (HasSign sign (sum_value v term.now)) }
 {
-    matches!(term_range(&path.known, term), Some(range) if range.high <= 0)
-}
-
-/// By the ranges of its atoms alone, a term, m times, and a constant are at most 0.
-pub fn is_plainly_bounded(
-    alloc: Global,
-    path: &Path,
-    m: i64,
-    term: &Term,
-    constant: i64,
-) -> Result<bool, AllocError>
-    ensures { IfOk result (λ yes. yes ≡ true → (v : Valuation) → Holds v path.now
-        → (constant +ℤ m *ℤ sum_value v term.now) ≤ℤ pos 0) }
-{
-    match plus_constant(alloc, m, term, constant)? {
-        Some(bound) => Ok(is_plainly_below(path, &bound)),
-        None => Ok(false),
+    match term_range(&path.known, term) {
+        Some(range) => !may_have(range, sign),
+        None => false,
     }
-}
-
-/// Where the path holds, a term, m times, and a constant are at most 0.
-pub fn is_bounded(
-    alloc: Global,
-    path: &Path,
-    m: i64,
-    term: &Term,
-    constant: i64,
-) -> Result<bool, AllocError>
-    ensures { IfOk result (λ yes. yes ≡ true → (v : Valuation) → Holds v path.now
-        → (constant +ℤ m *ℤ sum_value v term.now) ≤ℤ pos 0) }
-{
-    let Some(bound) = plus_constant(alloc, m, term, constant)? else {
-        return Ok(false);
-    };
-    if is_plainly_below(path, &bound) {
-        return Ok(true);
-    }
-    is_below(alloc, path, &bound)
 }
 
 /// A choice of the path is of the atom: what is known of a quotient, or of the lesser of two numbers.

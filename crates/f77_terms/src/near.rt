@@ -94,12 +94,15 @@ fn marks_near(alloc: Global, path: &Path, terms: &[Term]) -> Result<Vec<bool>, A
     Ok(marks)
 }
 
-/// What of a path is near these terms.
+/// What of a path is near these terms: all of it where there are none.
 pub(crate) fn path_near(alloc: Global, path: &Path, terms: &[Term]) -> Result<Path, AllocError>
     ensures { IfOk result (λ near. (v : Valuation) → Holds v path.now → Holds v near) }
 {
-    let marks = marks_near(alloc, path, terms)?;
     let mut near = copied_path(alloc, path)?;
+    if terms.is_empty() {
+        return Ok(near);
+    }
+    let marks = marks_near(alloc, path, terms)?;
     near.below.retain(|term| is_near(&marks, term));
     near.unequal.retain(|term| is_near(&marks, term));
     near.choices.retain(|choice| is_choice_near(&marks, choice));

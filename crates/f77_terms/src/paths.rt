@@ -1,19 +1,17 @@
 //! Paths: what is known where control comes, and whether that is possible.
 
 ghost use Rattle.std.specs.Prelude.{◌≡◌, ◌+ℤ◌, ◌*ℤ◌, ◌≤ℤ◌, pos, true, IfOk};
-ghost use Rattle.f77_terms.specs.{Valuation, sum_value, IsBelow, AreBelow, IsIn, AreKnown};
+ghost use Rattle.f77_terms.specs.{Valuation, sum_value, AreBelow, HasSign, IsIn, AreKnown};
 ghost use Rattle.f77_terms.specs.{IsUnequal, HasCase, Holds};
 
-use crate::bounds::{add_bound, joint_bounds};
+use crate::bounds::{add_bound, joint_bounds, sign_bounds};
 use crate::near::path_near;
 use crate::ranges::{Range, narrow_all, narrow_all_apart, set_within};
-use crate::splitting::{is_refuted_with, side_case};
+use crate::splitting::is_refuted_with;
 use crate::terms::{Term, copy};
 use f77_tree::Shared;
 use std::alloc::{AllocError, Global};
-
-/// So many pairs of bounds are combined for one question at most.
-const MOST_WORK: u64 = 12000;
+use std::cmp::Ordering;
 
 /// So many times a case is split at most.
 const MOST_SPLITS: usize = 24;
@@ -40,33 +38,33 @@ pub struct Path {
 }
 
 /// Where the path holds, not all of these terms are at most 0. Where there are none it is shown that it holds nowhere.
-pub fn refuted(alloc: Global, path: &Path, extra: &[Term]) -> Result<bool, AllocError>
+/// It is false too where the work that is left, of which it takes, does not do: a unit is a bound that is looked at.
+pub fn refuted(
+    alloc: Global,
+    work: &mut u64,
+    path: &Path,
+    extra: &[Term],
+) -> Result<bool, AllocError>
     ensures { IfOk result
         (λ yes. yes ≡ true → (v : Valuation) → Holds v path.now → ¬ (AreBelow v extra.now)) }
 {
-    let mut work = MOST_WORK;
-    if extra.len() == 0 {
-        return is_refuted_with(
-            alloc,
-            &mut work,
-            path,
-            &path.known,
-            &path.below,
-            0,
-            MOST_SPLITS,
-        );
-    }
     let near = path_near(alloc, path, extra)?;
     let bounds = joint_bounds(alloc, &near.below, extra)?;
-    is_refuted_with(
-        alloc,
-        &mut work,
-        &near,
-        &near.known,
-        &bounds,
-        0,
-        MOST_SPLITS,
-    )
+    is_refuted_with(alloc, work, &near, &near.known, &bounds, 0, MOST_SPLITS)
+}
+
+/// Where the path holds, the term has not this sign. It is false too where the work that is left does not do.
+pub fn cannot_be(
+    alloc: Global,
+    work: &mut u64,
+    path: &Path,
+    term: &Term,
+    sign: Ordering,
+) -> Result<bool, AllocError>
+    ensures { IfOk result (λ yes. yes ≡ true → (v : Valuation) → Holds v path.now
+        → ¬ (HasSign sign (sum_value v term.now))) }
+{
+    refuted(alloc, work, path, &sign_bounds(alloc, term, sign)?)
 }
 
 /// A path on which nothing is known.
@@ -148,34 +146,4 @@ pub fn settle(path: &mut Path)
 {
     narrow_all(&mut path.known, &path.below);
     narrow_all_apart(&mut path.known, &path.unequal);
-}
-
-/// Where the path holds, the term is at most 0.
-pub fn is_below(alloc: Global, path: &Path, term: &Term) -> Result<bool, AllocError>
-    ensures { IfOk result (λ yes. yes ≡ true → (v : Valuation) → Holds v path.now → IsBelow v term.now) }
-{
-    let above = side_case(alloc, -1, term)?;
-    refuted(alloc, path, &above.bounds)
-}
-
-/// Where the path holds, the term is 0.
-pub fn is_zero(alloc: Global, path: &Path, term: &Term) -> Result<bool, AllocError>
-    ensures { IfOk result (λ yes. yes ≡ true → (v : Valuation) → Holds v path.now
-        → sum_value v term.now ≡ pos 0) }
-{
-    if !is_below(alloc, path, term)? {
-        return Ok(false);
-    }
-    let below = side_case(alloc, 1, term)?;
-    refuted(alloc, path, &below.bounds)
-}
-
-/// Where the path holds, the term is not 0.
-pub fn is_apart(alloc: Global, path: &Path, term: &Term) -> Result<bool, AllocError>
-    ensures { IfOk result (λ yes. yes ≡ true → (v : Valuation) → Holds v path.now → IsUnequal v term.now) }
-{
-    let mut zero = Vec::new(alloc);
-    add_bound(alloc, &mut zero, 1, term, 0)?;
-    add_bound(alloc, &mut zero, -1, term, 0)?;
-    refuted(alloc, path, &zero)
 }

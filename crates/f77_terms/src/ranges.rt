@@ -1,14 +1,15 @@
 //! Ranges of atoms, of products and of terms.
 
-ghost use Rattle.std.specs.Prelude.{◌≡◌, ◌≢◌, ◌<◌, ◌+ℤ◌, ◌*ℤ◌, ◌≤ℤ◌, ℤ, pos, true, length, vec_len};
+ghost use Rattle.std.specs.Prelude.{◌≡◌, ◌≢◌, ◌<◌, ◌+ℤ◌, ◌*ℤ◌, ◌≤ℤ◌, ℤ, pos, false, true, length, vec_len};
 ghost use Rattle.std.specs.Prelude.{slice_get, Some, IfSome, All};
 ghost use Rattle.f77_terms.specs.{Valuation, monomial_value, part_value, parts_value, sum_value};
-ghost use Rattle.f77_terms.specs.{IsBelow, AreBelow, IsIn, AreKnown, IsUnequal};
+ghost use Rattle.f77_terms.specs.{IsBelow, AreBelow, HasSign, IsIn, AreKnown, IsUnequal};
 
 use crate::items::item_at;
 use crate::monomials::Monomial;
 use crate::numbers::ceiling;
 use crate::terms::{Part, Term};
+use std::cmp::Ordering;
 
 /// The numbers from the low to the high one.
 #[derive(Clone, Copy, Debug, PartialEq, Eq)]
@@ -38,6 +39,17 @@ fn multiple_range(range: Range, m: i64) -> Option<Range>
         })
     } else {
         Some(Range { low, high })
+    }
+}
+
+/// A number of the range may have this sign.
+pub fn may_have(range: Range, sign: Ordering) -> bool
+    ensures { result ≡ false → (x : ℤ) → IsIn range x → ¬ (HasSign sign x) }
+{
+    match sign {
+        Ordering::Less => range.low < 0,
+        Ordering::Equal => range.low <= 0 && 0 <= range.high,
+        Ordering::Greater => 0 < range.high,
     }
 }
 

@@ -1,11 +1,11 @@
 //! Cases of a path: whether one is possible, and how it splits by what is not 0 and by choices.
 
-ghost use Rattle.std.specs.Prelude.{◌≡◌, ◌+ℤ◌, ◌*ℤ◌, ◌≤ℤ◌, pos, true, IfOk, IfSome};
-ghost use Rattle.f77_terms.specs.{Valuation, sum_value, AreBelow, AreKnown, IsUnequal, IsOneOf};
+ghost use Rattle.std.specs.Prelude.{◌≡◌, true, IfOk, IfSome};
+ghost use Rattle.f77_terms.specs.{Valuation, AreBelow, AreKnown, IsUnequal, IsOneOf};
 ghost use Rattle.f77_terms.specs.{HasCase, Holds};
 
 use crate::assignment::Assignment;
-use crate::bounds::{add_bound, joint_bounds};
+use crate::bounds::{joint_bounds, sign_bounds};
 use crate::elimination::{Level, are_contradictory};
 use crate::facts::two_cases;
 use crate::paths::{Case, Choice, Path};
@@ -13,6 +13,7 @@ use crate::ranges::{Range, is_exceeded, is_void, narrow_all};
 use crate::terms::Term;
 use f77_tree::Shared;
 use std::alloc::{AllocError, Global};
+use std::cmp::Ordering;
 
 /// So often each bound narrows the ranges of atoms.
 const MOST_ROUNDS: usize = 6;
@@ -33,6 +34,7 @@ fn is_impossible(
     if *work == 0 {
         return Ok(false);
     }
+    *work = work.saturating_sub(bounds.len() as u64);
     for _ in 0..MOST_ROUNDS {
         let is_new = narrow_all(ranges, bounds);
         if is_void(ranges) || is_exceeded(ranges, bounds) {
@@ -45,23 +47,13 @@ fn is_impossible(
     are_contradictory(alloc, work, ranges, bounds, levels)
 }
 
-/// The case where a term, m times, and 1 are at most 0.
-pub fn side_case(alloc: Global, m: i64, term: &Term) -> Result<Case, AllocError>
-    ensures { IfOk result (λ case. (v : Valuation) → (pos 1 +ℤ m *ℤ sum_value v term.now) ≤ℤ pos 0
-        → AreBelow v case.bounds.items) }
-{
-    let mut bounds = Vec::new(alloc);
-    add_bound(alloc, &mut bounds, m, term, 1)?;
-    Ok(Case { bounds })
-}
-
 /// A term that is not 0 is below it or above it.
 fn sides(alloc: Global, term: &Term) -> Result<Shared<Choice>, AllocError>
     ensures { IfOk result (λ choice. (v : Valuation) → IsUnequal v term.now → HasCase v choice) }
 {
-    let below = side_case(alloc, 1, term)?;
-    let above = side_case(alloc, -1, term)?;
-    two_cases(alloc, below, above)
+    let below = sign_bounds(alloc, term, Ordering::Less)?;
+    let above = sign_bounds(alloc, term, Ordering::Greater)?;
+    two_cases(alloc, Case { bounds: below }, Case { bounds: above })
 }
 
 /// A choice of the path: the sides of what is not 0 come before its choices.

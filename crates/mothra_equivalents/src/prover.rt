@@ -20,20 +20,19 @@ use mothra_ops::{Mutant, Plan};
 use std::alloc::{AllocError, Global};
 use std::marker::Model;
 
-/// So much work the walks of the program alone may take from all cuts. A hundred thousand units take some tenths of a
-/// second at the most.
-const TOUR: u64 = 400_000;
+/// So much work the walks of the program alone may take from all cuts. A unit takes about a millionth of a second.
+const TOUR: u64 = 2_000_000;
 
 /// So much the walk of the program alone may take from its start, past all cuts.
-const FROM_START: u64 = 20_000;
+const FROM_START: u64 = 100_000;
 
 /// So much all mutants of a plan may take.
-const BUDGET: u64 = 5_500_000;
+const BUDGET: u64 = 12_000_000;
 
 /// So much a mutant may take at least, and at most; and so many times its share of what is left.
-const FEWEST: u64 = 1_000;
+const FEWEST: u64 = 2_000;
 
-const MOST: u64 = 40_000;
+const MOST: u64 = 100_000;
 
 const SHARES: u64 = 5;
 

@@ -1,10 +1,10 @@
 //! Atoms, and what is known of them.
 
-use crate::made::made;
+use crate::made::{is_below, made};
 use f77_terms::atoms::{Function, Key, interned, new_table};
 use f77_terms::knowing::{know_division, know_minimum};
 use f77_terms::monomials::Monomial;
-use f77_terms::paths::{add_below, add_range, is_below, new_path};
+use f77_terms::paths::{add_below, add_range, new_path};
 use f77_terms::ranges::Range;
 use f77_terms::terms::{atom_term, constant_term};
 use std::test::Fail;

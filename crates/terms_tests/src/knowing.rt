@@ -1,14 +1,13 @@
 //! What a path comes to know, and what it tells at once.
 
-use crate::made::{X, Y, made};
+use crate::made::{X, Y, is_below, is_refuted, made};
 use f77_terms::copying::copied_path;
-use f77_terms::knowing::{
-    constant_of, is_bounded, is_plainly_bounded, know_division, know_minimum,
-};
-use f77_terms::paths::{Path, add_below, add_range, add_unequal, new_path, refuted, settle};
+use f77_terms::knowing::{constant_of, is_ranged_off, know_division, know_minimum};
+use f77_terms::paths::{Path, add_below, add_range, add_unequal, new_path, settle};
 use f77_terms::ranges::{Range, atom_range};
 use f77_terms::terms::{atom_term, constant_term, difference};
 use std::alloc::{AllocError, Global};
+use std::cmp::Ordering;
 use std::test::Fail;
 
 /// X is at most Y, and that is at most 4.
@@ -37,11 +36,17 @@ fn tells_constants(rt: HostRuntime) -> Result<(), Fail> {
 fn tells_bounds_by_ranges(rt: HostRuntime) -> Result<(), Fail> {
     let alloc = rt.alloc();
     let path = ordered(alloc)?;
-    let y = atom_term(alloc, 1)?;
-    assert!(rt; is_plainly_bounded(alloc, &path, 2, &y, -8)?);
-    assert!(rt; !is_plainly_bounded(alloc, &path, 2, &y, -7)?);
-    let x = atom_term(alloc, 0)?;
-    assert!(rt; !is_plainly_bounded(alloc, &path, 1, &x, -4)?);
+    let y = made(alloc, -8, &[(2, Y)])?;
+    assert!(rt; is_ranged_off(&path, &y, Ordering::Greater));
+    assert!(rt; !is_ranged_off(&path, &y, Ordering::Equal));
+    let y = made(alloc, -7, &[(2, Y)])?;
+    assert!(rt; !is_ranged_off(&path, &y, Ordering::Greater));
+    let y = made(alloc, -9, &[(2, Y)])?;
+    assert!(rt; is_ranged_off(&path, &y, Ordering::Equal));
+    let y = made(alloc, 0, &[(2, Y)])?;
+    assert!(rt; is_ranged_off(&path, &y, Ordering::Less));
+    let x = made(alloc, -4, &[(1, X)])?;
+    assert!(rt; !is_ranged_off(&path, &x, Ordering::Greater));
     Ok(())
 }
 
@@ -49,9 +54,8 @@ fn tells_bounds_by_ranges(rt: HostRuntime) -> Result<(), Fail> {
 fn tells_bounds_by_refutation(rt: HostRuntime) -> Result<(), Fail> {
     let alloc = rt.alloc();
     let path = ordered(alloc)?;
-    let x = atom_term(alloc, 0)?;
-    assert!(rt; is_bounded(alloc, &path, 1, &x, -4)?);
-    assert!(rt; !is_bounded(alloc, &path, 1, &x, -3)?);
+    assert!(rt; is_below(alloc, &path, &made(alloc, -4, &[(1, X)])?)?);
+    assert!(rt; !is_below(alloc, &path, &made(alloc, -3, &[(1, X)])?)?);
     Ok(())
 }
 
@@ -60,7 +64,7 @@ fn copies_what_is_known(rt: HostRuntime) -> Result<(), Fail> {
     let alloc = rt.alloc();
     let path = copied_path(alloc, &ordered(alloc)?)?;
     let large = made(alloc, 5, &[(-1, X)])?;
-    assert!(rt; refuted(alloc, &path, &[large])?);
+    assert!(rt; is_refuted(alloc, &path, &[large])?);
     Ok(())
 }
 

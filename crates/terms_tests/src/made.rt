@@ -1,8 +1,10 @@
-//! Terms for tests.
+//! Terms for tests, and questions on paths.
 
 use f77_terms::monomials::Monomial;
+use f77_terms::paths::{Path, cannot_be, refuted};
 use f77_terms::terms::{Term, add_multiple, constant_term, monomial_term};
 use std::alloc::{AllocError, Global};
+use std::cmp::Ordering;
 
 pub(crate) const X: Monomial = Monomial::One(0);
 
@@ -22,4 +24,26 @@ pub(crate) fn made(
         add_multiple(&mut term, *factor, &next)?;
     }
     Ok(term)
+}
+
+/// Where the path holds, not all of the terms are at most 0.
+pub(crate) fn is_refuted(alloc: Global, path: &Path, extra: &[Term]) -> Result<bool, AllocError> {
+    let mut work = 2000;
+    refuted(alloc, &mut work, path, extra)
+}
+
+/// Where the path holds, the term has not this sign.
+pub(crate) fn never_has(
+    alloc: Global,
+    path: &Path,
+    term: &Term,
+    sign: Ordering,
+) -> Result<bool, AllocError> {
+    let mut work = 2000;
+    cannot_be(alloc, &mut work, path, term, sign)
+}
+
+/// Where the path holds, the term is at most 0.
+pub(crate) fn is_below(alloc: Global, path: &Path, term: &Term) -> Result<bool, AllocError> {
+    never_has(alloc, path, term, Ordering::Greater)
 }

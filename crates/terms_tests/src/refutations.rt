@@ -1,24 +1,19 @@
 //! Bounds that contradict each other, and bounds that do not.
 
-use crate::made::{X, Y, Z, made};
+use crate::made::{X, Y, Z, is_below, is_refuted, made, never_has};
 use f77_terms::monomials::Monomial;
 use f77_terms::paths::{
-    Case, Choice, Path, add_below, add_choice, add_equal, add_range, add_unequal, is_apart,
-    is_below, is_zero, new_path, refuted,
+    Case, Choice, Path, add_below, add_choice, add_equal, add_range, add_unequal, new_path, refuted,
 };
 use f77_terms::ranges::Range;
 use f77_terms::terms::{Term, is_same_term, product, sum};
 use f77_tree::Shared;
 use std::alloc::{AllocError, Global};
+use std::cmp::Ordering;
 use std::test::Fail;
 
 fn below(alloc: Global, path: &mut Path, term: &Term) -> Result<(), AllocError> {
     add_below(alloc, path, 1, term, 0)
-}
-
-fn is_refuted(alloc: Global, bounds: &[Term]) -> Result<bool, AllocError> {
-    let path = new_path(alloc);
-    refuted(alloc, &path, bounds)
 }
 
 #[test]
@@ -26,10 +21,10 @@ fn refutes_orders(rt: HostRuntime) -> Result<(), Fail> {
     let alloc = rt.alloc();
     let first = made(alloc, 1, &[(1, X), (-1, Y)])?;
     let second = made(alloc, 0, &[(1, Y), (-1, X)])?;
-    assert!(rt; is_refuted(alloc, &[first, second])?);
+    assert!(rt; is_refuted(alloc, &new_path(alloc), &[first, second])?);
     let first = made(alloc, 0, &[(1, X), (-1, Y)])?;
     let second = made(alloc, 0, &[(1, Y), (-1, X)])?;
-    assert!(rt; !is_refuted(alloc, &[first, second])?);
+    assert!(rt; !is_refuted(alloc, &new_path(alloc), &[first, second])?);
     Ok(())
 }
 
@@ -38,13 +33,23 @@ fn refutes_halves(rt: HostRuntime) -> Result<(), Fail> {
     let alloc = rt.alloc();
     let first = made(alloc, -1, &[(2, X)])?;
     let second = made(alloc, 1, &[(-2, X)])?;
-    assert!(rt; is_refuted(alloc, &[first, second])?);
+    assert!(rt; is_refuted(alloc, &new_path(alloc), &[first, second])?);
     let first = made(alloc, -2, &[(2, X)])?;
     let second = made(alloc, 2, &[(-2, X)])?;
-    assert!(rt; !is_refuted(alloc, &[first, second])?);
+    assert!(rt; !is_refuted(alloc, &new_path(alloc), &[first, second])?);
     let first = made(alloc, -5, &[(2, X), (4, Y)])?;
     let second = made(alloc, 5, &[(-2, X), (-4, Y)])?;
-    assert!(rt; is_refuted(alloc, &[first, second])?);
+    assert!(rt; is_refuted(alloc, &new_path(alloc), &[first, second])?);
+    Ok(())
+}
+
+#[test]
+fn gives_up_without_work(rt: HostRuntime) -> Result<(), Fail> {
+    let alloc = rt.alloc();
+    let first = made(alloc, 1, &[(1, X), (-1, Y)])?;
+    let second = made(alloc, 0, &[(1, Y), (-1, X)])?;
+    let mut work = 0;
+    assert!(rt; !refuted(alloc, &mut work, &new_path(alloc), &[first, second])?);
     Ok(())
 }
 
@@ -56,14 +61,15 @@ fn refutes_by_equations(rt: HostRuntime) -> Result<(), Fail> {
     add_equal(alloc, &mut path, &whole)?;
     let least = made(alloc, 1, &[(-1, Z)])?;
     let order = made(alloc, 0, &[(1, X), (-1, Y)])?;
-    assert!(rt; refuted(alloc, &path, &[least, order])?);
+    assert!(rt; is_refuted(alloc, &path, &[least, order])?);
     let order = made(alloc, 0, &[(1, X), (-1, Y)])?;
-    assert!(rt; !refuted(alloc, &path, &[order])?);
+    assert!(rt; !is_refuted(alloc, &path, &[order])?);
     let same = made(alloc, 0, &[(2, X), (-2, Y), (-2, Z)])?;
-    assert!(rt; is_zero(alloc, &path, &same)?);
+    assert!(rt; never_has(alloc, &path, &same, Ordering::Less)?);
+    assert!(rt; never_has(alloc, &path, &same, Ordering::Greater)?);
     let other = made(alloc, 1, &[(2, X), (-2, Y), (-2, Z)])?;
-    assert!(rt; is_apart(alloc, &path, &other)?);
-    assert!(rt; !is_zero(alloc, &path, &other)?);
+    assert!(rt; never_has(alloc, &path, &other, Ordering::Equal)?);
+    assert!(rt; !never_has(alloc, &path, &other, Ordering::Greater)?);
     Ok(())
 }
 
@@ -77,10 +83,10 @@ fn refutes_what_is_unequal(rt: HostRuntime) -> Result<(), Fail> {
     let second = made(alloc, -1, &[(1, Y), (-1, X)])?;
     let third = made(alloc, 1, &[(1, Z), (-1, Y)])?;
     let fourth = made(alloc, -1, &[(1, Y), (-1, Z)])?;
-    assert!(rt; refuted(alloc, &path, &[first, second, third, fourth])?);
+    assert!(rt; is_refuted(alloc, &path, &[first, second, third, fourth])?);
     let first = made(alloc, 0, &[(1, X), (-1, Y)])?;
     let second = made(alloc, -2, &[(1, Y), (-1, X)])?;
-    assert!(rt; !refuted(alloc, &path, &[first, second])?);
+    assert!(rt; !is_refuted(alloc, &path, &[first, second])?);
     Ok(())
 }
 
@@ -96,10 +102,10 @@ fn refutes_choices(rt: HostRuntime) -> Result<(), Fail> {
     add_choice(&mut path, Shared::new(alloc, Choice { cases })?)?;
     let least = made(alloc, -4, &[(-1, X)])?;
     let most = made(alloc, -4, &[(1, X)])?;
-    assert!(rt; refuted(alloc, &path, &[least, most])?);
+    assert!(rt; is_refuted(alloc, &path, &[least, most])?);
     let least = made(alloc, -5, &[(-1, X)])?;
     let most = made(alloc, -4, &[(1, X)])?;
-    assert!(rt; !refuted(alloc, &path, &[least, most])?);
+    assert!(rt; !is_refuted(alloc, &path, &[least, most])?);
     Ok(())
 }
 

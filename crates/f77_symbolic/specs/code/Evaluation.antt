@@ -2,8 +2,6 @@
 -- Private functions and proofs alone cite what stands here.
 use Rattle.std.specs.Prelude.{◌≡◌, ◌≢◌, ◌+◌, ◌+ℤ◌, ◌*ℤ◌, ◌<◌, ◌≤ℤ◌, ◌<ℤ◌, ◌⊎◌, ℕ, ℤ, pos, negsuc, int_div, int_rem}
 use Rattle.std.specs.Prelude.{Bool, true, false, List, Option, Some, None, Result, Ok, Err}
-use Rattle.std.specs.declared.cmp.Ordering.{Ordering}
-use Rattle.std.specs.declared.cmp.Ordering.TheVariants.{Less, Equal, Greater}
 use Rattle.f77_actions.specs.declared.finish.Fault.{Fault}
 use Rattle.f77_symbolic.specs.Prelude.{Value, held_in, Cells, Holds, Valuation, sum_value, Evaluator, Split, Location}
 use Rattle.f77_symbolic.specs.Prelude.{Symbolic, Write}
@@ -82,12 +80,6 @@ Expects old new Claim =
 pub record IsDivision (v : Valuation) (division : Division) (a b : ℤ) : Type 0 where
   pub quotient : sum_value v division.quotient ≡ int_div a b
   pub remainder : sum_value v division.remainder ≡ int_rem a b
-
--- the number compared with 0
-abbrev pub HasSign : Ordering → ℤ → Type 0
-HasSign Less z = z <ℤ pos 0
-HasSign Equal z = z ≡ pos 0
-HasSign Greater z = pos 0 <ℤ z
 
 -- one of so many items has the number, counted from 1, or none has
 abbrev pub HasItem : Option ℕ → ℕ → ℤ → Type 0

@@ -3,8 +3,8 @@ use Rattle.f77_terms.proofs.paths.refuted.Goals as goal
 
 pub returns : goal.returns
 returns c =
-    ok_then c.is_refuted_with-2.result c.is_refuted_with-2.ensures
+    ok_then c.is_refuted_with.result c.is_refuted_with.ensures
     (λ yes claim e v holds extra.
     let near = c.in_ok-near.ensures v holds in
-    (rw c.deref-4.ensures.value at (rw c.deref-3.ensures.value at claim)) e v near near.known
-    ((rw c.deref-2.ensures.value at c.in_ok-bounds.ensures) v near.below extra))
+    (rw c.deref-3.ensures.value at (rw c.deref-2.ensures.value at claim)) e v near near.known
+    ((rw c.deref.ensures.value at c.in_ok-bounds.ensures) v near.below extra))

@@ -1,0 +1,80 @@
+//! What a path tells of a term: by the ranges of atoms, by samples, and by refutation.
+
+ghost use Rattle.std.specs.Prelude.{◌≡◌, pos, true, IfOk};
+ghost use Rattle.f77_symbolic.specs.Prelude.{HasSign, Holds, Valuation, sum_value};
+
+use crate::evaluator::Evaluator;
+use crate::samples::Wanted;
+use f77_terms::knowing::is_ranged_off;
+use f77_terms::paths::{cannot_be, refuted};
+use f77_terms::terms::Term;
+use std::alloc::AllocError;
+use std::cmp::Ordering;
+
+/// So much work a question takes before a sample is sought that shows that the path does not tell it.
+const FIRST_WORK: u64 = 30;
+
+/// So much it takes at most.
+const MOST_WORK: u64 = 2000;
+
+impl Evaluator {
+    /// What a refutation finds by so much work, and whether more may be found by more.
+    fn refute(&self, most: u64, term: &Term, sign: Ordering) -> Result<(bool, bool), AllocError>
+        ensures { IfOk result (λ found. found.0 ≡ true → (v : Valuation) → Holds v self.now.path
+            → ¬ (HasSign sign (sum_value v term.now))) }
+    {
+        let mut work = most;
+        let is_told = cannot_be(self.alloc, &mut work, &self.path, term, sign)?;
+        self.samples.spend(most.saturating_sub(work));
+        Ok((is_told, work == 0))
+    }
+
+    /// A sample is found on which the term has this sign. None is sought where the question is not open, but for rows.
+    fn is_found(&self, is_open: bool, term: &Term, sign: Ordering) -> Result<bool, AllocError> {
+        let wanted = Wanted {
+            table: &self.atoms.table,
+            path: &self.path,
+            goal: Some((term, sign)),
+        };
+        Ok((is_open || self.samples.seeks) && self.samples.find(self.alloc, wanted)?)
+    }
+
+    /// Where the path holds, the term has not this sign. It is false too where that is not told.
+    pub(crate) fn never_has(&self, term: &Term, sign: Ordering) -> Result<bool, AllocError>
+        ensures { IfOk result (λ yes. yes ≡ true → (v : Valuation) → Holds v self.now.path
+            → ¬ (HasSign sign (sum_value v term.now))) }
+    {
+        if is_ranged_off(&self.path, term, sign) {
+            return Ok(true);
+        }
+        if self.samples.show(term, sign) {
+            return Ok(false);
+        }
+        let (is_told, is_open) = self.refute(FIRST_WORK, term, sign)?;
+        if is_told || self.is_found(is_open, term, sign)? || !is_open {
+            return Ok(is_told);
+        }
+        Ok(self.refute(MOST_WORK, term, sign)?.0)
+    }
+
+    /// Where the path holds, the term is 0. It is false too where that is not told.
+    pub(crate) fn is_zero(&self, term: &Term) -> Result<bool, AllocError>
+        ensures { IfOk result (λ yes. yes ≡ true → (v : Valuation) → Holds v self.now.path
+            → sum_value v term.now ≡ pos 0) }
+    {
+        Ok(self.never_has(term, Ordering::Less)? && self.never_has(term, Ordering::Greater)?)
+    }
+
+    /// It is shown that the path holds nowhere. Where a sample is on it that is not asked.
+    pub(crate) fn is_dead(&self) -> Result<bool, AllocError>
+        ensures { IfOk result (λ yes. yes ≡ true → (v : Valuation) → ¬ (Holds v self.now.path)) }
+    {
+        if self.samples.are_any() {
+            return Ok(false);
+        }
+        let mut work = MOST_WORK;
+        let is_refuted = refuted(self.alloc, &mut work, &self.path, &[])?;
+        self.samples.spend(MOST_WORK.saturating_sub(work));
+        Ok(is_refuted)
+    }
+}
