@@ -3,8 +3,8 @@ use Rattle.f77_equivalence.proofs.Common.{arith, ◌≡◌, ◌⊎◌, inl, inr,
 use Rattle.f77_equivalence.proofs.Common.{Option, Some, None, refl, sym, ap, subst, ◌∙◌, ℤ, option_map, replicate, slice_get, slice_set, list_all, zip}
 use Rattle.f77_equivalence.proofs.Common.{option_and_then, and_parts, eqb-true, same_Some, slice_get-map, line_of, bounds_of, kind_of, CheckedFields, IsChecked}
 use Rattle.f77_equivalence.proofs.Common.{held_in, Cells, turn_at, Inactive, SuitsFact, AreIn, SuitsTurn, AreLeft, Arg, Comes, AreFitting, has_shape, values_in}
-use Rattle.f77_equivalence.proofs.Common.{all_filled, filled, size_of, IsStart, constant_value, site_of, IsRunningIn, stands_for, HoldsStart, IsStartEntry}
-use Rattle.f77_equivalence.proofs.Common.{start_cells, start_state, start_turns, is_storable, AreStorable, facts_given}
+use Rattle.f77_equivalence.proofs.Common.{all_filled, filled, size_of, IsStart, constant_value, site_of, IsRunningIn, stands_for}
+use Rattle.f77_equivalence.proofs.Common.{start_state, is_storable, AreStorable, facts_given}
 use Rattle.std.proofs.lemmas.List.{length-map, length-replicate, length_push, set_past}
 use Rattle.f77_tree.specs.declared.data.Constant.{Constant}
 use Rattle.f77_tree.specs.declared.tree.Kind.{Kind}
@@ -14,10 +14,8 @@ use Rattle.f77_check.specs.declared.checked.Shape.{Shape}
 use Rattle.f77_actions.specs.declared.value.Value.{Value}
 use Rattle.f77_actions.specs.declared.value.Value.TheVariants as held
 use Rattle.f77_code.proofs.Listed.{all_at, pushed}
-use Rattle.f77_facts.specs.declared.entries.Entry.{Entry}
 use Rattle.f77_facts.specs.declared.facts.Fact.{Fact}
 use Rattle.f77_facts.specs.declared.loops.LoopFact.{LoopFact}
-use Rattle.f77_facts.specs.Entries.{AreCovered, IsAmong}
 use Rattle.f77_facts.proofs.Slots.{set_both}
 use Rattle.f77_meaning.specs.declared.argument.Arg.TheVariants.{Int, Truth, Ints, Truths}
 use Rattle.f77_meaning.specs.code.Typed.{has_kind}
@@ -147,10 +145,3 @@ left_at (suc n) (suc d) fact e = left_at n d fact e
 
 pub start_left : (n : ℕ) → AreLeft (replicate n Inactive) (replicate n None)
 start_left n = record { count = length-replicate n None ∙ sym (length-replicate n Inactive); each = left_at n }
-
--- entries that cover what is so at the start
-pub start_covered : (checked : CheckedFields) (entries : List Entry) (start : Entry) → IsStartEntry checked start
-    → AreCovered entries start.place start.facts.items start.loops.items → HoldsStart checked entries
-start_covered checked entries start is covers arguments fits storable =
-    subst (λ place. IsAmong entries place (start_cells checked arguments) (start_turns checked)) is.there
-    (covers (start_cells checked arguments) (start_turns checked) (is.inside arguments fits storable) is.left)

@@ -61,6 +61,7 @@ pub use Rattle.f77_terms.specs.Atoms.{slot_behind, FitsTable, key_value}
 pub use Rattle.f77_terms.specs.Bounds.{HasSign}
 pub use Rattle.f77_terms.specs.Paths.{Holds}
 pub use Rattle.f77_terms.specs.Ranges.{IsIn, AreKnown, LiesBetween}
-pub use Rattle.f77_terms.specs.Terms.{sum_value, Valuation, monomial_value, part_value, parts_value}
+pub use Rattle.f77_terms.specs.Atoms.{function_value}
+pub use Rattle.f77_terms.specs.Terms.{sum_value, Valuation, part_value, parts_value}
 pub use Rattle.f77_terms.specs.declared.paths.Path.{Path}
 pub use mir.Val.{bool_byte}

@@ -1,19 +1,18 @@
 //! Operations on numbers.
 
-ghost use Rattle.std.specs.Prelude.{◌≡◌, ◌≢◌, ◌*ℤ◌, ◌≤ℤ◌, ℕ, pos, unsigned_abs, IfOk, IfSome};
+ghost use Rattle.std.specs.Prelude.{◌≡◌, ◌≢◌, ◌*ℤ◌, ◌≤ℤ◌, ℕ, pos, IfOk, IfSome};
 ghost use Rattle.f77_actions.specs.Number as exact;
 ghost use Rattle.f77_actions.specs.Value as meaning;
-ghost use Rattle.f77_symbolic.specs.Prelude.{calculated, Valuation, monomial_value, sum_value};
-ghost use Rattle.f77_symbolic.specs.{Interprets, Start};
+ghost use Rattle.f77_symbolic.specs.Prelude.{calculated, Valuation, sum_value};
 ghost use Rattle.f77_symbolic.specs.code.{Extends, Always, AlwaysTells, Calculates, IsDivision, StaysOn};
 
 use crate::evaluator::Evaluator;
 use crate::halt::Halt;
 use f77_actions::Arithmetic;
 use f77_actions::number::power;
-use f77_terms::atoms::{Function, Key};
-use f77_terms::knowing::{constant_of, know_division, know_minimum};
-use f77_terms::terms::{Term, atom_term, constant_term, copy, difference, product, sum};
+use f77_terms::atoms::Function;
+use f77_terms::knowing::{constant_of, know_division, know_minimum, know_product};
+use f77_terms::terms::{Term, atom_term, constant_term, copy, difference, sum};
 use std::alloc::Global;
 
 /// The least number that INTEGER holds.
@@ -98,12 +97,7 @@ impl Evaluator {
         if self.is_at_most(b, a)? {
             return Ok(copy(self.alloc, b)?);
         }
-        let key = Key::Function(
-            Function::Minimum,
-            copy(self.alloc, a)?,
-            copy(self.alloc, b)?,
-        );
-        let minimum = self.atom_of(key)?;
+        let minimum = self.function_of(Function::Minimum, a, b)?;
         know_minimum(self.alloc, &mut self.path, a, b, minimum)?;
         self.span_minimum(a, b, minimum)?;
         Ok(atom_term(self.alloc, minimum)?)
@@ -175,23 +169,16 @@ impl Evaluator {
         if let Some(plain) = self.plain_division(a, b)? {
             return Ok(plain);
         }
-        let first = Key::Function(
-            Function::Quotient,
-            copy(self.alloc, a)?,
-            copy(self.alloc, b)?,
-        );
-        let quotient = self.atom_of(first)?;
-        let second = Key::Function(
-            Function::Remainder,
-            copy(self.alloc, a)?,
-            copy(self.alloc, b)?,
-        );
-        let remainder = self.atom_of(second)?;
-        know_division(self.alloc, &mut self.path, a, b, quotient, remainder)?;
+        let quotient = self.function_of(Function::Quotient, a, b)?;
+        let remainder = self.function_of(Function::Remainder, a, b)?;
         self.span_division(a, b, quotient, remainder)?;
+        let quotient = atom_term(self.alloc, quotient)?;
+        let product = self.multiplied(&quotient, b)?;
+        know_division(self.alloc, &mut self.path, a, b, &product, remainder)?;
+        let remainder = atom_term(self.alloc, remainder)?;
         Ok(Division {
-            quotient: atom_term(self.alloc, quotient)?,
-            remainder: atom_term(self.alloc, remainder)?,
+            quotient,
+            remainder,
         })
     }
 
@@ -218,22 +205,21 @@ impl Evaluator {
         self.ranged(division.remainder)
     }
 
-    /// The product of two numbers: an atom where it is no term.
+    /// The product of two numbers: an atom where both are unknown.
     fn multiplied(&mut self, a: &Term, b: &Term) -> Result<Term, Halt>
         ensures tells { IfOk result (λ term. AlwaysTells self.old self.new
             (λ start v. sum_value v term ≡ sum_value v a.now *ℤ sum_value v b.now)) }
         ensures extends { Extends self.old.atoms self.new.atoms }
     {
-        if let Some(term) = product(self.alloc, a, b)? {
-            return Ok(term);
+        if let Some(m) = constant_of(a) {
+            return self.plus(m, b, 0);
         }
-        let key = Key::Function(
-            Function::Product,
-            copy(self.alloc, a)?,
-            copy(self.alloc, b)?,
-        );
-        let atom = self.atom_of(key)?;
-        Ok(atom_term(self.alloc, atom)?)
+        if let Some(m) = constant_of(b) {
+            return self.plus(m, a, 0);
+        }
+        let product = self.function_of(Function::Product, a, b)?;
+        know_product(self.alloc, &mut self.path, a, b, product)?;
+        Ok(atom_term(self.alloc, product)?)
     }
 
     /// The power of two numbers that are known.

@@ -29,14 +29,11 @@ impl Evaluator {
         Ok((is_told, work == 0))
     }
 
-    /// A sample is found on which the term has this sign. None is sought where the question is not open, but for rows.
-    fn is_found(&self, is_open: bool, term: &Term, sign: Ordering) -> Result<bool, AllocError> {
-        let wanted = Wanted {
-            table: &self.atoms.table,
-            path: &self.path,
-            goal: Some((term, sign)),
-        };
-        Ok((is_open || self.samples.seeks) && self.samples.find(self.alloc, wanted)?)
+    /// A sample is found that is on the path, and on which the term of a goal has its sign.
+    pub(crate) fn is_found(&self, goal: Option<(&Term, Ordering)>) -> Result<bool, AllocError> {
+        let table = &self.atoms.table;
+        let path = &self.path;
+        self.samples.find(self.alloc, Wanted { table, path, goal })
     }
 
     /// Where the path holds, the term has not this sign. It is false too where that is not told.
@@ -47,11 +44,11 @@ impl Evaluator {
         if is_ranged_off(&self.path, term, sign) {
             return Ok(true);
         }
-        if self.samples.show(term, sign) {
+        if self.samples.show(term, sign)? {
             return Ok(false);
         }
         let (is_told, is_open) = self.refute(FIRST_WORK, term, sign)?;
-        if is_told || self.is_found(is_open, term, sign)? || !is_open {
+        if is_told || self.is_found(Some((term, sign)))? || !is_open {
             return Ok(is_told);
         }
         Ok(self.refute(MOST_WORK, term, sign)?.0)
@@ -69,7 +66,7 @@ impl Evaluator {
     pub(crate) fn is_dead(&self) -> Result<bool, AllocError>
         ensures { IfOk result (λ yes. yes ≡ true → (v : Valuation) → ¬ (Holds v self.now.path)) }
     {
-        if self.samples.are_any() {
+        if self.samples.are_any()? {
             return Ok(false);
         }
         let mut work = MOST_WORK;

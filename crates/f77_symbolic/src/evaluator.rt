@@ -1,17 +1,17 @@
 //! What evaluates expressions of a program, where a path holds.
 
 ghost use Rattle.std.specs.Prelude.{◌≡◌, ◌≢◌, ◌+ℤ◌, ◌*ℤ◌, ◌≤ℤ◌, pos, IfOk};
-ghost use Rattle.f77_symbolic.specs.Prelude.{key_value, Holds, Valuation, sum_value};
+ghost use Rattle.f77_symbolic.specs.Prelude.{function_value, key_value, Holds, Valuation, sum_value};
 ghost use Rattle.f77_symbolic.specs.code.{Extends, AlwaysTells, Expects};
 
 use crate::halt::{Halt, unless_unknown};
-use crate::samples::{Samples, Wanted};
+use crate::samples::Samples;
 use f77_facts::facts::Fact;
-use f77_terms::atoms::{Key, Table, interned};
+use f77_terms::atoms::{Function, Key, Table, interned};
 use f77_terms::copying::copied_path;
 use f77_terms::knowing::{is_ranged_off, plus_constant};
 use f77_terms::paths::{Path, add_below, add_unequal};
-use f77_terms::terms::{Term, combined};
+use f77_terms::terms::{Term, combined, copy};
 use std::alloc::Global;
 use std::cmp::Ordering;
 
@@ -47,13 +47,10 @@ impl Evaluator {
         ensures extends { Extends self.old.atoms self.new.atoms }
     {
         self.path = copied_path(self.alloc, path)?;
-        self.samples.choose(&self.path);
-        let wanted = Wanted {
-            table: &self.atoms.table,
-            path: &self.path,
-            goal: None,
-        };
-        self.samples.find(self.alloc, wanted)?;
+        self.samples.choose(&self.path)?;
+        if !self.samples.are_any()? {
+            self.is_found(None)?;
+        }
         Ok(())
     }
 
@@ -67,6 +64,21 @@ impl Evaluator {
         let atom = interned(self.alloc, &mut self.atoms.table, key)?.ok_or(Halt::Unknown)?;
         self.samples.learn(&self.atoms.table)?;
         Ok(atom)
+    }
+
+    /// The atom that is a function of two numbers.
+    pub(crate) fn function_of(
+        &mut self,
+        function: Function,
+        a: &Term,
+        b: &Term,
+    ) -> Result<usize, Halt>
+        ensures made { IfOk result (λ atom. AlwaysTells self.old self.new
+            (λ start v. v atom ≡ function_value function (sum_value v a.now) (sum_value v b.now))) }
+        ensures extends { Extends self.old.atoms self.new.atoms }
+    {
+        let key = Key::Function(function, copy(self.alloc, a)?, copy(self.alloc, b)?);
+        self.atom_of(key)
     }
 
     /// The first term, m times, and the second, n times.
@@ -99,8 +111,7 @@ impl Evaluator {
             return Ok(());
         }
         add_below(self.alloc, &mut self.path, 1, &bound, 0)?;
-        self.samples.keep(&bound, Ordering::Greater);
-        Ok(())
+        Ok(self.samples.keep(&bound, Ordering::Greater)?)
     }
 
     /// There is a fault where a term is 0.
@@ -115,7 +126,6 @@ impl Evaluator {
             return Ok(());
         }
         add_unequal(self.alloc, &mut self.path, term)?;
-        self.samples.keep(term, Ordering::Equal);
-        Ok(())
+        Ok(self.samples.keep(term, Ordering::Equal)?)
     }
 }

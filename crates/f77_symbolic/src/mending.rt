@@ -1,9 +1,8 @@
 //! Samples are mended: numbers of slots are changed, one after another, so that a sample is on a path and a term has a
 //! sign there.
 
-use crate::samples::{Sample, Samples, Wanted, atom_value, has_sign};
+use crate::samples::{Sample, Samples, Wanted, has_sign};
 use f77_terms::atoms::{Function, Key, Table};
-use f77_terms::monomials::Monomial;
 use f77_terms::ranges::Range;
 use f77_terms::terms::{Part, Term};
 use std::alloc::{AllocError, Global};
@@ -119,30 +118,24 @@ impl Sample {
     /// The slot of which the number is to be changed, and by how much, so that a term changes by so much.
     fn change_in(&self, table: &Table, term: &Term, by: i64) -> Option<(usize, i64)> {
         for part in &term.parts {
-            if let Monomial::One(atom) = part.monomial {
-                if let Some(slot) = self.slot_of(table, atom) {
-                    return Some((slot, rounded(by, part.factor)?));
-                }
+            if let Some(slot) = self.slot_of(table, part.atom) {
+                return Some((slot, rounded(by, part.factor)?));
             }
         }
         None
     }
 
-    /// The same for a part, of which the atom may be a function of terms, or one of two that are multiplied.
+    /// The same for a part, of which the atom may be a function of terms.
     fn change_of(&self, table: &Table, part: Part, by: i64) -> Option<(usize, i64)> {
-        let (atom, factor) = match part.monomial {
-            Monomial::One(atom) => (atom, part.factor),
-            Monomial::Two(atom, other) => {
-                let times = atom_value(&self.values, other)?;
-                (atom, part.factor.checked_mul(times)?)
-            }
-        };
-        let by = rounded(by, factor)?;
-        match &**table.keys.get(atom)? {
+        let by = rounded(by, part.factor)?;
+        match &**table.keys.get(part.atom)? {
             Key::Slot(slot) => Some((*slot, by)),
             Key::Element(first, index) => Some((self.slot_behind(*first, index)?, by)),
             Key::Function(Function::Quotient, a, b) => {
                 self.change_in(table, a, by.checked_mul(self.value(b)?)?)
+            }
+            Key::Function(Function::Product, a, b) => {
+                self.change_in(table, a, rounded(by, self.value(b)?)?)
             }
             Key::Function(_, a, _) => self.change_in(table, a, by),
         }
@@ -239,8 +232,13 @@ impl Samples {
         } else {
             1
         };
+        let are_any = self.are_any()?;
         let list = self.list()?;
-        for sample in list.iter().rev().take(MOST_TRIES) {
+        let fit = list
+            .iter()
+            .rev()
+            .filter(|sample| sample.is_on_path == are_any);
+        for sample in fit.take(MOST_TRIES) {
             for way in 0..ways {
                 self.spend(wanted.table.keys.len() as u64 / ATOMS + 1);
                 let made = sample.mended(alloc, wanted, way)?;
@@ -252,15 +250,8 @@ impl Samples {
         Ok(None)
     }
 
-    /// There is a sample as wanted: it is made if none is there and not too many were made.
+    /// A sample as wanted is made and added, if one is found and not too many were made.
     pub(crate) fn find(&self, alloc: Global, wanted: Wanted) -> Result<bool, AllocError> {
-        let is_there = match wanted.goal {
-            Some((term, sign)) => self.show(term, sign),
-            None => self.are_any(),
-        };
-        if is_there {
-            return Ok(true);
-        }
         let most = if self.seeks {
             MOST_SOUGHT
         } else {
@@ -269,13 +260,10 @@ impl Samples {
         if self.list()?.len() >= most {
             return Ok(false);
         }
-        let made = self.made(alloc, wanted)?;
-        match made {
-            Some(sample) => {
-                self.add(sample)?;
-                Ok(true)
-            }
-            None => Ok(false),
-        }
+        let Some(sample) = self.made(alloc, wanted)? else {
+            return Ok(false);
+        };
+        self.add(sample)?;
+        Ok(true)
     }
 }

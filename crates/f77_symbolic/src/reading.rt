@@ -96,7 +96,7 @@ impl Evaluator {
         }
         let atom = self.atom_of(key)?;
         add_range(&mut self.path, atom, range)?;
-        self.samples.stay(atom, range);
+        self.samples.stay(atom, range)?;
         Ok(value_of(fact.kind, atom_term(self.alloc, atom)?))
     }
 

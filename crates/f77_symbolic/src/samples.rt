@@ -8,12 +8,11 @@ use crate::gap::Gap;
 use crate::sides::Side;
 use f77_facts::facts::Fact;
 use f77_terms::atoms::{Function, Key, Table};
-use f77_terms::monomials::Monomial;
 use f77_terms::paths::Path;
 use f77_terms::ranges::Range;
 use f77_terms::terms::Term;
 use std::alloc::{AllocError, Global};
-use std::cell::{Cell, Ref, RefCell};
+use std::cell::{Cell, Ref, RefCell, RefMut};
 use std::cmp::Ordering;
 
 /// So many samples are made at first.
@@ -72,14 +71,6 @@ pub(crate) fn atom_value(values: &[Option<i64>], atom: usize) -> Option<i64> {
     values.get(atom).copied().flatten()
 }
 
-/// The value of a product of atoms.
-fn monomial_value(values: &[Option<i64>], monomial: Monomial) -> Option<i64> {
-    match monomial {
-        Monomial::One(a) => atom_value(values, a),
-        Monomial::Two(a, b) => atom_value(values, a)?.checked_mul(atom_value(values, b)?),
-    }
-}
-
 /// The number, if there is one, is in the range.
 fn is_in(number: Option<i64>, range: Range) -> bool {
     match number {
@@ -93,8 +84,8 @@ impl Sample {
     pub(crate) fn value(&self, term: &Term) -> Option<i64> {
         let mut sum = term.constant;
         for part in &term.parts {
-            let product = monomial_value(&self.values, part.monomial)?;
-            sum = sum.checked_add(part.factor.checked_mul(product)?)?;
+            let value = atom_value(&self.values, part.atom)?;
+            sum = sum.checked_add(part.factor.checked_mul(value)?)?;
         }
         Some(sum)
     }
@@ -234,12 +225,14 @@ impl Samples {
         self.list.try_borrow().map_err(|_| AllocError)
     }
 
+    /// All of them, to be changed.
+    fn list_to_change(&self) -> Result<RefMut<'_, Vec<Sample>>, AllocError> {
+        self.list.try_borrow_mut().map_err(|_| AllocError)
+    }
+
     /// Adds one.
     pub(crate) fn add(&self, sample: Sample) -> Result<(), AllocError> {
-        let Ok(mut list) = self.list.try_borrow_mut() else {
-            return Err(AllocError);
-        };
-        Ok(list.push(sample)?)
+        Ok(self.list_to_change()?.push(sample)?)
     }
 
     /// Both programs come to these statements.
@@ -290,59 +283,45 @@ impl Samples {
     }
 
     /// Those stay in which an atom is in a range.
-    pub fn stay(&self, atom: usize, range: Range) {
-        let Ok(mut list) = self.list.try_borrow_mut() else {
-            return;
-        };
-        for sample in list.iter_mut() {
-            sample.is_on_path = sample.is_on_path && is_in(atom_value(&sample.values, atom), range);
+    pub(crate) fn stay(&self, atom: usize, range: Range) -> Result<(), AllocError> {
+        for sample in self.list_to_change()?.iter_mut() {
+            sample.is_on_path &= is_in(atom_value(&sample.values, atom), range);
         }
+        Ok(())
     }
 
     /// Those stay in which a term has not this sign.
-    pub fn keep(&self, term: &Term, sign: Ordering) {
-        let Ok(mut list) = self.list.try_borrow_mut() else {
-            return;
-        };
-        for sample in list.iter_mut() {
-            sample.is_on_path = sample.is_on_path && lacks_sign(sample.value(term), sign);
+    pub(crate) fn keep(&self, term: &Term, sign: Ordering) -> Result<(), AllocError> {
+        for sample in self.list_to_change()?.iter_mut() {
+            sample.is_on_path &= lacks_sign(sample.value(term), sign);
         }
+        Ok(())
     }
 
     /// The values of new atoms are added.
-    pub fn learn(&self, table: &Table) -> Result<(), AllocError> {
-        let Ok(mut list) = self.list.try_borrow_mut() else {
-            return Ok(());
-        };
-        for sample in list.iter_mut() {
+    pub(crate) fn learn(&self, table: &Table) -> Result<(), AllocError> {
+        for sample in self.list_to_change()?.iter_mut() {
             sample.extend(table)?;
         }
         Ok(())
     }
 
     /// Those that are on this path are chosen.
-    pub fn choose(&self, path: &Path) {
-        let Ok(mut list) = self.list.try_borrow_mut() else {
-            return;
-        };
-        for sample in list.iter_mut() {
+    pub(crate) fn choose(&self, path: &Path) -> Result<(), AllocError> {
+        for sample in self.list_to_change()?.iter_mut() {
             sample.is_on_path = sample.is_on(path);
         }
+        Ok(())
     }
 
     /// Some are on the path.
-    pub fn are_any(&self) -> bool {
-        let Ok(list) = self.list.try_borrow() else {
-            return false;
-        };
-        list.iter().any(|sample| sample.is_on_path)
+    pub(crate) fn are_any(&self) -> Result<bool, AllocError> {
+        Ok(self.list()?.iter().any(|sample| sample.is_on_path))
     }
 
     /// One that is on the path has this sign of a term.
-    pub fn show(&self, term: &Term, sign: Ordering) -> bool {
-        let Ok(list) = self.list.try_borrow() else {
-            return false;
-        };
-        list.iter().any(|sample| sample.is_on_path && has_sign(sample.value(term), sign))
+    pub(crate) fn show(&self, term: &Term, sign: Ordering) -> Result<bool, AllocError> {
+        let list = self.list()?;
+        Ok(list.iter().any(|sample| sample.is_on_path && has_sign(sample.value(term), sign)))
     }
 }

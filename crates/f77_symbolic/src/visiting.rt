@@ -1,7 +1,7 @@
 //! Where the program comes by itself: it is walked alone once, for all its mutants.
 
-ghost use Rattle.std.specs.Prelude.{◌≡◌, List, true, IfOk};
-ghost use Rattle.f77_symbolic.specs.Prelude.{Resolved, Place, Atoms, Holds, Valuation};
+ghost use Rattle.std.specs.Prelude.{List, true, IfOk};
+ghost use Rattle.f77_symbolic.specs.Prelude.{Resolved, Place, Atoms};
 ghost use Rattle.f77_symbolic.specs.code.{Extends, AreExplored, Arrives, GivesWayAlone, Whichever};
 ghost use Rattle.f77_symbolic.specs.{AreVisits, IsTour};
 

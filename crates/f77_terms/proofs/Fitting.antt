@@ -1,24 +1,18 @@
 -- Valuations that fit tables of atoms.
 use Rattle.f77_terms.proofs.Common.{arith, ◌≡◌, ◌<◌, ◌+◌, ℕ, zero, suc, List, [], ◌∷◌, ◌++◌, length, length-append, get_or, Some, ℤ, pos, refl, sym, ap, ◌∙◌}
-use Rattle.f77_terms.proofs.Common.{◌+ℤ◌, ◌*ℤ◌, slice_get, get_or_append_left, get_or-append-add, Part, HasAtomsBelow, Valuation, monomial_value, parts_value}
+use Rattle.f77_terms.proofs.Common.{◌+ℤ◌, ◌*ℤ◌, slice_get, get_or_append_left, get_or-append-add, Part, Valuation, parts_value}
 use Rattle.f77_terms.proofs.Common.{sum_value, Numbers, AreOfAtomsBelow, IsOfAtomsBelow, IsOfEarlierAtoms, slot_behind, function_value, key_value}
 use Rattle.f77_terms.specs.declared.atoms.Key.{Key}
 use Rattle.f77_terms.specs.declared.atoms.Key.TheVariants as key
-use Rattle.f77_terms.specs.declared.monomials.Monomial.{Monomial}
-use Rattle.f77_terms.specs.declared.monomials.Monomial.TheVariants as monomial
 use Rattle.f77_terms.specs.declared.terms.Term.{Term}
 
 -- valuations that agree on the atoms below a number agree on what has no others
 module _ (n : ℕ) (v w : Valuation) (agree : (k : ℕ) → k < n → v k ≡ w k) where
-  monomials_agree : (m : Monomial) → HasAtomsBelow n m → monomial_value v m ≡ monomial_value w m
-  monomials_agree (monomial.One a) h = agree a h
-  monomials_agree (monomial.Two a b) h = ap (λ z. z *ℤ v b) (agree a h.0) ∙ ap (λ z. w a *ℤ z) (agree b h.1)
-
   parts_agree : (parts : List Part) → AreOfAtomsBelow n parts → parts_value v parts ≡ parts_value w parts
   parts_agree [] within = refl
   parts_agree (p ∷ ps) within =
-      ap (λ z. p.factor *ℤ z +ℤ parts_value v ps) (monomials_agree p.monomial (within 0 p refl))
-      ∙ ap (λ z. p.factor *ℤ monomial_value w p.monomial +ℤ z) (parts_agree ps (λ k part e. within (suc k) part e))
+      ap (λ z. p.factor *ℤ z +ℤ parts_value v ps) (agree p.atom (within 0 p refl))
+      ∙ ap (λ z. p.factor *ℤ w p.atom +ℤ z) (parts_agree ps (λ k part e. within (suc k) part e))
 
   terms_agree : (term : Term) → IsOfAtomsBelow n term → sum_value v term ≡ sum_value w term
   terms_agree term within = ap (λ z. term.constant +ℤ z) (parts_agree term.parts.items within)

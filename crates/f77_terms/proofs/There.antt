@@ -24,9 +24,6 @@ any_more P xs i x within is there =
     let at : Any P (take i xs ++ x ∷ []) = subst (Any P) cut there in
     any_last P (take i xs) x at.0 at.1 at.2 at.3 at.4
 
-pub any_of_none : {X : Type 0} (P : X → Type 0) → Any P [] → ⊥
-any_of_none P there = let l = there.2 in absurd (omega arith)
-
 pub any_of_all : {X : Type 0} (P : X → Type 0) (xs : List X) (n : ℕ) → length xs ≤ n → Any P xs → Any P (take n xs)
 any_of_all P xs n all there = subst (Any P) (sym (take_all n xs all)) there
 

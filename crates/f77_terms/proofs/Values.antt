@@ -1,8 +1,8 @@
 -- The values of terms.
-use Rattle.f77_terms.proofs.Common.{arith, ◌≡◌, ◌≤◌, ℕ, zero, suc, ◌+◌, ◌-◌, List, [], ◌∷◌, ◌++◌, length, length-drop, take, drop, add-one, ℤ, pos, sym, ap}
+use Rattle.f77_terms.proofs.Common.{arith, ◌≡◌, ◌≤◌, ℕ, zero, suc, ◌+◌, ◌-◌, List, [], ◌∷◌, ◌++◌, length, length-drop, take, drop, add-one, ℤ, pos, ap}
 use Rattle.f77_terms.proofs.Common.{◌∙◌, ◌+ℤ◌, ◌*ℤ◌, slice_get, slice_set, Option, Some, None, IfSome, Result, Ok, Err, IfOk, insert, remove, ints, take_all}
-use Rattle.f77_terms.proofs.Common.{Part, Valuation, monomial_value, part_value, parts_value}
-use Rattle.f77_terms.proofs.Products.{times_sum, sum_times, times_product, last_swapped}
+use Rattle.f77_terms.proofs.Common.{Part, Valuation, part_value, parts_value}
+use Rattle.f77_terms.proofs.Products.{times_sum, sum_times, times_product}
 
 pub parts_put : (v : Valuation) (parts : List Part) (place : ℕ) (part : Part) → parts_value v (insert parts place part) ≡ parts_value v parts +ℤ part_value v part
 parts_put v [] zero part = omega (arith, ints)
@@ -54,23 +54,9 @@ pub times_more : (v : Valuation) (ps : List Part) (i : ℕ) (p : Part) (u : ℤ)
     → u *ℤ parts_value v (take (i + 1) ps) ≡ u *ℤ parts_value v (take i ps) +ℤ u *ℤ part_value v p
 times_more v ps i p u e = ap (λ z. u *ℤ z) (parts_more v ps i p e) ∙ sum_times u (parts_value v (take i ps)) (part_value v p)
 
-pub more_times : (v : Valuation) (ps : List Part) (i : ℕ) (p : Part) (u : ℤ) → slice_get ps i ≡ Some p
-    → parts_value v (take (i + 1) ps) *ℤ u ≡ parts_value v (take i ps) *ℤ u +ℤ part_value v p *ℤ u
-more_times v ps i p u e = ap (λ z. z *ℤ u) (parts_more v ps i p e) ∙ times_sum (parts_value v (take i ps)) (part_value v p) u
-
 -- a factor, so many times
 pub factor_times : (factor m f h : ℤ) → factor ≡ m *ℤ f → factor *ℤ h ≡ m *ℤ (f *ℤ h)
 factor_times factor m f h e = ap (λ z. z *ℤ h) e ∙ times_product m f h
-
--- the product of two parts
-pub both_factors : (factor a b s m n : ℤ) → factor ≡ a *ℤ b → s ≡ m *ℤ n → factor *ℤ s ≡ (a *ℤ m) *ℤ (b *ℤ n)
-both_factors factor a b s m n e f =
-    ap (λ z. z *ℤ s) e ∙ ap (λ z. (a *ℤ b) *ℤ z) f ∙ sym (times_product (a *ℤ b) m n)
-    ∙ ap (λ z. z *ℤ n) (last_swapped a b m) ∙ times_product (a *ℤ m) b n
-
--- a part of one factor more
-pub part_times : (factor f c h : ℤ) → factor ≡ f *ℤ c → factor *ℤ h ≡ (f *ℤ h) *ℤ c
-part_times factor f c h e = ap (λ z. z *ℤ h) e ∙ last_swapped f c h
 
 parts_pushed : (v : Valuation) (ps : List Part) (p : Part) → parts_value v (ps ++ p ∷ []) ≡ parts_value v ps +ℤ part_value v p
 parts_pushed v [] p = omega (arith, ints)
@@ -78,10 +64,10 @@ parts_pushed v (x ∷ xs) p = let rest = parts_pushed v xs p in omega (arith, in
 
 -- one divided part more
 pub divided_more : (v : Valuation) (old new : List Part) (g p s : ℤ) (part other : Part) → new ≡ old ++ part ∷ [] → s ≡ p +ℤ part_value v other
-    → p ≡ g *ℤ parts_value v old → other.factor ≡ g *ℤ part.factor → other.monomial ≡ part.monomial → s ≡ g *ℤ parts_value v new
+    → p ≡ g *ℤ parts_value v old → other.factor ≡ g *ℤ part.factor → other.atom ≡ part.atom → s ≡ g *ℤ parts_value v new
 divided_more v old new g p s part other is more before factor same =
-    let value = ap (λ z. z *ℤ monomial_value v other.monomial) factor ∙ ap (λ m. (g *ℤ part.factor) *ℤ monomial_value v m) same
-    ∙ times_product g part.factor (monomial_value v part.monomial) in
+    let value = ap (λ z. z *ℤ v other.atom) factor ∙ ap (λ m. (g *ℤ part.factor) *ℤ v m) same
+    ∙ times_product g part.factor (v part.atom) in
     let whole = ap (λ ps. g *ℤ parts_value v ps) is ∙ ap (λ z. g *ℤ z) (parts_pushed v old part) ∙ sum_times g (parts_value v old) (part_value v part) in
     omega (arith, ints, more, before, value, whole)
 

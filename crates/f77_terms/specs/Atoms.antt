@@ -1,5 +1,5 @@
 -- The meaning of atoms.
-use Rattle.std.specs.Prelude.{◌≡◌, ◌+◌, ◌*ℤ◌, ℕ, ℤ, pos, negsuc, List, Some, slice_get, int_div, int_rem}
+use Rattle.std.specs.Prelude.{◌≡◌, ◌<◌, ◌+◌, ◌*ℤ◌, ℕ, ℤ, pos, negsuc, List, Some, slice_get, int_div, int_rem}
 use Rattle.std.specs.Int.{int_min}
 use Rattle.f77_terms.specs.declared.atoms.Function.{Function}
 use Rattle.f77_terms.specs.declared.atoms.Function.TheVariants as function
@@ -8,7 +8,6 @@ use Rattle.f77_terms.specs.declared.atoms.Key.TheVariants as key
 use Rattle.f77_terms.specs.declared.atoms.Table.{Table}
 use Rattle.f77_terms.specs.declared.terms.Part.{Part}
 use Rattle.f77_terms.specs.declared.terms.Term.{Term}
-use Rattle.f77_terms.specs.Monomials.{HasAtomsBelow}
 use Rattle.f77_terms.specs.Terms.{Valuation, sum_value}
 
 -- the number that each slot holds
@@ -33,10 +32,10 @@ key_value held v (key.Slot slot) = held slot
 key_value held v (key.Element first index) = held (slot_behind first (sum_value v index))
 key_value held v (key.Function f a b) = function_value f (sum_value v a) (sum_value v b)
 
--- each atom of the parts is below this number
+-- the atom of each part is below this number
 abbrev pub AreOfAtomsBelow : ℕ → List Part → Type 0
 AreOfAtomsBelow n parts =
-    (k : ℕ) (part : Part) → slice_get parts k ≡ Some part → HasAtomsBelow n part.monomial
+    (k : ℕ) (part : Part) → slice_get parts k ≡ Some part → part.atom < n
 
 abbrev pub IsOfAtomsBelow : ℕ → Term → Type 0
 IsOfAtomsBelow n term = AreOfAtomsBelow n term.parts.items

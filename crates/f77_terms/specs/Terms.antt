@@ -1,7 +1,5 @@
 -- The values of terms.
 use Rattle.std.specs.Prelude.{◌≡◌, ◌∷◌, ◌+ℤ◌, ◌*ℤ◌, ℕ, Bool, true, List, [], Option, IfSome, ℤ, pos}
-use Rattle.f77_terms.specs.declared.monomials.Monomial.{Monomial}
-use Rattle.f77_terms.specs.declared.monomials.Monomial.TheVariants as monomial
 use Rattle.f77_terms.specs.declared.terms.Part.{Part}
 use Rattle.f77_terms.specs.declared.terms.Term.{Term}
 
@@ -9,14 +7,9 @@ use Rattle.f77_terms.specs.declared.terms.Term.{Term}
 abbrev pub Valuation : Type 0
 Valuation = ℕ → ℤ
 
--- the product of the numbers of its atoms
-abbrev pub monomial_value : Valuation → Monomial → ℤ
-monomial_value v (monomial.One a) = v a
-monomial_value v (monomial.Two a b) = v a *ℤ v b
-
--- so many times
+-- the number of its atom, so many times
 abbrev pub part_value : Valuation → Part → ℤ
-part_value v part = part.factor *ℤ monomial_value v part.monomial
+part_value v part = part.factor *ℤ v part.atom
 
 abbrev pub parts_value : Valuation → List Part → ℤ
 parts_value v [] = pos 0

@@ -2,20 +2,19 @@
 //! split by.
 
 use crate::elimination::Level;
-use crate::monomials::Monomial;
 use crate::paths::{Choice, Path};
-use crate::ranges::{Range, limited, monomial_range};
+use crate::ranges::{Range, atom_range, limited};
 use crate::terms::{Term, factor_of};
 use std::alloc::{AllocError, Global};
 
-/// The number of a monomial.
+/// The number of an atom.
 #[derive(Clone, Copy)]
 struct Assigned {
-    monomial: Monomial,
+    atom: usize,
     number: i64,
 }
 
-/// The numbers of monomials. Others have a number of their range.
+/// The numbers of atoms. Others have a number of their range.
 #[derive(Drop)]
 pub struct Assignment<'a> {
     known: &'a [Option<Range>],
@@ -38,51 +37,49 @@ fn number_in(range: Range, offset: i64) -> i64 {
 }
 
 impl<'a> Assignment<'a> {
-    /// The number of a monomial.
-    fn number_of(&self, monomial: Monomial) -> i64 {
+    /// The number of an atom.
+    fn number_of(&self, atom: usize) -> i64 {
         let mut numbers = self.list.iter();
-        if let Some(assigned) = numbers.find(|assigned| assigned.monomial == monomial) {
+        if let Some(assigned) = numbers.find(|assigned| assigned.atom == atom) {
             return assigned.number;
         }
-        monomial_range(self.known, monomial).map_or(0, |range| range.low.max(0).min(range.high))
+        atom_range(self.known, atom).map_or(0, |range| range.low.max(0).min(range.high))
     }
 
-    /// The number of a term, but for the part with this monomial, if there is one.
-    fn rest_of(&self, term: &Term, left_out: Option<Monomial>) -> Option<i64> {
+    /// The number of a term, but for the part with this atom, if there is one.
+    fn rest_of(&self, term: &Term, left_out: Option<usize>) -> Option<i64> {
         let mut sum = term.constant;
         for part in &term.parts {
-            if Some(part.monomial) != left_out {
-                let number = self.number_of(part.monomial);
+            if Some(part.atom) != left_out {
+                let number = self.number_of(part.atom);
                 sum = sum.checked_add(number.checked_mul(part.factor)?)?;
             }
         }
         Some(sum)
     }
 
-    /// What a bound leaves of the range of a monomial.
-    fn limited_by(&self, range: Range, bound: &Term, monomial: Monomial) -> Option<Range> {
-        let factor = factor_of(bound, monomial);
+    /// What a bound leaves of the range of an atom.
+    fn limited_by(&self, range: Range, bound: &Term, atom: usize) -> Option<Range> {
+        let factor = factor_of(bound, atom);
         if factor == 0 {
             return Some(range);
         }
-        limited(range, factor, self.rest_of(bound, Some(monomial))?)
+        limited(range, factor, self.rest_of(bound, Some(atom))?)
     }
 
-    /// A number for the monomial of a level, by the numbers of those that were eliminated behind it.
+    /// A number for the atom of a level, by the numbers of those that were eliminated behind it.
     fn number_at(&self, level: &Level) -> i64 {
         let mut range = Range {
             low: i64::MIN,
             high: i64::MAX,
         };
         for bound in &level.bounds {
-            range = self
-                .limited_by(range, bound, level.monomial)
-                .unwrap_or(range);
+            range = self.limited_by(range, bound, level.atom).unwrap_or(range);
         }
         number_in(range, (self.list.len() as i64).saturating_mul(7))
     }
 
-    /// Numbers for the monomials that were eliminated, the last of them first.
+    /// Numbers for the atoms that were eliminated, the last of them first.
     pub fn of(
         alloc: Global,
         known: &'a [Option<Range>],
@@ -93,9 +90,9 @@ impl<'a> Assignment<'a> {
             list: Vec::with_capacity(alloc, levels.len())?,
         };
         for level in levels.iter().rev() {
-            let monomial = level.monomial;
+            let atom = level.atom;
             let number = made.number_at(level);
-            made.list.push(Assigned { monomial, number })?;
+            made.list.push(Assigned { atom, number })?;
         }
         Ok(made)
     }
@@ -108,13 +105,6 @@ impl<'a> Assignment<'a> {
     /// A case of the choice is there.
     fn has_case(&self, choice: &Choice) -> bool {
         choice.cases.iter().any(|case| self.are_below(&case.bounds))
-    }
-
-    /// No product has a number, which need not be that of its atoms.
-    fn is_linear(&self) -> bool {
-        self.list
-            .iter()
-            .all(|assigned| matches!(assigned.monomial, Monomial::One(_)))
     }
 
     /// By what a case with these bounds is to be split: by the first of all that the path knows with which the numbers
@@ -131,7 +121,7 @@ impl<'a> Assignment<'a> {
         {
             return path.unequal.len().checked_add(place);
         }
-        if self.are_below(bounds) && self.is_linear() {
+        if self.are_below(bounds) {
             return None;
         }
         Some(next)

@@ -2,10 +2,9 @@
 
 ghost use Rattle.std.specs.Prelude.{◌≡◌, true, IfOk, IfSome};
 ghost use Rattle.f77_terms.specs.{Valuation, FitsTable, IsOfAtomsBelow, IsOfEarlierAtoms, Numbers};
-ghost use Rattle.f77_terms.specs.{key_value, HasAtomsBelow};
+ghost use Rattle.f77_terms.specs.{key_value};
 
 use crate::items::item_at;
-use crate::monomials::Monomial;
 use crate::terms::{Term, is_same_term};
 use f77_tree::Shared;
 use std::alloc::{AllocError, Global};
@@ -18,7 +17,6 @@ pub enum Function {
     /// What a division leaves.
     Remainder,
     Minimum,
-    /// The product, where it is no term.
     Product,
 }
 
@@ -47,22 +45,12 @@ pub fn new_table(alloc: Global) -> Table
     Table { keys }
 }
 
-/// The monomial has atoms below this number alone.
-fn has_atoms_below(monomial: Monomial, n: usize) -> bool
-    ensures { result ≡ true → HasAtomsBelow n monomial }
-{
-    match monomial {
-        Monomial::One(a) => a < n,
-        Monomial::Two(a, b) => a < n && b < n,
-    }
-}
-
 /// The term has atoms below this number alone.
 fn is_within(term: &Term, n: usize) -> bool
     ensures { result ≡ true → IsOfAtomsBelow n term.now }
 {
     for place in 0..term.parts.len() {
-        if !has_atoms_below(item_at(&term.parts, place).monomial, n) {
+        if item_at(&term.parts, place).atom >= n {
             return false;
         }
     }

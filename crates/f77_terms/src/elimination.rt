@@ -1,17 +1,16 @@
-//! Whether bounds contradict each other: one monomial after another is eliminated (Fourier and Motzkin).
+//! Whether bounds contradict each other: one atom after another is eliminated (Fourier and Motzkin).
 
 ghost use Rattle.std.specs.Prelude.{◌≡◌, true, IfOk};
 ghost use Rattle.f77_terms.specs.{Valuation, IsBelow, AreBelow, AreKnown};
 
 use crate::bounds::{add_bound, add_combined, add_tight, is_refuted};
 use crate::copying::copied_terms;
-use crate::monomials::Monomial;
-use crate::ranges::{Range, monomial_range};
-use crate::terms::{Part, Term, copy, factor_of, monomial_term};
+use crate::ranges::{Range, atom_range};
+use crate::terms::{Part, Term, atom_term, copy, factor_of};
 use std::alloc::{AllocError, Global};
 
-/// So many monomials are eliminated, and no more.
-const MOST_MONOMIALS: usize = 24;
+/// So many atoms are eliminated, and no more.
+const MOST_ATOMS: usize = 24;
 
 /// With more bounds nothing is told.
 const MOST_BOUNDS: usize = 80;
@@ -19,17 +18,17 @@ const MOST_BOUNDS: usize = 80;
 /// What an elimination costs more that may lose whole numbers.
 const LOSS: usize = 1000;
 
-/// A monomial that was eliminated, and from which bounds.
+/// An atom that was eliminated, and from which bounds.
 #[derive(Drop)]
 pub struct Level {
-    pub monomial: Monomial,
+    pub atom: usize,
     pub bounds: Vec<Term>,
 }
 
-/// In how many bounds a monomial has a factor above 0, and in how many one below, and whether all those are 1 and -1.
+/// In how many bounds an atom has a factor above 0, and in how many one below, and whether all those are 1 and -1.
 #[derive(Clone, Copy)]
 struct Count {
-    monomial: Monomial,
+    atom: usize,
     above: usize,
     below: usize,
     is_one: bool,
@@ -66,13 +65,13 @@ impl Count {
 /// Counts a part.
 fn count_part(counts: &mut Vec<Count>, part: Part) -> Result<(), AllocError> {
     for count in counts.iter_mut() {
-        if count.monomial == part.monomial {
+        if count.atom == part.atom {
             count.add(part.factor);
             return Ok(());
         }
     }
     let mut count = Count {
-        monomial: part.monomial,
+        atom: part.atom,
         above: 0,
         below: 0,
         is_one: true,
@@ -83,7 +82,7 @@ fn count_part(counts: &mut Vec<Count>, part: Part) -> Result<(), AllocError> {
     Ok(())
 }
 
-/// The monomial whose elimination costs least.
+/// The atom whose elimination costs least.
 fn next_count(alloc: Global, bounds: &[Term]) -> Result<Option<Count>, AllocError> {
     let mut counts = Vec::new(alloc);
     for bound in bounds {
@@ -94,20 +93,20 @@ fn next_count(alloc: Global, bounds: &[Term]) -> Result<Option<Count>, AllocErro
     Ok(counts.iter().min_by_key(|count| count.cost()).copied())
 }
 
-/// Adds what is known of a monomial.
+/// Adds what is known of an atom.
 fn add_known(
     alloc: Global,
     known: &[Option<Range>],
     bounds: &mut Vec<Term>,
-    monomial: Monomial,
+    atom: usize,
 ) -> Result<(), AllocError>
     ensures { IfOk result (λ _. (v : Valuation) → AreKnown v known.now → AreBelow v bounds.old.items
         → AreBelow v bounds.new.items) }
 {
-    let Some(range) = monomial_range(known, monomial) else {
+    let Some(range) = atom_range(known, atom) else {
         return Ok(());
     };
-    let term = monomial_term(alloc, monomial)?;
+    let term = atom_term(alloc, atom)?;
     add_bound(alloc, bounds, -1, &term, range.low)?;
     if range.high == i64::MIN {
         return Ok(());
@@ -115,19 +114,19 @@ fn add_known(
     add_bound(alloc, bounds, 1, &term, -range.high)
 }
 
-/// Adds what follows from a bound without the monomial: itself, or, where its factor is above 0, what it leads to with
+/// Adds what follows from a bound without the atom: itself, or, where its factor is above 0, what it leads to with
 /// each of those in which the factor is below 0.
 fn add_without(
     alloc: Global,
     left: &mut Vec<Term>,
     bound: &Term,
     bounds: &[Term],
-    monomial: Monomial,
+    atom: usize,
 ) -> Result<(), AllocError>
     ensures { IfOk result (λ _. (v : Valuation) → AreBelow v left.old.items → IsBelow v bound.now
         → AreBelow v bounds.now → AreBelow v left.new.items) }
 {
-    let factor = factor_of(bound, monomial);
+    let factor = factor_of(bound, atom);
     if factor == 0 {
         return add_tight(alloc, left, copy(alloc, bound)?);
     }
@@ -135,7 +134,7 @@ fn add_without(
         return Ok(());
     }
     for other in bounds {
-        let below = factor_of(other, monomial);
+        let below = factor_of(other, atom);
         if below < 0 && below != i64::MIN {
             add_combined(alloc, left, -below, bound, factor, other)?;
         }
@@ -143,18 +142,18 @@ fn add_without(
     Ok(())
 }
 
-/// What follows from the bounds, without the monomial.
-fn eliminated(alloc: Global, bounds: &[Term], monomial: Monomial) -> Result<Vec<Term>, AllocError>
+/// What follows from the bounds, without the atom.
+fn eliminated(alloc: Global, bounds: &[Term], atom: usize) -> Result<Vec<Term>, AllocError>
     ensures { IfOk result (λ left. (v : Valuation) → AreBelow v bounds.now → AreBelow v left.items) }
 {
     let mut left = Vec::new(alloc);
     for bound in bounds {
-        add_without(alloc, &mut left, bound, bounds, monomial)?;
+        add_without(alloc, &mut left, bound, bounds, atom)?;
     }
     Ok(left)
 }
 
-/// Where this is known of atoms, not all of the bounds are at most 0. It tells which monomials were eliminated.
+/// Where this is known of atoms, not all of the bounds are at most 0. It tells which atoms were eliminated.
 pub fn are_contradictory(
     alloc: Global,
     work: &mut u64,
@@ -166,25 +165,22 @@ pub fn are_contradictory(
         → ¬ (AreBelow v bounds.now)) }
 {
     let mut left = copied_terms(alloc, bounds)?;
-    for _ in 0..MOST_MONOMIALS {
+    for _ in 0..MOST_ATOMS {
         if is_refuted(&left) {
             return Ok(true);
         }
         let Some(count) = next_count(alloc, &left)? else {
             return Ok(false);
         };
-        let monomial = count.monomial;
+        let atom = count.atom;
         let looked_at = left.len().saturating_add(count.pairs());
         *work = work.saturating_sub(looked_at as u64);
         if left.len() > MOST_BOUNDS || *work == 0 {
             return Ok(false);
         }
-        add_known(alloc, known, &mut left, monomial)?;
-        let without = eliminated(alloc, &left, monomial)?;
-        levels.push(Level {
-            monomial,
-            bounds: left,
-        })?;
+        add_known(alloc, known, &mut left, atom)?;
+        let without = eliminated(alloc, &left, atom)?;
+        levels.push(Level { atom, bounds: left })?;
         left = without;
     }
     Ok(false)

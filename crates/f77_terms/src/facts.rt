@@ -5,7 +5,7 @@ ghost use Rattle.f77_terms.specs.{Valuation, sum_value, AreBelow, HasCase, Holds
 
 use crate::bounds::add_bound;
 use crate::paths::{Case, Choice, Path, add_equal};
-use crate::terms::{Term, add_multiple, combined, product};
+use crate::terms::{Term, add_multiple, combined, copy};
 use f77_tree::Shared;
 use std::alloc::{AllocError, Global};
 
@@ -91,22 +91,19 @@ pub fn sign_cases(alloc: Global, dividend: &Term, rest: &Term) -> Result<Shared<
     two_cases(alloc, above, below)
 }
 
-/// Adds that the divisor times the quotient, and the remainder, are the dividend, unless a number gets too large.
+/// Adds that a product and a remainder are the dividend, unless a number gets too large.
 pub fn add_whole(
     alloc: Global,
     path: &mut Path,
     dividend: &Term,
-    divisor: &Term,
-    quotient: &Term,
+    product: &Term,
     rest: &Term,
 ) -> Result<(), AllocError>
     ensures { IfOk result (λ _. (v : Valuation) → Holds v path.old
-        → sum_value v quotient.now *ℤ sum_value v divisor.now +ℤ sum_value v rest.now ≡ sum_value v dividend.now
+        → sum_value v product.now +ℤ sum_value v rest.now ≡ sum_value v dividend.now
         → Holds v path.new) }
 {
-    let Some(mut whole) = product(alloc, quotient, divisor)? else {
-        return Ok(());
-    };
+    let mut whole = copy(alloc, product)?;
     if !add_multiple(&mut whole, 1, rest)? || !add_multiple(&mut whole, -1, dividend)? {
         return Ok(());
     }

@@ -1,14 +1,13 @@
-//! What is known of terms, and what a path comes to know once.
+//! What is known of terms, and what a path comes to know of atoms.
 
-ghost use Rattle.std.specs.Prelude.{◌≡◌, ◌≢◌, ◌+ℤ◌, ◌*ℤ◌, ◌≤ℤ◌, pos, true, int_div, int_rem, IfOk, IfSome};
+ghost use Rattle.std.specs.Prelude.{◌≡◌, ◌≢◌, ◌+ℤ◌, ◌*ℤ◌, pos, true, int_div, int_rem, IfOk, IfSome};
 ghost use Rattle.std.specs.Int.{int_min};
 ghost use Rattle.f77_terms.specs.{HasSign, Holds, IsWorth, Valuation, sum_value};
 
 use crate::facts::{add_pair_bound, add_whole, divisor_cases, order_case, sign_cases, two_cases};
-use crate::monomials::Monomial;
-use crate::paths::{Path, add_choice};
-use crate::ranges::{may_have, term_range};
-use crate::terms::{Term, atom_term, combined, constant_term, factor_of};
+use crate::paths::{Path, add_choice, add_range};
+use crate::ranges::{may_have, range_of_product, term_range};
+use crate::terms::{Term, atom_term, combined, constant_term, factor_of, is_same_term};
 use std::alloc::{AllocError, Global};
 use std::cmp::Ordering;
 
@@ -46,33 +45,57 @@ fn has_choice_of(path: &Path, atom: usize) -> bool {
     path.choices.iter().any(|choice| {
         choice.cases.iter().any(|case| {
             let mut bounds = case.bounds.iter();
-            bounds.any(|bound| factor_of(bound, Monomial::One(atom)) != 0)
+            bounds.any(|bound| factor_of(bound, atom) != 0)
         })
     })
 }
 
-/// Adds what is known of a quotient and a remainder, once, where the divisor is not 0.
+/// Adds what is known of a division, once, where the divisor is not 0: of the remainder, and of the product of quotient
+/// and divisor.
 pub fn know_division(
     alloc: Global,
     path: &mut Path,
     dividend: &Term,
     divisor: &Term,
-    quotient: usize,
+    product: &Term,
     remainder: usize,
 ) -> Result<(), AllocError>
     ensures { IfOk result (λ _. (v : Valuation) → Holds v path.old
-        → v quotient ≡ int_div (sum_value v dividend.now) (sum_value v divisor.now)
+        → sum_value v product.now
+        ≡ int_div (sum_value v dividend.now) (sum_value v divisor.now) *ℤ sum_value v divisor.now
         → v remainder ≡ int_rem (sum_value v dividend.now) (sum_value v divisor.now)
         → sum_value v divisor.now ≢ pos 0 → Holds v path.new) }
 {
     if has_choice_of(path, remainder) {
         return Ok(());
     }
-    let whole = atom_term(alloc, quotient)?;
     let rest = atom_term(alloc, remainder)?;
-    add_whole(alloc, path, dividend, divisor, &whole, &rest)?;
+    add_whole(alloc, path, dividend, product, &rest)?;
     add_choice(path, divisor_cases(alloc, divisor, &rest)?)?;
     add_choice(path, sign_cases(alloc, dividend, &rest)?)
+}
+
+/// Adds what is known of a product: its range, and that a square is at least the term, and at least its negative.
+pub fn know_product(
+    alloc: Global,
+    path: &mut Path,
+    a: &Term,
+    b: &Term,
+    product: usize,
+) -> Result<(), AllocError>
+    ensures { IfOk result (λ _. (v : Valuation) → Holds v path.old
+        → v product ≡ sum_value v a.now *ℤ sum_value v b.now → Holds v path.new) }
+{
+    let Some(range) = range_of_product(&path.known, a, b) else {
+        return Ok(());
+    };
+    add_range(path, product, range)?;
+    if !is_same_term(a, b) {
+        return Ok(());
+    }
+    let square = atom_term(alloc, product)?;
+    add_pair_bound(alloc, &mut path.below, 1, a, -1, &square, 0)?;
+    add_pair_bound(alloc, &mut path.below, -1, a, -1, &square, 0)
 }
 
 /// Adds what is known of the lesser of two terms, once.

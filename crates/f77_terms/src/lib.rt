@@ -13,7 +13,6 @@ mod elimination;
 mod facts;
 pub mod items;
 pub mod knowing;
-pub mod monomials;
 mod near;
 mod numbers;
 pub mod paths;

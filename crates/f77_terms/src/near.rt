@@ -4,7 +4,6 @@ ghost use Rattle.std.specs.Prelude.{IfOk};
 ghost use Rattle.f77_terms.specs.{Holds, Valuation};
 
 use crate::copying::copied_path;
-use crate::monomials::atoms_of;
 use crate::paths::{Choice, Path};
 use crate::terms::Term;
 use f77_tree::Shared;
@@ -18,9 +17,7 @@ fn is_marked(marks: &[bool], atom: usize) -> bool {
 
 /// An atom of the term is marked.
 fn is_near(marks: &[bool], term: &Term) -> bool {
-    term.parts.iter().any(|part| atoms_of(part.monomial)
-        .iter()
-        .any(|atom| is_marked(marks, *atom)))
+    term.parts.iter().any(|part| is_marked(marks, part.atom))
 }
 
 /// Marks an atom. It tells whether it was not marked before.
@@ -42,9 +39,7 @@ fn mark_terms(marks: &mut Vec<bool>, terms: &[Term]) -> Result<bool, AllocError>
     let mut is_new = false;
     for term in terms {
         for part in &term.parts {
-            for atom in atoms_of(part.monomial) {
-                is_new |= mark_atom(marks, atom)?;
-            }
+            is_new |= mark_atom(marks, part.atom)?;
         }
     }
     Ok(is_new)

@@ -1,14 +1,13 @@
-//! Ranges of atoms, of products and of terms.
+//! Ranges of atoms and of terms.
 
 ghost use Rattle.std.specs.Prelude.{◌≡◌, ◌≢◌, ◌<◌, ◌+ℤ◌, ◌*ℤ◌, ◌≤ℤ◌, ℤ, pos, false, true, length, vec_len};
 ghost use Rattle.std.specs.Prelude.{slice_get, Some, IfSome, All};
-ghost use Rattle.f77_terms.specs.{Valuation, monomial_value, part_value, parts_value, sum_value};
+ghost use Rattle.f77_terms.specs.{Valuation, part_value, parts_value, sum_value};
 ghost use Rattle.f77_terms.specs.{IsBelow, AreBelow, HasSign, IsIn, AreKnown, IsUnequal};
 
 use crate::items::item_at;
-use crate::monomials::Monomial;
 use crate::numbers::ceiling;
-use crate::terms::{Part, Term};
+use crate::terms::{Part, Term, is_same_term};
 use std::cmp::Ordering;
 
 /// The numbers from the low to the high one.
@@ -121,18 +120,6 @@ fn sum_range(a: Range, b: Range) -> Option<Range>
     Some(Range { low, high })
 }
 
-/// The range of a product of atoms.
-pub fn monomial_range(known: &[Option<Range>], monomial: Monomial) -> Option<Range>
-    ensures { IfSome result
-        (λ range. (v : Valuation) → AreKnown v known.now → IsIn range (monomial_value v monomial)) }
-{
-    match monomial {
-        Monomial::One(a) => atom_range(known, a),
-        Monomial::Two(a, b) if a == b => square_range(atom_range(known, a)?),
-        Monomial::Two(a, b) => product_range(atom_range(known, a)?, atom_range(known, b)?),
-    }
-}
-
 /// The range of the sum of parts.
 fn parts_range(known: &[Option<Range>], parts: &[Part]) -> Option<Range>
     ensures { IfSome result
@@ -141,8 +128,8 @@ fn parts_range(known: &[Option<Range>], parts: &[Part]) -> Option<Range>
     let mut range = Range { low: 0, high: 0 };
     for place in 0..parts.len() {
         let part = *item_at(parts, place);
-        let monomial = monomial_range(known, part.monomial)?;
-        range = sum_range(range, multiple_range(monomial, part.factor)?)?;
+        let atom = atom_range(known, part.atom)?;
+        range = sum_range(range, multiple_range(atom, part.factor)?)?;
     }
     Some(range)
 }
@@ -156,6 +143,18 @@ pub fn term_range(known: &[Option<Range>], term: &Term) -> Option<Range>
         high: term.constant,
     };
     sum_range(constant, parts_range(known, &term.parts)?)
+}
+
+/// The range of the product of two terms, which may be a square.
+pub fn range_of_product(known: &[Option<Range>], a: &Term, b: &Term) -> Option<Range>
+    ensures { IfSome result (λ range. (v : Valuation) → AreKnown v known.now
+        → IsIn range (sum_value v a.now *ℤ sum_value v b.now)) }
+{
+    let first = term_range(known, a)?;
+    if is_same_term(a, b) {
+        return square_range(first);
+    }
+    product_range(first, term_range(known, b)?)
 }
 
 /// Sets what is known of an atom. It tells whether that is new.
@@ -208,12 +207,9 @@ fn narrowed_at(known: &[Option<Range>], bound: &Term, place: usize) -> Option<(u
         → IsIn left.1 (v left.0)) }
 {
     let part = *item_at(&bound.parts, place);
-    let Monomial::One(atom) = part.monomial else {
-        return None;
-    };
     let rest = rest_low(known, bound, place)?;
-    let range = limited(atom_range(known, atom)?, part.factor, rest)?;
-    Some((atom, range))
+    let range = limited(atom_range(known, part.atom)?, part.factor, rest)?;
+    Some((part.atom, range))
 }
 
 /// Notes what follows for atoms from a bound. It tells whether something is new.
@@ -275,11 +271,8 @@ fn narrow_apart(known: &mut [Option<Range>], term: &Term)
         return;
     }
     let part = *item_at(&term.parts, 0);
-    let Monomial::One(atom) = part.monomial else {
-        return;
-    };
     if let Some(root) = root_of(part.factor, term.constant) {
-        leave_out(known, atom, root);
+        leave_out(known, part.atom, root);
     }
 }
 

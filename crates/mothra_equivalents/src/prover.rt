@@ -32,7 +32,7 @@ const BUDGET: u64 = 12_000_000;
 /// So much a mutant may take at least, and at most; and so many times its share of what is left.
 const FEWEST: u64 = 2_000;
 
-const MOST: u64 = 100_000;
+const MOST: u64 = 25_000;
 
 const SHARES: u64 = 5;
 

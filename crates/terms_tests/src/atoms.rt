@@ -1,9 +1,8 @@
 //! Atoms, and what is known of them.
 
-use crate::made::{is_below, made};
+use crate::made::{X, Y, Z, is_below, made};
 use f77_terms::atoms::{Function, Key, interned, new_table};
 use f77_terms::knowing::{know_division, know_minimum};
-use f77_terms::monomials::Monomial;
 use f77_terms::paths::{add_below, add_range, new_path};
 use f77_terms::ranges::Range;
 use f77_terms::terms::{atom_term, constant_term};
@@ -42,17 +41,18 @@ fn makes_an_atom_once(rt: HostRuntime) -> Result<(), Fail> {
 fn knows_divisions(rt: HostRuntime) -> Result<(), Fail> {
     let alloc = rt.alloc();
     let mut path = new_path(alloc);
-    let dividend = atom_term(alloc, 0)?;
+    let dividend = atom_term(alloc, X)?;
     let divisor = constant_term(alloc, 4);
-    add_range(&mut path, 0, Range { low: 0, high: 100 })?;
-    know_division(alloc, &mut path, &dividend, &divisor, 1, 2)?;
-    let most = made(alloc, -3, &[(1, Monomial::One(2))])?;
+    add_range(&mut path, X, Range { low: 0, high: 100 })?;
+    let product = made(alloc, 0, &[(4, Y)])?;
+    know_division(alloc, &mut path, &dividend, &divisor, &product, Z)?;
+    let most = made(alloc, -3, &[(1, Z)])?;
     assert!(rt; is_below(alloc, &path, &most)?);
-    let most = made(alloc, -2, &[(1, Monomial::One(2))])?;
+    let most = made(alloc, -2, &[(1, Z)])?;
     assert!(rt; !is_below(alloc, &path, &most)?);
-    let least = made(alloc, 0, &[(-1, Monomial::One(2))])?;
+    let least = made(alloc, 0, &[(-1, Z)])?;
     assert!(rt; is_below(alloc, &path, &least)?);
-    let most = made(alloc, -25, &[(1, Monomial::One(1))])?;
+    let most = made(alloc, -25, &[(1, Y)])?;
     assert!(rt; is_below(alloc, &path, &most)?);
     Ok(())
 }
@@ -61,14 +61,14 @@ fn knows_divisions(rt: HostRuntime) -> Result<(), Fail> {
 fn knows_minima(rt: HostRuntime) -> Result<(), Fail> {
     let alloc = rt.alloc();
     let mut path = new_path(alloc);
-    let first = atom_term(alloc, 0)?;
-    let second = atom_term(alloc, 1)?;
-    know_minimum(alloc, &mut path, &first, &second, 2)?;
+    let first = atom_term(alloc, X)?;
+    let second = atom_term(alloc, Y)?;
+    know_minimum(alloc, &mut path, &first, &second, Z)?;
     add_below(alloc, &mut path, -1, &first, 3)?;
     add_below(alloc, &mut path, -1, &second, 5)?;
-    let least = made(alloc, 3, &[(-1, Monomial::One(2))])?;
+    let least = made(alloc, 3, &[(-1, Z)])?;
     assert!(rt; is_below(alloc, &path, &least)?);
-    let least = made(alloc, 4, &[(-1, Monomial::One(2))])?;
+    let least = made(alloc, 4, &[(-1, Z)])?;
     assert!(rt; !is_below(alloc, &path, &least)?);
     Ok(())
 }

@@ -100,8 +100,9 @@ fn knows_divisions_once(rt: HostRuntime) -> Result<(), Fail> {
     let mut path = new_path(alloc);
     let x = atom_term(alloc, 0)?;
     let y = atom_term(alloc, 1)?;
-    know_division(alloc, &mut path, &x, &y, 2, 3)?;
-    know_division(alloc, &mut path, &x, &y, 2, 3)?;
+    let product = atom_term(alloc, 2)?;
+    know_division(alloc, &mut path, &x, &y, &product, 3)?;
+    know_division(alloc, &mut path, &x, &y, &product, 3)?;
     assert_eq!(rt; path.choices.len(), 2);
     know_minimum(alloc, &mut path, &x, &y, 4)?;
     know_minimum(alloc, &mut path, &x, &y, 4)?;

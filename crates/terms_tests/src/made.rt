@@ -1,26 +1,25 @@
 //! Terms for tests, and questions on paths.
 
-use f77_terms::monomials::Monomial;
 use f77_terms::paths::{Path, cannot_be, refuted};
-use f77_terms::terms::{Term, add_multiple, constant_term, monomial_term};
+use f77_terms::terms::{Term, add_multiple, atom_term, constant_term};
 use std::alloc::{AllocError, Global};
 use std::cmp::Ordering;
 
-pub(crate) const X: Monomial = Monomial::One(0);
+pub(crate) const X: usize = 0;
 
-pub(crate) const Y: Monomial = Monomial::One(1);
+pub(crate) const Y: usize = 1;
 
-pub(crate) const Z: Monomial = Monomial::One(2);
+pub(crate) const Z: usize = 2;
 
-/// A constant and monomials, each so many times.
+/// A constant and atoms, each so many times.
 pub(crate) fn made(
     alloc: Global,
     constant: i64,
-    parts: &[(i64, Monomial)],
+    parts: &[(i64, usize)],
 ) -> Result<Term, AllocError> {
     let mut term = constant_term(alloc, constant);
-    for (factor, monomial) in parts {
-        let next = monomial_term(alloc, *monomial)?;
+    for (factor, atom) in parts {
+        let next = atom_term(alloc, *atom)?;
         add_multiple(&mut term, *factor, &next)?;
     }
     Ok(term)

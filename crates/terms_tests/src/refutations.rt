@@ -1,20 +1,19 @@
 //! Bounds that contradict each other, and bounds that do not.
 
-use crate::made::{X, Y, Z, is_below, is_refuted, made, never_has};
-use f77_terms::monomials::Monomial;
+use crate::made::{X, Y, Z, is_refuted, made, never_has};
+use f77_terms::knowing::know_product;
 use f77_terms::paths::{
-    Case, Choice, Path, add_below, add_choice, add_equal, add_range, add_unequal, new_path, refuted,
+    Case, Choice, add_choice, add_equal, add_range, add_unequal, new_path, refuted,
 };
-use f77_terms::ranges::Range;
-use f77_terms::terms::{Term, is_same_term, product, sum};
+use f77_terms::ranges::{Range, atom_range};
+use f77_terms::terms::{atom_term, is_same_term, sum};
 use f77_tree::Shared;
-use std::alloc::{AllocError, Global};
+use std::alloc::AllocError;
 use std::cmp::Ordering;
 use std::test::Fail;
 
-fn below(alloc: Global, path: &mut Path, term: &Term) -> Result<(), AllocError> {
-    add_below(alloc, path, 1, term, 0)
-}
+/// The square of Y.
+const SQUARE: usize = 3;
 
 #[test]
 fn refutes_orders(rt: HostRuntime) -> Result<(), Fail> {
@@ -113,35 +112,28 @@ fn refutes_choices(rt: HostRuntime) -> Result<(), Fail> {
 fn bounds_products(rt: HostRuntime) -> Result<(), Fail> {
     let alloc = rt.alloc();
     let mut path = new_path(alloc);
-    add_range(&mut path, 0, Range { low: 2, high: 5 })?;
-    add_range(&mut path, 1, Range { low: -3, high: 4 })?;
-    let least = made(alloc, -15, &[(-1, Monomial::Two(0, 1))])?;
-    assert!(rt; is_below(alloc, &path, &least)?);
-    let least = made(alloc, -14, &[(-1, Monomial::Two(0, 1))])?;
-    assert!(rt; !is_below(alloc, &path, &least)?);
-    let square = made(alloc, 0, &[(-1, Monomial::Two(1, 1))])?;
-    assert!(rt; is_below(alloc, &path, &square)?);
-    below(alloc, &mut path, &made(alloc, 1, &[(-1, Y)])?)?;
-    let product = made(alloc, 2, &[(-1, Monomial::Two(0, 1))])?;
-    assert!(rt; is_below(alloc, &path, &product)?);
+    let x = atom_term(alloc, X)?;
+    let y = atom_term(alloc, Y)?;
+    add_range(&mut path, X, Range { low: 2, high: 5 })?;
+    add_range(&mut path, Y, Range { low: -3, high: 4 })?;
+    know_product(alloc, &mut path, &x, &y, Z)?;
+    let both = Range { low: -15, high: 20 };
+    assert_eq!(rt; atom_range(&path.known, Z), Some(both));
+    know_product(alloc, &mut path, &y, &y, SQUARE)?;
+    let square = Range { low: 0, high: 16 };
+    assert_eq!(rt; atom_range(&path.known, SQUARE), Some(square));
+    let less = made(alloc, 1, &[(1, SQUARE), (1, Y)])?;
+    assert!(rt; is_refuted(alloc, &path, &[less])?);
+    let less = made(alloc, 0, &[(1, SQUARE), (1, Y)])?;
+    assert!(rt; !is_refuted(alloc, &path, &[less])?);
     Ok(())
 }
 
 #[test]
-fn multiplies_out(rt: HostRuntime) -> Result<(), Fail> {
+fn adds_terms(rt: HostRuntime) -> Result<(), Fail> {
     let alloc = rt.alloc();
     let plus = made(alloc, 3, &[(1, X), (2, Y)])?;
     let minus = made(alloc, -3, &[(1, X), (2, Y)])?;
-    let Some(squares) = product(alloc, &plus, &minus)? else {
-        return Err(Fail::from(AllocError));
-    };
-    let parts = [
-        (4, Monomial::Two(1, 1)),
-        (1, Monomial::Two(0, 0)),
-        (4, Monomial::Two(0, 1)),
-    ];
-    let expected = made(alloc, -9, &parts)?;
-    assert!(rt; is_same_term(&squares, &expected));
     let Some(twice) = sum(alloc, &plus, &minus)? else {
         return Err(Fail::from(AllocError));
     };

@@ -14,7 +14,7 @@ loop-place-preserved c v =
     let more = parts_more v c.args.parts.now c.loop-place.place c.item_at-part.result.now c.item_at-part.ensures in
     let before = simp to_z-of_z at (c.loop-place.invariant v) in
     simp to_z-of_z (divided_more v c.loop-place.divided.items c.push.new.self.items c.args.g (parts_value v (take c.loop-place.place c.args.parts.now))
-    (parts_value v (take (c.loop-place.place + 1) c.args.parts.now)) (record { factor = c.in-Some.factor; monomial = c.item_at-part.result.now.monomial })
+    (parts_value v (take (c.loop-place.place + 1) c.args.parts.now)) (record { factor = c.in-Some.factor; atom = c.item_at-part.result.now.atom })
     c.item_at-part.result.now (simp to_z-of_z at c.in_ok-push.ensures.items) more before factors refl)
 
 pub returns : goal.returns

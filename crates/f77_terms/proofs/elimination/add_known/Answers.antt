@@ -5,7 +5,7 @@ use Rattle.f77_terms.proofs.elimination.add_known.Goals as goal
 pub returns-then-range : goal.returns-then-range
 returns-then-range c v known before =
     let low : SFits w64 c.in-Some.range.low = search rules in
-    let between = c.in-Some.ensures v known in
+    let between = c.in-Some.ensures.within v known in
     let is = c.in_ok-term.ensures v in
     c.in_ok-add_bound.ensures v before (omega (arith, ints, between.above, is))
 
@@ -15,7 +15,7 @@ returns c =
     let high : SFits w64 c.in-Some.range.high = search rules in
     ok_then c.add_bound-2.result c.add_bound-2.ensures
     (λ x claim v known before.
-    let between = c.in-Some.ensures v known in
+    let between = c.in-Some.ensures.within v known in
     let is = c.in_ok-term.ensures v in
     claim v (c.in_ok-add_bound.ensures v before (omega (arith, ints, between.above, is)))
     (omega (arith, ints, between.below, is)))

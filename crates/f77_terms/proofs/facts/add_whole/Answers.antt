@@ -6,7 +6,7 @@ pub returns : goal.returns
 returns c =
     ok_then c.add_equal.result c.add_equal.ensures
     (λ x claim v holds e.
-    let whole = (rw c.in-Some.is at c.in_ok-whole.ensures) v in
+    let whole = c.in_ok-whole.ensures.value v in
     let more = c.in_ok-add_multiple.ensures c.if-not-branch.false v in
     let less = c.in_ok-add_multiple-2.ensures c.if-not-branch-2.false v in
     claim v holds (omega (arith, ints, whole, more, less, e)))

@@ -8,7 +8,6 @@ returns c =
     (λ x claim v holds q r apart.
     let n = sum_value v c.args.dividend.now in
     let d = sum_value v c.args.divisor.now in
-    let quotient = c.in_ok-whole.ensures v ∙ q in
     let rest = c.in_ok-rest.ensures v ∙ r in
-    let whole = ap (λ z. z *ℤ d +ℤ sum_value v c.in_ok-rest.rest) quotient ∙ ap (λ z. int_div n d *ℤ d +ℤ z) rest ∙ quot-rem n d in
+    let whole = ap (λ z. z +ℤ sum_value v c.in_ok-rest.rest) q ∙ ap (λ z. int_div n d *ℤ d +ℤ z) rest ∙ quot-rem n d in
     claim v (c.in_ok-add_choice.ensures v (c.in_ok-add_whole.ensures v holds whole) (c.in_ok-divisor_cases.ensures v n apart rest)) (c.in_ok-sign_cases.ensures v d rest))

@@ -1,23 +1,23 @@
 use Rattle.f77_terms.proofs.Common.{arith, rules, ◌≡◌, SFits, w64, List, Some, ℕ, ℤ, pos, ap, ◌∙◌, ◌+ℤ◌, ◌*ℤ◌, slice_get, slice_set, remove, zero-*ℤ, ints}
-use Rattle.f77_terms.proofs.Common.{to_z-of_z, Part, Valuation, monomial_value, parts_value}
+use Rattle.f77_terms.proofs.Common.{to_z-of_z, Part, Valuation, parts_value}
 use Rattle.f77_terms.proofs.Values.{parts_set, parts_removed, factor_more}
 use Rattle.f77_terms.proofs.terms.add_factor.Goals as goal
 
 gone : (v : Valuation) (ps : List Part) (k : ℕ) (part old : Part) (m factor : ℤ) → slice_get ps k ≡ Some part → slice_get ps k ≡ Some old
-    → factor ≡ old.factor +ℤ m → factor ≡ pos 0 → parts_value v (remove ps k) ≡ parts_value v ps +ℤ m *ℤ monomial_value v part.monomial
+    → factor ≡ old.factor +ℤ m → factor ≡ pos 0 → parts_value v (remove ps k) ≡ parts_value v ps +ℤ m *ℤ v part.atom
 gone v ps k part old m factor at there sum none =
     let same : old ≡ part = cc (at, there) in
-    let more = factor_more factor part.factor m (monomial_value v part.monomial) (sum ∙ ap (λ (p : Part). p.factor +ℤ m) same) in
-    let nothing = ap (λ z. z *ℤ monomial_value v part.monomial) none ∙ zero-*ℤ (monomial_value v part.monomial) in
-    parts_removed v ps k part (m *ℤ monomial_value v part.monomial) at (omega (arith, ints, more, nothing))
+    let more = factor_more factor part.factor m (v part.atom) (sum ∙ ap (λ (p : Part). p.factor +ℤ m) same) in
+    let nothing = ap (λ z. z *ℤ v part.atom) none ∙ zero-*ℤ (v part.atom) in
+    parts_removed v ps k part (m *ℤ v part.atom) at (omega (arith, ints, more, nothing))
 
 changed : (v : Valuation) (ps : List Part) (k : ℕ) (part old : Part) (m factor : ℤ) → slice_get ps k ≡ Some part → slice_get ps k ≡ Some old → factor ≡ old.factor +ℤ m
-    → parts_value v (slice_set ps k (record { factor = factor; monomial = old.monomial })) ≡ parts_value v ps +ℤ m *ℤ monomial_value v part.monomial
+    → parts_value v (slice_set ps k (record { factor = factor; atom = old.atom })) ≡ parts_value v ps +ℤ m *ℤ v part.atom
 changed v ps k part old m factor at there sum =
     let same : old ≡ part = cc (at, there) in
-    let more = factor_more factor part.factor m (monomial_value v part.monomial) (sum ∙ ap (λ (p : Part). p.factor +ℤ m) same) in
-    let here = ap (λ (p : Part). factor *ℤ monomial_value v p.monomial) same in
-    parts_set v ps k part (record { factor = factor; monomial = old.monomial }) (m *ℤ monomial_value v part.monomial) at (omega (arith, ints, more, here))
+    let more = factor_more factor part.factor m (v part.atom) (sum ∙ ap (λ (p : Part). p.factor +ℤ m) same) in
+    let here = ap (λ (p : Part). factor *ℤ v p.atom) same in
+    parts_set v ps k part (record { factor = factor; atom = old.atom }) (m *ℤ v part.atom) at (omega (arith, ints, more, here))
 
 pub returns-then-factor-eq0 : goal.returns-then-factor-eq0
 returns-then-factor-eq0 c e v part at =

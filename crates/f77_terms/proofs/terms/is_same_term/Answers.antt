@@ -3,16 +3,11 @@ use Rattle.std.specs.Bool.{Decides}
 use Rattle.std.specs.Cmp.{first_so, second_so}
 use Rattle.std.proofs.lemmas.Bool.Decides.{Decides-int_eq}
 use Rattle.std.proofs.lemmas.Slice.Eq.{slice_eq-Decides}
-use Rattle.f77_terms.specs.contracts.monomials.MonomialPartialEq.TheImpl as monomial
 use Rattle.f77_terms.specs.contracts.terms.PartPartialEq.TheImpl as part
-use Rattle.f77_terms.specs.declared.monomials.Monomial.{Monomial}
 use Rattle.f77_terms.proofs.terms.is_same_term.Goals as goal
 
-same_monomial : (a b : Monomial) → Decides (monomial.ghosts.eq a b) (a ≡ b)
-same_monomial a b = search rules
-
 same_part : (a b : Part) → Decides (part.ghosts.eq a b) (a ≡ b)
-same_part a b = search (rules, same_monomial, Decides-int_eq)
+same_part a b = search (rules, Decides-int_eq)
 
 pub returns : goal.returns
 returns c e v =

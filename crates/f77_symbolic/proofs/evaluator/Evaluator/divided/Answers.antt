@@ -1,20 +1,18 @@
-use Rattle.f77_symbolic.proofs.Common.{◌≡◌, ◌∙◌, ap, subst, int_div, int_rem, sum_value, Interprets}
+use Rattle.f77_symbolic.proofs.Common.{◌∙◌, ◌*ℤ◌, ap, subst, sum_value, Interprets}
 use Rattle.f77_symbolic.proofs.Answering.{stays_then}
 use Rattle.f77_symbolic.proofs.evaluator.Evaluator.divided.Goals as goal
 
 pub returns-clause-divides : goal.returns-clause-divides
 returns-clause-divides c start v interprets holds apart =
-    let a = sum_value v c.args.a.now in
-    let b = sum_value v c.args.b.now in
-    let means = subst (λ a. Interprets a start v) c.span_division.ensures.atoms interprets in
+    let last = c.in_ok-product.ensures.extends.back start v interprets in
+    let means = subst (λ a. Interprets a start v) c.span_division.ensures.atoms last in
     let first = c.in_ok-quotient.ensures.made start v (c.in_ok-remainder.ensures.extends.back start v means) holds in
     let second = c.in_ok-remainder.ensures.made start v means first.0.holds in
-    let q : v c.in_ok-quotient.quotient ≡ int_div a b =
-    first.1 ∙ ap (λ z. int_div z (sum_value v c.in_ok-copy-2.field-0)) (c.in_ok-copy.ensures.value v) ∙ ap (λ z. int_div a z) (c.in_ok-copy-2.ensures.value v) in
-    let r : v c.in_ok-remainder.remainder ≡ int_rem a b =
-    second.1 ∙ ap (λ z. int_rem z (sum_value v c.in_ok-copy-4.field-0)) (c.in_ok-copy-3.ensures.value v) ∙ ap (λ z. int_rem a z) (c.in_ok-copy-4.ensures.value v) in
-    let stays = stays_then v c.args.self.now c.atom_of.new.self c.atom_of-2.new.self first.0 second.0 in
-    let spans = c.in_ok-span_division.ensures.stays v (c.in_ok-know_division.ensures v second.0.holds q r apart) q r apart in (
-      record { holds = spans.holds; own = spans.own ∙ stays.own },
-      record { quotient = c.in_ok-atom_term.ensures v ∙ q; remainder = c.in_ok-atom_term-2.ensures v ∙ r },
+    let stays = stays_then v c.args.self.now c.function_of.new.self c.function_of-2.new.self first.0 second.0 in
+    let spans = c.in_ok-span_division.ensures.stays v second.0.holds first.1 second.1 apart in
+    let quotient = c.in_ok-quotient-2.ensures v ∙ first.1 in
+    let product = c.in_ok-product.ensures.tells start v interprets spans.holds in
+    let whole = product.1 ∙ ap (λ z. z *ℤ sum_value v c.args.b.now) quotient in (
+      record { holds = c.in_ok-know_division.ensures v product.0.holds whole second.1 apart; own = product.0.own ∙ spans.own ∙ stays.own },
+      record { quotient = quotient; remainder = c.in_ok-remainder-2.ensures v ∙ second.1 },
     )
