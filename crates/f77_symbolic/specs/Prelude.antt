@@ -31,8 +31,8 @@ pub use Rattle.f77_symbolic.specs.declared.sides.SymbolicTurn.{SymbolicTurn}
 pub use Rattle.f77_symbolic.specs.declared.visiting.Visit.{Visit}
 pub use Rattle.f77_symbolic.specs.declared.visiting.Visits.{Visits}
 pub use Rattle.f77_symbolic.specs.declared.walking.Pair.{Pair}
-pub use Rattle.f77_terms.specs.Atoms.{FitsTable, slot_behind, function_value, key_value, Numbers}
-pub use Rattle.f77_terms.specs.Bounds.{HasSign}
+pub use Rattle.f77_terms.specs.Atoms.{FitsTable, IsDefined, slot_behind, function_value, key_value, Numbers}
+pub use Rattle.f77_terms.specs.Bounds.{AreBelow, HasSign}
 pub use Rattle.f77_terms.specs.Paths.{Holds}
 pub use Rattle.f77_terms.specs.Ranges.{IsIn, AreKnown}
 pub use Rattle.f77_terms.specs.Terms.{Valuation, sum_value}

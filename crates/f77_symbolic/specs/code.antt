@@ -4,11 +4,9 @@ pub mod Evaluation
 pub mod Sides
 pub mod Pairs
 pub mod Visits
-pub mod Spans
 pub use Memory.*
 pub use Atoms.*
 pub use Evaluation.*
 pub use Sides.*
 pub use Pairs.*
 pub use Visits.*
-pub use Spans.*

@@ -99,7 +99,6 @@ impl Evaluator {
         }
         let minimum = self.function_of(Function::Minimum, a, b)?;
         know_minimum(self.alloc, &mut self.path, a, b, minimum)?;
-        self.span_minimum(a, b, minimum)?;
         Ok(atom_term(self.alloc, minimum)?)
     }
 
@@ -171,7 +170,6 @@ impl Evaluator {
         }
         let quotient = self.function_of(Function::Quotient, a, b)?;
         let remainder = self.function_of(Function::Remainder, a, b)?;
-        self.span_division(a, b, quotient, remainder)?;
         let quotient = atom_term(self.alloc, quotient)?;
         let product = self.multiplied(&quotient, b)?;
         know_division(self.alloc, &mut self.path, a, b, &product, remainder)?;

@@ -1,12 +1,13 @@
 //! What a path tells of a term: by the ranges of atoms, by samples, and by refutation.
 
 ghost use Rattle.std.specs.Prelude.{◌≡◌, pos, true, IfOk};
-ghost use Rattle.f77_symbolic.specs.Prelude.{HasSign, Holds, Valuation, sum_value};
+ghost use Rattle.f77_symbolic.specs.Prelude.{AreBelow, HasSign, Holds, Valuation, sum_value};
 
 use crate::evaluator::Evaluator;
 use crate::samples::Wanted;
+use f77_terms::bounds::sign_bounds;
 use f77_terms::knowing::is_ranged_off;
-use f77_terms::paths::{cannot_be, refuted};
+use f77_terms::paths::refuted;
 use f77_terms::terms::Term;
 use std::alloc::AllocError;
 use std::cmp::Ordering;
@@ -15,18 +16,19 @@ use std::cmp::Ordering;
 const FIRST_WORK: u64 = 30;
 
 /// So much it takes at most.
-const MOST_WORK: u64 = 2000;
+const MOST_WORK: u64 = 500;
 
 impl Evaluator {
-    /// What a refutation finds by so much work, and whether more may be found by more.
-    fn refute(&self, most: u64, term: &Term, sign: Ordering) -> Result<(bool, bool), AllocError>
+    /// Whether a refutation by so much work finds that not all of the bounds are at most 0 where the path holds, and
+    /// whether more work may find it.
+    fn refute(&self, most: u64, bounds: &[Term]) -> Result<(bool, bool), AllocError>
         ensures { IfOk result (λ found. found.0 ≡ true → (v : Valuation) → Holds v self.now.path
-            → ¬ (HasSign sign (sum_value v term.now))) }
+            → ¬ (AreBelow v bounds.now)) }
     {
         let mut work = most;
-        let is_told = cannot_be(self.alloc, &mut work, &self.path, term, sign)?;
+        let is_refuted = refuted(self.alloc, &mut work, &self.path, bounds)?;
         self.samples.spend(most.saturating_sub(work));
-        Ok((is_told, work == 0))
+        Ok((is_refuted, work == 0))
     }
 
     /// A sample is found that is on the path, and on which the term of a goal has its sign.
@@ -47,11 +49,13 @@ impl Evaluator {
         if self.samples.show(term, sign)? {
             return Ok(false);
         }
-        let (is_told, is_open) = self.refute(FIRST_WORK, term, sign)?;
+        let bounds = sign_bounds(self.alloc, term, sign)?;
+        let (is_told, is_open) = self.refute(FIRST_WORK, &bounds)?;
+        // A sample is sought where more work finds nothing, too: it answers questions to come.
         if is_told || self.is_found(Some((term, sign)))? || !is_open {
             return Ok(is_told);
         }
-        Ok(self.refute(MOST_WORK, term, sign)?.0)
+        Ok(self.refute(MOST_WORK, &bounds)?.0)
     }
 
     /// Where the path holds, the term is 0. It is false too where that is not told.
@@ -69,9 +73,6 @@ impl Evaluator {
         if self.samples.are_any()? {
             return Ok(false);
         }
-        let mut work = MOST_WORK;
-        let is_refuted = refuted(self.alloc, &mut work, &self.path, &[])?;
-        self.samples.spend(MOST_WORK.saturating_sub(work));
-        Ok(is_refuted)
+        Ok(self.refute(MOST_WORK, &[])?.0)
     }
 }

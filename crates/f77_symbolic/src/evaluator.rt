@@ -1,15 +1,15 @@
 //! What evaluates expressions of a program, where a path holds.
 
 ghost use Rattle.std.specs.Prelude.{◌≡◌, ◌≢◌, ◌+ℤ◌, ◌*ℤ◌, ◌≤ℤ◌, pos, IfOk};
-ghost use Rattle.f77_symbolic.specs.Prelude.{function_value, key_value, Holds, Valuation, sum_value};
-ghost use Rattle.f77_symbolic.specs.code.{Extends, AlwaysTells, Expects};
+ghost use Rattle.f77_symbolic.specs.Prelude.{IsDefined, function_value, key_value, Holds, Valuation, sum_value};
+ghost use Rattle.f77_symbolic.specs.code.{Extends, Always, AlwaysTells, Expects, StaysOn};
 
 use crate::halt::{Halt, unless_unknown};
 use crate::samples::Samples;
 use f77_facts::facts::Fact;
 use f77_terms::atoms::{Function, Key, Table, interned};
 use f77_terms::copying::copied_path;
-use f77_terms::knowing::{is_ranged_off, plus_constant};
+use f77_terms::knowing::{is_ranged_off, know_range, plus_constant};
 use f77_terms::paths::{Path, add_below, add_unequal};
 use f77_terms::terms::{Term, combined, copy};
 use std::alloc::Global;
@@ -66,19 +66,22 @@ impl Evaluator {
         Ok(atom)
     }
 
-    /// The atom that is a function of two numbers.
+    /// The atom that is a function of two numbers, with its range.
     pub(crate) fn function_of(
         &mut self,
         function: Function,
         a: &Term,
         b: &Term,
     ) -> Result<usize, Halt>
-        ensures made { IfOk result (λ atom. AlwaysTells self.old self.new
-            (λ start v. v atom ≡ function_value function (sum_value v a.now) (sum_value v b.now))) }
+        ensures made { IfOk result (λ atom. Always self.old self.new (λ start v. IsDefined function (sum_value v b.now)
+            → StaysOn v self.old self.new
+            × (v atom ≡ function_value function (sum_value v a.now) (sum_value v b.now)))) }
         ensures extends { Extends self.old.atoms self.new.atoms }
     {
         let key = Key::Function(function, copy(self.alloc, a)?, copy(self.alloc, b)?);
-        self.atom_of(key)
+        let atom = self.atom_of(key)?;
+        know_range(&mut self.path, function, a, b, atom)?;
+        Ok(atom)
     }
 
     /// The first term, m times, and the second, n times.

@@ -29,7 +29,6 @@ mod reading;
 pub mod rows;
 mod samples;
 mod sides;
-mod spans;
 mod stepping;
 mod values;
 pub mod visiting;

@@ -1,5 +1,5 @@
 -- The meaning of atoms.
-use Rattle.std.specs.Prelude.{◌≡◌, ◌<◌, ◌+◌, ◌*ℤ◌, ℕ, ℤ, pos, negsuc, List, Some, slice_get, int_div, int_rem}
+use Rattle.std.specs.Prelude.{◌≡◌, ◌≢◌, ◌<◌, ◌+◌, ◌*ℤ◌, ℕ, ℤ, pos, negsuc, List, Some, slice_get, int_div, int_rem}
 use Rattle.std.specs.Int.{int_min}
 use Rattle.f77_terms.specs.declared.atoms.Function.{Function}
 use Rattle.f77_terms.specs.declared.atoms.Function.TheVariants as function
@@ -25,6 +25,13 @@ function_value function.Quotient a b = int_div a b
 function_value function.Remainder a b = int_rem a b
 function_value function.Minimum a b = int_min a b
 function_value function.Product a b = a *ℤ b
+
+-- the second number is not 0 where it is a divisor
+abbrev pub IsDefined : Function → ℤ → Type 0
+IsDefined function.Quotient b = b ≢ pos 0
+IsDefined function.Remainder b = b ≢ pos 0
+IsDefined function.Minimum b = Unit {0}
+IsDefined function.Product b = Unit {0}
 
 -- the number that a key means
 abbrev pub key_value : Numbers → Valuation → Key → ℤ

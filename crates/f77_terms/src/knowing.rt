@@ -2,11 +2,13 @@
 
 ghost use Rattle.std.specs.Prelude.{◌≡◌, ◌≢◌, ◌+ℤ◌, ◌*ℤ◌, pos, true, int_div, int_rem, IfOk, IfSome};
 ghost use Rattle.std.specs.Int.{int_min};
-ghost use Rattle.f77_terms.specs.{HasSign, Holds, IsWorth, Valuation, sum_value};
+ghost use Rattle.f77_terms.specs.{HasSign, Holds, IsDefined, IsWorth, Valuation, function_value, sum_value};
 
+use crate::atoms::Function;
 use crate::facts::{add_pair_bound, add_whole, divisor_cases, order_case, sign_cases, two_cases};
-use crate::paths::{Path, add_choice, add_range};
-use crate::ranges::{may_have, range_of_product, term_range};
+use crate::functions::function_range;
+use crate::paths::{Path, add_choice, add_range, settle};
+use crate::ranges::{may_have, term_range};
 use crate::terms::{Term, atom_term, combined, constant_term, factor_of, is_same_term};
 use std::alloc::{AllocError, Global};
 use std::cmp::Ordering;
@@ -75,7 +77,25 @@ pub fn know_division(
     add_choice(path, sign_cases(alloc, dividend, &rest)?)
 }
 
-/// Adds what is known of a product: its range, and that a square is at least the term, and at least its negative.
+/// Adds the range of an atom that is this function of two terms, and how it bounds others.
+pub fn know_range(
+    path: &mut Path,
+    function: Function,
+    a: &Term,
+    b: &Term,
+    atom: usize,
+) -> Result<(), AllocError>
+    ensures { IfOk result (λ _. (v : Valuation) → Holds v path.old → IsDefined function (sum_value v b.now)
+        → v atom ≡ function_value function (sum_value v a.now) (sum_value v b.now) → Holds v path.new) }
+{
+    settle(path);
+    match function_range(&path.known, function, a, b) {
+        Some(range) => add_range(path, atom, range),
+        None => Ok(()),
+    }
+}
+
+/// Adds what is known of a product where it is a square: it is above its tangents at 1 and -1.
 pub fn know_product(
     alloc: Global,
     path: &mut Path,
@@ -86,16 +106,33 @@ pub fn know_product(
     ensures { IfOk result (λ _. (v : Valuation) → Holds v path.old
         → v product ≡ sum_value v a.now *ℤ sum_value v b.now → Holds v path.new) }
 {
-    let Some(range) = range_of_product(&path.known, a, b) else {
-        return Ok(());
-    };
-    add_range(path, product, range)?;
     if !is_same_term(a, b) {
         return Ok(());
     }
     let square = atom_term(alloc, product)?;
-    add_pair_bound(alloc, &mut path.below, 1, a, -1, &square, 0)?;
-    add_pair_bound(alloc, &mut path.below, -1, a, -1, &square, 0)
+    add_pair_bound(alloc, &mut path.below, 2, a, -1, &square, -1)?;
+    add_pair_bound(alloc, &mut path.below, -2, a, -1, &square, -1)
+}
+
+/// Where two terms have a constant sum, adds that the lesser is at most half of it.
+fn know_half(
+    alloc: Global,
+    path: &mut Path,
+    a: &Term,
+    b: &Term,
+    least: &Term,
+) -> Result<(), AllocError>
+    ensures { IfOk result (λ _. (v : Valuation) → Holds v path.old
+        → sum_value v least.now ≡ int_min (sum_value v a.now) (sum_value v b.now) → Holds v path.new) }
+{
+    match combined(alloc, 1, a, 1, b)? {
+        Some(both) if both.parts.is_empty() => {
+            add_pair_bound(alloc, &mut path.below, 2, least, -1, &both, 0)?;
+            settle(path);
+            Ok(())
+        }
+        _ => Ok(()),
+    }
 }
 
 /// Adds what is known of the lesser of two terms, once.
@@ -115,6 +152,7 @@ pub fn know_minimum(
     let least = atom_term(alloc, minimum)?;
     add_pair_bound(alloc, &mut path.below, 1, &least, -1, a, 0)?;
     add_pair_bound(alloc, &mut path.below, 1, &least, -1, b, 0)?;
+    know_half(alloc, path, a, b, &least)?;
     let first = order_case(alloc, 1, a, -1, &least)?;
     let second = order_case(alloc, 1, b, -1, &least)?;
     add_choice(path, two_cases(alloc, first, second)?)

@@ -11,6 +11,7 @@ pub mod bounds;
 pub mod copying;
 mod elimination;
 mod facts;
+mod functions;
 pub mod items;
 pub mod knowing;
 mod near;

@@ -1,17 +1,16 @@
 //! Paths: what is known where control comes, and whether that is possible.
 
 ghost use Rattle.std.specs.Prelude.{◌≡◌, ◌+ℤ◌, ◌*ℤ◌, ◌≤ℤ◌, pos, true, IfOk};
-ghost use Rattle.f77_terms.specs.{Valuation, sum_value, AreBelow, HasSign, IsIn, AreKnown};
+ghost use Rattle.f77_terms.specs.{Valuation, sum_value, AreBelow, IsIn, AreKnown};
 ghost use Rattle.f77_terms.specs.{IsUnequal, HasCase, Holds};
 
-use crate::bounds::{add_bound, joint_bounds, sign_bounds};
+use crate::bounds::{add_bound, joint_bounds};
 use crate::near::path_near;
 use crate::ranges::{Range, narrow_all, narrow_all_apart, set_within};
 use crate::splitting::is_refuted_with;
 use crate::terms::{Term, copy};
 use f77_tree::Shared;
 use std::alloc::{AllocError, Global};
-use std::cmp::Ordering;
 
 /// So many times a case is split at most.
 const MOST_SPLITS: usize = 24;
@@ -51,20 +50,6 @@ pub fn refuted(
     let near = path_near(alloc, path, extra)?;
     let bounds = joint_bounds(alloc, &near.below, extra)?;
     is_refuted_with(alloc, work, &near, &near.known, &bounds, 0, MOST_SPLITS)
-}
-
-/// Where the path holds, the term has not this sign. It is false too where the work that is left does not do.
-pub fn cannot_be(
-    alloc: Global,
-    work: &mut u64,
-    path: &Path,
-    term: &Term,
-    sign: Ordering,
-) -> Result<bool, AllocError>
-    ensures { IfOk result (λ yes. yes ≡ true → (v : Valuation) → Holds v path.now
-        → ¬ (HasSign sign (sum_value v term.now))) }
-{
-    refuted(alloc, work, path, &sign_bounds(alloc, term, sign)?)
 }
 
 /// A path on which nothing is known.

@@ -7,7 +7,7 @@ ghost use Rattle.f77_terms.specs.{IsBelow, AreBelow, HasSign, IsIn, AreKnown, Is
 
 use crate::items::item_at;
 use crate::numbers::ceiling;
-use crate::terms::{Part, Term, is_same_term};
+use crate::terms::{Part, Term};
 use std::cmp::Ordering;
 
 /// The numbers from the low to the high one.
@@ -26,7 +26,7 @@ pub fn atom_range(known: &[Option<Range>], atom: usize) -> Option<Range>
 }
 
 /// The range of a number, m times.
-fn multiple_range(range: Range, m: i64) -> Option<Range>
+pub(crate) fn multiple_range(range: Range, m: i64) -> Option<Range>
     ensures { IfSome result (λ r. (x : ℤ) → IsIn range x → IsIn r (m *ℤ x)) }
 {
     let low = m.checked_mul(range.low)?;
@@ -93,24 +93,6 @@ pub fn common(a: Range, b: Range) -> Range
     }
 }
 
-/// The range of products.
-fn product_range(a: Range, b: Range) -> Option<Range>
-    ensures { IfSome result (λ r. (x y : ℤ) → IsIn a x → IsIn b y → IsIn r (x *ℤ y)) }
-{
-    Some(hull(multiple_range(b, a.low)?, multiple_range(b, a.high)?))
-}
-
-/// The range of squares.
-fn square_range(a: Range) -> Option<Range>
-    ensures { IfSome result (λ r. (x : ℤ) → IsIn a x → IsIn r (x *ℤ x)) }
-{
-    let range = product_range(a, a)?;
-    Some(Range {
-        low: if range.low < 0 { 0 } else { range.low },
-        high: range.high,
-    })
-}
-
 /// The range of sums.
 fn sum_range(a: Range, b: Range) -> Option<Range>
     ensures { IfSome result (λ r. (x y : ℤ) → IsIn a x → IsIn b y → IsIn r (x +ℤ y)) }
@@ -143,18 +125,6 @@ pub fn term_range(known: &[Option<Range>], term: &Term) -> Option<Range>
         high: term.constant,
     };
     sum_range(constant, parts_range(known, &term.parts)?)
-}
-
-/// The range of the product of two terms, which may be a square.
-pub fn range_of_product(known: &[Option<Range>], a: &Term, b: &Term) -> Option<Range>
-    ensures { IfSome result (λ range. (v : Valuation) → AreKnown v known.now
-        → IsIn range (sum_value v a.now *ℤ sum_value v b.now)) }
-{
-    let first = term_range(known, a)?;
-    if is_same_term(a, b) {
-        return square_range(first);
-    }
-    product_range(first, term_range(known, b)?)
 }
 
 /// Sets what is known of an atom. It tells whether that is new.

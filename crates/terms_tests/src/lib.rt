@@ -4,6 +4,8 @@
 #[cfg(test)]
 mod atoms;
 #[cfg(test)]
+mod functions;
+#[cfg(test)]
 mod knowing;
 #[cfg(test)]
 mod made;

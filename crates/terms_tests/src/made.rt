@@ -1,6 +1,7 @@
 //! Terms for tests, and questions on paths.
 
-use f77_terms::paths::{Path, cannot_be, refuted};
+use f77_terms::bounds::sign_bounds;
+use f77_terms::paths::{Path, refuted};
 use f77_terms::terms::{Term, add_multiple, atom_term, constant_term};
 use std::alloc::{AllocError, Global};
 use std::cmp::Ordering;
@@ -38,8 +39,7 @@ pub(crate) fn never_has(
     term: &Term,
     sign: Ordering,
 ) -> Result<bool, AllocError> {
-    let mut work = 2000;
-    cannot_be(alloc, &mut work, path, term, sign)
+    is_refuted(alloc, path, &sign_bounds(alloc, term, sign)?)
 }
 
 /// Where the path holds, the term is at most 0.

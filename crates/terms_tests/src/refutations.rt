@@ -1,19 +1,12 @@
 //! Bounds that contradict each other, and bounds that do not.
 
 use crate::made::{X, Y, Z, is_refuted, made, never_has};
-use f77_terms::knowing::know_product;
-use f77_terms::paths::{
-    Case, Choice, add_choice, add_equal, add_range, add_unequal, new_path, refuted,
-};
-use f77_terms::ranges::{Range, atom_range};
+use f77_terms::paths::{Case, Choice, add_choice, add_equal, add_unequal, new_path, refuted};
 use f77_terms::terms::{atom_term, is_same_term, sum};
 use f77_tree::Shared;
 use std::alloc::AllocError;
 use std::cmp::Ordering;
 use std::test::Fail;
-
-/// The square of Y.
-const SQUARE: usize = 3;
 
 #[test]
 fn refutes_orders(rt: HostRuntime) -> Result<(), Fail> {
@@ -105,27 +98,6 @@ fn refutes_choices(rt: HostRuntime) -> Result<(), Fail> {
     let least = made(alloc, -5, &[(-1, X)])?;
     let most = made(alloc, -4, &[(1, X)])?;
     assert!(rt; !is_refuted(alloc, &path, &[least, most])?);
-    Ok(())
-}
-
-#[test]
-fn bounds_products(rt: HostRuntime) -> Result<(), Fail> {
-    let alloc = rt.alloc();
-    let mut path = new_path(alloc);
-    let x = atom_term(alloc, X)?;
-    let y = atom_term(alloc, Y)?;
-    add_range(&mut path, X, Range { low: 2, high: 5 })?;
-    add_range(&mut path, Y, Range { low: -3, high: 4 })?;
-    know_product(alloc, &mut path, &x, &y, Z)?;
-    let both = Range { low: -15, high: 20 };
-    assert_eq!(rt; atom_range(&path.known, Z), Some(both));
-    know_product(alloc, &mut path, &y, &y, SQUARE)?;
-    let square = Range { low: 0, high: 16 };
-    assert_eq!(rt; atom_range(&path.known, SQUARE), Some(square));
-    let less = made(alloc, 1, &[(1, SQUARE), (1, Y)])?;
-    assert!(rt; is_refuted(alloc, &path, &[less])?);
-    let less = made(alloc, 0, &[(1, SQUARE), (1, Y)])?;
-    assert!(rt; !is_refuted(alloc, &path, &[less])?);
     Ok(())
 }
 

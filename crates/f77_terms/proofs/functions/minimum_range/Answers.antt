@@ -1,6 +1,7 @@
-use Rattle.f77_symbolic.proofs.Common.{rules, ◌≡◌, w64, int_min, to_z-of_z, SFits}
-use Rattle.f77_symbolic.proofs.Sized.{min_between}
-use Rattle.f77_symbolic.proofs.spans.minimum_range.Goals as goal
+use Rattle.f77_terms.proofs.Common.{rules, ◌≡◌, w64, to_z-of_z, SFits}
+use Rattle.std.specs.Int.{int_min}
+use Rattle.f77_terms.proofs.Division.{min_between}
+use Rattle.f77_terms.proofs.functions.minimum_range.Goals as goal
 
 pub returns : goal.returns
 returns c x y first second =

@@ -1,6 +1,6 @@
 use Rattle.f77_terms.proofs.Common.{rules, SFits, w64, ◌*ℤ◌, to_z-of_z}
 use Rattle.f77_terms.proofs.Orders.{between_products}
-use Rattle.f77_terms.proofs.ranges.product_range.Goals as goal
+use Rattle.f77_terms.proofs.functions.product_range.Goals as goal
 
 pub returns : goal.returns
 returns c x y first second =
