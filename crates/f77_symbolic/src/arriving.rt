@@ -12,7 +12,7 @@ use crate::bounding::narrow_slot;
 use crate::evaluator::Evaluator;
 use crate::halt::{Halt, unless_unknown};
 use crate::memory::{Symbolic, Write, slots_of};
-use crate::sides::{Side, SymbolicTurn};
+use crate::sides::{ActiveTurn, Side};
 use f77_facts::assigning::assign;
 use f77_facts::entries::Entry;
 use f77_facts::facts::{Fact, filled};
@@ -20,53 +20,27 @@ use f77_facts::loops::LoopFact;
 use f77_terms::atoms::Key;
 use f77_terms::items::item_at;
 use f77_terms::paths::settle;
-use f77_terms::ranges::{Range, atom_range, term_range};
-use f77_terms::terms::Term;
+use f77_terms::ranges::{Range, atom_range, common, term_range};
+use f77_terms::terms::{Term, constant_term};
 use f77_tree::{Kind, Shared};
 use std::alloc::AllocError;
-use std::cmp::Ordering;
 
 #[tactic(auto, using(crate::proofs::Extending::extending))]
 impl Evaluator {
-    /// The least number that a term may be, which INTEGER holds.
-    fn low_of(&self, term: &Term, range: Option<Range>) -> Result<i64, Halt>
-        ensures { IfOk result (λ low. (v : Valuation) → Holds v self.now.path
-            → IfSome range (λ range. IsIn range (sum_value v term.now)) → low ≤ℤ sum_value v term.now) }
-    {
-        let least = i64::from(i32::MIN);
-        if let Some(range) = range {
-            if range.low >= least {
-                return Ok(range.low);
-            }
-        }
-        unless_unknown(self.never_has(&self.plus(-1, term, least)?, Ordering::Greater)?)?;
-        Ok(least)
-    }
-
-    /// The greatest number that a term may be, which INTEGER holds.
-    fn high_of(&self, term: &Term, range: Option<Range>) -> Result<i64, Halt>
-        ensures { IfOk result (λ high. (v : Valuation) → Holds v self.now.path
-            → IfSome range (λ range. IsIn range (sum_value v term.now)) → sum_value v term.now ≤ℤ high) }
-    {
-        let most = i64::from(i32::MAX);
-        if let Some(range) = range {
-            if range.high <= most {
-                return Ok(range.high);
-            }
-        }
-        unless_unknown(self.never_has(&self.plus(1, term, -most)?, Ordering::Greater)?)?;
-        Ok(most)
-    }
-
     /// The range of a term, which INTEGER holds.
     fn range_of(&self, term: &Term) -> Result<Range, Halt>
         ensures { IfOk result (λ range. (v : Valuation) → Holds v self.now.path
             → IsIn range (sum_value v term.now)) }
     {
-        let range = term_range(&self.path.known, term);
-        let low = self.low_of(term, range)?;
-        let high = self.high_of(term, range)?;
-        Ok(Range { low, high })
+        let low = i64::from(i32::MIN);
+        let high = i64::from(i32::MAX);
+        unless_unknown(self.is_at_most(&constant_term(self.alloc, low), term)?)?;
+        unless_unknown(self.is_at_most(term, &constant_term(self.alloc, high))?)?;
+        let whole = Range { low, high };
+        match term_range(&self.path.known, term) {
+            Some(range) => Ok(common(range, whole)),
+            None => Ok(whole),
+        }
     }
 
     /// The numbers of the truth values that a term stands for.
@@ -158,7 +132,7 @@ impl Evaluator {
     }
 
     /// What is known of what a DO has left.
-    fn loop_fact(&self, turn: &Option<Shared<SymbolicTurn>>) -> Result<LoopFact, Halt>
+    fn loop_fact(&self, turn: &ActiveTurn) -> Result<LoopFact, Halt>
         ensures { IfOk result (λ fact. (v : Valuation) → Holds v self.now.path
             → SuitsTurn fact (option_map (turn_of v) turn.now)) }
     {
@@ -171,7 +145,7 @@ impl Evaluator {
     }
 
     /// What is known of what each DO has left.
-    fn loops_of(&self, turns: &[Option<Shared<SymbolicTurn>>]) -> Result<Vec<LoopFact>, Halt>
+    fn loops_of(&self, turns: &[ActiveTurn]) -> Result<Vec<LoopFact>, Halt>
         ensures { IfOk result (λ loops. (v : Valuation) → Holds v self.now.path
             → AreLeft loops.items (turns_of v turns.now)) }
     {

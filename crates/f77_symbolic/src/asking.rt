@@ -16,7 +16,7 @@ use std::cmp::Ordering;
 const FIRST_WORK: u64 = 30;
 
 /// So much it takes at most.
-const MOST_WORK: u64 = 500;
+const MOST_WORK: u64 = 1000;
 
 impl Evaluator {
     /// Whether a refutation by so much work finds that not all of the bounds are at most 0 where the path holds, and

@@ -9,7 +9,7 @@ ghost use Rattle.f77_symbolic.specs.code.{Extends, StaysOn, IsFirstVisit, Stands
 
 use crate::evaluator::Evaluator;
 use crate::halt::Halt;
-use crate::sides::{SymbolicTurn, first_side};
+use crate::sides::{ActiveTurn, SymbolicTurn, first_side};
 use crate::visiting::Visit;
 use f77_actions::{Action, Resolved};
 use f77_code::Place;
@@ -155,12 +155,7 @@ impl Evaluator {
     }
 
     /// What the DO d has left.
-    fn turn_known(
-        &mut self,
-        d: usize,
-        count: usize,
-        fact: LoopFact,
-    ) -> Result<Option<Shared<SymbolicTurn>>, Halt>
+    fn turn_known(&mut self, d: usize, count: usize, fact: LoopFact) -> Result<ActiveTurn, Halt>
         ensures stands { IfOk result (λ turn. StandsForTurn self.old self.new d count fact turn) }
         ensures extends { Extends self.old.atoms self.new.atoms }
     {

@@ -10,7 +10,7 @@ ghost use Rattle.f77_symbolic.specs.{AreInside, cells_of, passes_left, state_of,
 use crate::evaluator::Evaluator;
 use crate::halt::{Halt, unless_unknown};
 use crate::memory::{Symbolic, fixed};
-use crate::sides::{Side, Step, SymbolicTurn, come_to, go_on};
+use crate::sides::{ActiveTurn, Side, Step, SymbolicTurn, come_to, go_on};
 use f77_actions::{Action, Resolved};
 use f77_terms::items::item_at;
 use f77_terms::terms::{Term, copy, sum};
@@ -23,7 +23,7 @@ fn pass(
     side: &mut Side,
     end: &Resolved,
     d: usize,
-    turn: Option<Shared<SymbolicTurn>>,
+    turn: ActiveTurn,
 ) -> Result<Step, Halt>
     ensures { IfOk result (λ found. (v : Valuation) (passes : ℕ) (step : ℤ) → HasLeft v turn passes step
         → GoesTo v side.old side.new found (λ cells turns. moves.passing end.now d passes step cells turns)) }
@@ -44,7 +44,7 @@ fn advance(
     d: usize,
     variable: usize,
     number: Term,
-    turn: Option<Shared<SymbolicTurn>>,
+    turn: ActiveTurn,
 ) -> Result<Step, Halt>
     ensures { IfOk result (λ found. (start : Cells) (v : Valuation) (passes : ℕ) (step : ℤ)
         → AreInside v side.old.writes.items → HasLeft v turn passes step
@@ -59,7 +59,7 @@ fn advance(
 #[tactic(auto, using(crate::proofs::Extending::extending))]
 impl Evaluator {
     /// What a DO has left with so many passes: nothing where that is below 1.
-    fn turn_with(&self, passes: Term, step: Term) -> Result<Option<Shared<SymbolicTurn>>, Halt>
+    fn turn_with(&self, passes: Term, step: Term) -> Result<ActiveTurn, Halt>
         ensures { IfOk result (λ turn. (v : Valuation) → Holds v self.now.path
             → HasLeft v turn (passes_left (sum_value v passes)) (sum_value v step)) }
     {

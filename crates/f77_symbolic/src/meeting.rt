@@ -9,7 +9,7 @@ ghost use Rattle.f77_symbolic.specs.code.{Extends, Always, StaysOn, HoldSameIn, 
 use crate::evaluator::Evaluator;
 use crate::halt::{Halt, unless_unknown};
 use crate::memory::{Location, Symbolic, Write};
-use crate::sides::{Side, SymbolicTurn};
+use crate::sides::{ActiveTurn, Side};
 use f77_facts::assigning::Slots;
 use f77_terms::items::item_at;
 use f77_terms::paths::Path;
@@ -113,11 +113,7 @@ impl Evaluator {
     }
 
     /// Both DOs have the same left.
-    fn show_same_turn(
-        &self,
-        a: &Option<Shared<SymbolicTurn>>,
-        b: &Option<Shared<SymbolicTurn>>,
-    ) -> Result<(), Halt>
+    fn show_same_turn(&self, a: &ActiveTurn, b: &ActiveTurn) -> Result<(), Halt>
         ensures { IfOk result (λ _. (v : Valuation) → Holds v self.now.path
             → option_map (turn_of v) b.now ≡ option_map (turn_of v) a.now) }
     {
@@ -132,11 +128,7 @@ impl Evaluator {
     }
 
     /// All DOs have the same left.
-    fn show_same_turns(
-        &self,
-        a: &[Option<Shared<SymbolicTurn>>],
-        b: &[Option<Shared<SymbolicTurn>>],
-    ) -> Result<(), Halt>
+    fn show_same_turns(&self, a: &[ActiveTurn], b: &[ActiveTurn]) -> Result<(), Halt>
         ensures { IfOk result
             (λ _. (v : Valuation) → Holds v self.now.path → turns_of v b.now ≡ turns_of v a.now) }
     {

@@ -20,13 +20,16 @@ pub struct SymbolicTurn {
     pub step: Term,
 }
 
+/// What a DO has left, if it is active.
+pub type ActiveTurn = Option<Shared<SymbolicTurn>>;
+
 /// A state: where control is, what was written to slots, and the active DOs. Sides share what no step has changed.
 #[derive(Drop)]
 pub struct Side {
     pub place: Place,
     pub writes: Shared<Vec<Shared<Write>>>,
     /// For each statement, what it has left if it is an active DO.
-    pub turns: Shared<Vec<Option<Shared<SymbolicTurn>>>>,
+    pub turns: Shared<Vec<ActiveTurn>>,
 }
 
 impl Clone for Side {
@@ -45,7 +48,7 @@ impl Clone for Side {
 pub(crate) fn first_side(
     alloc: Global,
     place: Place,
-    turns: Vec<Option<Shared<SymbolicTurn>>>,
+    turns: Vec<ActiveTurn>,
 ) -> Result<Side, AllocError>
     ensures place { IfOk result (λ side. side.place ≡ place) }
     ensures writes { IfOk result (λ side. side.writes.items ≡ []) }
@@ -69,10 +72,7 @@ pub enum Step {
 }
 
 /// What the DO of this number has left, if it is active.
-pub(crate) fn turn_at(
-    turns: &[Option<Shared<SymbolicTurn>>],
-    d: usize,
-) -> Result<Option<Shared<SymbolicTurn>>, AllocError>
+pub(crate) fn turn_at(turns: &[ActiveTurn], d: usize) -> Result<ActiveTurn, AllocError>
     ensures { IfOk result (λ turn. (v : Valuation)
         → moves.turn_at (turns_of v turns.now) d ≡ option_map (turn_of v) turn) }
 {
@@ -83,14 +83,14 @@ pub(crate) fn turn_at(
 }
 
 /// The DO of this number is active.
-fn is_active(turns: &[Option<Shared<SymbolicTurn>>], d: usize) -> bool
+fn is_active(turns: &[ActiveTurn], d: usize) -> bool
     ensures { (v : Valuation) → is_some (moves.turn_at (turns_of v turns.now) d) ≡ result }
 {
     d < turns.len() && turns[d].is_some()
 }
 
 /// Sets what the DO of this number has left.
-fn set(turns: &mut [Option<Shared<SymbolicTurn>>], d: usize, turn: Option<Shared<SymbolicTurn>>)
+fn set(turns: &mut [ActiveTurn], d: usize, turn: ActiveTurn)
     ensures { (v : Valuation) → turns_of v turns.new
         ≡ slice_set (turns_of v turns.old) d (option_map (turn_of v) turn) }
 {
@@ -100,7 +100,7 @@ fn set(turns: &mut [Option<Shared<SymbolicTurn>>], d: usize, turn: Option<Shared
 }
 
 /// The first of these DOs that is active.
-fn innermost(turns: &[Option<Shared<SymbolicTurn>>], ends: &[usize]) -> Option<usize>
+fn innermost(turns: &[ActiveTurn], ends: &[usize]) -> Option<usize>
     ensures { (v : Valuation) → moves.innermost (turns_of v turns.now) ends.now ≡ result }
 {
     for d in ends {
@@ -124,7 +124,7 @@ pub(crate) fn go_on(side: &mut Side, resolved: &Resolved) -> Step
 }
 
 /// None of these DOs is active any more.
-fn leave(turns: &mut [Option<Shared<SymbolicTurn>>], leaves: &[usize])
+fn leave(turns: &mut [ActiveTurn], leaves: &[usize])
     ensures { (v : Valuation) → turns_of v turns.new ≡ moves.without (turns_of v turns.old) leaves.now }
 {
     for d in leaves {
@@ -135,9 +135,9 @@ fn leave(turns: &mut [Option<Shared<SymbolicTurn>>], leaves: &[usize])
 /// The turns without those of these DOs.
 fn without(
     alloc: Global,
-    turns: &[Option<Shared<SymbolicTurn>>],
+    turns: &[ActiveTurn],
     leaves: &[usize],
-) -> Result<Shared<Vec<Option<Shared<SymbolicTurn>>>>, AllocError>
+) -> Result<Shared<Vec<ActiveTurn>>, AllocError>
     ensures { IfOk result (λ left. (v : Valuation)
         → turns_of v left.items ≡ moves.without (turns_of v turns.now) leaves.now) }
 {
@@ -203,7 +203,7 @@ impl Side {
         &mut self,
         alloc: Global,
         d: usize,
-        turn: Option<Shared<SymbolicTurn>>,
+        turn: ActiveTurn,
     ) -> Result<(), AllocError>
         ensures turns { IfOk result (λ _. (v : Valuation) → turns_of v self.new.turns.items
             ≡ slice_set (turns_of v self.old.turns.items) d (option_map (turn_of v) turn)) }
