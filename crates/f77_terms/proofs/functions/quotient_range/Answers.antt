@@ -1,4 +1,4 @@
-use Rattle.f77_terms.proofs.Common.{arith, rules, w64, SFits, ints, to_z-of_z, pos, negsuc, ◌*ℤ◌, ◌≤ℤ◌, int_div}
+use Rattle.f77_terms.proofs.Common.{arith, rules, w64, SFits, ints, to_z-of_z, negsuc, ◌*ℤ◌, int_div}
 use Rattle.f77_terms.proofs.Division.{either, quot_away, quot_between, quot_toward, toward_either}
 use Rattle.f77_terms.proofs.functions.quotient_range.Goals as goal
 
