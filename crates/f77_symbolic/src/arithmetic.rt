@@ -172,7 +172,7 @@ impl Evaluator {
         let remainder = self.function_of(Function::Remainder, a, b)?;
         let quotient = atom_term(self.alloc, quotient)?;
         let product = self.multiplied(&quotient, b)?;
-        know_division(self.alloc, &mut self.path, a, b, &product, remainder)?;
+        know_division(self.alloc, &mut self.path, a, &product, remainder)?;
         let remainder = atom_term(self.alloc, remainder)?;
         Ok(Division {
             quotient,

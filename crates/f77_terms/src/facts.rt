@@ -1,6 +1,6 @@
 //! What quotients, remainders and minima say of terms.
 
-ghost use Rattle.std.specs.Prelude.{◌≡◌, ◌≢◌, ◌⊎◌, ◌+ℤ◌, ◌*ℤ◌, ◌≤ℤ◌, ℤ, pos, negsuc, IfOk, int_rem};
+ghost use Rattle.std.specs.Prelude.{◌≡◌, ◌⊎◌, ◌+ℤ◌, ◌*ℤ◌, ◌≤ℤ◌, ℤ, pos, IfOk, int_rem};
 ghost use Rattle.f77_terms.specs.{Valuation, sum_value, AreBelow, HasCase, Holds};
 
 use crate::bounds::add_bound;
@@ -27,36 +27,6 @@ pub fn add_pair_bound(
         return Ok(());
     };
     add_bound(alloc, bounds, 1, &both, constant)
-}
-
-/// The case of a divisor that is above 0 where m is 1, and below it where m is -1: the remainder is of less size.
-fn divisor_case(alloc: Global, m: i64, divisor: &Term, rest: &Term) -> Result<Case, AllocError>
-    ensures { IfOk result (λ case. (v : Valuation)
-        → (pos 1 +ℤ m *ℤ sum_value v divisor.now) ≤ℤ pos 0
-        → (pos 1 +ℤ pos 1 *ℤ (m *ℤ sum_value v divisor.now +ℤ pos 1 *ℤ sum_value v rest.now)) ≤ℤ pos 0
-        → (pos 1 +ℤ pos 1 *ℤ (m *ℤ sum_value v divisor.now +ℤ negsuc 0 *ℤ sum_value v rest.now))
-        ≤ℤ pos 0
-        → AreBelow v case.bounds.items) }
-{
-    let mut bounds = Vec::new(alloc);
-    add_bound(alloc, &mut bounds, m, divisor, 1)?;
-    add_pair_bound(alloc, &mut bounds, m, divisor, 1, rest, 1)?;
-    add_pair_bound(alloc, &mut bounds, m, divisor, -1, rest, 1)?;
-    Ok(Case { bounds })
-}
-
-/// The divisor is above 0 or below, and the remainder of less size.
-pub fn divisor_cases(
-    alloc: Global,
-    divisor: &Term,
-    rest: &Term,
-) -> Result<Shared<Choice>, AllocError>
-    ensures { IfOk result (λ choice. (v : Valuation) (n : ℤ) → sum_value v divisor.now ≢ pos 0
-        → sum_value v rest.now ≡ int_rem n (sum_value v divisor.now) → HasCase v choice) }
-{
-    let above = divisor_case(alloc, -1, divisor, rest)?;
-    let below = divisor_case(alloc, 1, divisor, rest)?;
-    two_cases(alloc, above, below)
 }
 
 /// One of two cases is there.

@@ -1,11 +1,11 @@
 //! What is known of terms, and what a path comes to know of atoms.
 
-ghost use Rattle.std.specs.Prelude.{◌≡◌, ◌≢◌, ◌+ℤ◌, ◌*ℤ◌, pos, true, int_div, int_rem, IfOk, IfSome};
+ghost use Rattle.std.specs.Prelude.{◌≡◌, ◌+ℤ◌, ◌*ℤ◌, ℤ, true, int_div, int_rem, IfOk, IfSome};
 ghost use Rattle.std.specs.Int.{int_min};
 ghost use Rattle.f77_terms.specs.{HasSign, Holds, IsDefined, IsWorth, Valuation, function_value, sum_value};
 
 use crate::atoms::Function;
-use crate::facts::{add_pair_bound, add_whole, divisor_cases, order_case, sign_cases, two_cases};
+use crate::facts::{add_pair_bound, add_whole, order_case, sign_cases, two_cases};
 use crate::functions::function_range;
 use crate::paths::{Path, add_choice, add_range, settle};
 use crate::ranges::{may_have, term_range};
@@ -52,28 +52,24 @@ fn has_choice_of(path: &Path, atom: usize) -> bool {
     })
 }
 
-/// Adds what is known of a division, once, where the divisor is not 0: of the remainder, and of the product of quotient
-/// and divisor.
+/// Adds what is known of a division, once: the remainder and the product of quotient and divisor are the dividend, of
+/// which the remainder has the sign.
 pub fn know_division(
     alloc: Global,
     path: &mut Path,
     dividend: &Term,
-    divisor: &Term,
     product: &Term,
     remainder: usize,
 ) -> Result<(), AllocError>
-    ensures { IfOk result (λ _. (v : Valuation) → Holds v path.old
-        → sum_value v product.now
-        ≡ int_div (sum_value v dividend.now) (sum_value v divisor.now) *ℤ sum_value v divisor.now
-        → v remainder ≡ int_rem (sum_value v dividend.now) (sum_value v divisor.now)
-        → sum_value v divisor.now ≢ pos 0 → Holds v path.new) }
+    ensures { IfOk result (λ _. (v : Valuation) (divisor : ℤ) → Holds v path.old
+        → sum_value v product.now ≡ int_div (sum_value v dividend.now) divisor *ℤ divisor
+        → v remainder ≡ int_rem (sum_value v dividend.now) divisor → Holds v path.new) }
 {
     if has_choice_of(path, remainder) {
         return Ok(());
     }
     let rest = atom_term(alloc, remainder)?;
     add_whole(alloc, path, dividend, product, &rest)?;
-    add_choice(path, divisor_cases(alloc, divisor, &rest)?)?;
     add_choice(path, sign_cases(alloc, dividend, &rest)?)
 }
 

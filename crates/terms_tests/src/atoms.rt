@@ -2,7 +2,7 @@
 
 use crate::made::{X, Y, Z, is_below, made};
 use f77_terms::atoms::{Function, Key, interned, new_table};
-use f77_terms::knowing::{know_division, know_minimum};
+use f77_terms::knowing::{know_division, know_minimum, know_range};
 use f77_terms::paths::{add_below, add_range, new_path};
 use f77_terms::ranges::Range;
 use f77_terms::terms::{atom_term, constant_term};
@@ -45,7 +45,8 @@ fn knows_divisions(rt: HostRuntime) -> Result<(), Fail> {
     let divisor = constant_term(alloc, 4);
     add_range(&mut path, X, Range { low: 0, high: 100 })?;
     let product = made(alloc, 0, &[(4, Y)])?;
-    know_division(alloc, &mut path, &dividend, &divisor, &product, Z)?;
+    know_range(&mut path, Function::Remainder, &dividend, &divisor, Z)?;
+    know_division(alloc, &mut path, &dividend, &product, Z)?;
     let most = made(alloc, -3, &[(1, Z)])?;
     assert!(rt; is_below(alloc, &path, &most)?);
     let most = made(alloc, -2, &[(1, Z)])?;

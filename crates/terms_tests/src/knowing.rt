@@ -101,11 +101,11 @@ fn knows_divisions_once(rt: HostRuntime) -> Result<(), Fail> {
     let x = atom_term(alloc, 0)?;
     let y = atom_term(alloc, 1)?;
     let product = atom_term(alloc, 2)?;
-    know_division(alloc, &mut path, &x, &y, &product, 3)?;
-    know_division(alloc, &mut path, &x, &y, &product, 3)?;
+    know_division(alloc, &mut path, &x, &product, 3)?;
+    know_division(alloc, &mut path, &x, &product, 3)?;
+    assert_eq!(rt; path.choices.len(), 1);
+    know_minimum(alloc, &mut path, &x, &y, 4)?;
+    know_minimum(alloc, &mut path, &x, &y, 4)?;
     assert_eq!(rt; path.choices.len(), 2);
-    know_minimum(alloc, &mut path, &x, &y, 4)?;
-    know_minimum(alloc, &mut path, &x, &y, 4)?;
-    assert_eq!(rt; path.choices.len(), 3);
     Ok(())
 }
