@@ -31,11 +31,15 @@ impl Evaluator {
         Ok((is_refuted, work == 0))
     }
 
-    /// A sample is found that is on the path, and on which the term of a goal has its sign.
-    pub(crate) fn is_found(&self, goal: Option<(&Term, Ordering)>) -> Result<bool, AllocError> {
-        let table = &self.atoms.table;
-        let path = &self.path;
-        self.samples.find(self.alloc, Wanted { table, path, goal })
+    /// A sample is found that is on the path, and on which the term has this sign.
+    fn is_found(&self, term: &Term, sign: Ordering) -> Result<bool, AllocError> {
+        let wanted = Wanted {
+            table: &self.atoms.table,
+            path: &self.path,
+            term,
+            sign,
+        };
+        self.samples.find(self.alloc, wanted)
     }
 
     /// Where the path holds, the term has not this sign. It is false too where that is not told.
@@ -52,7 +56,7 @@ impl Evaluator {
         let bounds = sign_bounds(self.alloc, term, sign)?;
         let (is_told, is_open) = self.refute(FIRST_WORK, &bounds)?;
         // A sample is sought where more work finds nothing, too: it answers questions to come.
-        if is_told || self.is_found(Some((term, sign)))? || !is_open {
+        if is_told || self.is_found(term, sign)? || !is_open {
             return Ok(is_told);
         }
         Ok(self.refute(MOST_WORK, &bounds)?.0)

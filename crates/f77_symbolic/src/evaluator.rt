@@ -47,11 +47,7 @@ impl Evaluator {
         ensures extends { Extends self.old.atoms self.new.atoms }
     {
         self.path = copied_path(self.alloc, path)?;
-        self.samples.choose(&self.path)?;
-        if !self.samples.are_any()? {
-            self.is_found(None)?;
-        }
-        Ok(())
+        Ok(self.samples.choose(&self.path)?)
     }
 
     /// The atom with a key, unless there are too many.

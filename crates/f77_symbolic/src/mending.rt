@@ -143,11 +143,9 @@ impl Sample {
 
     /// A term that keeps the sample from what is wanted, and by how much it is to be changed.
     fn lack<'a>(&self, wanted: Wanted<'a>) -> Option<(&'a Term, i64)> {
-        if let Some((term, sign)) = wanted.goal {
-            let now = self.value(term);
-            if !has_sign(now, sign) {
-                return Some((term, distance_to(now.unwrap_or(0), sign)));
-            }
+        let now = self.value(wanted.term);
+        if !has_sign(now, wanted.sign) {
+            return Some((wanted.term, distance_to(now.unwrap_or(0), wanted.sign)));
         }
         for term in &wanted.path.below {
             let now = self.value(term).unwrap_or(1);
@@ -227,11 +225,7 @@ impl Sample {
 impl Samples {
     /// A sample as wanted is made from others.
     fn made(&self, alloc: Global, wanted: Wanted) -> Result<Option<Sample>, AllocError> {
-        let ways = if self.seeks && wanted.goal.is_some() {
-            2 + TRIED.len()
-        } else {
-            1
-        };
+        let ways = if self.seeks { 2 + TRIED.len() } else { 1 };
         let are_any = self.are_any()?;
         let list = self.list()?;
         let fit = list

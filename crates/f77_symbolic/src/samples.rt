@@ -48,12 +48,13 @@ pub struct Samples {
     pub seeks: bool,
 }
 
-/// What a sample is to have: it is on a path, and the term of a goal has this sign there.
+/// What a sample is to have: it is on a path, and a term has this sign there.
 #[derive(Clone, Copy)]
 pub struct Wanted<'a> {
     pub table: &'a Table,
     pub path: &'a Path,
-    pub goal: Option<(&'a Term, Ordering)>,
+    pub term: &'a Term,
+    pub sign: Ordering,
 }
 
 /// The number, if there is one, has this sign.
