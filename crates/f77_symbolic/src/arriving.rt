@@ -1,6 +1,6 @@
 //! What is known of a state to which the program comes: bounds of what slots hold, and of what DOs have left.
 
-ghost use Rattle.std.specs.Prelude.{◌<◌, ◌≤ℤ◌, not, pos, vec_len, option_map, slice_set, Some, IfOk, IfSome};
+ghost use Rattle.std.specs.Prelude.{◌<◌, not, pos, vec_len, option_map, slice_set, Some, IfOk};
 ghost use Rattle.f77_actions.specs.declared.value.Value.TheVariants.{Truth};
 ghost use Rattle.f77_symbolic.specs.Prelude.{is_same, Cells, AreIn, SuitsFact, number_of, AreLeft, SuitsTurn};
 ghost use Rattle.f77_symbolic.specs.Prelude.{FitsTable, Holds, IsIn, Valuation, sum_value};

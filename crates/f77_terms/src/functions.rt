@@ -1,7 +1,7 @@
 //! Ranges of functions of two numbers, by those of the numbers. Most questions on a remainder, a quotient or a size are
 //! answered by them, and need no elimination.
 
-ghost use Rattle.std.specs.Prelude.{◌≡◌, ◌≢◌, ◌≤ℤ◌, ◌*ℤ◌, ℤ, pos, IfSome, int_div, int_rem};
+ghost use Rattle.std.specs.Prelude.{◌≢◌, ◌≤ℤ◌, ◌*ℤ◌, ℤ, pos, IfSome, int_div, int_rem};
 ghost use Rattle.std.specs.Int.{int_min};
 ghost use Rattle.f77_terms.specs.{AreKnown, IsDefined, IsIn, Valuation, function_value, sum_value};
 

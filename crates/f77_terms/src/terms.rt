@@ -1,6 +1,6 @@
 //! Terms: linear polynomials over atoms.
 
-ghost use Rattle.std.specs.Prelude.{◌≡◌, ◌≤◌, ◌<◌, ◌+◌, ◌+ℤ◌, ◌-ℤ◌, ◌*ℤ◌, ℤ, true, length, vec_len};
+ghost use Rattle.std.specs.Prelude.{◌≡◌, ◌≤◌, ◌<◌, ◌+ℤ◌, ◌-ℤ◌, ◌*ℤ◌, ℤ, true, length, vec_len};
 ghost use Rattle.std.specs.Prelude.{slice_get, Some, IfOk};
 ghost use Rattle.f77_terms.specs.{Valuation, part_value, parts_value, sum_value};
 ghost use Rattle.f77_terms.specs.{IsWorth, AddsIfDone};
