@@ -3,7 +3,7 @@
 use crate::made::{X, Y, Z, is_refuted, made};
 use f77_terms::atoms::Function;
 use f77_terms::knowing::{know_minimum, know_product, know_range};
-use f77_terms::paths::{add_range, new_path};
+use f77_terms::paths::{add_below, add_range, new_path};
 use f77_terms::ranges::{Range, atom_range};
 use f77_terms::terms::atom_term;
 use std::alloc::{AllocError, Global};
@@ -47,6 +47,21 @@ fn ranges_functions(rt: HostRuntime) -> Result<(), Fail> {
     assert_eq!(rt; range_of(alloc, Function::Remainder, both)?, Some(rest));
     let rest = Range { low: 0, high: 2 };
     assert_eq!(rt; range_of(alloc, Function::Remainder, below)?, Some(rest));
+    Ok(())
+}
+
+#[test]
+fn narrows_ranges_before(rt: HostRuntime) -> Result<(), Fail> {
+    let alloc = rt.alloc();
+    let mut path = new_path(alloc);
+    let x = atom_term(alloc, X)?;
+    let y = atom_term(alloc, Y)?;
+    add_range(&mut path, X, Range { low: 2, high: 5 })?;
+    add_range(&mut path, Y, Range { low: -3, high: 4 })?;
+    add_below(alloc, &mut path, -1, &y, 1)?;
+    know_range(&mut path, Function::Product, &x, &y, Z)?;
+    let product = Range { low: 2, high: 20 };
+    assert_eq!(rt; atom_range(&path.known, Z), Some(product));
     Ok(())
 }
 
