@@ -41,15 +41,6 @@ pub(crate) fn sums(rt: &impl AllocGlobal, times: usize, ops: &[Op]) -> Result<Be
     Ok(bench(rt, statements.as_str(), ops, &[])??)
 }
 
-/// How many mutants each operator has.
-pub(crate) fn counts(plan: &Plan) -> [u32; 22] {
-    let mut counts = [0u32; 22];
-    for op in Op::ALL {
-        counts[op.index()] = plan.count(op);
-    }
-    counts
-}
-
 /// Offers and takes `count` tickets of an operator.
 fn hand_out(exchange: &TableExchange<64>, pass: &mut Pass, op: Op, count: u32)
     requires { IsPassOf exchange.now pass.old }
@@ -76,29 +67,14 @@ pub(crate) fn tally(rt: &impl AllocGlobal, counts: [u32; 22]) -> Result<Tally, F
     Ok(exchange.finish(pass))
 }
 
-/// Adds the row of each mutant of one operator.
-fn push_rows(
-    rt: &impl AllocGlobal,
-    bench: &Bench,
-    verdicts: &mut Verdicts<'_>,
-    op: Op,
-    rows: &mut Vec<Row>,
-) -> Result<(), Fail> {
-    for before in 0..bench.plan().count(op) {
-        let number = before + 1;
-        rows.push(verdicts.row(rt.alloc(), Ticket { op, number })?)?;
-    }
-    Ok(())
-}
-
 fn rows_by(
     rt: &impl AllocGlobal,
     bench: &Bench,
     verdicts: &mut Verdicts<'_>,
 ) -> Result<Vec<Row>, Fail> {
     let mut rows = Vec::new(rt.alloc());
-    for op in Op::ALL {
-        push_rows(rt, bench, verdicts, op, &mut rows)?;
+    for ticket in bench.plan().tickets(rt.alloc())? {
+        rows.push(verdicts.row(rt.alloc(), ticket)?)?;
     }
     Ok(rows)
 }
@@ -111,7 +87,7 @@ pub(crate) fn rows(rt: &impl AllocGlobal, bench: &Bench) -> Result<Vec<Row>, Fai
 
 /// The report of a bench.
 pub(crate) fn report(rt: &impl AllocGlobal, bench: &Bench) -> Result<String, Fail> {
-    let tally = tally(rt, counts(bench.plan()))?;
+    let tally = tally(rt, bench.plan().counts())?;
     let matrix = collect(rt.alloc(), bench, &tally, rows(rt, bench)?)?;
     Ok(render(rt.alloc(), bench, &matrix)?)
 }

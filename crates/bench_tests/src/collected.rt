@@ -1,7 +1,7 @@
 //! Tests of `collect`. A line of the table says how the rows of all mutants are changed, and after ` => ` what they
 //! give then.
 
-use crate::benches::{counts, rows, sum_bench, tally};
+use crate::benches::{rows, sum_bench, tally};
 use f77_meaning::Values;
 use mothra_bench::{Bench, BenchFault, Matrix, Row, collect, verdict_of};
 use mothra_exchange::{Tally, Ticket};
@@ -121,7 +121,7 @@ fn assert_collected(
 
 /// Collects rows after an exchange handed out all tickets, and after one handed out those of ABS without the last.
 fn assert_all(rt: &impl AllocGlobal, bench: &Bench) -> Result<(), Fail> {
-    assert_collected(rt, bench, &tally(rt, counts(bench.plan()))?, ROWS)?;
+    assert_collected(rt, bench, &tally(rt, bench.plan().counts())?, ROWS)?;
     let mut short = [0u32; 22];
     short[Op::Abs.index()] = 8;
     let missing = " => Missing(Ticket { op: Abs, number: 9 })";

@@ -4,7 +4,7 @@
 
 ghost use Rattle.std.specs.Prelude.{◌≤◌};
 
-use crate::benches::{counts, sum_bench, sums};
+use crate::benches::{sum_bench, sums};
 use crate::tricky::{Counted, Trick, Tricky};
 use mothra_bench::{Bench, BenchFault, drive};
 use mothra_exchange::TableExchange;
@@ -24,7 +24,7 @@ fn assert_undisturbed<R: Abort + AllocGlobal + Threads + Wait + Sync>(
 )
     requires { (1 ≤ workers) × (workers ≤ 32) }
 {
-    let Ok((inner, pass)) = TableExchange::<64>::new(rt.alloc(), counts(bench.plan())) else {
+    let Ok((inner, pass)) = TableExchange::<64>::new(rt.alloc(), bench.plan().counts()) else {
         return;
     };
     let counted = Counted::new();
@@ -54,7 +54,7 @@ fn refused_memory_lets_workers_take_on(rt: HostRuntime) -> Result<(), Fail> {
 /// Where memory was lacking or a thread could not begin, that is the fault, also over a gate that
 /// gives up at once.
 fn assert_own_fault_first<R: Abort + AllocGlobal + Threads + Wait + Sync>(rt: &R, bench: &Bench) {
-    let Ok((inner, pass)) = TableExchange::<64>::new(rt.alloc(), counts(bench.plan())) else {
+    let Ok((inner, pass)) = TableExchange::<64>::new(rt.alloc(), bench.plan().counts()) else {
         return;
     };
     let counted = Counted::new();

@@ -1,6 +1,6 @@
 //! Tests of benches and scores that no job can show.
 
-use crate::benches::{bench, counts, tally};
+use crate::benches::{bench, tally};
 use f77_meaning::Values;
 use mothra_bench::{Bench, BenchFault, Row, collect};
 use mothra_exchange::Ticket;
@@ -43,19 +43,16 @@ fn killed(rt: &impl AllocGlobal, ticket: Ticket, kill: bool) -> Result<Row, Fail
 /// Rows in which the test kills every mutant but the first.
 fn all_but_one(rt: &impl AllocGlobal, bench: &Bench) -> Result<Vec<Row>, Fail> {
     let mut rows = Vec::new(rt.alloc());
-    for op in Op::ALL {
-        for before in 0..bench.plan().count(op) {
-            let number = before + 1;
-            let kill = !rows.is_empty();
-            rows.push(killed(rt, Ticket { op, number }, kill)?)?;
-        }
+    for ticket in bench.plan().tickets(rt.alloc())? {
+        let kill = !rows.is_empty();
+        rows.push(killed(rt, ticket, kill)?)?;
     }
     Ok(rows)
 }
 
 /// The score where every mutant but the first is killed.
 fn score_but_one(rt: &impl AllocGlobal, bench: &Bench) -> Result<Option<u32>, Fail> {
-    let tally = tally(rt, counts(bench.plan()))?;
+    let tally = tally(rt, bench.plan().counts())?;
     let rows = all_but_one(rt, bench)?;
     if rows.len() <= 10_000 {
         return Err(Fail::new("there are too few mutants"));

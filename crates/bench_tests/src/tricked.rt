@@ -4,7 +4,7 @@
 
 ghost use Rattle.std.specs.Prelude.{◌≡◌, ◌+◌, ◌≤◌, true};
 
-use crate::benches::{counts, report, sum_bench, sums};
+use crate::benches::{report, sum_bench, sums};
 use crate::tricky::{Counted, Trick, Tricky};
 use mothra_bench::{Bench, BenchFault, collect, drive, feed, render};
 use mothra_exchange::{Gate, LockedExchange, Offer, TableExchange, Ticket};
@@ -42,7 +42,7 @@ fn tricked<R: AllocGlobal + Threads + Wait + Sync>(
 ) -> Result<Result<String, BenchFault>, Fail>
     requires { (1 ≤ workers) × (workers ≤ 32) }
 {
-    let (inner, pass) = TableExchange::<64>::new(rt.alloc(), counts(bench.plan()))?;
+    let (inner, pass) = TableExchange::<64>::new(rt.alloc(), bench.plan().counts())?;
     let counted = Counted::new();
     let (gate, pass) = Tricky::of(inner, pass, trick, &counted);
     Ok(driven(rt, bench, gate, pass, workers))
@@ -57,7 +57,7 @@ fn tricked_locked<R: AllocGlobal + Threads + Wait + Sync>(
 ) -> Result<Result<String, BenchFault>, Fail>
     requires { (1 ≤ workers) × (workers ≤ 32) }
 {
-    let (inner, pass) = LockedExchange::<64>::new(rt.alloc(), counts(bench.plan()))?;
+    let (inner, pass) = LockedExchange::<64>::new(rt.alloc(), bench.plan().counts())?;
     let counted = Counted::new();
     let (gate, pass) = Tricky::of(inner, pass, trick, &counted);
     Ok(driven(rt, bench, gate, pass, workers))
@@ -216,7 +216,7 @@ const OFFERED: [Ticket; 8] = [
 #[test]
 fn are_fed_again_behind_busy_and_in_turn_behind_full(rt: HostRuntime) -> Result<(), Fail> {
     let bench = sum_bench(&rt)?;
-    let (inner, pass) = TableExchange::<64>::new(rt.alloc(), counts(bench.plan()))?;
+    let (inner, pass) = TableExchange::<64>::new(rt.alloc(), bench.plan().counts())?;
     let counted = Counted::new();
     let (gate, pass) = Tricky::of(inner, pass, Trick::Answers(ANSWERS), &counted);
     let (pass, end) = feed(&rt, &gate, pass, &[Op::Abs, Op::Uoi], bench.plan());

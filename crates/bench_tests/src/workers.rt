@@ -2,7 +2,7 @@
 
 ghost use Rattle.std.specs.Prelude.{◌≤◌};
 
-use crate::benches::{counts, report, sum_bench, sums};
+use crate::benches::{report, sum_bench, sums};
 use crate::tricky::{Counted, Trick, Tricky};
 use mothra_bench::{Bench, analyse, drive};
 use mothra_exchange::TableExchange;
@@ -21,7 +21,7 @@ fn assert_driven<R: Abort + AllocGlobal + Threads + Wait + Sync>(
 ) -> Result<(), Fail>
     requires { (1 ≤ workers) × (workers ≤ 32) }
 {
-    let (inner, pass) = TableExchange::<64>::new(rt.alloc(), counts(bench.plan()))?;
+    let (inner, pass) = TableExchange::<64>::new(rt.alloc(), bench.plan().counts())?;
     let counted = Counted::new();
     let (gate, pass) = Tricky::of(inner, pass, Trick::Nothing, &counted);
     let rows = drive(rt, rt.alloc(), gate, pass, bench, workers)?.0.len();

@@ -5,7 +5,7 @@ ghost use Rattle.mothra_verdicts.specs.Bench.{most_tests};
 
 use f77_meaning::{Arg, Values};
 use indexmap::IndexSet;
-use mothra_codes::{Op, Ticket};
+use mothra_codes::Ticket;
 use mothra_ops::Plan;
 use mothra_verdicts::{Bench, Verdicts};
 use std::alloc::{AllocError, Global};
@@ -44,28 +44,12 @@ fn add(
     Ok(())
 }
 
-/// Adds the mutants of an operator that a test kills; `count` is how many it has.
-fn add_operator(
-    alloc: Global,
-    verdicts: &mut Verdicts<'_>,
-    killed: &mut IndexSet<Ticket>,
-    op: Op,
-    count: u32,
-) -> Result<(), AllocError> {
-    for before in 0..count {
-        let number = before + 1;
-        add(alloc, verdicts, killed, Ticket { op, number })?;
-    }
-    Ok(())
-}
-
 /// The mutants of the bench that a test kills.
 pub(crate) fn killed_on(alloc: Global, bench: &Bench) -> Result<IndexSet<Ticket>, AllocError> {
     let mut killed = IndexSet::new(alloc);
     let mut verdicts = Verdicts::of(alloc, bench)?;
-    for op in Op::ALL {
-        let count = bench.plan().count(op);
-        add_operator(alloc, &mut verdicts, &mut killed, op, count)?;
+    for ticket in bench.plan().tickets(alloc)? {
+        add(alloc, &mut verdicts, &mut killed, ticket)?;
     }
     Ok(killed)
 }

@@ -4,7 +4,8 @@ use Rattle.mothra_app.proofs.Common.{flat_map, get_or, ◌≢◌, if◌then◌el
 use Rattle.mothra_app.proofs.Common.{IsReport, all_ops, Op, JobFields, numbered, program_of, edit_text, mutant_made, mutant_name, mutant_of, original_number}
 use Rattle.mothra_app.proofs.Common.{PlanFields, IsFirstTooLong, Edit, BenchFields, IsNoBench, AreFine, EndsOn, FitsProgram, IsDeclared, BenchFault}
 use Rattle.std.specs.Option.{option_and_then, option_map_or}
-use Rattle.mothra_bench.specs.Matrix.{counts, score_of, tickets, tickets_of}
+use Rattle.mothra_bench.specs.Matrix.{counts, score_of}
+use Rattle.mothra_ops.specs.Tickets.{tickets, tickets_of}
 use Rattle.mothra_bench.specs.Report.{bits_of, is_survivor, is_wrong, line, named_number, report_text, score_line, status_of, unit_line}
 use Rattle.mothra_verdicts.specs.Verdict.{IsAlone, IsVerdict, mutated}
 use Rattle.mothra_verdicts.specs.declared.fault.BenchFault.TheVariants.{Memory}

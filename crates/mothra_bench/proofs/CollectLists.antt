@@ -1,9 +1,8 @@
 -- Lists that are gone through from the front.
 use Rattle.mothra_bench.proofs.Common.{◌≡◌, ◌∙◌, ap, List, length, subst, sym, ◌++◌, refl, [], arith, ℕ, true, All, take, ◌∷◌, ◌+◌, Some, ◌<◌, ◌≤◌, Bool, false}
-use Rattle.mothra_bench.proofs.Common.{get_or, suc, cond, ◌≢◌, Contains, append_assoc, append-nil, slice_get, zero, AllPairs, drop, slice_set, take_more}
-use Rattle.mothra_bench.proofs.Common.{All-nil, All-append, All-cons, All-tail, Contains-append_right, All-head, Contains-append_left}
-use Rattle.std.proofs.Common.{filter, flat_map}
-use Rattle.std.proofs.lemmas.List.Kept.{AllPairs-cons}
+use Rattle.mothra_bench.proofs.Common.{get_or, suc, cond, ◌≢◌, slice_get, zero, drop, slice_set, take_more}
+use Rattle.mothra_bench.proofs.Common.{All-nil, All-append, All-cons}
+use Rattle.std.proofs.Common.{filter}
 
 pub cut_at : {X : Type 0} (xs : List X) (i : ℕ) (x : X) → i < length xs → x ≡ get_or xs i x → xs ≡ take i xs ++ x ∷ drop (suc i) xs
 cut_at [] i x h e = absurd (omega arith)
@@ -38,30 +37,6 @@ got_other (y ∷ ys) zero zero x h = absurd (h refl)
 got_other (y ∷ ys) zero (suc j) x h = refl
 got_other (y ∷ ys) (suc i) zero x h = refl
 got_other (y ∷ ys) (suc i) (suc j) x h = got_other ys i j x (λ e. h (ap (λ n. suc n) e))
-
-pub pairs_append : {X : Type 0} (R : X → X → Type 0) (xs ys : List X) → AllPairs R xs → AllPairs R ys → All (λ x. All (R x) ys) xs → AllPairs R (xs ++ ys)
-pairs_append R [] ys a b h = b
-pairs_append R (x ∷ xs) ys a b h =
-    let first : All (R x) xs = λ k d lt. a 0 (suc k) d (omega arith) (omega arith) in
-    let rest : AllPairs R xs = λ i j d p q. a (suc i) (suc j) d (omega arith) (omega arith) in
-    AllPairs-cons R x (xs ++ ys) (All-append (R x) xs ys first (All-head (λ z. All (R z) ys) x xs h)) (pairs_append R xs ys rest b (All-tail (λ z. All (R z) ys) x xs h))
-
-pub flat_map_take : {X Y : Type 0} (f : X → List Y) (xs : List X) (i : ℕ) (d : X) → i < length xs → flat_map f (take (suc i) xs) ≡ flat_map f (take i xs) ++ f (get_or xs i d)
-flat_map_take f [] i d h = absurd (omega arith)
-flat_map_take f (x ∷ xs) zero d h = append-nil (f x)
-flat_map_take f (x ∷ xs) (suc i) d h = ap (λ l. f x ++ l) (flat_map_take f xs i d (omega arith)) ∙ sym (append_assoc (f x) (flat_map f (take i xs)) (f (get_or xs i d)))
-
-pub flat_map_more : {X Y : Type 0} (f : X → List Y) (xs : List X) (i : ℕ) (d : X) → i < length xs → flat_map f (take (i + 1) xs) ≡ flat_map f (take i xs) ++ f (get_or xs i d)
-flat_map_more f xs i d h = let e : i + 1 ≡ suc i = omega arith in ap (λ k. flat_map f (take k xs)) e ∙ flat_map_take f xs i d h
-
-pub flat_map_has : {X Y : Type 0} (f : X → List Y) (xs : List X) (i : ℕ) (d : X) (y : Y) → i < length xs → Contains (f (get_or xs i d)) y → Contains (flat_map f xs) y
-flat_map_has f [] i d y h c = absurd (omega arith)
-flat_map_has f (x ∷ xs) zero d y h c = Contains-append_left (f x) (flat_map f xs) y c
-flat_map_has f (x ∷ xs) (suc i) d y h c = Contains-append_right (f x) (flat_map f xs) y (flat_map_has f xs i d y (omega arith) c)
-
-pub flat_map_all : {X Y : Type 0} (f : X → List Y) (P : Y → Type 0) → ((x : X) → All P (f x)) → (xs : List X) → All P (flat_map f xs)
-flat_map_all f P h [] = All-nil P
-flat_map_all f P h (x ∷ xs) = All-append P (f x) (flat_map f xs) (h x) (flat_map_all f P h xs)
 
 passes_by : {X : Type 0} (p : X → Bool) (xs : List X) (x y : X) (ys : List X) (b : Bool) → p x ≡ b → (filter p xs ≡ y ∷ ys → p y ≡ true) → cond b (x ∷ filter p xs) (filter p xs) ≡ y ∷ ys → p y ≡ true
 passes_by p xs x y ys true e h k = let same : x ≡ y = cc in subst (λ z. p z ≡ true) same e

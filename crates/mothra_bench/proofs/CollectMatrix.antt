@@ -7,7 +7,7 @@ use Rattle.mothra_bench.proofs.Common.{Word, PlanFields, BenchFields, HasMutant,
 use Rattle.mothra_verdicts.specs.declared.fault.BenchFault.TheVariants as fault
 use Rattle.mothra_bench.proofs.CollectLists.{filter_passes}
 use Rattle.mothra_bench.proofs.CollectRows.{no_double, own_ticket}
-use Rattle.mothra_bench.proofs.CollectTickets.{has_ticket, tickets_had, tickets_ordered}
+use Rattle.mothra_ops.proofs.TicketLists.{has_ticket, tickets_had, tickets_ordered}
 
 row_with : Ticket → List Bool → Row
 row_with ticket kills = record { ticket = ticket; kills = kills }
@@ -84,7 +84,8 @@ missing plan words rows all t has first = record {
       (subst (λ l. Contains l t) (sym first.cut) (Contains-append_right first.before (t ∷ first.after) t (0, omega arith, refl)));
   missing = λ there. first.absent (was_here words rows all has t there);
   others = λ u own before. is_there words rows all has u
-      (other_here words rows first.before first.after t u (subst (AllPairs Before) first.cut (tickets_ordered plan)) first.here (subst (λ l. Contains l u) first.cut (has_ticket plan u own)) before);
+      (other_here words rows first.before first.after t u (subst (AllPairs Before) first.cut (tickets_ordered plan)) first.here
+      (subst (λ l. Contains l u) first.cut (has_ticket plan u own.0 own.1)) before);
 }
 
 pub no_matrix : (bench : BenchFields) (words : List Word) (rows : RowMap) (all : List Row) → HasRows rows all → All (IsKnown bench) all → (fault : BenchFault)

@@ -14,8 +14,8 @@ pub use Rattle.std.specs.List.{flat_map, filter}
 pub use Rattle.std.specs.Option.{option_and_then, option_flatten, option_map_or}
 pub use Rattle.std.specs.String.{string_bytes}
 pub use Rattle.std.specs.Vec.Iter.{into_iter_items, into_iter_len}
-pub use Rattle.mothra_bench.specs.{AreVerdicts, counts, tickets_in, OnlyGave, count_of, AreOver, IsOwn, tickets, AreCounts, IsKnown, IsNoDrive, entries_of}
-pub use Rattle.mothra_bench.specs.{is_row_of, rows_of, seen_of, AreCollected, IsFed, IsNoMatrix, operator_line, tickets_of, AreComplete, AreFed, HasClosed}
+pub use Rattle.mothra_bench.specs.{AreVerdicts, counts, tickets_in, OnlyGave, count_of, AreOver, IsOwn, AreCounts, IsKnown, IsNoDrive, entries_of}
+pub use Rattle.mothra_bench.specs.{is_row_of, rows_of, seen_of, AreCollected, IsFed, IsNoMatrix, operator_line, AreComplete, AreFed, HasClosed}
 pub use Rattle.mothra_bench.specs.{HasOffered, IsFirstDouble, IsFirstMissing, IsNoWork, IsReport, IsWhole, NamesTaken, OnlyTook, counts_line, mutant_line}
 pub use Rattle.mothra_bench.specs.{report_text, row_of, score_line, score_of, survivor_line, wrong_line, AreEntries, AreFirstItems, AreFresh, Counts}
 pub use Rattle.mothra_bench.specs.{HasHistory, IsCollected, IsFirstStranger, IsNoReport, IsReadyPass, IsStalled, IsUntouched, KeepsLists, NamesFirst}
@@ -46,6 +46,7 @@ pub use Rattle.mothra_exchange.specs.declared.view.Look.{Look}
 pub use Rattle.mothra_exchange.specs.declared.view.View.{View}
 pub use Rattle.mothra_exchange.specs.declared.word.Word.{Word}
 pub use Rattle.mothra_ops.specs.Mutants.{program_of, MutantFields, mutant_made, mutant_of}
+pub use Rattle.mothra_ops.specs.Tickets.{tickets_of}
 pub use Rattle.mothra_ops.specs.Plan.{PlanFields, edits_of, IsPlan, asked, ListFields, list_of_operator}
 pub use Rattle.mothra_verdicts.specs.Bench.{BenchFields, IsDeclared}
 pub use Rattle.mothra_verdicts.specs.Verdict.{HasMutant, IsNoVerdict, IsKill, IsVerdict, mutated}

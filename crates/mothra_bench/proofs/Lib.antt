@@ -1,6 +1,5 @@
 pub mod Common
 mod CollectLists
-mod CollectTickets
 mod CollectRows
 mod CollectEntries
 mod CollectMatrix
@@ -22,6 +21,5 @@ mod ReportEntries
 mod CompleteRows
 pub mod FirstItems
 mod Crossings
-mod CountSteps
 mod RowLists
 mod CountedOperators

@@ -1,7 +1,7 @@
 -- The report of a bench. No definition here has the number of workers as an argument.
 use Rattle.std.specs.Prelude.{◌≡◌, ◌↔◌, ⊤, ℕ, IsTrue, List, map, All}
 use Rattle.mothra_verdicts.specs.Bench.{BenchFields, IsDeclared}
-use Rattle.mothra_bench.specs.Matrix.{tickets_of}
+use Rattle.mothra_ops.specs.Tickets.{tickets_of}
 use Rattle.mothra_bench.specs.Report.{report_text}
 use Rattle.mothra_verdicts.specs.Verdict.{IsVerdict}
 use Rattle.mothra_verdicts.specs.declared.fault.BenchFault.{BenchFault}

@@ -8,7 +8,7 @@ use Rattle.mothra_codes.specs.Ticket.{Before}
 use Rattle.mothra_codes.specs.declared.ticket.Ticket.{Ticket}
 use Rattle.mothra_exchange.specs.declared.word.Word.{Word}
 use Rattle.mothra_verdicts.specs.Bench.{BenchFields, IsDeclared}
-use Rattle.mothra_bench.specs.Matrix.{tickets_of}
+use Rattle.mothra_ops.specs.Tickets.{tickets_of}
 use Rattle.mothra_verdicts.specs.Verdict.{HasMutant}
 use Rattle.mothra_verdicts.specs.declared.fault.BenchFault.{BenchFault}
 use Rattle.mothra_verdicts.specs.declared.fault.BenchFault.TheVariants as fault

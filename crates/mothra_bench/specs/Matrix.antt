@@ -1,20 +1,10 @@
 -- The kill matrix: one entry for each mutant, and its counts.
-use Rattle.std.specs.Prelude.{ℕ, ◌+◌, ◌-◌, ◌*◌, ◌/◌, ◌==◌, ◌&&◌, Bool, not, List, length, map}
-use Rattle.std.specs.Prelude.{flat_map, filter, count_by, Option, Some, None, if◌then◌else◌}
-use Rattle.std.specs.List.{list_any, range_with_len}
-use Rattle.mothra_codes.specs.Op.{all_ops, index}
+use Rattle.std.specs.Prelude.{ℕ, ◌-◌, ◌*◌, ◌/◌, ◌==◌, ◌&&◌, Bool, not, List, length}
+use Rattle.std.specs.Prelude.{filter, count_by, Option, Some, None, if◌then◌else◌}
+use Rattle.std.specs.List.{list_any}
+use Rattle.mothra_codes.specs.Op.{index}
 use Rattle.mothra_codes.specs.declared.op.Op.{Op}
-use Rattle.mothra_ops.specs.Plan.{PlanFields, edits_of}
-use Rattle.mothra_codes.specs.Ticket.{ticket}
-use Rattle.mothra_codes.specs.declared.ticket.Ticket.{Ticket}
 use Rattle.mothra_bench.specs.declared.matrix.Entry.{Entry}
-
--- the tickets of an operator with `count` mutants, and those of a plan, by operator and number
-abbrev pub tickets : Op → ℕ → List Ticket
-tickets op count = map (λ k. ticket op (k + 1)) (range_with_len 0 count)
-
-abbrev pub tickets_of : PlanFields → List Ticket
-tickets_of plan = flat_map (λ op. tickets op (length (edits_of plan op))) all_ops
 
 -- some test kills the mutant (DeMillo, Lipton and Sayward 1978)
 abbrev pub is_killed : Entry → Bool

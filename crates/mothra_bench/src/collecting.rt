@@ -6,7 +6,6 @@ ghost use Rattle.mothra_bench.specs.{AreCollected, IsFirstStranger, IsKnown, IsN
 use crate::entries::entries_of;
 use crate::matrix::Matrix;
 use crate::row_map::RowMap;
-use crate::tickets::all_tickets;
 use mothra_exchange::{Tally, Ticket};
 use mothra_verdicts::{Bench, BenchFault, Row};
 use std::alloc::Global;
@@ -51,7 +50,7 @@ pub fn collect(
         return Err(BenchFault::Stranger(ticket));
     }
     let map = RowMap::of(alloc, rows)?;
-    let tickets = all_tickets(alloc, bench.plan())?;
+    let tickets = bench.plan().tickets(alloc)?;
     let entries = entries_of(alloc, bench, tally, &tickets, map)?;
     Ok(Matrix::new(entries))
 }

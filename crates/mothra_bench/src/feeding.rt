@@ -9,7 +9,6 @@ ghost use Rattle.mothra_bench.specs.{count_of, AreFed, IsReadyPass, IsStalled, O
 ghost use Rattle.mothra_bench.specs.code.{Closes, AllShow, IsFull, ShowsStage, stage_of};
 
 use crate::closing::close_one;
-use crate::tickets::counts;
 use crossbeam_utils::Backoff;
 use mothra_codes::Op;
 use mothra_exchange::{Gate, Offer, Ticket};
@@ -189,7 +188,7 @@ pub fn feed<G: Gate, R: Wait>(
     ensures fed { G.keeps_records ≡ true
         → IsReadyPass plan.now (G.view pass) → IfOk result.1 (λ _. AreFed ops.now (G.view result.0)) }
 {
-    let counts = counts(plan);
+    let counts = plan.counts();
     let mut stages = [Stage::Offered(0); 22];
     let backoff = Backoff::new();
     for _ in rt.forever() {

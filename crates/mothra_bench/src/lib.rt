@@ -15,7 +15,6 @@ mod report;
 mod results;
 mod row_map;
 mod threads;
-mod tickets;
 mod working;
 
 pub use analysis::analyse;

@@ -5,7 +5,6 @@ ghost use Rattle.mothra_exchange.specs.Table.{IsPassOf, view_of};
 ghost use Rattle.mothra_verdicts.specs.declared.fault.BenchFault.TheVariants.{Memory};
 ghost use Rattle.mothra_bench.specs.{IsWhole, KeepsLists};
 
-use crate::tickets::counts;
 use mothra_exchange::{ExchangeFault, Pass, Stepwise, TableExchange};
 use mothra_ops::Plan;
 use mothra_verdicts::BenchFault;
@@ -27,7 +26,7 @@ pub fn exchange_of(
     ensures bound { MOST_WAITING ≡ 64 }
     ensures memory { IfErr result (λ fault. fault ≡ Memory) }
 {
-    match TableExchange::new(alloc, counts(plan)) {
+    match TableExchange::new(alloc, plan.counts()) {
         Ok(made) => Ok(made),
         Err(ExchangeFault::Memory) => Err(BenchFault::Memory),
         Err(ExchangeFault::CountTooLarge(_)) => unreachable!(),

@@ -18,3 +18,4 @@ mod Shapes
 mod MadeFits
 mod MadeBy
 pub mod Copied
+pub mod TicketLists

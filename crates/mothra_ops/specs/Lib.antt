@@ -2,6 +2,7 @@ pub mod Edits
 pub mod Copies
 pub mod Listing
 pub mod Plan
+pub mod Tickets
 pub mod Mutants
 pub mod Made
 pub mod code
@@ -9,5 +10,6 @@ pub use Edits.*
 pub use Copies.*
 pub use Listing.*
 unfoldable pub use Plan.*
+pub use Tickets.*
 pub use Mutants.*
 pub use Made.*

@@ -11,6 +11,7 @@ mod node_lists;
 mod original;
 mod plan;
 mod site;
+mod tickets;
 
 pub use copies::Copies;
 pub use edit::Edit;

@@ -1,7 +1,7 @@
 use Rattle.mothra_bench.proofs.Common.{◌≡◌, ◌∙◌, List, subst, sym, All, rules, AllPairs, IsKnown, AreCollected, IsNoMatrix, tickets_of, AreNoEntries, Before}
 use Rattle.mothra_bench.proofs.Common.{Ticket}
 use Rattle.mothra_bench.proofs.CollectMatrix.{collected, no_matrix}
-use Rattle.mothra_bench.proofs.CollectTickets.{tickets_ordered}
+use Rattle.mothra_ops.proofs.TicketLists.{tickets_ordered}
 use Rattle.mothra_bench.proofs.collecting.collect.Goals as goal
 
 pub entries_of-requires : goal.entries_of-requires

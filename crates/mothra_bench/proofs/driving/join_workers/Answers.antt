@@ -1,4 +1,4 @@
-use Rattle.mothra_bench.proofs.Common.{◌≡◌, ◌∙◌, ap, length, sym, ◌++◌, [], arith, ◌+◌, None, rules, inr, inl, ⊎_elim, ◌⊎◌, into_iter_items, AreOver, IsShare}
+use Rattle.mothra_bench.proofs.Common.{◌≡◌, ◌∙◌, ap, length, sym, ◌++◌, [], arith, None, rules, inr, inl, ⊎_elim, ◌⊎◌, into_iter_items, AreOver, IsShare}
 use Rattle.mothra_bench.proofs.DriveEnds.{any_none, memory_on, none_on, rows_none}
 use Rattle.mothra_bench.proofs.JoinedPasses.{keeps_on, keeps_self, new_same}
 use Rattle.mothra_bench.proofs.WorkerRows.{answered_with, first_of_all, merges_rows, none_left, over_merged, still_some}

@@ -1,12 +1,33 @@
 -- The tickets of a plan stand in order, and are those of the plan's mutants.
-use Rattle.mothra_bench.proofs.Common.{◌≡◌, ◌∙◌, ap, List, length, subst, sym, ◌++◌, refl, [], arith, ℕ, true, All, ◌∷◌, ◌+◌, Some, ◌<◌, ◌≤◌, None, get_or}
-use Rattle.mothra_bench.proofs.Common.{Option, inr, inl, suc, Contains, AllPairs, ◌-◌, is_some, All-nil, All-append, All-weaker, option_map_or, tickets}
-use Rattle.mothra_bench.proofs.Common.{tickets_of, index_below, op_at-index, index, all_ops, ticket, Before, Op, Aar, Ticket, PlanFields, edits_of, IsPlan}
-use Rattle.mothra_bench.proofs.Common.{ListFields, list_of_operator, HasMutant}
+use Rattle.mothra_ops.proofs.Common.{◌≡◌, ◌∙◌, ap, sym, List, arith, refl, Some, length, subst, ℕ, ◌≤◌, None, [], ◌+◌, ◌-◌, suc, zero, ◌<◌, inl, inr, ◌∷◌, Option}
+use Rattle.mothra_ops.proofs.Common.{◌++◌, get_or, true, Contains, is_some, AllPairs, All, All-nil, All-append, All-head, All-tail, option_map_or, Op, Aar}
+use Rattle.mothra_ops.proofs.Common.{PlanFields, ListFields, IsPlan, edits_of, list_of_operator}
 use Rattle.std.specs.Prelude.{⊤}
 use Rattle.std.proofs.Common.{flat_map}
+use Rattle.std.proofs.lemmas.List.Elements.{All-weaker, Contains-append_left, Contains-append_right}
 use Rattle.std.proofs.lemmas.List.FromFn.{get_or-map-range_with_len, length-map-range_with_len, map-range_with_len_more}
-use Rattle.mothra_bench.proofs.CollectLists.{flat_map_all, flat_map_has, pairs_append}
+use Rattle.std.proofs.lemmas.List.Kept.{AllPairs-cons}
+use Rattle.mothra_codes.proofs.Operators.{index_below, op_at-index}
+use Rattle.mothra_codes.specs.Op.{all_ops, index}
+use Rattle.mothra_codes.specs.Ticket.{ticket, Before}
+use Rattle.mothra_codes.specs.declared.ticket.Ticket.{Ticket}
+use Rattle.mothra_ops.specs.{tickets, tickets_of}
+
+pairs_append : {X : Type 0} (R : X → X → Type 0) (xs ys : List X) → AllPairs R xs → AllPairs R ys → All (λ x. All (R x) ys) xs → AllPairs R (xs ++ ys)
+pairs_append R [] ys a b h = b
+pairs_append R (x ∷ xs) ys a b h =
+    let first : All (R x) xs = λ k d lt. a 0 (suc k) d (omega arith) (omega arith) in
+    let rest : AllPairs R xs = λ i j d p q. a (suc i) (suc j) d (omega arith) (omega arith) in
+    AllPairs-cons R x (xs ++ ys) (All-append (R x) xs ys first (All-head (λ z. All (R z) ys) x xs h)) (pairs_append R xs ys rest b (All-tail (λ z. All (R z) ys) x xs h))
+
+flat_map_has : {X Y : Type 0} (f : X → List Y) (xs : List X) (i : ℕ) (d : X) (y : Y) → i < length xs → Contains (f (get_or xs i d)) y → Contains (flat_map f xs) y
+flat_map_has f [] i d y h c = absurd (omega arith)
+flat_map_has f (x ∷ xs) zero d y h c = Contains-append_left (f x) (flat_map f xs) y c
+flat_map_has f (x ∷ xs) (suc i) d y h c = Contains-append_right (f x) (flat_map f xs) y (flat_map_has f xs i d y (omega arith) c)
+
+flat_map_all : {X Y : Type 0} (f : X → List Y) (P : Y → Type 0) → ((x : X) → All P (f x)) → (xs : List X) → All P (flat_map f xs)
+flat_map_all f P h [] = All-nil P
+flat_map_all f P h (x ∷ xs) = All-append P (f x) (flat_map f xs) (h x) (flat_map_all f P h xs)
 
 pub tickets_more : (op : Op) (n : ℕ) → tickets op (n + 1) ≡ tickets op n ++ ticket op (n + 1) ∷ []
 tickets_more op n = map-range_with_len_more (λ (k : ℕ). ticket op (k + 1)) 0 n n (omega arith)
@@ -69,18 +90,19 @@ same_number op n h = let e : n - 1 + 1 ≡ n = omega arith in ap (ticket op) e
 own_has : (op : Op) (n number : ℕ) → 1 ≤ number → number ≤ n → Contains (tickets op n) (ticket op number)
 own_has op n number h k = let l = length-tickets op n in (number - 1, omega arith, ticket_at op n (number - 1) (ticket op number) (omega arith) ∙ same_number op number h)
 
--- a ticket that the plan has is one of them
-pub has_ticket : (plan : PlanFields) (t : Ticket) → HasMutant plan t → Contains (tickets_of plan) t
-has_ticket plan t has =
+-- a ticket whose mutant the plan has is one of them
+pub has_ticket : (plan : PlanFields) (t : Ticket) → 1 ≤ t.number → t.number ≤ length (edits_of plan t.op) → Contains (tickets_of plan) t
+has_ticket plan t low high =
     let f : Op → List Ticket = λ op. tickets op (length (edits_of plan op)) in
-    let low = index_below t.op in
+    let below = index_below t.op in
     flat_map_has f all_ops (index t.op) Aar t (omega arith)
-    (subst (λ op. Contains (f op) t) (sym (op_at-index t.op)) (own_has t.op (length (edits_of plan t.op)) t.number has.0 has.1))
+    (subst (λ op. Contains (f op) t) (sym (op_at-index t.op)) (own_has t.op (length (edits_of plan t.op)) t.number low high))
 
-pub tickets_had : (plan : PlanFields) → All (HasMutant plan) (tickets_of plan)
+pub tickets_had : (plan : PlanFields) → All (λ t. (1 ≤ t.number) × (t.number ≤ length (edits_of plan t.op))) (tickets_of plan)
 tickets_had plan =
-    flat_map_all (λ op. tickets op (length (edits_of plan op))) (HasMutant plan)
-    (λ op. all_tickets op (length (edits_of plan op)) (HasMutant plan) (λ i lt. (omega arith, omega arith))) all_ops
+    let Has : Ticket → Type 0 = λ t. (1 ≤ t.number) × (t.number ≤ length (edits_of plan t.op)) in
+    flat_map_all (λ op. tickets op (length (edits_of plan op))) Has
+    (λ op. all_tickets op (length (edits_of plan op)) Has (λ i lt. (omega arith, omega arith))) all_ops
 
 few_by : (list : Option ListFields) → (is_some list ≡ true → length (option_map_or (λ (l : ListFields). l.edits) list []) ≤ 1048575)
     → length (option_map_or (λ (l : ListFields). l.edits) list []) ≤ 1048575

@@ -1,6 +1,10 @@
-use Rattle.mothra_bench.proofs.Common.{◌≡◌, ◌∙◌, ap, List, sym, ◌++◌, [], ◌∷◌, ◌+◌, rules, append_assoc, tickets, ticket, Ticket}
-use Rattle.mothra_bench.proofs.CollectTickets.{tickets_more}
-use Rattle.mothra_bench.proofs.tickets.push_tickets.Goals as goal
+use Rattle.mothra_ops.proofs.Common.{◌≡◌, ◌∙◌, ap, List, sym, ◌++◌, [], ◌∷◌, ◌+◌, rules}
+use Rattle.std.proofs.Common.{append_assoc}
+use Rattle.mothra_codes.specs.Ticket.{ticket}
+use Rattle.mothra_codes.specs.declared.ticket.Ticket.{Ticket}
+use Rattle.mothra_ops.specs.{tickets}
+use Rattle.mothra_ops.proofs.TicketLists.{tickets_more}
+use Rattle.mothra_ops.proofs.tickets.push_tickets.Goals as goal
 
 pub loop-before-preserved : goal.loop-before-preserved
 loop-before-preserved c =
