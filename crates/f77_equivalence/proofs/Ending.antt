@@ -1,7 +1,7 @@
 -- A changed program comes to what the program comes to where its runs end alike.
 use Rattle.f77_equivalence.proofs.Common.{◌≡◌, ◌+◌, ◌∙◌, ℕ, zero, suc, inr, List, map, Some, refl, sym, ap, subst, LineFields, line_of, bounds_of}
-use Rattle.f77_equivalence.proofs.Common.{CheckedFields, shapes, Resolved, Fault, Finish, Cells, State, Move, Goes, Ends, moved_by, Arg, Comes, AreFitting}
-use Rattle.f77_equivalence.proofs.Common.{AreArguments, IsOutcomeOf, Reports, fault_outcome, values_in, RunSite, site_of, IsRunningIn, stands_for, values_at}
+use Rattle.f77_equivalence.proofs.Common.{CheckedFields, Resolved, Fault, Finish, Cells, State, Move, Goes, Ends, moved_by, Arg, Comes, AreFitting}
+use Rattle.f77_equivalence.proofs.Common.{IsOutcomeOf, Reports, fault_outcome, values_in, RunSite, site_of, IsRunningIn, stands_for, values_at}
 use Rattle.f77_equivalence.proofs.Common.{IsStart, argument_values, HoldAlike, IsChange, IsEnding, IsEnd, start_state, AreStorable}
 use Rattle.f77_legal.proofs.FrameNames.{bounds_of_same}
 use Rattle.f77_legal.proofs.SameFrame.{length_same}
@@ -20,8 +20,16 @@ use Rattle.f77_meaning.proofs.Moving.{ComesIn, moves_by, comes_by}
 use Rattle.f77_meaning.proofs.OneAnswer.{one_start}
 use Rattle.f77_meaning.proofs.OneWay.{one_outcome}
 use Rattle.f77_meaning.proofs.Unreached.{starts_same, reports_same}
-use Rattle.f77_equivalence.proofs.Changed.{EndsAlikeWithin}
+use Rattle.f77_equivalence.specs.{IsEquivalentWithin}
 use Rattle.f77_equivalence.proofs.Starting.{runs_there, starts_there}
+
+-- Where the program ends within these steps, the changed one ends alike within these and so many to spare.
+abbrev pub EndsAlikeWithin : ℕ → CheckedFields → List Resolved → List Arg → Type 0
+EndsAlikeWithin spare checked changed arguments =
+    (n : ℕ) (finish : Finish) (cells : Cells) → IsEnding finish
+    → moved_by checked.statements n (start_state checked arguments) ≡ Some (Ends finish cells)
+    → (others : Cells) × (moved_by changed (n + spare) (start_state checked arguments) ≡ Some (Ends finish others))
+    × HoldAlike checked cells others
 
 -- no fault is told as an end
 told_otherwise : (fault : Fault) → IsEnd (fault_outcome fault) → ⊥
@@ -46,15 +54,11 @@ is_ending p finish.StepLimit values answer tells end = subst IsEnd tells end
 is_ending p (finish.Failed fault) values answer tells end = told_otherwise fault (subst IsEnd tells end)
 
 -- where the dummy arguments hold the same, the same is told of an end
-arguments_alike : (p : List LineFields) (s t : Store) (arguments : List Arg) → argument_values p t ≡ argument_values p s → AreArguments p s arguments
-    → AreArguments p t arguments
-arguments_alike p s t arguments same are = record { fitting = are.fitting; values = same ∙ are.values }
-
 tells_alike : (p : List LineFields) (end : Finish) (s t : Store) (answer : Outcome) → argument_values p t ≡ argument_values p s → IsEnding end
     → Reports p end s answer → Reports p end t answer
-tells_alike p finish.Returned s t (outcome.Returned arguments) same is tells = arguments_alike p s t arguments same tells
+tells_alike p finish.Returned s t (outcome.Returned arguments) same is tells = record { fitting = tells.fitting; values = same ∙ tells.values }
 tells_alike p finish.Returned s t _ same is tells = absurd tells
-tells_alike p finish.Stopped s t (outcome.Stopped arguments) same is tells = arguments_alike p s t arguments same tells
+tells_alike p finish.Stopped s t (outcome.Stopped arguments) same is tells = record { fitting = tells.fitting; values = same ∙ tells.values }
 tells_alike p finish.Stopped s t _ same is tells = absurd tells
 tells_alike p _ s t answer same is tells = absurd is
 
@@ -94,23 +98,6 @@ module _ (checked : CheckedFields) (i : ℕ) (program : List LineFields) (change
     comes = Comes.at_start starts;
   }
 
-  -- the run of the changed program that ends alike
-  ends_there : (limit : ℕ) (end : Finish) (cells others : Cells) (answer : Outcome) → IsEnding end → Reports p end (values_at at cells) answer
-      → moved_by changed limit start ≡ Some (Ends end others) → HoldAlike checked cells others → IsOutcomeOf program arguments limit answer
-  ends_there limit end cells others answer is tells e alike =
-      let came : ComesIn there changed limit (stands_for there start) (Ends end others)
-      = comes_by there changed limit start (Ends end others) running_there e in
-      let told : Reports program end (values_at at others) answer
-      = reports_same p program change.frame end (values_at at others) answer (tells_alike p end (values_at at cells) (values_at at others) answer alike is tells) in
-      record {
-        start = stands_for there start;
-        starts = starts;
-        finish = end;
-        values = values_at there others;
-        ends = came.0;
-        reports = subst (λ b. Reports program end (values_of b checked.names others) answer) bounds told;
-      }
-
   -- what the program comes to, the changed one does, under a limit that spares so many steps
   keeps_ends : (spare : ℕ) → EndsAlikeWithin spare checked changed arguments → (limit : ℕ) (answer : Outcome)
       → IsOutcomeOf p arguments limit answer → IsEnd answer → IsOutcomeOf program arguments (limit + spare) answer
@@ -122,8 +109,8 @@ module _ (checked : CheckedFields) (i : ℕ) (program : List LineFields) (change
       ending : IsEnding is.finish
       ending = is_ending p is.finish is.values answer is.reports end
 
-      outcome_here : IsOutcome p limit (stands_for at start) is.finish is.values
-      outcome_here = subst (λ c. IsOutcome p limit c is.finish is.values) one is.ends
+      here : (f : Finish) (s : Store) → IsOutcome p limit (stands_for at start) f s → (is.finish ≡ f) × (is.values ≡ s)
+      here f s = one_outcome p limit (stands_for at start) is.finish f is.values s (subst (λ c. IsOutcome p limit c is.finish is.values) one is.ends)
 
       made : (move : Move) × (moved_by checked.statements limit start ≡ Some move) × ComesIn at checked.statements limit (stands_for at start) move
       made = moves_by at checked.statements limit start running
@@ -131,25 +118,32 @@ module _ (checked : CheckedFields) (i : ℕ) (program : List LineFields) (change
       by : (move : Move) → moved_by checked.statements limit start ≡ Some move → ComesIn at checked.statements limit (stands_for at start) move
           → IsOutcomeOf program arguments (limit + spare) answer
       by (Goes t) e came =
-          let met = limit_met p limit (stands_for at start) (stands_for at t) came.0 in
-          let same = one_outcome p limit (stands_for at start) is.finish finish.StepLimit is.values (stands_for at t).values outcome_here met in
+          let same = here finish.StepLimit (stands_for at t).values (limit_met p limit (stands_for at start) (stands_for at t) came.0) in
           absurd (subst IsEnding same.0 ending)
       by (Ends f cells) e came =
-          let same = one_outcome p limit (stands_for at start) is.finish f is.values (values_at at cells) outcome_here came.0 in
+          let same = here f (values_at at cells) came.0 in
           let is_end : IsEnding f = subst IsEnding same.0 ending in
           let tells : Reports p f (values_at at cells) answer
           = subst (λ end. Reports p end (values_at at cells) answer) same.0 (subst (λ s. Reports p is.finish s answer) same.1 is.reports) in
           let other = alike limit f cells is_end e in
-          ends_there (limit + spare) f cells other.0 answer is_end tells other.1 other.2
+          let ends : ComesIn there changed (limit + spare) (stands_for there start) (Ends f other.0)
+          = comes_by there changed (limit + spare) start (Ends f other.0) running_there other.1 in
+          record {
+            start = stands_for there start;
+            starts = starts;
+            finish = f;
+            values = values_at there other.0;
+            ends = ends.0;
+            reports = subst (λ b. Reports program f (values_of b checked.names other.0) answer) bounds
+                (reports_same p program change.frame f (values_at at other.0) answer (tells_alike p f (values_at at cells) (values_at at other.0) answer other.2 is_end tells));
+          }
 
 -- whatever arguments fit whose numbers INTEGER holds
 pub keeps_ends_within : (checked : CheckedFields) (i : ℕ) (program : List LineFields) (changed : List Resolved) (spare : ℕ)
     → IsChange checked i program changed
     → ((arguments : List Arg) → AreFitting checked.arguments arguments → AreStorable arguments
     → EndsAlikeWithin spare checked changed arguments)
-    → (arguments : List Arg) → AreFitting (shapes (map line_of checked.program)) arguments → AreStorable arguments
-    → (limit : ℕ) (answer : Outcome) → IsOutcomeOf (map line_of checked.program) arguments limit answer → IsEnd answer
-    → IsOutcomeOf program arguments (limit + spare) answer
+    → IsEquivalentWithin spare (map line_of checked.program) program
 keeps_ends_within checked i program changed spare change alike arguments fits storable =
     let fitting : AreFitting checked.arguments arguments = subst (λ list. AreFitting list arguments) (sym change.own.arguments) fits in
     keeps_ends checked i program changed change arguments fitting spare (alike arguments fitting storable)

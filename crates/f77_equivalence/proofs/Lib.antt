@@ -3,4 +3,3 @@ pub mod Moving
 pub mod Starting
 pub mod Ending
 pub mod InPlace
-pub mod Changed

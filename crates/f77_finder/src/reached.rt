@@ -20,7 +20,7 @@ pub(crate) struct Reached {
     /// How often more was found to be allowed.
     joins: u32,
     /// Where control goes from here is to be found.
-    pub(crate) waits: bool,
+    waits: bool,
 }
 
 impl Reached {
@@ -51,11 +51,12 @@ pub(crate) fn reach(
     if is_empty(&entry.facts) {
         return Ok(());
     }
-    for reached in list.iter_mut() {
-        if reached.entry.place == entry.place {
-            reached.take_in(&entry, thresholds);
-            return Ok(());
-        }
+    if let Some(reached) = list
+        .iter_mut()
+        .find(|reached| reached.entry.place == entry.place)
+    {
+        reached.take_in(&entry, thresholds);
+        return Ok(());
     }
     list.push(Reached {
         entry,
@@ -65,16 +66,13 @@ pub(crate) fn reach(
     Ok(())
 }
 
-/// Where the cut stands in the program: it is no incrementation.
-fn order_of(reached: &Reached) -> usize {
-    match reached.entry.place {
+/// What is known at the cut first in the program from which control is to be followed, which waits no more. No cut is
+/// an incrementation.
+pub(crate) fn next_waiting(list: &mut [Reached]) -> Option<&Entry> {
+    let waiting = list.iter_mut().filter(|reached| reached.waits);
+    let first = waiting.min_by_key(|reached| match reached.entry.place {
         Place::Execute(i) | Place::Increment(i) => i,
-    }
-}
-
-/// The cut first in the program from which control is to be followed.
-pub(crate) fn next_waiting(list: &[Reached]) -> Option<usize> {
-    let waiting = list.iter().enumerate().filter(|(_, reached)| reached.waits);
-    let first = waiting.min_by_key(|(_, reached)| order_of(reached))?;
-    Some(first.0)
+    })?;
+    first.waits = false;
+    Some(&first.entry)
 }

@@ -4,20 +4,12 @@ use f77_check::Checked;
 use f77_tree::{Expr, Node, nodes};
 use std::alloc::{AllocError, Global};
 
-/// Adds a constant, where it is an INTEGER, and the number with the other sign, and those beside them.
+/// Adds a constant, where it is an INTEGER, and those beside it, with either sign.
 fn add(list: &mut Vec<i64>, constant: u32) -> Result<(), AllocError> {
     let number = i64::from(constant);
     if number <= i64::from(i32::MAX) {
-        for threshold in [
-            number - 1,
-            number,
-            number + 1,
-            -number - 1,
-            -number,
-            1 - number,
-        ] {
-            list.push(threshold)?;
-        }
+        list.extend_from_slice(&[number - 1, number, number + 1])?;
+        list.extend_from_slice(&[1 - number, -number, -number - 1])?;
     }
     Ok(())
 }
@@ -26,12 +18,7 @@ fn add(list: &mut Vec<i64>, constant: u32) -> Result<(), AllocError> {
 fn add_node(list: &mut Vec<i64>, node: &Node<'_>) -> Result<(), AllocError> {
     match node {
         Node::Expression(Expr::Number(constant)) => add(list, *constant),
-        Node::Declared(item) => {
-            for bound in item.bounds.iter() {
-                add(list, *bound)?;
-            }
-            Ok(())
-        }
+        Node::Declared(item) => item.bounds.iter().try_for_each(|bound| add(list, *bound)),
         _ => Ok(()),
     }
 }
@@ -47,14 +34,4 @@ pub(crate) fn thresholds_of(alloc: Global, checked: &Checked) -> Result<Vec<i64>
         }
     }
     Ok(list)
-}
-
-/// The greatest threshold that is not above the bound.
-pub(crate) fn threshold_below(thresholds: &[i64], bound: i64) -> Option<i64> {
-    thresholds.iter().copied().filter(|it| *it <= bound).max()
-}
-
-/// The least threshold that is not below the bound.
-pub(crate) fn threshold_above(thresholds: &[i64], bound: i64) -> Option<i64> {
-    thresholds.iter().copied().filter(|it| *it >= bound).min()
 }

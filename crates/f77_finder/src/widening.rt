@@ -1,7 +1,6 @@
 //! Joins what is known where control comes to a place with what is known of the place. Bounds move no further than they
 //! must; or, where there are thresholds, to the next of these, and else to the end of the range.
 
-use crate::thresholds::{threshold_above, threshold_below};
 use f77_facts::entries::Entry;
 use f77_facts::facts::{Fact, numbers_of};
 use f77_facts::loops::LoopFact;
@@ -14,20 +13,26 @@ const MOST_PASSES: i64 = 1_099_511_627_776;
 
 /// The old numbers or others, with those bounds at thresholds that are not the old ones, and else at these ends.
 fn widened(old: Range, other: Range, thresholds: Option<&[i64]>, ends: Range) -> Range {
-    let mut range = hull(old, other);
-    let Some(thresholds) = thresholds else {
-        return range;
-    };
-    if is_empty(old) {
-        return range;
+    let Range { mut low, mut high } = hull(old, other);
+    if let (Some(thresholds), false) = (thresholds, is_empty(old)) {
+        if low < old.low {
+            low = thresholds
+                .iter()
+                .copied()
+                .filter(|it| *it <= low)
+                .max()
+                .unwrap_or(ends.low);
+        }
+        if old.high < high {
+            high = thresholds
+                .iter()
+                .copied()
+                .filter(|it| *it >= high)
+                .min()
+                .unwrap_or(ends.high);
+        }
     }
-    if range.low < old.low {
-        range.low = threshold_below(thresholds, range.low).unwrap_or(ends.low);
-    }
-    if old.high < range.high {
-        range.high = threshold_above(thresholds, range.high).unwrap_or(ends.high);
-    }
-    range
+    Range { low, high }
 }
 
 /// The old fact or the other one, of the same slot.
@@ -41,13 +46,13 @@ fn joined_fact(old: Fact, other: Fact, thresholds: Option<&[i64]>) -> Fact {
 
 /// The old fact or the other one. Where just one of them says that the DO is active, the old one stands.
 fn joined_loop(old: LoopFact, other: LoopFact, thresholds: Option<&[i64]>) -> LoopFact {
-    let LoopFact::Active { passes, step } = old else {
-        return old;
-    };
-    let LoopFact::Active {
-        passes: count,
-        step: by,
-    } = other
+    let (
+        LoopFact::Active { passes, step },
+        LoopFact::Active {
+            passes: count,
+            step: by,
+        },
+    ) = (old, other)
     else {
         return old;
     };

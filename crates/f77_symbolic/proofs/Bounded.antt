@@ -1,14 +1,13 @@
 -- What bounds say of what slots hold, and of what DOs have left.
 use Rattle.f77_symbolic.proofs.Common.{arith, ◌≡◌, ◌<◌, ◌+◌, ◌++◌, ◌∷◌, [], ◌∙◌, ℕ, List, length, take, get_or, length-append}
 use Rattle.f77_symbolic.proofs.Common.{Option, Some, sym, ap, subst, ℤ, pos, negsuc, ◌≤ℤ◌, option_map, slice_get, slice_set}
-use Rattle.f77_symbolic.proofs.Common.{option_and_then, int_max, clamps, ints, map-append, take_more, slice_get_within, Value, held_in, Cells, TurnList}
-use Rattle.f77_symbolic.proofs.Common.{turn_at, Turn, Fact, AreIn, SuitsFact, number_of, AreLeft, SuitsTurn, IsIn, Valuation, Write, SymbolicTurn, AreNumbers}
-use Rattle.f77_symbolic.proofs.Common.{presence_of, Start, cells_of, content_of, slot_of, passes_left, turn_of, turns_of}
+use Rattle.f77_symbolic.proofs.Common.{option_and_then, int_max, clamps, ints, map-append, take_more, slice_get_within, Value, held_in, TurnList}
+use Rattle.f77_symbolic.proofs.Common.{turn_at, Turn, Fact, AreIn, SuitsFact, number_of, AreLeft, SuitsTurn, IsIn, Valuation, SymbolicTurn, AreNumbers}
+use Rattle.f77_symbolic.proofs.Common.{presence_of, Start, passes_left, turn_of, turns_of}
 use Rattle.f77_code.proofs.Listed.{get_left, pushed}
 use Rattle.f77_facts.specs.declared.loops.LoopFact.{LoopFact}
 use Rattle.f77_facts.proofs.Slots.{set_one}
 use Rattle.f77_terms.specs.declared.ranges.Range.{Range}
-use Rattle.f77_symbolic.proofs.Written.{cells_push}
 
 -- a slot is given another fact that suits it
 module _ (facts : List Fact) (slot : ℕ) (old new : Fact) (start : Start) (there : slice_get facts slot ≡ Some old) (known : AreIn facts start.cells)
@@ -38,12 +37,6 @@ left_max (pos n) = omega (arith, ints, clamps)
 left_max (negsuc n) = omega (arith, ints, clamps)
 
 module _ (v : Valuation) where
-  -- one write more
-  pub cells_next : (cells : Cells) (ws : List Write) (i : ℕ) (w : Write) → i < length ws → w ≡ get_or ws i w
-      → cells_of cells v (take (i + 1) ws) ≡ slice_set (cells_of cells v (take i ws)) (slot_of v w.location) (content_of v w.value)
-  cells_next cells ws i w within is =
-      ap (cells_of cells v) (take_more ws i w within ∙ ap (λ x. take i ws ++ x ∷ []) (sym is)) ∙ cells_push v cells (take i ws) w
-
   pushed_last : (turns : TurnList) (turn : Option Turn) (known : LoopFact) → SuitsTurn known turn → SuitsTurn known (turn_at (turns ++ turn ∷ []) (length turns))
   pushed_last [] turn known suits = suits
   pushed_last (t ∷ turns) turn known suits = pushed_last turns turn known suits

@@ -1,8 +1,10 @@
 -- From the visits of a tour to the states in which a run comes to the changed statement.
-use Rattle.f77_symbolic.proofs.Common.{arith, ◌≡◌, ◌<◌, ◌+◌, ◌-◌, ◌∙◌, get_or, take, ℕ, List, length, refl, sym, ap, subst, ℤ, pos, All, map, slice_set, ◌≤ℤ◌}
-use Rattle.f77_symbolic.proofs.Common.{slice_index_or, ints, All-contains, All-more, All-weaker, Resolved, CheckedFields, Place, State, IsChange, Entry}
-use Rattle.f77_symbolic.proofs.Common.{LineFields, line_of, Valuation, Visits, IsFirst, machine, IsReachable, Interprets, AreTurnNumbers, AreVisits}
-use Rattle.f77_symbolic.proofs.Common.{IsVisitNoted, IsOfEntry, IsTourOf, LeadsTo, IsReady, FollowsAt, FollowsFrom, FollowsThere, FollowsVisit, IsBehindBy}
+use Rattle.f77_symbolic.proofs.Common.{arith, ◌≡◌, ◌≤◌, ◌+◌, ◌-◌, ◌∙◌, ℕ, List, length, refl, sym, ap, subst, All, map, slice_set}
+use Rattle.f77_symbolic.proofs.Common.{All-contains, Resolved, CheckedFields, State, IsChange, Lies, LineFields, line_of, Valuation, Visits, Atoms, Pair}
+use Rattle.f77_symbolic.proofs.Common.{FitsTable, AreTurnNumbers, IsTourOf, IsReady, FollowsThere, FollowsVisit}
+use Rattle.f77_symbolic.proofs.Common.{Extends, HavePairs, IsBehindBy}
+use Rattle.f77_symbolic.specs.code.{AreSettled}
+use Rattle.f77_terms.specs.Atoms.{Numbers}
 use Rattle.f77_check.specs.Patching.{IsInPlace}
 use Rattle.f77_equivalence.specs.Equivalent.{IsEquivalentWithin}
 use Rattle.f77_equivalence.specs.Alike.{site}
@@ -16,61 +18,42 @@ use Rattle.f77_tree.specs.Statement.{Statement}
 use Rattle.f77_symbolic.specs.declared.change.Change.{Change}
 use Rattle.f77_symbolic.specs.declared.visiting.Tour.{Tour}
 use Rattle.f77_symbolic.proofs.Following.{equivalent_where_followed}
-use Rattle.f77_symbolic.proofs.Starting.{start_of, turn_numbers}
-use Rattle.f77_symbolic.proofs.Tours.{IsOnTour, along, at_cut}
+use Rattle.f77_symbolic.proofs.Starting.{interprets_there, numbers_of, start_of, turn_numbers}
+use Rattle.f77_symbolic.proofs.Tours.{IsOnTour, along, entry_of, walked}
 
--- it follows from a state of the walk, where it does from the visits to the statement
-pub follows_walk : (checked : CheckedFields) (change : Change) (spare : ℕ) (places : List Place) (entry : Entry) (visits : Visits) (first s : State) (n : ℕ)
-    (v : Valuation) → AreVisits checked.statements places entry visits → IsOfEntry entry first → LeadsTo checked.statements places n first s
-    → Interprets visits.atoms (start_of first (length checked.statements)) v
-    → All (FollowsVisit spare checked change (start_of first (length checked.statements)) v change.place) visits.list.items
-    → site s.place ≡ change.place → FollowsAt spare checked change s
-follows_walk checked change spare places entry visits first s n v are of leads interprets all here =
+-- where the pairs of these visits are settled, it follows from each state of the walk at the statement
+pub behind_by : (change : Change) (behind : ℕ) (visits : Visits) (pairs : List Pair) (atoms : Atoms) → HavePairs change.place pairs visits.list.items
+    → AreSettled atoms change behind pairs → Extends visits.atoms atoms → Lies visits.atoms.facts.items atoms.facts.items
+    → ((held : Numbers) → (v : Valuation) × FitsTable held v atoms.table) → IsBehindBy change behind visits
+behind_by change behind visits pairs atoms have settled extends lies law spare checked places entry first s n within ready are of leads here =
     let count = length checked.statements in
     let start = start_of first count in
+    let it = law (numbers_of first count) in
+    let v = it.0 in
+    let is = interprets_there first count atoms v (lies first.cells (are.facts first.cells of.inside)) it.1 in
     let numbers : AreTurnNumbers (length entry.facts.items) count first.turns start
     = subst (λ k. AreTurnNumbers k count first.turns start) of.inside.count (turn_numbers first count) in
-    let noted : IsVisitNoted visits.list.items start v s = are.noted first s n start v refl interprets numbers of leads in
-    All-contains (FollowsVisit spare checked change start v change.place) visits.list.items noted.1 all (noted.0, noted.2, noted.3)
+    let noted = are.noted first s n start v refl (extends.back start v is) numbers of leads in
+    All-contains (FollowsVisit spare checked change start v change.place) visits.list.items noted.1
+    (have spare checked change start v (settled spare checked start v ready is within)) (noted.0, noted.2, noted.3)
     (ap (λ (t : State). site t.place) noted.4.is ∙ here) s noted.4
 
--- what a run comes to is on the tour
-reached_on_tour : (checked : CheckedFields) (tour : Tour) (of : IsTourOf checked tour) (s : State) → IsReachable (machine checked.statements) (IsFirst checked) s
-    → IsOnTour checked.statements of.places of.entries s
-reached_on_tour checked tour of s (a, (arguments, fits, storable, is), n, leads) =
-    along checked.statements of.places of.entries tour.each.items of.visits n a s
-    (subst (IsOnTour checked.statements of.places of.entries) (sym is)
-    (at_cut checked.statements of.places of.entries (start_state checked arguments) (of.starts arguments fits storable) of.start)) leads
+-- by more steps it is behind at most too
+pub behind_more : (change : Change) (behind most : ℕ) → behind ≤ most → (visits : Visits) → IsBehindBy change behind visits → IsBehindBy change most visits
+behind_more change behind most less visits follows spare checked places entry first s n within =
+    follows spare checked places entry first s n (omega (arith, less, within))
 
--- it follows from all states in which a run comes there, if it does from those of each entry
-pub follows_there : (checked : CheckedFields) (change : Change) (spare : ℕ) (tour : Tour) (of : IsTourOf checked tour)
-    → ((visits : Visits) (k : ℕ) (entry : Entry) → k < length tour.each.items → slice_index_or tour.each.items k visits ≡ visits
-    → AreVisits checked.statements of.places entry visits → FollowsFrom checked of.places entry change spare)
-    → FollowsThere checked change spare
-follows_there checked change spare tour of each s ready reached here =
-    let on = reached_on_tour checked tour of s reached in
-    let from = of.visits on.number on.entry on.is on.cut in
-    each from.1 from.0 on.entry from.2 from.3 from.4.0 on.first s on.steps ready on.of on.leads here
-
--- more steps are at most as many
-followed_more : (change : Change) (behind most : ℤ) → behind ≤ℤ most → (visits : Visits) → IsBehindBy change behind visits → IsBehindBy change most visits
-followed_more change behind most below visits followed spare checked places entry within are =
-    followed spare checked places entry (omega (arith, ints, below, within)) are
-
-pub followed_next : (change : Change) (list : List Visits) (i : ℕ) (visits : Visits) (before behind most : ℤ) → i < length list → visits ≡ get_or list i visits
-    → before ≤ℤ most → behind ≤ℤ most → IsBehindBy change behind visits → All (IsBehindBy change before) (take i list)
-    → All (IsBehindBy change most) (take (i + 1) list)
-followed_next change list i visits before behind most within is least less followed all =
-    All-more (IsBehindBy change most) list i visits within
-    (All-weaker (IsBehindBy change before) (IsBehindBy change most) (followed_more change before most least) (take i list) all)
-    (subst (IsBehindBy change most) is (followed_more change behind most less visits followed))
-
--- where all visits are followed, so is the tour
-pub tour_followed : (checked : CheckedFields) (change : Change) (spare : ℕ) (tour : Tour) (most : ℤ) → most ≤ℤ pos spare → IsTourOf checked tour
-    → All (IsBehindBy change most) tour.each.items → FollowsThere checked change spare
-tour_followed checked change spare tour most within of all =
-    follows_there checked change spare tour of
-    (λ visits k entry below is are. subst (IsBehindBy change most) is (all k visits below) spare checked of.places entry within are)
+-- where it follows on all walks of a tour, it does from all states in which a run comes there
+pub tour_followed : (change : Change) (most : ℕ) (tour : Tour) → All (IsBehindBy change most) tour.each.items → (checked : CheckedFields)
+    → IsTourOf checked tour → FollowsThere checked change most
+tour_followed change most tour all checked of s ready (a, (arguments, fits, storable, is), n, leads) here =
+    let OnTour = IsOnTour checked.statements of.places of.entries in
+    let start = start_state checked arguments in
+    let first : OnTour start = record { first = start; known = of.starts arguments fits storable; cut = of.start; steps = 0; leads = refl } in
+    let on = along checked.statements of.places of.entries tour.each.items of.visits n a s (subst OnTour (sym is) first) leads in
+    let from = walked checked.statements of.places of.entries tour.each.items of.visits on.first on.known on.cut in
+    All-contains (IsBehindBy change most) tour.each.items from.1 all (from.0, from.2, from.3) most checked of.places on.known.entry on.first s on.steps (omega arith)
+    ready from.4.0 (entry_of of.entries on.first on.known) on.leads here
 
 -- a program whose changed statement is followed from wherever it is come to is equivalent within so many steps
 pub equivalent_by : (checked : CheckedFields) (number : ℕ) (statement : Statement) (new : Resolved) (change : Change) (spare : ℕ)

@@ -38,12 +38,12 @@ pub use Rattle.f77_program.specs.Program.{line_of, LineFields}
 pub use Rattle.f77_symbolic.specs.{cells_of, turns_of, slot_of, Interprets, Start, turn_of, IsInside, AreInside, content_of, passes_left, state_of}
 pub use Rattle.f77_symbolic.specs.{AreTurnNumbers, machine, IsOfEntry, is_same_place, IsTourOf, presence_of, IsFirst, AreNumbers, End, EndsBy, ReachesIn}
 pub use Rattle.f77_symbolic.specs.{AreVisits, IsTour, LeadsTo, IsReachable, IsVisitNoted, IsVisit, EquivalentWhereFollowed, EndAlike, IsAtSite, is_cut_in}
-pub use Rattle.f77_symbolic.specs.{Machine, Pairing, FollowsFor, IsEarlier, Under, KeysFollow, LeadsUncut, diagonal}
+pub use Rattle.f77_symbolic.specs.{Machine, Pairing, FollowsFor, IsEarlier, Under, KeysFollow, LeadsUncut}
 unfoldable pub use Rattle.f77_symbolic.specs.{together, FollowsByKeys}
 pub use Rattle.f77_symbolic.specs.code.{StaysOn, Stepped, Answers, ReadsCell, Extends, AreExplored, IsSettled, HoldSameIn, IsReady, IsKnownAt, IsBehindBy}
-pub use Rattle.f77_symbolic.specs.code.{HavePairs, IsSlotOf, FollowsAt, FollowsThere, FollowsVisit, HasItem, IsEndOf, RestsOn, IsWithin, IsBehindOn}
-pub use Rattle.f77_symbolic.specs.code.{IsDivision, HaveDummies, GoesOnIfHeld, FollowsFrom, GoesTo, HasLeft, IsExplored, IsMet, IsMetOrExplored, IsOnWay}
-pub use Rattle.f77_symbolic.specs.code.{AlwaysTells, EndsSo, Follows, GivesWay, IsRoomLeft, IsPairOn, IsThere, IsPartOf, Whichever}
+pub use Rattle.f77_symbolic.specs.code.{HavePairs, IsSlotOf, FollowsAt, FollowsThere, FollowsVisit, HasItem, IsEndOf, RestsOn, IsWithin}
+pub use Rattle.f77_symbolic.specs.code.{IsDivision, HaveDummies, GoesOnIfHeld, GoesTo, left_of, move_with, IsExplored, IsMet, IsMetOrExplored}
+pub use Rattle.f77_symbolic.specs.code.{AlwaysTells, EndsSo, Follows, GivesWay, IsRoomLeft, IsThere, IsPartOf, Whichever}
 pub use Rattle.f77_symbolic.specs.declared.evaluator.Atoms.{Atoms}
 pub use Rattle.f77_symbolic.specs.declared.evaluator.Evaluator.{Evaluator}
 pub use Rattle.f77_symbolic.specs.declared.halt.Split.{Split}

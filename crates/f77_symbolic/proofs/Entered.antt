@@ -1,6 +1,6 @@
 -- Where a walk begins: from the states of an entry.
-use Rattle.f77_symbolic.proofs.Common.{arith, ◌≡◌, ◌+◌, ◌<◌, ◌++◌, ◌∷◌, [], ◌∙◌, ℕ, List, Option, Some, None, length, take, get_or, refl, sym, ap, subst, ℤ}
-use Rattle.f77_symbolic.proofs.Common.{pos, negsuc, Err, IfSome, Ok, Result, option_map, ◌≤ℤ◌, OkIff, result_ok, option_and_then, nat_abs, ints, map-append}
+use Rattle.f77_symbolic.proofs.Common.{◌≡◌, ◌+◌, ◌<◌, ◌++◌, ◌∷◌, [], ◌∙◌, ℕ, List, Option, Some, None, length, take, get_or, refl, sym, ap, subst, ℤ, pos}
+use Rattle.f77_symbolic.proofs.Common.{option_map, option_and_then, map-append}
 use Rattle.f77_symbolic.proofs.Common.{take_more, All-nil, get_or_from_slice_get, Turn, State, TurnList, state, turn_at, SuitsTurn, Holds, IsIn, Valuation}
 use Rattle.f77_symbolic.proofs.Common.{Write, SymbolicTurn, Visit, AreInside, IsInside, Start, cells_of, passes_left, turn_of, turns_of, IsVisit}
 use Rattle.f77_facts.specs.declared.loops.LoopFact.TheVariants.{Active}
@@ -15,9 +15,7 @@ turn_suits passes step None suits = absurd suits
 turn_suits passes step (Some t) suits = (t, refl, suits.0, suits.1)
 
 pub turn_same : (passes step : ℤ) (t : Turn) → passes ≡ pos t.passes → step ≡ t.step → ◌≡◌ {A = Turn} (record { passes = passes_left passes; step = step }) t
-turn_same passes step t e f =
-    subst (λ p. ◌≡◌ {A = Turn} (record { passes = passes_left p; step = step }) t) (sym e)
-    (subst (λ s. ◌≡◌ {A = Turn} (record { passes = t.passes; step = s }) t) (sym f) refl)
+turn_same passes step t e f = λ i. record { passes = (ap passes_left e) i; step = f i }
 
 -- one more turn
 pub turns_next : (v : Valuation) (old new : List (Option SymbolicTurn)) (turn : Option SymbolicTurn) (turns : TurnList) (d : ℕ) → d < length turns
@@ -36,16 +34,6 @@ visit_first start v s visit holds none cells place turns = record {
   holds = holds;
   inside = subst (AreInside v) (sym none) (All-nil (λ (write : Write). IsInside v write.location));
   is =
-      ap (λ p. state p (cells_of start.cells v visit.side.writes.items) (turns_of v visit.side.turns.items)) place
-      ∙ ap (λ c. state s.place c (turns_of v visit.side.turns.items)) (ap (cells_of start.cells v) none ∙ cells)
-      ∙ ap (λ t. state s.place s.cells t) turns;
+      let held = ap (cells_of start.cells v) none ∙ cells in
+      λ i. state (place i) (held i) (turns i);
 }
-
--- what a number is where it was turned into one of another type
-pub tried_so : {E : Type 0} (r : Result ℕ E) (P : Type 0) (n : ℕ) (o : Option ℕ) (Claim : ℕ → Type 0) → OkIff r P n → o ≡ result_ok r → Claim n → IfSome o Claim
-tried_so (Ok m) P n o Claim is e claim = subst (λ p. IfSome p Claim) (sym e) (subst Claim (sym is.1) claim)
-tried_so (Err m) P n o Claim is e claim = subst (λ p. IfSome p Claim) (sym e) tt
-
-pub abs_above : (z : ℤ) → z ≤ℤ pos (nat_abs z)
-abs_above (pos n) = omega (arith, ints)
-abs_above (negsuc n) = omega (arith, ints)

@@ -1,7 +1,7 @@
 -- A changed program is equivalent where it follows the program from each start.
 use Rattle.f77_symbolic.proofs.Common.{◌≡◌, ◌≢◌, ◌⊎◌, inl, inr, ◌+◌, ◌∙◌, ℕ, zero, suc, List, Option, Some, None, refl, ap, subst, option_and_then, Resolved}
-use Rattle.f77_symbolic.proofs.Common.{Cells, State, Move, Goes, Ends, moved, cases_eq, IsEnding, EquivalentWhereFollowed, End, EndAlike, IsAtSite, IsFirst}
-use Rattle.f77_symbolic.proofs.Common.{machine, together, EndsBy}
+use Rattle.f77_symbolic.proofs.Common.{Cells, State, Move, Goes, Ends, moved, cases_eq, EquivalentWhereFollowed, End, IsAtSite, machine, together}
+use Rattle.f77_symbolic.proofs.Common.{EndsBy}
 use Rattle.f77_actions.specs.declared.finish.Finish.{Finish}
 use Rattle.f77_code.specs.Sequences.{moved_by, then_moved}
 use Rattle.f77_equivalence.specs.Alike.{AgreeBut, PassAlike, site}
@@ -44,9 +44,8 @@ equivalent_where_followed checked i program changed spare change agree pass ther
     keeps_ends_within checked i program changed spare change
     (λ arguments fits storable n finish cells is e.
     let start = start_state checked arguments in
-    let it = ends_alike State End (machine checked.statements) (machine changed) (λ e. IsEnding e.finish) (EndAlike checked) (IsFirst checked) (IsAtSite i) spare
-    (apart checked.statements changed i agree pass) (λ e wanted. (refl, refl)) there n start (arguments, fits, storable, refl)
-    (record { finish = finish; cells = cells }) is (ends_by checked.statements n start finish cells e) in (
+    let it = ends_alike State End (together checked changed spare) (IsAtSite i) (apart checked.statements changed i agree pass) (λ e wanted. (refl, refl)) there n start
+    (arguments, fits, storable, refl) (record { finish = finish; cells = cells }) is (ends_by checked.statements n start finish cells e) in (
       it.0.cells,
       subst (λ f. moved_by changed (n + spare) start ≡ Some (Ends f it.0.cells)) it.2.0 (outcome_by changed (n + spare) start it.0 it.1),
       it.2.1,

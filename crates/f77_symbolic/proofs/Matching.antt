@@ -1,6 +1,6 @@
 -- When two sides hold the same.
 use Rattle.f77_symbolic.proofs.Common.{arith, ◌≡◌, ◌≢◌, ◌⊎◌, inl, inr, ◌<◌, ◌+◌, ℕ, suc, false, List, [], ◌∷◌, length, get_or, Option, Some, None, refl, sym}
-use Rattle.f77_symbolic.proofs.Common.{subst, ap, ◌∙◌, below_more, All, slice_get, slice_set, option_map, get_or_from_slice_get, Value}
+use Rattle.f77_symbolic.proofs.Common.{subst, ◌∙◌, below_more, All, slice_get, slice_set, option_map, get_or_from_slice_get, Value}
 use Rattle.f77_symbolic.proofs.Common.{held_in, Cells, cases_eq, Valuation, Evaluator, Symbolic, Write, SymbolicTurn, Slots, ReadsCell, StaysOn, HoldSameIn}
 use Rattle.f77_symbolic.proofs.Common.{cells_of, content_of, slot_of, turn_of, turns_of}
 use Rattle.f77_code.proofs.Written.{at_other}
@@ -40,46 +40,35 @@ same_turns v (turn ∷ a) (other ∷ b) count same =
     let rest : turns_of v b ≡ turns_of v a = same_turns v a b (cc (count)) (λ k less. same (suc k) (omega (arith, less))) in
     λ i. first i ∷ rest i
 
--- a slot is not one that is written to, or a write is to it
-abbrev IsWritten : Valuation → ℕ → List Write → Type 0
-IsWritten v slot ws = (k : ℕ) × (w : Write) × (k < length ws) × (get_or ws k w ≡ w) × (slot_of v w.location ≡ slot)
-
-module _ (v : Valuation) (slot : ℕ) where
-  written_or : (cells : Cells) (ws : List Write) → IsWritten v slot ws ⊎ (held_in (cells_of cells v ws) slot ≡ held_in cells slot)
-  written_or cells [] = inr refl
-  written_or cells (w ∷ ws) =
-      by (cases_eq (slot_of v w.location) slot)
-      (written_or (slice_set cells (slot_of v w.location) (content_of v w.value)) ws)
-    where
-      by : (slot_of v w.location ≡ slot) ⊎ (slot_of v w.location ≢ slot)
-          → IsWritten v slot ws ⊎ (held_in (cells_of cells v (w ∷ ws)) slot ≡ held_in (slice_set cells (slot_of v w.location) (content_of v w.value)) slot)
-          → IsWritten v slot (w ∷ ws) ⊎ (held_in (cells_of cells v (w ∷ ws)) slot ≡ held_in cells slot)
-      by (inl here) rest = inl (0, w, omega arith, refl, here)
-      by (inr apart) (inl (k, x, within, is, there)) = inl (suc k, x, omega (arith, within), is, there)
-      by (inr apart) (inr same) =
-          inr (same ∙ at_other cells (slot_of v w.location) slot (content_of v w.value) (λ e. apart (sym e)))
-
--- what is claimed of the slot of each write is so of a slot that one is to
-at_written : (v : Valuation) (slot : ℕ) (ws : List Write) (P : ℕ → Type 0) → All (λ w. P (slot_of v w.location)) ws → IsWritten v slot ws → P slot
-at_written v slot ws P all (k, w, within, is, there) =
-    subst P (ap (λ (x : Write). slot_of v x.location) is ∙ there) (all k w within)
+-- what is claimed of the slot of each write is so of this slot, or it holds what it did before
+claimed_or : (v : Valuation) (slot : ℕ) (P : ℕ → Type 0) (cells : Cells) (ws : List Write) → All (λ w. P (slot_of v w.location)) ws
+    → P slot ⊎ (held_in (cells_of cells v ws) slot ≡ held_in cells slot)
+claimed_or v slot P cells [] all = inr refl
+claimed_or v slot P cells (w ∷ ws) all =
+    by (cases_eq (slot_of v w.location) slot)
+    (claimed_or v slot P (slice_set cells (slot_of v w.location) (content_of v w.value)) ws (λ k d less. all (suc k) d (omega (arith, less))))
+  where
+    by : (slot_of v w.location ≡ slot) ⊎ (slot_of v w.location ≢ slot)
+        → P slot ⊎ (held_in (cells_of cells v (w ∷ ws)) slot ≡ held_in (slice_set cells (slot_of v w.location) (content_of v w.value)) slot)
+        → P slot ⊎ (held_in (cells_of cells v (w ∷ ws)) slot ≡ held_in cells slot)
+    by (inl here) rest = inl (subst P here (all 0 w (omega arith)))
+    by (inr apart) (inl so) = inl so
+    by (inr apart) (inr same) = inr (same ∙ at_other cells (slot_of v w.location) slot (content_of v w.value) (λ e. apart (sym e)))
 
 -- where the slots of all writes of both hold the same, so do all slots
 pub same_everywhere : (only : Option (List Slots)) (start : Cells) (v : Valuation) (left right : List Write)
     → All (λ w. HoldSameIn only (cells_of start v left) (cells_of start v right) (slot_of v w.location)) left
     → All (λ w. HoldSameIn only (cells_of start v left) (cells_of start v right) (slot_of v w.location)) right
     → (slot : ℕ) → HoldSameIn only (cells_of start v left) (cells_of start v right) slot
-same_everywhere only start v left right own other slot = by (written_or v slot start left) (written_or v slot start right)
-  where
-    P : ℕ → Type 0
-    P k = HoldSameIn only (cells_of start v left) (cells_of start v right) k
-
-    by : IsWritten v slot left ⊎ (held_in (cells_of start v left) slot ≡ held_in start slot)
-        → IsWritten v slot right ⊎ (held_in (cells_of start v right) slot ≡ held_in start slot)
-        → HoldSameIn only (cells_of start v left) (cells_of start v right) slot
-    by (inl written) b = at_written v slot left (λ k. HoldSameIn only (cells_of start v left) (cells_of start v right) k) own written
-    by (inr first) (inl written) = at_written v slot right (λ k. HoldSameIn only (cells_of start v left) (cells_of start v right) k) other written
-    by (inr first) (inr second) = λ asked. second ∙ sym first
+same_everywhere only start v left right own other slot =
+    let Same : ℕ → Type 0 = HoldSameIn only (cells_of start v left) (cells_of start v right) in
+    elim (claimed_or v slot Same start left own) [
+      | inl same ↦ same
+      | inr first ↦ elim (claimed_or v slot Same start right other) [
+        | inl same ↦ same
+        | inr second ↦ λ asked. second ∙ sym first
+      ]
+    ]
 
 -- where all slots hold the same, both hold the same cells
 pub same_cells_of : (start : Cells) (v : Valuation) (left right : List Write)

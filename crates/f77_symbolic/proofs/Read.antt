@@ -1,11 +1,11 @@
 -- What is read where a walk starts, and behind writes.
-use Rattle.f77_symbolic.proofs.Common.{arith, ◌≡◌, inl, inr, ◌<◌, ◌+◌, ◌-◌, ℕ, List, [], ◌∷◌, ◌++◌, length, take, Option, Some, None, true, false, refl, sym}
-use Rattle.f77_symbolic.proofs.Common.{subst, ap, ◌∙◌, ℤ, pos, negsuc, ◌≤ℤ◌, ◌<ℤ◌, slice_get, ints, take_more, slice_get_within, get_or_from_slice_get, Value}
+use Rattle.f77_symbolic.proofs.Common.{arith, ◌≡◌, inl, inr, ◌<◌, ◌+◌, ◌-◌, ℕ, List, length, take, Option, Some, None, true, false, refl, sym}
+use Rattle.f77_symbolic.proofs.Common.{ap, slice_set, ◌∙◌, ℤ, pos, negsuc, ◌≤ℤ◌, ◌<ℤ◌, slice_get, ints, slice_get_within, get_or_from_slice_get, Value}
 use Rattle.f77_symbolic.proofs.Common.{held_in, Cells, Fact, Implies, SuitsFact, slot_behind, Holds, IsIn, Valuation, Evaluator, Symbolic, Write, presence_of}
 use Rattle.f77_symbolic.proofs.Common.{cells_of, slot_of, content_of, GoesOnIfHeld, ReadsCell, StaysOn, IsKnownAt}
 use Rattle.f77_code.proofs.Written.{at_other, at_same}
 use Rattle.f77_symbolic.proofs.Answering.{stays_same, stays_then}
-use Rattle.f77_symbolic.proofs.Written.{cells_push, cells_length}
+use Rattle.f77_symbolic.proofs.Written.{cells_length, cells_next}
 
 module _ (v : Valuation) (old mid : Evaluator) where
   -- whether there is a value is told by a number
@@ -50,46 +50,21 @@ pub known_inside : (facts : List Fact) (first count : ℕ) (z : ℤ) (fact : Fac
 known_inside facts first count (pos n) fact all above below = all n (omega (arith, ints, below))
 known_inside facts first count (negsuc n) fact all above below = absurd (omega (arith, ints, above))
 
-module _ (v : Valuation) (cells : Cells) (ws : List Write) (slot : ℕ) where
-  -- behind the first k of them and one more
-  held_next : (k : ℕ) (w : Write) → slice_get ws k ≡ Some w
-      → cells_of cells v (take (k + 1) ws) ≡ cells_of cells v (take k ws ++ w ∷ [])
-  held_next k w is =
-      ap (cells_of cells v) (take_more ws k w (slice_get_within ws k w is) ∙ ap (λ x. take k ws ++ x ∷ []) (get_or_from_slice_get ws k w w is))
+module _ (v : Valuation) (cells : Cells) (ws : List Write) (slot i : ℕ) (w : Write) (some : 0 < i) (last : slice_get ws (i - 1) ≡ Some w) where
+  -- the last of the first i writes
+  last_of : cells_of cells v (take i ws) ≡ slice_set (cells_of cells v (take (i - 1) ws)) (slot_of v w.location) (content_of v w.value)
+  last_of =
+      let next : i - 1 + 1 ≡ i = omega (arith, some) in
+      rw next at (cells_next v cells ws (i - 1) w (slice_get_within ws (i - 1) w last) (sym (get_or_from_slice_get ws (i - 1) w w last)))
 
   -- a write to another slot is passed over
-  held_past : (k : ℕ) (w : Write) → slice_get ws k ≡ Some w → (slot_of v w.location ≡ slot → ⊥)
-      → held_in (cells_of cells v (take (k + 1) ws)) slot ≡ held_in (cells_of cells v (take k ws)) slot
-  held_past k w is apart =
-      ap (λ cs. held_in cs slot) (held_next k w is ∙ cells_push v cells (take k ws) w)
-      ∙ at_other (cells_of cells v (take k ws)) (slot_of v w.location) slot (content_of v w.value) (λ e. apart (sym e))
+  pub held_past : (slot_of v w.location ≡ slot → ⊥) → held_in (cells_of cells v (take i ws)) slot ≡ held_in (cells_of cells v (take (i - 1) ws)) slot
+  held_past apart =
+      ap (λ cs. held_in cs slot) last_of
+      ∙ at_other (cells_of cells v (take (i - 1) ws)) (slot_of v w.location) slot (content_of v w.value) (λ e. apart (sym e))
 
   -- one to the slot itself put its value there
-  held_there : (k : ℕ) (w : Write) → slice_get ws k ≡ Some w → slot_of v w.location ≡ slot → slot < length cells
-      → held_in (cells_of cells v (take (k + 1) ws)) slot ≡ content_of v w.value
-  held_there k w is here within =
-      ap (λ cs. held_in cs slot) (held_next k w is ∙ cells_push v cells (take k ws) w)
-      ∙ rw here (at_same (cells_of cells v (take k ws)) slot (content_of v w.value) (omega (arith, within, cells_length v cells (take k ws))))
-
-  -- the same, counted from the last one
-  pub past_from_last : (behind : ℕ) (w : Write) → behind < length ws → slice_get ws (length ws - 1 - behind) ≡ Some w
-      → (slot_of v w.location ≡ slot → ⊥)
-      → held_in (cells_of cells v (take (length ws - behind) ws)) slot ≡ held_in (cells_of cells v (take (length ws - (behind + 1)) ws)) slot
-  past_from_last behind w below is apart =
-      let k : length ws - 1 - behind ≡ length ws - (behind + 1) = omega arith in
-      let next : length ws - (behind + 1) + 1 ≡ length ws - behind = omega (arith, below) in
-      subst (λ n. held_in (cells_of cells v (take n ws)) slot ≡ held_in (cells_of cells v (take (length ws - (behind + 1)) ws)) slot) next
-      (held_past (length ws - (behind + 1)) w (subst (λ n. slice_get ws n ≡ Some w) k is) apart)
-
-  pub there_from_last : (behind : ℕ) (w : Write) → behind < length ws → slice_get ws (length ws - 1 - behind) ≡ Some w
-      → slot_of v w.location ≡ slot → slot < length cells
-      → held_in (cells_of cells v (take (length ws - behind) ws)) slot ≡ content_of v w.value
-  there_from_last behind w below is here within =
-      let k : length ws - 1 - behind ≡ length ws - (behind + 1) = omega arith in
-      let next : length ws - (behind + 1) + 1 ≡ length ws - behind = omega (arith, below) in
-      subst (λ n. held_in (cells_of cells v (take n ws)) slot ≡ content_of v w.value) next
-      (held_there (length ws - (behind + 1)) w (subst (λ n. slice_get ws n ≡ Some w) k is) here within)
-
-  -- behind none of them
-  pub past_all : (n : ℕ) → n ≡ 0 → held_in (cells_of cells v (take n ws)) slot ≡ held_in cells slot
-  past_all n e = ap (λ n. held_in (cells_of cells v (take n ws)) slot) e
+  pub held_there : slot_of v w.location ≡ slot → slot < length cells → held_in (cells_of cells v (take i ws)) slot ≡ content_of v w.value
+  held_there here within =
+      ap (λ cs. held_in cs slot) last_of
+      ∙ rw here (at_same (cells_of cells v (take (i - 1) ws)) slot (content_of v w.value) (omega (arith, within, cells_length v cells (take (i - 1) ws))))

@@ -1,29 +1,13 @@
--- How a pair rests on the next one, and gives way to others.
-use Rattle.f77_symbolic.proofs.Common.{arith, ◌≡◌, ◌≢◌, ◌⊎◌, inl, inr, ℕ, zero, suc, Bool, true, false, List, [], ◌∷◌, ◌++◌, Option, Some, None, refl, sym}
-use Rattle.f77_symbolic.proofs.Common.{subst, ap, ◌∙◌, ℤ, pos, negsuc, ◌+ℤ◌, ◌*ℤ◌, ◌≤ℤ◌, ints, All-pop, Resolved, CheckedFields, Cells, State, Move, Goes, Ends}
-use Rattle.f77_symbolic.proofs.Common.{moved, HoldAlike, IsEnding, Holds, Valuation, sum_value, Path, Atoms, Split, Pair, Side, Step, End, IsFirst, machine}
-use Rattle.f77_symbolic.proofs.Common.{together, FollowsByKeys, AreInside, Start, cells_of, state_of, IsOnWay, EndsSo, Follows, GivesWay, IsRoomLeft, IsPairOn}
-use Rattle.f77_symbolic.proofs.Common.{IsReady, IsSettled, IsThere, IsEndOf, Stepped}
+-- How a pair rests on the next one.
+use Rattle.f77_symbolic.proofs.Common.{arith, ◌≡◌, ℕ, zero, suc, Bool, true, false, List, Option, Some, None, refl, sym, subst, ap, ◌∙◌, pos, negsuc, ◌+ℤ◌}
+use Rattle.f77_symbolic.proofs.Common.{◌≤ℤ◌, ints, Resolved, CheckedFields, Cells, State, Move, Goes, Ends, moved, HoldAlike, IsEnding, Holds, Valuation, Path}
+use Rattle.f77_symbolic.proofs.Common.{Pair, Side, Step, End, together, FollowsByKeys, AreInside, Start, cells_of, state_of, EndsSo, Follows}
+use Rattle.f77_symbolic.proofs.Common.{IsRoomLeft, IsReady, IsSettled, IsThere, IsEndOf, Stepped}
 use Rattle.f77_actions.specs.declared.finish.Finish.{Finish}
 use Rattle.f77_actions.specs.declared.finish.Finish.TheVariants.{Returned, Stopped, Failed, StepLimit}
 use Rattle.f77_symbolic.specs.declared.change.Change.{Change}
-use Rattle.f77_symbolic.specs.declared.halt.Split.TheVariants as split
 use Rattle.f77_symbolic.specs.declared.sides.Step.TheVariants as step
-use Rattle.f77_symbolic.proofs.Walk.{at_key, other_step, own_step, reached_on}
-
--- one of both ways is there
-sign_ways : (z : ℤ) → ((pos 1 +ℤ pos 1 *ℤ z) ≤ℤ pos 0) ⊎ ((pos 0 +ℤ negsuc 0 *ℤ z) ≤ℤ pos 0)
-sign_ways (pos n) = inr (omega (arith, ints))
-sign_ways (negsuc n) = inl (omega (arith, ints))
-
-zero_ways : (z : ℤ) → (z ≡ pos 0) ⊎ (z ≢ pos 0)
-zero_ways (pos zero) = inl refl
-zero_ways (pos (suc n)) = inr (λ e. cc (e))
-zero_ways (negsuc n) = inr (λ e. cc (e))
-
-pub one_way : (v : Valuation) (split : Split) → IsOnWay v split true ⊎ IsOnWay v split false
-one_way v (split.Sign term) = sign_ways (sum_value v term)
-one_way v (split.Zero term) = zero_ways (sum_value v term)
+use Rattle.f77_symbolic.proofs.Walk.{at_key, other_step, own_step}
 
 -- a step is one end
 same_end : (made : Step) (finish other : Finish) → IsEndOf made finish → IsEndOf made other → other ≡ finish
@@ -81,7 +65,7 @@ module _ (spare : ℕ) (checked : CheckedFields) (change : Change) (start : Star
   pub own_follows : (pair : Pair) (path : Path) (after : Side) (made : Step) (list : List Resolved) → IsReady checked change → list ≡ change.own.items
       → (IsThere v pair → Stepped start.cells v true path pair.left after made (moved list (state_of start.cells v pair.left)))
       → ((finish : Finish) → IsEndOf made finish → Holds v path → AreInside v pair.left.writes.items → AreInside v pair.right.writes.items
-      → EndsSo checked change finish start v pair.left pair.right)
+      → EndsSo checked change finish start v pair)
       → ((room : ℕ) → IsRoomLeft spare pair.credit room → made ≡ step.Moves → Holds v path → AreInside v after.writes.items
       → AreInside v pair.right.writes.items → FollowsSides false (suc room) after pair.right)
       → Follows spare checked change start v pair
@@ -90,8 +74,7 @@ module _ (spare : ℕ) (checked : CheckedFields) (change : Change) (start : Star
       let s : State = state_of start.cells v pair.left in
       let it : Stepped start.cells v true path pair.left after made (moved checked.statements s) =
       subst (λ list. Stepped start.cells v true path pair.left after made (moved list s)) (same ∙ ready.own) (steps there) in
-      own_step State End (together checked change.statements.items spare) (reached_on (machine checked.statements) (IsFirst checked)) pair.fresh room s
-      (state_of start.cells v pair.right)
+      own_step State End (together checked change.statements.items spare) pair.fresh room s (state_of start.cells v pair.right)
       (λ e wanted ends.
       let at = end_of start.cells v true path pair.left after made e.finish e.cells
       (subst (λ m. Stepped start.cells v true path pair.left after made m) ends it) (λ own. wanted) in
@@ -120,7 +103,7 @@ module _ (spare : ℕ) (checked : CheckedFields) (change : Change) (start : Star
       by None e it = absurd it
       by (Some (Goes b)) e it =
           let less : IsRoomLeft spare next.credit room = omega (arith, ints, has, credit) in
-          other_step State End (together checked change.statements.items spare) (reached_on (machine checked.statements) (IsFirst checked)) pair.fresh room
+          other_step State End (together checked change.statements.items spare) pair.fresh room
           (state_of start.cells v pair.left) (state_of start.cells v pair.right) b e
           (subst (FollowsByKeys (together checked change.statements.items spare) pair.fresh room (state_of start.cells v pair.left)) (sym it.3)
           (follows_so next settled pair.fresh room pair.left next.right less fresh same refl it.1 there.left it.2))
@@ -135,30 +118,5 @@ module _ (spare : ℕ) (checked : CheckedFields) (change : Change) (start : Star
   unfolding together
   met pair fresh positive same room has there =
       subst (λ f. FollowsSides f room pair.left pair.right) (sym fresh)
-      (at_key State End (together checked change.statements.items spare) (reached_on (machine checked.statements) (IsFirst checked)) room
-      (state_of start.cells v pair.left) (state_of start.cells v pair.right) (same there, omega (arith, ints, has, positive)))
-
-  -- it follows from the pair where it does so from the pair on the way that is there
-  on_way : (s : Split) (way : Bool) (pair on : Pair) → IsPairOn s way pair on → IsSettled spare checked change start v on
-      → (room : ℕ) → IsRoomLeft spare pair.credit room → IsThere v pair → IsOnWay v s way
-      → FollowsSides pair.fresh room pair.left pair.right
-  on_way s way pair on is settled room has there here =
-      let same : IsRoomLeft spare on.credit room = omega (arith, ints, has, is.credit) in
-      follows_so on settled pair.fresh room pair.left pair.right same is.fresh is.left is.right (is.path v there.holds here) there.left there.right
-
-  -- one of the two is on its way
-  pub split_follows : (s : Split) (pair one other : Pair) → IsPairOn s true pair one → IsPairOn s false pair other
-      → IsSettled spare checked change start v one → IsSettled spare checked change start v other → Follows spare checked change start v pair
-  split_follows s pair one other first second settled rest room has there =
-      elim (one_way v s) [
-        | inl here ↦ on_way s true pair one first settled room has there here
-        | inr here ↦ on_way s false pair other second rest room has there here
-      ]
-
--- the pairs on both ways are added
-pub split_gives : (atoms : Atoms) (change : Change) (s : Split) (pair one other : Pair) (old mid new : List Pair) → mid ≡ old ++ one ∷ [] → new ≡ mid ++ other ∷ []
-    → IsPairOn s true pair one → IsPairOn s false pair other → GivesWay atoms change old new pair
-split_gives atoms change s pair one other old mid new first second is_one is_other spare checked start v ready interprets within all =
-    let last = All-pop (IsSettled spare checked change start v) new mid (Some other) second all in
-    let before = All-pop (IsSettled spare checked change start v) mid old (Some one) first last.0 in
-    (before.0, split_follows spare checked change start v s pair one other is_one is_other before.1 last.1)
+      (subst (FollowsByKeys (together checked change.statements.items spare) false room (state_of start.cells v pair.left)) (sym (same there))
+      (at_key State End (together checked change.statements.items spare) room (state_of start.cells v pair.left) (omega (arith, ints, has, positive))))

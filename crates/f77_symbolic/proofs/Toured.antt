@@ -1,8 +1,7 @@
 -- What the walk of the program alone comes to.
-use Rattle.f77_symbolic.proofs.Common.{◌≡◌, ◌∙◌, zero, suc, List, Some, ap, Contains, slice_get-get_or, Resolved, Place, State, Goes, moved, Entry, Holds}
-use Rattle.f77_symbolic.proofs.Common.{Valuation, Visit, Start, state_of, IsOfEntry, IsVisitNoted, AreExplored, IsExplored, IsMet, IsMetOrExplored}
+use Rattle.f77_symbolic.proofs.Common.{◌≡◌, ◌∙◌, zero, suc, List, Some, ap, Contains, slice_get-get_or, Resolved, Place, State, Goes, moved, Entry}
+use Rattle.f77_symbolic.proofs.Common.{Valuation, Start, IsOfEntry, IsVisitNoted, IsExplored, IsMet, IsMetOrExplored}
 use Rattle.f77_symbolic.specs.declared.visiting.Walk.{Walk}
-use Rattle.f77_symbolic.proofs.Settling.{inside_too}
 
 -- where the entry of a state is among the arrivals, the state is met
 pub met_by : (arrivals : List Entry) (entry : Entry) (s : State) → Contains arrivals entry → IsOfEntry entry s → IsMet arrivals s
@@ -21,12 +20,3 @@ module _ (statements : List Resolved) (places : List Place) (whole : Walk) (star
       → ((t : State) → moved statements s ≡ Some (Goes t) → IsMetOrExplored statements places whole start v t) → IsExplored statements places whole start v s
   explored_by s noted next zero t leads = rw leads (noted, λ u goes cut. (next u goes).0 cut)
   explored_by s noted next (suc n) t (b, goes, apart, rest) = (next b goes).1 apart n t rest
-
-  -- another visit is of the same states, and all is explored from there
-  pub explored_too : (visit on : Visit) → (Holds v visit.path → Holds v on.path) → on.side ≡ visit.side
-      → AreExplored statements places whole start v on → AreExplored statements places whole start v visit
-  explored_too visit on path side explored s of = explored s (record {
-    holds = path of.holds;
-    inside = inside_too v side of.inside;
-    is = ap (state_of start.cells v) side ∙ of.is;
-  })

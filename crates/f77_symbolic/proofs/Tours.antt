@@ -1,8 +1,14 @@
 -- The tour of a program: its entries cover what is known wherever a walk from one of them comes to a cut.
-use Rattle.f77_symbolic.proofs.Common.{◌≡◌, ℕ, zero, suc, Bool, true, false, List, Some, refl, sym, subst, Any, slice_get, list_any, Resolved, Place, State}
+use Rattle.f77_symbolic.proofs.Common.{◌≡◌, ℕ, zero, suc, Bool, true, false, List, Some, refl, sym, subst, All, Any, list_any, Resolved, Place, State}
+use Rattle.f77_symbolic.proofs.Common.{◌<◌, ◌+◌, length, get_or, take, All-more, All-weaker}
 use Rattle.f77_symbolic.proofs.Common.{Goes, moved, Entry, Visits, machine, ReachesIn, AreVisits, IsOfEntry, IsTour, LeadsTo, is_cut_in, is_same_place}
 use Rattle.f77_facts.specs.Entries.{GrowsEntries, IsAmong}
 use Rattle.f77_symbolic.proofs.Walk.{leads_on}
+
+-- what is so of those before, and of one more
+pub all_next : {X : Type 0} (P Q : X → Type 0) (xs : List X) (i : ℕ) (x : X) → i < length xs → x ≡ get_or xs i x → ((y : X) → P y → Q y) → All P (take i xs) → Q x
+    → All Q (take (i + 1) xs)
+all_next P Q xs i x below is more before here = All-more Q xs i x below (All-weaker P Q more (take i xs) before) (subst Q is here)
 
 -- these are visits from the entry, and they lead into entries again
 abbrev pub IsWalked : List Resolved → List Place → List Entry → Entry → Visits → Type 0
@@ -15,46 +21,33 @@ IsToured statements places entries each entry =
 
 -- the state is one of an entry at a cut, or steps lead there from one with no cut on the way
 pub record IsOnTour (statements : List Resolved) (places : List Place) (entries : List Entry) (s : State) : Type 0 where
-  pub number : ℕ
-  pub entry : Entry
-  pub is : slice_get entries number ≡ Some entry
-  pub cut : list_any (λ place. is_same_place place entry.place) places ≡ true
   pub first : State
-  pub of : IsOfEntry entry first
+  pub known : IsAmong entries first.place first.cells first.turns
+  pub cut : is_cut_in places first ≡ true
   pub steps : ℕ
   pub leads : LeadsTo statements places steps first s
 
+pub entry_of : (entries : List Entry) (s : State) (known : IsAmong entries s.place s.cells s.turns) → IsOfEntry known.entry s
+entry_of entries s known = record { place = known.there; inside = known.inside; left = known.left }
+
 -- what is reached is on the tour
-module _ (statements : List Resolved) (places : List Place) (entries : List Entry) where
-  pub at_cut : (s : State) → IsAmong entries s.place s.cells s.turns → is_cut_in places s ≡ true → IsOnTour statements places entries s
-  at_cut s known cut = record {
-    number = known.number;
-    entry = known.entry;
-    is = known.is;
-    cut = subst (λ p. list_any (λ other. is_same_place other p) places ≡ true) (sym known.there) cut;
-    first = s;
-    of = record { place = known.there; inside = known.inside; left = known.left };
-    steps = 0;
-    leads = refl;
-  }
+module _ (statements : List Resolved) (places : List Place) (entries : List Entry) (each : List Visits) (tour : IsTour statements places entries each) where
+  -- there are visits from the entry of a state at a cut
+  pub walked : (s : State) (known : IsAmong entries s.place s.cells s.turns) → is_cut_in places s ≡ true
+      → Any (IsWalked statements places entries known.entry) each
+  walked s known cut =
+      tour known.number known.entry known.is (subst (λ p. list_any (λ other. is_same_place other p) places ≡ true) (sym known.there) cut)
 
-  module _ (each : List Visits) (tour : IsTour statements places entries each) where
-    onward : (s t : State) → IsOnTour statements places entries s → moved statements s ≡ Some (Goes t) → (c : Bool) → is_cut_in places t ≡ c
-        → IsOnTour statements places entries t
-    onward s t on goes true cut =
-        let visits = tour on.number on.entry on.is on.cut in
-        at_cut t (visits.4.1 t.place t.cells t.turns (visits.4.0.lands on.first s t on.steps on.of on.leads goes cut)) cut
-    onward s t on goes false apart = record {
-      number = on.number;
-      entry = on.entry;
-      is = on.is;
-      cut = on.cut;
-      first = on.first;
-      of = on.of;
-      steps = suc on.steps;
-      leads = leads_on (machine statements) (is_cut_in places) on.steps on.first s t on.leads goes apart;
-    }
+  onward : (s t : State) → IsOnTour statements places entries s → moved statements s ≡ Some (Goes t) → (c : Bool) → is_cut_in places t ≡ c
+      → IsOnTour statements places entries t
+  onward s t on goes true cut =
+      let visits = walked on.first on.known on.cut in
+      let lands = visits.4.0.lands on.first s t on.steps (entry_of entries on.first on.known) on.leads goes cut in
+      record { first = t; known = visits.4.1 t.place t.cells t.turns lands; cut = cut; steps = 0; leads = refl }
+  onward s t on goes false apart =
+      let leads = leads_on (machine statements) (is_cut_in places) on.steps on.first s t on.leads goes apart in
+      record { first = on.first; known = on.known; cut = on.cut; steps = suc on.steps; leads = leads }
 
-    pub along : (n : ℕ) (s t : State) → IsOnTour statements places entries s → ReachesIn (machine statements) n s t → IsOnTour statements places entries t
-    along zero s t on reaches = subst (IsOnTour statements places entries) (sym reaches) on
-    along (suc n) s t on (b, goes, rest) = along n b t (onward s b on goes (is_cut_in places b) refl) rest
+  pub along : (n : ℕ) (s t : State) → IsOnTour statements places entries s → ReachesIn (machine statements) n s t → IsOnTour statements places entries t
+  along zero s t on reaches = subst (IsOnTour statements places entries) (sym reaches) on
+  along (suc n) s t on (b, goes, rest) = along n b t (onward s b on goes (is_cut_in places b) refl) rest

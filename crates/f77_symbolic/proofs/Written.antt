@@ -1,5 +1,5 @@
 -- What slots hold behind writes.
-use Rattle.f77_symbolic.proofs.Common.{◌≡◌, ◌≢◌, ◌⊎◌, inl, inr, ℕ, zero, suc, List, [], ◌∷◌, ◌++◌, length, Option, Some, refl, sym, subst, ap, ◌∙◌, slice_get}
+use Rattle.f77_symbolic.proofs.Common.{◌≡◌, ◌<◌, ◌+◌, inl, inr, ℕ, zero, suc, List, [], ◌∷◌, ◌++◌, length, take, get_or, take_more, Option, Some, refl, sym, subst, ap, ◌∙◌, slice_get}
 use Rattle.f77_symbolic.proofs.Common.{slice_set, remove, length-set, set-set, set_comm, slice_get_within, get_or_from_slice_get, Value, Cells, cases_eq}
 use Rattle.f77_symbolic.proofs.Common.{Valuation, Location, Write, AreInside, IsInside, cells_of, slot_of, content_of}
 use Rattle.f77_symbolic.proofs.Located.{only_slot}
@@ -7,11 +7,10 @@ use Rattle.f77_symbolic.proofs.Located.{only_slot}
 -- cells that differ in one slot at most, where a slot is set
 set_but : (slot k : ℕ) (cell a : Option Value) (cells others : Cells) → slice_set cells slot cell ≡ slice_set others slot cell
     → slice_set (slice_set cells k a) slot cell ≡ slice_set (slice_set others k a) slot cell
-set_but slot k cell a cells others same = by (cases_eq k slot)
-  where
-    by : (k ≡ slot) ⊎ (k ≢ slot) → slice_set (slice_set cells k a) slot cell ≡ slice_set (slice_set others k a) slot cell
-    by (inl here) = rw here (set-set cells slot a cell ∙ same ∙ sym (set-set others slot a cell))
-    by (inr apart) = set_comm cells k slot a cell apart ∙ ap (λ cs. slice_set cs k a) same ∙ sym (set_comm others k slot a cell apart)
+set_but slot k cell a cells others same = elim (cases_eq k slot) [
+  | inl here ↦ rw here (set-set cells slot a cell ∙ same ∙ sym (set-set others slot a cell))
+  | inr apart ↦ set_comm cells k slot a cell apart ∙ ap (λ cs. slice_set cs k a) same ∙ sym (set_comm others k slot a cell apart)
+]
 
 module _ (v : Valuation) where
   -- each was inside
@@ -23,17 +22,16 @@ module _ (v : Valuation) where
   pub slot_alone : (location : Location) → IsInside v location → location.count ≡ 1 → slot_of v location ≡ location.first
   slot_alone location inside one = only_slot location.first location.count _ inside.above inside.below one
 
-  -- what is the same where the first slot is set is so where the location is
-  pub set_alone : (location : Location) (cell : Option Value) (cells others : Cells) → IsInside v location → location.count ≡ 1
-      → slice_set cells location.first cell ≡ slice_set others location.first cell
-      → slice_set cells (slot_of v location) cell ≡ slice_set others (slot_of v location) cell
-  set_alone location cell cells others inside one same = rw (slot_alone location inside one) same
-
   -- one write more
   pub cells_push : (cells : Cells) (ws : List Write) (w : Write)
       → cells_of cells v (ws ++ w ∷ []) ≡ slice_set (cells_of cells v ws) (slot_of v w.location) (content_of v w.value)
   cells_push cells [] w = refl
   cells_push cells (x ∷ ws) w = cells_push (slice_set cells (slot_of v x.location) (content_of v x.value)) ws w
+
+  pub cells_next : (cells : Cells) (ws : List Write) (i : ℕ) (w : Write) → i < length ws → w ≡ get_or ws i w
+      → cells_of cells v (take (i + 1) ws) ≡ slice_set (cells_of cells v (take i ws)) (slot_of v w.location) (content_of v w.value)
+  cells_next cells ws i w within is =
+      ap (cells_of cells v) (take_more ws i w within ∙ ap (λ x. take i ws ++ x ∷ []) (sym is)) ∙ cells_push cells (take i ws) w
 
   -- there are as many slots as before
   pub cells_length : (cells : Cells) (ws : List Write) → length (cells_of cells v ws) ≡ length cells

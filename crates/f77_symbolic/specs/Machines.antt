@@ -5,7 +5,7 @@ use Rattle.f77_symbolic.specs.Prelude.{HoldAlike, IsEnding, start_state}
 use Rattle.f77_equivalence.specs.Storable.{AreStorable}
 use Rattle.f77_meaning.specs.declared.argument.Arg.{Arg}
 use Rattle.f77_meaning.specs.Interpreter.{AreFitting}
-use Rattle.f77_symbolic.specs.Walk.{Machine, Pairing, diagonal}
+use Rattle.f77_symbolic.specs.Walk.{Machine, Pairing}
 
 -- how a run ends, and what the slots hold then
 pub record End : Type 0 where
@@ -30,9 +30,14 @@ EndAlike checked e f = (f.finish ≡ e.finish) × HoldAlike checked e.cells f.ce
 
 -- where the program returns or stops, the changed one is to end alike, with so many steps to spare
 unfoldable pub together : CheckedFields → List Resolved → ℕ → Pairing State End
-together checked changed spare =
-    diagonal (machine checked.statements) (machine changed) (λ e. IsEnding e.finish)
-    (EndAlike checked) (IsFirst checked) spare
+together checked changed spare = record {
+  own = machine checked.statements;
+  other = machine changed;
+  Wanted = λ e. IsEnding e.finish;
+  Alike = EndAlike checked;
+  Start = IsFirst checked;
+  spare = spare;
+}
 
 -- control is at the statement i, or at the DO of this number
 abbrev pub IsAtSite : ℕ → State → Type 0

@@ -17,16 +17,20 @@ abbrev pub ReachesIn : {S E : Type 0} → Machine S E → ℕ → S → S → Ty
 ReachesIn machine zero s t = t ≡ s
 ReachesIn {S} machine (suc n) s t = (b : S) × machine.goes s b × ReachesIn machine n b t
 
--- Two machines; which ends of the first the second has to come to, and which of its ends will do.
--- From a key, a pair of states with room for so many steps, the second is to follow the first.
--- Where the second is followed up, the state of the first is one that matters.
+-- some steps lead from a start to the state
+abbrev pub IsReachable : {S E : Type 0} → Machine S E → (S → Type 0) → S → Type 0
+IsReachable {S} machine Start s = (a : S) × Start a × (n : ℕ) × ReachesIn machine n a s
+
+-- Two machines; which ends of the first the second has to come to, and which of its ends will
+-- do; where the first starts, and how many steps the second may take more. From a key, a state
+-- that the first comes to with room for so many steps, the second is to follow the first.
 pub record Pairing (S E : Type 0) : Type 1 where
   pub own : Machine S E
   pub other : Machine S E
   pub Wanted : E → Type 0
   pub Alike : E → E → Type 0
-  pub Matters : S → Type 0
-  pub Key : ℕ → S → S → Type 0
+  pub Start : S → Type 0
+  pub spare : ℕ
 
 -- what the first comes to within n steps, the second comes to within as many
 -- and those there is room for
@@ -48,33 +52,18 @@ Under fresh Supposed Claimed = (n : ℕ) → ((m : ℕ) → IsEarlier fresh m n 
 -- from each key the second follows the first for n steps of that
 abbrev pub KeysFollow : {S E : Type 0} → Pairing S E → ℕ → Type 0
 KeysFollow {S} pairing n =
-    (room : ℕ) (s t : S) → pairing.Matters s → pairing.Key room s t → FollowsFor pairing room n s t
+    (room : ℕ) (s : S) → IsReachable pairing.own pairing.Start s → pairing.spare ≤ room
+    → FollowsFor pairing room n s s
 
--- from this pair of states, with so much room, the second follows the first,
--- if it does from the keys
+-- From this pair of states, with so much room, the second follows the first, if it does from the
+-- keys. Nothing is said where the first does not come to its state.
 unfoldable pub FollowsByKeys : {S E : Type 0} → Pairing S E → Bool → ℕ → S → S → Type 0
 FollowsByKeys pairing fresh room s t =
-    pairing.Matters s → Under fresh (KeysFollow pairing) (λ n. FollowsFor pairing room n s t)
+    IsReachable pairing.own pairing.Start s
+    → Under fresh (KeysFollow pairing) (λ n. FollowsFor pairing room n s t)
 
 -- just so many steps lead from one state to the other, with no cut on the way behind the first
 abbrev pub LeadsUncut : {S E : Type 0} → Machine S E → (S → Bool) → ℕ → S → S → Type 0
 LeadsUncut machine cut zero s t = t ≡ s
 LeadsUncut {S} machine cut (suc n) s t =
     (b : S) × machine.goes s b × (cut b ≡ false) × LeadsUncut machine cut n b t
-
--- some steps lead from a start to the state
-abbrev pub IsReachable : {S E : Type 0} → Machine S E → (S → Type 0) → S → Type 0
-IsReachable {S} machine Start s = (a : S) × Start a × (n : ℕ) × ReachesIn machine n a s
-
--- A machine and another that is to do the same but where it is changed: from each state that
--- the first comes to, the second is to follow from the same state, with room for so many steps.
-abbrev pub diagonal : {S E : Type 0} → Machine S E → Machine S E → (E → Type 0) → (E → E → Type 0)
-    → (S → Type 0) → ℕ → Pairing S E
-diagonal own other Wanted Alike Start spare = record {
-  own = own;
-  other = other;
-  Wanted = Wanted;
-  Alike = Alike;
-  Matters = IsReachable own Start;
-  Key = λ room s t. (t ≡ s) × (spare ≤ room);
-}

@@ -2,7 +2,6 @@
 
 ghost use Rattle.std.specs.Prelude.{◌≡◌, ◌≢◌, ◌*ℤ◌, ◌≤ℤ◌, ℕ, pos, IfOk, IfSome};
 ghost use Rattle.f77_actions.specs.Number as exact;
-ghost use Rattle.f77_actions.specs.Value as meaning;
 ghost use Rattle.f77_symbolic.specs.Prelude.{calculated, Valuation, sum_value};
 ghost use Rattle.f77_symbolic.specs.code.{Extends, Always, AlwaysTells, Calculates, IsDivision, StaysOn};
 
@@ -11,8 +10,8 @@ use crate::halt::Halt;
 use f77_actions::Arithmetic;
 use f77_actions::number::power;
 use f77_terms::atoms::Function;
-use f77_terms::knowing::{constant_of, know_division, know_minimum, know_product};
-use f77_terms::terms::{Term, atom_term, constant_term, copy, difference, sum};
+use f77_terms::knowing::know_division;
+use f77_terms::terms::{Term, atom_term, constant_of, constant_term, copy, difference, sum};
 use std::alloc::Global;
 
 /// The least number that INTEGER holds.
@@ -65,26 +64,6 @@ impl Evaluator {
         Ok(term)
     }
 
-    /// The number with the other sign.
-    pub(crate) fn negated(&mut self, a: &Term) -> Result<Term, Halt>
-        ensures calculates { IfOk result (λ value. Calculates self.old self.new value
-            (λ v. exact.in_range (exact.negated (sum_value v a.now)))) }
-        ensures extends { Extends self.old.atoms self.new.atoms }
-    {
-        let term = self.plus(-1, a, 0)?;
-        self.ranged(term)
-    }
-
-    /// The number, which is not to be 0.
-    pub(crate) fn pushed(&mut self, a: Term) -> Result<Term, Halt>
-        ensures calculates { IfOk result (λ value. Calculates self.old self.new value
-            (λ v. meaning.pushed (sum_value v a))) }
-        ensures extends { Extends self.old.atoms self.new.atoms }
-    {
-        self.expect_apart(&a)?;
-        Ok(a)
-    }
-
     /// MIN0 of two numbers: one of them, or an atom.
     fn lesser(&mut self, a: &Term, b: &Term) -> Result<Term, Halt>
         ensures calculates { IfOk result (λ value. Calculates self.old self.new value
@@ -92,13 +71,12 @@ impl Evaluator {
         ensures extends { Extends self.old.atoms self.new.atoms }
     {
         if self.is_at_most(a, b)? {
-            return Ok(copy(self.alloc, a)?);
+            return Ok(copy(a)?);
         }
         if self.is_at_most(b, a)? {
-            return Ok(copy(self.alloc, b)?);
+            return Ok(copy(b)?);
         }
         let minimum = self.function_of(Function::Minimum, a, b)?;
-        know_minimum(self.alloc, &mut self.path, a, b, minimum)?;
         Ok(atom_term(self.alloc, minimum)?)
     }
 
@@ -116,7 +94,7 @@ impl Evaluator {
 
     /// The size of a number, which is that of its negative: the greater of both, of which the one without a sign comes
     /// first.
-    fn size(&mut self, a: &Term) -> Result<Term, Halt>
+    pub(crate) fn size(&mut self, a: &Term) -> Result<Term, Halt>
         ensures tells { IfOk result (λ size. AlwaysTells self.old self.new
             (λ start v. sum_value v size ≡ exact.without_sign (sum_value v a.now))) }
         ensures extends { Extends self.old.atoms self.new.atoms }
@@ -127,16 +105,6 @@ impl Evaluator {
         } else {
             self.greater(a, &negative)
         }
-    }
-
-    /// IABS.
-    pub(crate) fn absolute(&mut self, a: &Term) -> Result<Term, Halt>
-        ensures calculates { IfOk result (λ value. Calculates self.old self.new value
-            (λ v. exact.in_range (exact.without_sign (sum_value v a.now)))) }
-        ensures extends { Extends self.old.atoms self.new.atoms }
-    {
-        let size = self.size(a)?;
-        self.ranged(size)
     }
 
     /// The division of a number by another, if it needs no atom.
@@ -172,7 +140,7 @@ impl Evaluator {
         let remainder = self.function_of(Function::Remainder, a, b)?;
         let quotient = atom_term(self.alloc, quotient)?;
         let product = self.multiplied(&quotient, b)?;
-        know_division(self.alloc, &mut self.path, a, &product, remainder)?;
+        know_division(&mut self.path, a, &product, remainder)?;
         let remainder = atom_term(self.alloc, remainder)?;
         Ok(Division {
             quotient,
@@ -216,7 +184,6 @@ impl Evaluator {
             return self.plus(m, a, 0);
         }
         let product = self.function_of(Function::Product, a, b)?;
-        know_product(self.alloc, &mut self.path, a, b, product)?;
         Ok(atom_term(self.alloc, product)?)
     }
 
@@ -243,7 +210,7 @@ impl Evaluator {
             (λ start v. sum_value v term ≡ exact.exact_power (sum_value v a.now) n)) }
         ensures extends { Extends self.old.atoms self.new.atoms }
     {
-        let mut term = copy(self.alloc, a)?;
+        let mut term = copy(a)?;
         for _ in 1..factors {
             term = self.multiplied(a, &term)?;
         }
@@ -280,11 +247,11 @@ impl Evaluator {
     {
         match operation {
             Arithmetic::Add => {
-                let exact = sum(self.alloc, a, b)?.ok_or(Halt::Unknown)?;
+                let exact = sum(a, b)?.ok_or(Halt::Unknown)?;
                 self.ranged(exact)
             }
             Arithmetic::Subtract => {
-                let exact = difference(self.alloc, a, b)?.ok_or(Halt::Unknown)?;
+                let exact = difference(a, b)?.ok_or(Halt::Unknown)?;
                 self.ranged(exact)
             }
             Arithmetic::Multiply => {

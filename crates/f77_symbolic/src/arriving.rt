@@ -156,22 +156,8 @@ impl Evaluator {
         Ok(loops)
     }
 
-    /// What is known of the state of a side, where the path holds.
-    fn entry_of(&self, side: &Side) -> Result<Entry, Halt>
-        ensures { IfOk result (λ entry. (start : Start) (v : Valuation) → Interprets self.now.atoms start v
-            → Holds v self.now.path → AreInside v side.now.writes.items
-            → IsOfEntry entry (state_of start.cells v side.now)) }
-    {
-        let facts = self.facts_behind(&side.writes)?;
-        let loops = self.loops_of(&side.turns)?;
-        Ok(Entry {
-            place: side.place,
-            facts,
-            loops,
-        })
-    }
-
-    /// The same, when the ranges of atoms were narrowed: twice, since what is not 0 may narrow what others narrow then.
+    /// What is known of the state of a side, where the path holds and the ranges of atoms were narrowed: twice, since
+    /// what is not 0 may narrow what others narrow then.
     pub(crate) fn settled_entry(&mut self, side: &Side) -> Result<Entry, Halt>
         ensures entry { IfOk result (λ entry. (start : Start) (v : Valuation) → Interprets self.old.atoms start v
             → Holds v self.old.path → AreInside v side.now.writes.items
@@ -180,7 +166,12 @@ impl Evaluator {
     {
         settle(&mut self.path);
         settle(&mut self.path);
-        let entry = self.entry_of(side)?;
-        Ok(entry)
+        let facts = self.facts_behind(&side.writes)?;
+        let loops = self.loops_of(&side.turns)?;
+        Ok(Entry {
+            place: side.place,
+            facts,
+            loops,
+        })
     }
 }

@@ -26,20 +26,9 @@ impl Evaluator {
             → ¬ (AreBelow v bounds.now)) }
     {
         let mut work = most;
-        let is_refuted = refuted(self.alloc, &mut work, &self.path, bounds)?;
+        let is_refuted = refuted(&mut work, &self.path, bounds)?;
         self.samples.spend(most.saturating_sub(work));
         Ok((is_refuted, work == 0))
-    }
-
-    /// A sample is found that is on the path, and on which the term has this sign.
-    fn is_found(&self, term: &Term, sign: Ordering) -> Result<bool, AllocError> {
-        let wanted = Wanted {
-            table: &self.atoms.table,
-            path: &self.path,
-            term,
-            sign,
-        };
-        self.samples.find(self.alloc, wanted)
     }
 
     /// Where the path holds, the term has not this sign. It is false too where that is not told.
@@ -53,10 +42,16 @@ impl Evaluator {
         if self.samples.show(term, sign)? {
             return Ok(false);
         }
-        let bounds = sign_bounds(self.alloc, term, sign)?;
+        let bounds = sign_bounds(term, sign)?;
         let (is_told, is_open) = self.refute(FIRST_WORK, &bounds)?;
+        let wanted = Wanted {
+            table: &self.atoms.table,
+            path: &self.path,
+            term,
+            sign,
+        };
         // A sample is sought where more work finds nothing, too: it answers questions to come.
-        if is_told || self.is_found(term, sign)? || !is_open {
+        if is_told || self.samples.find(self.alloc, wanted)? || !is_open {
             return Ok(is_told);
         }
         Ok(self.refute(MOST_WORK, &bounds)?.0)

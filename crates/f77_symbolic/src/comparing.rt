@@ -1,7 +1,7 @@
 //! Which of two numbers is less, and which item a number chooses. Where a path does not decide it, it may be split.
 
 ghost use Rattle.std.specs.Prelude.{◌≡◌, ◌≤ℤ◌, pos, true, IfOk};
-ghost use Rattle.f77_symbolic.specs.Prelude.{is_below, is_same, compared, joined, HasSign, Holds, Valuation, sum_value};
+ghost use Rattle.f77_symbolic.specs.Prelude.{is_below, is_same, compared, joined, Holds, Valuation, sum_value};
 ghost use Rattle.f77_symbolic.specs.code.{HasItem};
 
 use crate::evaluator::Evaluator;
@@ -12,31 +12,31 @@ use std::cmp::Ordering;
 
 impl Evaluator {
     /// Whether the term is below 0.
-    pub(crate) fn is_negative(&self, term: Term) -> Result<bool, Halt>
+    pub(crate) fn is_negative(&self, term: &Term) -> Result<bool, Halt>
         ensures { IfOk result (λ b. (v : Valuation) → Holds v self.now.path
-            → is_below (sum_value v term) (pos 0) ≡ b) }
+            → is_below (sum_value v term.now) (pos 0) ≡ b) }
     {
-        if self.never_has(&self.plus(1, &term, 1)?, Ordering::Greater)? {
+        if self.never_has(&self.plus(1, term, 1)?, Ordering::Greater)? {
             return Ok(true);
         }
-        if self.never_has(&term, Ordering::Less)? {
+        if self.never_has(term, Ordering::Less)? {
             return Ok(false);
         }
-        Err(Halt::Split(Split::Sign(term)))
+        Err(Halt::Split(Split::Sign(copy(term)?)))
     }
 
     /// Whether the term is 0.
-    pub(crate) fn is_nothing(&self, term: Term) -> Result<bool, Halt>
+    pub(crate) fn is_nothing(&self, term: &Term) -> Result<bool, Halt>
         ensures { IfOk result (λ b. (v : Valuation) → Holds v self.now.path
-            → is_same (sum_value v term) (pos 0) ≡ b) }
+            → is_same (sum_value v term.now) (pos 0) ≡ b) }
     {
-        if self.never_has(&term, Ordering::Equal)? {
+        if self.never_has(term, Ordering::Equal)? {
             return Ok(false);
         }
-        if self.is_zero(&term)? {
+        if self.is_zero(term)? {
             return Ok(true);
         }
-        Err(Halt::Split(Split::Zero(term)))
+        Err(Halt::Split(Split::Zero(copy(term)?)))
     }
 
     /// Whether the first number is less than the second.
@@ -45,7 +45,7 @@ impl Evaluator {
             → is_below (sum_value v a.now) (sum_value v b.now) ≡ c) }
     {
         let between = self.combination(1, a, -1, b)?;
-        self.is_negative(between)
+        self.is_negative(&between)
     }
 
     /// Whether the numbers are equal.
@@ -54,7 +54,7 @@ impl Evaluator {
             → is_same (sum_value v a.now) (sum_value v b.now) ≡ c) }
     {
         let between = self.combination(1, a, -1, b)?;
-        self.is_nothing(between)
+        self.is_nothing(&between)
     }
 
     /// Whether the numbers are so related.
@@ -90,34 +90,19 @@ impl Evaluator {
         Ok(self.is_zero(&between)?)
     }
 
-    /// The number compared with 0.
-    pub(crate) fn sign_of(&self, number: Term) -> Result<Ordering, Halt>
-        ensures { IfOk result
-            (λ sign. (v : Valuation) → Holds v self.now.path → HasSign sign (sum_value v number)) }
-    {
-        if self.is_nothing(copy(self.alloc, &number)?)? {
-            return Ok(Ordering::Equal);
-        }
-        if self.is_negative(number)? {
-            Ok(Ordering::Less)
-        } else {
-            Ok(Ordering::Greater)
-        }
-    }
-
     /// Which of so many items a number has. Both ends are tried first, so that most of a path is decided together.
     pub(crate) fn item_of(&self, number: &Term, count: usize) -> Result<Option<usize>, Halt>
         ensures { IfOk result (λ item. (v : Valuation) → Holds v self.now.path
             → HasItem item count (sum_value v number.now)) }
     {
-        if self.is_negative(self.plus(1, number, -1)?)? {
+        if self.is_negative(&self.plus(1, number, -1)?)? {
             return Ok(None);
         }
-        if self.is_negative(self.plus(-1, number, signed(count)?)?)? {
+        if self.is_negative(&self.plus(-1, number, signed(count)?)?)? {
             return Ok(None);
         }
         for place in 0..count {
-            if self.is_nothing(self.plus(1, number, -1 - signed(place)?)?)? {
+            if self.is_nothing(&self.plus(1, number, -1 - signed(place)?)?)? {
                 return Ok(Some(place));
             }
         }

@@ -1,11 +1,12 @@
 //! Cuts: the places from which the program is walked. They are its start, and each place to which control comes on more
 //! than one way: so no loop is without one, and few paths lead from one to the next.
 
-ghost use Rattle.std.specs.Prelude.{◌≡◌, true, length, IfOk};
+ghost use Rattle.std.specs.Prelude.{◌≡◌, ◌<◌, true, length, option_map, IfOk};
 ghost use Rattle.f77_code.specs.declared.control.Place.TheVariants as Place;
-ghost use Rattle.f77_symbolic.specs.Prelude.{list_any, Holds, IsIn, Valuation, sum_value};
-ghost use Rattle.f77_symbolic.specs.{Interprets, Start, is_same_place};
-ghost use Rattle.f77_symbolic.specs.code.{Extends, StaysOn, IsFirstVisit, StandsForTurn};
+ghost use Rattle.f77_symbolic.specs.Prelude.{list_any, AreLeft, Holds, IsIn, State, SuitsTurn, TurnList, Valuation};
+ghost use Rattle.f77_symbolic.specs.Prelude.{sum_value, turn_at};
+ghost use Rattle.f77_symbolic.specs.{AreTurnNumbers, Interprets, IsVisit, Start, is_same_place, turn_of};
+ghost use Rattle.f77_symbolic.specs.code.{Always, Extends, StaysOn};
 
 use crate::evaluator::Evaluator;
 use crate::halt::Halt;
@@ -29,12 +30,7 @@ const MOST_SLOTS: usize = 1000000000000;
 pub(crate) fn is_cut(places: &[Place], place: Place) -> bool
     ensures { result ≡ list_any (λ other. is_same_place other place) places.now }
 {
-    for other in places {
-        if *other == place {
-            return true;
-        }
-    }
-    false
+    places.iter().any(|other| *other == place)
 }
 
 /// Control may come to the statement of this number once more.
@@ -156,7 +152,10 @@ impl Evaluator {
 
     /// What the DO d has left.
     fn turn_known(&mut self, d: usize, count: usize, fact: LoopFact) -> Result<ActiveTurn, Halt>
-        ensures stands { IfOk result (λ turn. StandsForTurn self.old self.new d count fact turn) }
+        ensures stands { IfOk result (λ turn. Always self.old self.new (λ start v. (turns : TurnList)
+            → AreTurnNumbers (length self.old.atoms.facts.items) count turns start
+            → SuitsTurn fact (turn_at turns d) → d < count
+            → StaysOn v self.old self.new × (option_map (turn_of v) turn ≡ turn_at turns d))) }
         ensures extends { Extends self.old.atoms self.new.atoms }
     {
         let LoopFact::Active { passes, step } = fact else {
@@ -180,7 +179,9 @@ impl Evaluator {
         loops: &[LoopFact],
     ) -> Result<Visit, Halt>
         requires { length loops.now ≡ count }
-        ensures first { IfOk result (λ visit. IsFirstVisit self.old self.new count place loops.now visit) }
+        ensures first { IfOk result (λ visit. Always self.old self.new (λ start v. (s : State) → start.cells ≡ s.cells
+            → AreTurnNumbers (length self.old.atoms.facts.items) count s.turns start → place ≡ s.place
+            → AreLeft loops.now s.turns → IsVisit start v s visit)) }
         ensures extends { Extends self.old.atoms self.new.atoms }
     {
         let mut turns = Vec::with_capacity(self.alloc, count)?;

@@ -1,13 +1,14 @@
 //! Whether a program with one statement changed is equivalent, and how many steps are to be spared.
 
-ghost use Rattle.std.specs.Prelude.{◌≡◌, ◌≤ℤ◌, ◌⊎◌, pos, All, map, Some, IfOk, IfSome};
-ghost use Rattle.f77_symbolic.specs.Prelude.{CheckedFields, IsEquivalentWithin, IsEquivalent, HoldsStart, line_of};
+ghost use Rattle.std.specs.Prelude.{◌≡◌, ◌⊎◌, ℕ, All, map, Some, IfOk, IfSome};
+ghost use Rattle.f77_symbolic.specs.Prelude.{Change, CheckedFields, HoldsStart, IsEquivalent, IsEquivalentWithin};
+ghost use Rattle.f77_symbolic.specs.Prelude.{Valuation, line_of};
 ghost use Rattle.f77_check.specs.Patching.{IsInPlace};
 ghost use Rattle.f77_legal.specs.Legal.{IsLegal};
 ghost use Rattle.f77_program.specs.Patching.{Fits, patched};
 ghost use Rattle.f77_tree.specs.Statement.{statement_of};
-ghost use Rattle.f77_symbolic.specs.code.{Extends, HavePairs, IsBehindBy, IsBehindOn, IsPairOf};
-ghost use Rattle.f77_symbolic.specs.{IsTourOf};
+ghost use Rattle.f77_symbolic.specs.code.{Extends, FollowsThere, FollowsVisit, HavePairs, IsBehindBy, IsSettled};
+ghost use Rattle.f77_symbolic.specs.{IsTourOf, Start};
 
 use crate::change::{Change, change_of};
 use crate::cuts::cuts_of;
@@ -24,8 +25,7 @@ use f77_equivalence::start::holds_start;
 use f77_facts::entries::Entry;
 use f77_facts::facts::is_inside;
 use f77_terms::atoms::{Table, law_of_atoms};
-use f77_terms::copying::copied_path;
-use f77_terms::paths::new_path;
+use f77_terms::paths::{copied_path, new_path};
 use f77_tree::{Shared, Stmt};
 use std::alloc::{AllocError, Global};
 use std::marker::Model;
@@ -35,10 +35,12 @@ const FACTS: u64 = 16;
 
 /// The pair in which the changed program is to follow the program from where that is.
 fn pair_of(alloc: Global, visit: &Visit) -> Result<Pair, AllocError>
-    ensures { IfOk result (λ pair. IsPairOf visit.now pair) }
+    ensures { IfOk result (λ pair. (spare : ℕ) (checked : CheckedFields) (change : Change) (start : Start)
+        (v : Valuation) (place : ℕ) → IsSettled spare checked change start v pair
+        → FollowsVisit spare checked change start v place visit.now) }
 {
     Ok(Pair {
-        path: copied_path(alloc, &visit.path)?,
+        path: copied_path(&visit.path)?,
         left: visit.side.clone()?,
         right: visit.side.clone()?,
         credit: 0,
@@ -86,9 +88,8 @@ impl Visits {
         change: &Change,
         work: &mut u64,
         rows: &mut Rows,
-    ) -> Result<i64, Halt>
-        ensures follows { IfOk result (λ behind. IsBehindBy change.now behind self.now) }
-        ensures above { IfOk result (λ behind. pos 0 ≤ℤ behind) }
+    ) -> Result<u64, Halt>
+        ensures { IfOk result (λ behind. IsBehindBy change.now behind self.now) }
     {
         law_of_atoms(&self.atoms.table);
         let todo = pairs_at(alloc, &self.list, change.place)?;
@@ -117,10 +118,9 @@ impl Tour {
         change: &Change,
         work: &mut u64,
         rows: &mut Rows,
-    ) -> Result<i64, Halt>
-        ensures follows { IfOk result
-            (λ behind. IsBehindOn change.now behind (λ checked. IsTourOf checked self.now)) }
-        ensures above { IfOk result (λ behind. pos 0 ≤ℤ behind) }
+    ) -> Result<u64, Halt>
+        ensures { IfOk result (λ behind. (checked : CheckedFields) → IsTourOf checked self.now
+            → FollowsThere checked change.now behind) }
     {
         let mut most = 0;
         for visits in &self.each {
@@ -132,7 +132,7 @@ impl Tour {
 }
 
 /// The lesser of two numbers, if there are both.
-fn fewer(before: Option<i64>, number: i64) -> i64
+fn fewer(before: Option<u64>, number: u64) -> u64
     ensures { (result ≡ number) ⊎ (before ≡ Some result) }
 {
     match before {
@@ -148,12 +148,11 @@ fn fewest_behind(
     change: &Change,
     work: &mut u64,
     rows: &mut Rows,
-) -> Result<Option<i64>, AllocError>
-    ensures follows { IfOk result (λ found. IfSome found (λ behind.
-        IsBehindOn change.now behind (λ checked. All (IsTourOf checked) tours.now))) }
-    ensures above { IfOk result (λ found. IfSome found (λ behind. pos 0 ≤ℤ behind)) }
+) -> Result<Option<u64>, AllocError>
+    ensures { IfOk result (λ found. IfSome found (λ behind. (checked : CheckedFields)
+        → All (IsTourOf checked) tours.now → FollowsThere checked change.now behind)) }
 {
-    let mut fewest: Option<i64> = None;
+    let mut fewest: Option<u64> = None;
     for tour in tours {
         match tour.steps_behind(alloc, change, work, rows) {
             Ok(behind) => fewest = Some(fewer(fewest, behind)),
@@ -285,9 +284,6 @@ impl<'a> Tours<'a> {
             Err(Halt::Memory) => return Err(AllocError),
             Err(_) => return Ok(None),
         };
-        match fewest_behind(alloc, &self.list, &change, work, rows)? {
-            Some(behind) => Ok(u64::try_from(behind).ok()),
-            None => Ok(None),
-        }
+        fewest_behind(alloc, &self.list, &change, work, rows)
     }
 }

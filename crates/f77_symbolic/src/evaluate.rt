@@ -1,6 +1,6 @@
 //! What expressions mean, by terms.
 
-ghost use Rattle.std.specs.Prelude.{◌∷◌, ◌+◌, ◌+ℤ◌, ◌-ℤ◌, ◌*ℤ◌, ◌≤ℤ◌, ◌<ℤ◌, ◌≡◌, pos, [], Ok, None, IfOk};
+ghost use Rattle.std.specs.Prelude.{◌∷◌, ◌+◌, ◌≤ℤ◌, ◌<ℤ◌, ◌≡◌, pos, [], Ok, None, IfOk};
 ghost use Rattle.f77_actions.specs.Value as meaning;
 ghost use Rattle.f77_actions.specs.Value.{element, given};
 ghost use Rattle.f77_symbolic.specs.Prelude.{number_in, slot_in, truth_in, slot_behind, Valuation, sum_value};
@@ -13,8 +13,7 @@ use crate::evaluator::Evaluator;
 use crate::halt::Halt;
 use crate::memory::{Location, Symbolic, Write, fixed};
 use f77_actions::{Condition, Element, Number};
-use f77_terms::knowing::constant_of;
-use f77_terms::terms::{Term, constant_term};
+use f77_terms::terms::{Term, constant_of, constant_term};
 use f77_tree::Shared;
 use std::alloc::Global;
 
@@ -61,16 +60,6 @@ impl Evaluator {
         located(self.alloc, first, bound as usize, index)
     }
 
-    /// So far an element of a row and a column lies behind the first one.
-    fn matrix_index(&self, rows: u32, row: &Term, column: &Term) -> Result<Term, Halt>
-        ensures { IfOk result (λ term. (v : Valuation) → sum_value v term
-            ≡ (sum_value v row.now -ℤ pos 1) +ℤ pos rows *ℤ (sum_value v column.now -ℤ pos 1)) }
-    {
-        let height = i64::from(rows);
-        let both = self.combination(1, row, height, column)?;
-        self.plus(1, &both, -1 - height)
-    }
-
     /// The location of an element of an array of two dimensions.
     fn matrix(
         &mut self,
@@ -87,7 +76,9 @@ impl Evaluator {
     {
         self.expect_subscript(row, rows)?;
         self.expect_subscript(column, columns)?;
-        let index = self.matrix_index(rows, row, column)?;
+        let height = i64::from(rows);
+        let both = self.combination(1, row, height, column)?;
+        let index = self.plus(1, &both, -1 - height)?;
         located(self.alloc, first, rows as usize * columns as usize, index)
     }
 
@@ -153,15 +144,18 @@ impl Evaluator {
             }
             Number::Negated(operand) => {
                 let a = self.number_of(writes, operand)?;
-                self.negated(&a)
+                let negative = self.plus(-1, &a, 0)?;
+                self.ranged(negative)
             }
             Number::Absolute(operand) => {
                 let a = self.number_of(writes, operand)?;
-                self.absolute(&a)
+                let size = self.size(&a)?;
+                self.ranged(size)
             }
             Number::ZeroPush(operand) => {
                 let a = self.number_of(writes, operand)?;
-                self.pushed(a)
+                self.expect_apart(&a)?;
+                Ok(a)
             }
             Number::Binary(operation, left, right) => {
                 let a = self.number_of(writes, left)?;
@@ -177,7 +171,7 @@ impl Evaluator {
             (meaning.logic (content_of v value)) (λ c. b ≡ c))) }
     {
         match value {
-            Symbolic::Truth(term) => Ok(!self.is_nothing(term)?),
+            Symbolic::Truth(term) => Ok(!self.is_nothing(&term)?),
             Symbolic::Number(_) => Err(Halt::Unknown),
         }
     }

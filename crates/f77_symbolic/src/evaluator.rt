@@ -8,10 +8,9 @@ use crate::halt::{Halt, unless_unknown};
 use crate::samples::Samples;
 use f77_facts::facts::Fact;
 use f77_terms::atoms::{Function, Key, Table, interned};
-use f77_terms::copying::copied_path;
-use f77_terms::knowing::{is_ranged_off, know_range, plus_constant};
-use f77_terms::paths::{Path, add_below, add_unequal};
-use f77_terms::terms::{Term, combined, copy};
+use f77_terms::knowing::{is_ranged_off, know_function};
+use f77_terms::paths::{Path, add_below, add_unequal, copied_path};
+use f77_terms::terms::{Term, combined, copy, plus_constant};
 use std::alloc::Global;
 use std::cmp::Ordering;
 
@@ -46,7 +45,7 @@ impl Evaluator {
         ensures own { self.new.own ≡ self.old.own }
         ensures extends { Extends self.old.atoms self.new.atoms }
     {
-        self.path = copied_path(self.alloc, path)?;
+        self.path = copied_path(path)?;
         Ok(self.samples.choose(&self.path)?)
     }
 
@@ -57,12 +56,12 @@ impl Evaluator {
         ensures extends { Extends self.old.atoms self.new.atoms }
     {
         unless_unknown(self.atoms.table.keys.len() < MOST_ATOMS)?;
-        let atom = interned(self.alloc, &mut self.atoms.table, key)?.ok_or(Halt::Unknown)?;
+        let atom = interned(&mut self.atoms.table, key)?.ok_or(Halt::Unknown)?;
         self.samples.learn(&self.atoms.table)?;
         Ok(atom)
     }
 
-    /// The atom that is a function of two numbers, with its range.
+    /// The atom that is a function of two numbers, of which the path comes to know what follows.
     pub(crate) fn function_of(
         &mut self,
         function: Function,
@@ -74,9 +73,9 @@ impl Evaluator {
             × (v atom ≡ function_value function (sum_value v a.now) (sum_value v b.now)))) }
         ensures extends { Extends self.old.atoms self.new.atoms }
     {
-        let key = Key::Function(function, copy(self.alloc, a)?, copy(self.alloc, b)?);
+        let key = Key::Function(function, copy(a)?, copy(b)?);
         let atom = self.atom_of(key)?;
-        know_range(&mut self.path, function, a, b, atom)?;
+        know_function(&mut self.path, function, a, b, atom)?;
         Ok(atom)
     }
 
@@ -85,7 +84,7 @@ impl Evaluator {
         ensures { IfOk result (λ term. (v : Valuation)
             → sum_value v term ≡ m *ℤ sum_value v a.now +ℤ n *ℤ sum_value v b.now) }
     {
-        combined(self.alloc, m, a, n, b)?.ok_or(Halt::Unknown)
+        combined(m, a, n, b)?.ok_or(Halt::Unknown)
     }
 
     /// A term, m times, and a constant.
@@ -93,7 +92,7 @@ impl Evaluator {
         ensures { IfOk result (λ sum. (v : Valuation)
             → sum_value v sum ≡ constant +ℤ m *ℤ sum_value v term.now) }
     {
-        plus_constant(self.alloc, m, term, constant)?.ok_or(Halt::Unknown)
+        plus_constant(m, term, constant)?.ok_or(Halt::Unknown)
     }
 
     /// There is a fault unless a term, m times, and a constant are at most 0.
@@ -109,7 +108,7 @@ impl Evaluator {
         if is_ranged_off(&self.path, &bound, Ordering::Greater) {
             return Ok(());
         }
-        add_below(self.alloc, &mut self.path, 1, &bound, 0)?;
+        add_below(&mut self.path, 1, &bound, 0)?;
         Ok(self.samples.keep(&bound, Ordering::Greater)?)
     }
 
@@ -124,7 +123,7 @@ impl Evaluator {
         if is_ranged_off(&self.path, term, Ordering::Equal) {
             return Ok(());
         }
-        add_unequal(self.alloc, &mut self.path, term)?;
+        add_unequal(&mut self.path, term)?;
         Ok(self.samples.keep(term, Ordering::Equal)?)
     }
 }

@@ -18,7 +18,6 @@ pub mod cuts;
 pub mod equivalent;
 mod evaluate;
 mod evaluator;
-pub mod gap;
 mod halt;
 pub mod law;
 mod looping;

@@ -4,15 +4,15 @@ ghost use Rattle.std.specs.Prelude.{◌≡◌, ℕ, All, false, option_map, IfOk
 ghost use Rattle.f77_symbolic.specs.Prelude.{Holds, Valuation};
 ghost use Rattle.f77_symbolic.specs.{Interprets, AreInside, IsInside, Start, cells_of, slot_of};
 ghost use Rattle.f77_symbolic.specs.{content_of, state_of, turn_of, turns_of};
-ghost use Rattle.f77_symbolic.specs.code.{Extends, Always, StaysOn, HoldSameIn, IsAsked};
+ghost use Rattle.f77_symbolic.specs.code.{Extends, Always, StaysOn, HoldSameIn, IsAsked, IsThere};
 
 use crate::evaluator::Evaluator;
 use crate::halt::{Halt, unless_unknown};
 use crate::memory::{Location, Symbolic, Write};
-use crate::sides::{ActiveTurn, Side};
+use crate::sides::ActiveTurn;
+use crate::walking::Pair;
 use f77_facts::assigning::Slots;
 use f77_terms::items::item_at;
-use f77_terms::paths::Path;
 use f77_tree::Shared;
 
 /// The location may be one of these slots, if some are given.
@@ -141,22 +141,16 @@ impl Evaluator {
         Ok(())
     }
 
-    /// Where the path holds, both sides are at one place, all slots hold the same, and all DOs have
-    /// the same left.
-    pub(crate) fn show_same_state(
-        &mut self,
-        path: &Path,
-        left: &Side,
-        right: &Side,
-    ) -> Result<(), Halt>
+    /// Where its path holds, both sides of the pair are at one place, all slots hold the same, and all DOs have the
+    /// same left.
+    pub(crate) fn show_same_state(&mut self, pair: &Pair) -> Result<(), Halt>
         ensures same { IfOk result (λ _. (start : Start) (v : Valuation) → Interprets self.new.atoms start v
-            → Holds v path.now → AreInside v left.now.writes.items → AreInside v right.now.writes.items
-            → state_of start.cells v right.now ≡ state_of start.cells v left.now) }
+            → IsThere v pair.now → state_of start.cells v pair.now.right ≡ state_of start.cells v pair.now.left) }
         ensures extends { Extends self.old.atoms self.new.atoms }
     {
-        unless_unknown(left.place == right.place)?;
-        self.come_on(path)?;
-        self.show_same_turns(&left.turns, &right.turns)?;
-        self.show_same(&left.writes, &right.writes, None)
+        unless_unknown(pair.left.place == pair.right.place)?;
+        self.come_on(&pair.path)?;
+        self.show_same_turns(&pair.left.turns, &pair.right.turns)?;
+        self.show_same(&pair.left.writes, &pair.right.writes, None)
     }
 }

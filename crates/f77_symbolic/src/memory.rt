@@ -1,16 +1,15 @@
 //! What slots hold: what they held where the run started, and what was written since.
 
-ghost use Rattle.std.specs.Prelude.{◌≡◌, Some, slice_set, Option, IfOk, IfSome};
+ghost use Rattle.std.specs.Prelude.{◌≡◌, slice_set, Option, IfOk, IfSome};
 ghost use Rattle.f77_symbolic.specs.Prelude.{Value, Cells, Valuation};
 ghost use Rattle.f77_facts.specs.Assigning.{HasSlot};
-ghost use Rattle.f77_meaning.specs.Start as meaning;
 ghost use Rattle.f77_symbolic.specs.{AreInside, IsInside, cells_of, slot_of, content_of};
 ghost use Rattle.f77_symbolic.specs.code.{IsWriteTo};
 
 use f77_facts::assigning::Slots;
 use f77_terms::items::item_at;
 use f77_terms::terms::{Term, constant_term, copy};
-use f77_tree::{Constant, Shared};
+use f77_tree::Shared;
 use std::alloc::{AllocError, Global};
 
 /// One of so many slots from the first one on: it lies so far behind that.
@@ -57,22 +56,12 @@ pub(crate) fn fixed(alloc: Global, slot: usize) -> Location
 }
 
 /// The value in memory of its own.
-pub(crate) fn copied_value(alloc: Global, value: &Symbolic) -> Result<Symbolic, AllocError>
+pub(crate) fn copied_value(value: &Symbolic) -> Result<Symbolic, AllocError>
     ensures { IfOk result (λ copied. (v : Valuation) → content_of v copied ≡ content_of v value.now) }
 {
     match value {
-        Symbolic::Number(term) => Ok(Symbolic::Number(copy(alloc, term)?)),
-        Symbolic::Truth(term) => Ok(Symbolic::Truth(copy(alloc, term)?)),
-    }
-}
-
-/// The value of a constant.
-fn constant_value(alloc: Global, constant: Constant) -> Symbolic
-    ensures { (v : Valuation) → content_of v result ≡ Some (meaning.constant_value constant) }
-{
-    match constant {
-        Constant::Number(number) => Symbolic::Number(constant_term(alloc, i64::from(number))),
-        Constant::Truth(truth) => Symbolic::Truth(constant_term(alloc, i64::from(truth))),
+        Symbolic::Number(term) => Ok(Symbolic::Number(copy(term)?)),
+        Symbolic::Truth(term) => Ok(Symbolic::Truth(copy(term)?)),
     }
 }
 
@@ -89,14 +78,17 @@ fn place_of(writes: &[Shared<Write>], slot: usize) -> Option<usize>
     None
 }
 
-/// Leaves out a write to this one slot, which is to be written to again.
-fn forget(writes: &mut Vec<Shared<Write>>, slot: usize)
+/// Leaves out a write to the slot of a location that is of one slot alone, which is to be written to again.
+fn forget(writes: &mut Vec<Shared<Write>>, location: &Location)
     ensures same { (start : Cells) (v : Valuation) (cell : Option Value) → AreInside v writes.old.items
-        → slice_set (cells_of start v writes.new.items) slot cell
-        ≡ slice_set (cells_of start v writes.old.items) slot cell }
+        → IsInside v location.now → slice_set (cells_of start v writes.new.items) (slot_of v location.now) cell
+        ≡ slice_set (cells_of start v writes.old.items) (slot_of v location.now) cell }
     ensures inside { (v : Valuation) → AreInside v writes.old.items → AreInside v writes.new.items }
 {
-    if let Some(place) = place_of(writes, slot) {
+    if location.count != 1 {
+        return;
+    }
+    if let Some(place) = place_of(writes, location.first) {
         writes.remove(place);
     }
 }
@@ -114,9 +106,7 @@ pub(crate) fn put(
     ensures inside { IfOk result (λ _. (v : Valuation) → AreInside v writes.old.items → IsInside v location
         → AreInside v writes.new.items) }
 {
-    if location.count == 1 {
-        forget(writes, location.first);
-    }
+    forget(writes, &location);
     writes.push(Shared::new(alloc, Write { location, value })?)?;
     Ok(())
 }

@@ -24,7 +24,7 @@ const MOST_SOUGHT: usize = 400;
 const TRIED: [i64; 6] = [-1, 0, 1, 2, 2147483647, -2147483648];
 
 /// Larger common multiples of divisors are left.
-const MOST_MULTIPLE: i64 = 1_000_000;
+const MOST_MULTIPLE: u64 = 1_000_000;
 
 /// To change one costs a unit of work for so many atoms.
 const ATOMS: u64 = 2;
@@ -32,63 +32,43 @@ const ATOMS: u64 = 2;
 /// The number divided, and rounded away from 0.
 fn rounded(distance: i64, by: i64) -> Option<i64> {
     let quotient = distance.checked_div(by)?;
-    if quotient.checked_mul(by)? == distance {
-        return Some(quotient);
+    match distance.checked_rem(by)? {
+        0 => Some(quotient),
+        _ if (distance < 0) == (by < 0) => quotient.checked_add(1),
+        _ => quotient.checked_sub(1),
     }
-    if (distance < 0) == (by < 0) {
-        quotient.checked_add(1)
-    } else {
-        quotient.checked_sub(1)
-    }
-}
-
-/// By how much a number is to be changed to get this sign.
-fn distance_to(now: i64, sign: Ordering) -> i64 {
-    let target: i64 = match sign {
-        Ordering::Less => -1,
-        Ordering::Equal => 0,
-        Ordering::Greater => 1,
-    };
-    target.saturating_sub(now)
 }
 
 /// The greatest common divisor.
 fn common_divisor(a: i64, b: i64) -> i64 {
-    let mut greater = a;
-    let mut lesser = b;
+    let (mut greater, mut lesser) = (a, b);
     for _ in 0..64 {
-        match greater.checked_rem(lesser) {
-            Some(rest) => {
-                greater = lesser;
-                lesser = rest;
-            }
-            None => return greater,
-        }
+        let Some(rest) = greater.checked_rem(lesser) else {
+            return greater;
+        };
+        greater = lesser;
+        lesser = rest;
     }
     1
 }
 
 /// A common multiple of a number and a divisor.
 fn multiple_with(multiple: i64, divisor: i64) -> Option<i64> {
-    let both = multiple.checked_div(common_divisor(multiple, divisor))?;
-    let both = both.checked_mul(divisor)?;
-    if both == 0 || both > MOST_MULTIPLE || both < -MOST_MULTIPLE {
-        return None;
-    }
-    Some(both)
+    let quotient = multiple.checked_div(common_divisor(multiple, divisor))?;
+    let both = quotient.checked_mul(divisor)?;
+    (both != 0 && both.unsigned_abs() <= MOST_MULTIPLE).then_some(both)
 }
 
 /// A number by multiples of which a slot may be changed, so that remainders stay.
 fn common_multiple(table: &Table) -> i64 {
-    let mut multiple = 1;
-    for key in &table.keys {
-        if let Key::Function(Function::Remainder, _, b) = &**key {
-            if b.parts.len() == 0 {
-                multiple = multiple_with(multiple, b.constant).unwrap_or(multiple);
-            }
-        }
-    }
-    multiple
+    let divisors = table.keys.iter().filter_map(|key| match &**key {
+        Key::Function(Function::Remainder, _, b) if b.parts.is_empty() => Some(b.constant),
+        _ => None,
+    });
+    divisors.fold(
+        1,
+        |multiple, divisor| multiple_with(multiple, divisor).unwrap_or(multiple),
+    )
 }
 
 /// What is tried in place of a number that is to be changed by so much: one so changed, one changed by a multiple of
@@ -111,41 +91,37 @@ impl Sample {
         match &**table.keys.get(atom)? {
             Key::Slot(slot) => Some(*slot),
             Key::Element(first, index) => self.slot_behind(*first, index),
-            _ => None,
+            Key::Function(..) => None,
         }
     }
 
     /// The slot of which the number is to be changed, and by how much, so that a term changes by so much.
     fn change_in(&self, table: &Table, term: &Term, by: i64) -> Option<(usize, i64)> {
-        for part in &term.parts {
-            if let Some(slot) = self.slot_of(table, part.atom) {
-                return Some((slot, rounded(by, part.factor)?));
-            }
-        }
-        None
+        let mut parts = term.parts.iter();
+        let slot_in = |part: &Part| Some((self.slot_of(table, part.atom)?, part.factor));
+        let (slot, factor) = parts.find_map(slot_in)?;
+        Some((slot, rounded(by, factor)?))
     }
 
     /// The same for a part, of which the atom may be a function of terms.
     fn change_of(&self, table: &Table, part: Part, by: i64) -> Option<(usize, i64)> {
         let by = rounded(by, part.factor)?;
-        match &**table.keys.get(part.atom)? {
-            Key::Slot(slot) => Some((*slot, by)),
-            Key::Element(first, index) => Some((self.slot_behind(*first, index)?, by)),
-            Key::Function(Function::Quotient, a, b) => {
-                self.change_in(table, a, by.checked_mul(self.value(b)?)?)
-            }
-            Key::Function(Function::Product, a, b) => {
-                self.change_in(table, a, rounded(by, self.value(b)?)?)
-            }
-            Key::Function(_, a, _) => self.change_in(table, a, by),
-        }
+        let (a, by) = match &**table.keys.get(part.atom)? {
+            Key::Function(Function::Quotient, a, b) => (a, by.checked_mul(self.value(b)?)?),
+            Key::Function(Function::Product, a, b) => (a, rounded(by, self.value(b)?)?),
+            Key::Function(_, a, _) => (a, by),
+            _ => return Some((self.slot_of(table, part.atom)?, by)),
+        };
+        self.change_in(table, a, by)
     }
 
     /// A term that keeps the sample from what is wanted, and by how much it is to be changed.
     fn lack<'a>(&self, wanted: Wanted<'a>) -> Option<(&'a Term, i64)> {
         let now = self.value(wanted.term);
         if !has_sign(now, wanted.sign) {
-            return Some((wanted.term, distance_to(now.unwrap_or(0), wanted.sign)));
+            // Of a number -1, 0 or 1 the sign is told by that number.
+            let target = wanted.sign as i64;
+            return Some((wanted.term, target.saturating_sub(now.unwrap_or(0))));
         }
         for term in &wanted.path.below {
             let now = self.value(term).unwrap_or(1);
@@ -160,9 +136,8 @@ impl Sample {
 
     /// Numbers of slots that are not in the range of their atom are moved there.
     fn move_within(&mut self, table: &Table, known: &[Option<Range>]) {
-        for atom in 0..known.len() {
-            let slot = self.slot_of(table, atom);
-            if let (Some(range), Some(slot)) = (known[atom], slot) {
+        for (atom, known) in known.iter().enumerate() {
+            if let (Some(range), Some(slot)) = (known, self.slot_of(table, atom)) {
                 if let Some(number) = self.held.get_mut(slot) {
                     *number = (*number).max(range.low).min(range.high);
                 }
@@ -173,27 +148,21 @@ impl Sample {
     /// One slot is changed, so that the sample lacks less. False where that is not told.
     fn change(&mut self, wanted: Wanted, term: &Term, by: i64, changes: usize, way: usize) -> bool {
         let count = term.parts.len();
+        let way = if changes == 0 { way } else { way.min(1) };
         for more in 0..count {
             let place = changes.saturating_add(more) % count;
             let Some((slot, by)) = self.change_of(wanted.table, term.parts[place], by) else {
                 continue;
             };
             if let Some(number) = self.held.get_mut(slot) {
-                let way = if changes == 0 { way } else { way.min(1) };
                 let next = tried(wanted.table, *number, by, way);
-                if next != *number && next >= -2147483648 && next <= 2147483647 {
+                if next != *number && i32::try_from(next).is_ok() {
                     *number = next;
                     return true;
                 }
             }
         }
         false
-    }
-
-    /// The values of all atoms are worked out anew.
-    fn renew(&mut self, table: &Table) -> Result<(), AllocError> {
-        self.values.clear();
-        self.extend(table)
     }
 
     /// A sample as wanted that is found from this one.
@@ -203,14 +172,11 @@ impl Sample {
         wanted: Wanted,
         way: usize,
     ) -> Result<Option<Sample>, AllocError> {
-        let mut sample = Sample {
-            held: self.held.to_vec(alloc)?,
-            values: self.values.to_vec(alloc)?,
-            is_on_path: true,
-        };
+        let mut sample = self.copied(alloc, true)?;
         for changes in 0..MOST_CHANGES {
             sample.move_within(wanted.table, &wanted.path.known);
-            sample.renew(wanted.table)?;
+            sample.values.clear();
+            sample.extend(wanted.table)?;
             let Some((term, by)) = sample.lack(wanted) else {
                 return Ok(sample.is_on(wanted.path).then_some(sample));
             };
@@ -257,7 +223,7 @@ impl Samples {
         let Some(sample) = self.made(alloc, wanted)? else {
             return Ok(false);
         };
-        self.add(sample)?;
+        self.list_to_change()?.push(sample)?;
         Ok(true)
     }
 }

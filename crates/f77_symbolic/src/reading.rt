@@ -1,8 +1,8 @@
 //! What the slot of a location holds.
 
-ghost use Rattle.std.specs.Prelude.{◌≡◌, ◌<◌, ◌≤◌, ◌≤ℤ◌, ◌↔◌, [], Option, Some, pos, length, true, IfOk, IsTrue};
-ghost use Rattle.f77_symbolic.specs.Prelude.{Value, held_in, SuitsFact, kind_of_value, number_of, key_value, Holds};
-ghost use Rattle.f77_symbolic.specs.Prelude.{AreKnown, Valuation, sum_value};
+ghost use Rattle.std.specs.Prelude.{◌≡◌, ◌<◌, ◌≤◌, ◌↔◌, [], Option, Some, length, true, IfOk, IsTrue};
+ghost use Rattle.f77_symbolic.specs.Prelude.{Value, SuitsFact, kind_of_value, number_of, key_value, Holds};
+ghost use Rattle.f77_symbolic.specs.Prelude.{Numbers, slot_behind, Valuation, sum_value};
 ghost use Rattle.f77_symbolic.specs.{presence_of, IsInside, slot_of, content_of};
 ghost use Rattle.f77_symbolic.specs.code.{Extends, Always, GoesOnIfHeld, ReadsCell, ReadsSlot, StaysOn};
 
@@ -17,16 +17,7 @@ use f77_terms::paths::add_range;
 use f77_terms::ranges::{Range, atom_range, is_empty};
 use f77_terms::terms::{Term, atom_term, constant_term, copy};
 use f77_tree::{Kind, Shared};
-
-/// The atom is above 0.
-fn is_above(known: &[Option<Range>], atom: usize) -> bool
-    ensures { result ≡ true → (v : Valuation) → AreKnown v known.now → pos 1 ≤ℤ v atom }
-{
-    match atom_range(known, atom) {
-        Some(range) => range.low >= 1,
-        None => false,
-    }
-}
+use std::alloc::{AllocError, Global};
 
 /// A value of this kind, by its number.
 fn value_of(kind: Kind, term: Term) -> Symbolic
@@ -38,6 +29,17 @@ fn value_of(kind: Kind, term: Term) -> Symbolic
         Kind::Integer => Symbolic::Number(term),
         Kind::Logical => Symbolic::Truth(term),
     }
+}
+
+/// The key of one of so many numbers from the first on, which stands there as the slot of a location among others.
+fn key_of(first: usize, location: &Location) -> Result<Key, AllocError>
+    ensures { IfOk result (λ key. (numbers : Numbers) (v : Valuation) → IsInside v location.now
+        → key_value numbers v key ≡ numbers (slot_behind first (sum_value v location.now.index))) }
+{
+    if location.count == 1 {
+        return Ok(Key::Slot(first));
+    }
+    Ok(Key::Element(first, copy(&location.index)?))
 }
 
 /// All slots of the first location lie before those of the second.
@@ -61,7 +63,7 @@ impl Evaluator {
         }
         let between = self.combination(1, &a.index, -1, &b.index)?;
         let offset = signed(a.first)? - signed(b.first)?;
-        self.is_nothing(self.plus(1, &between, offset)?)
+        self.is_nothing(&self.plus(1, &between, offset)?)
     }
 
     /// A slot of which this is known holds a value: the path comes to know that where the program itself reads it, and
@@ -77,7 +79,10 @@ impl Evaluator {
         }
         let atom = self.atom_of(key)?;
         if !self.own {
-            return unless_unknown(is_above(&self.path.known, atom));
+            return match atom_range(&self.path.known, atom) {
+                Some(range) if range.low >= 1 => Ok(()),
+                _ => Err(Halt::Unknown),
+            };
         }
         add_range(&mut self.path, atom, Range { low: 1, high: 1 })?;
         Ok(())
@@ -100,16 +105,6 @@ impl Evaluator {
         Ok(value_of(fact.kind, atom_term(self.alloc, atom)?))
     }
 
-    /// What a slot holds that holds no value of this kind: the program itself faults, so that the path holds nowhere.
-    fn never_there(&mut self, kind: Kind) -> Result<Symbolic, Halt>
-        ensures own { IfOk result (λ _. self.old.own ≡ true) }
-        ensures extends { Extends self.old.atoms self.new.atoms }
-    {
-        unless_unknown(self.own)?;
-        self.expect_apart(&constant_term(self.alloc, 0))?;
-        Ok(value_of(kind, constant_term(self.alloc, 0)))
-    }
-
     /// What a slot holds of which this is known, by the keys of whether it holds a value and of the number of that.
     fn known_value(&mut self, fact: Fact, presence: Key, number: Key) -> Result<Symbolic, Halt>
         ensures reads { IfOk result (λ value. Always self.old self.new (λ start v. (cell : Option Value)
@@ -118,24 +113,13 @@ impl Evaluator {
         ensures extends { Extends self.old.atoms self.new.atoms }
     {
         if is_empty(fact.range) {
-            return self.never_there(fact.kind);
+            // There is no value: the program itself faults, and its path holds nowhere.
+            unless_unknown(self.own)?;
+            self.expect_apart(&constant_term(self.alloc, 0))?;
+            return Ok(value_of(fact.kind, constant_term(self.alloc, 0)));
         }
         self.expect_present(fact, presence)?;
         self.valued(fact, number)
-    }
-
-    /// What a slot holds where the run starts.
-    fn slot_at_start(&mut self, slot: usize) -> Result<Symbolic, Halt>
-        ensures reads { IfOk result (λ value. Always self.old self.new (λ start v.
-            ReadsCell v self.old self.new (held_in start.cells slot) value)) }
-        ensures extends { Extends self.old.atoms self.new.atoms }
-    {
-        let behind = self.atoms.facts.len();
-        if slot >= behind {
-            return Err(Halt::Unknown);
-        }
-        let fact = *item_at(&self.atoms.facts, slot);
-        self.known_value(fact, Key::Slot(behind + slot), Key::Slot(slot))
     }
 
     /// What the slot of a location holds where the run starts.
@@ -144,18 +128,12 @@ impl Evaluator {
         ensures reads { IfOk result (λ value. ReadsSlot self.old self.new [] location.now value) }
         ensures extends { Extends self.old.atoms self.new.atoms }
     {
-        if location.count == 1 {
-            return self.slot_at_start(location.first);
-        }
-        match known_of_all(&self.atoms.facts, location.first, location.count) {
-            Some(fact) => {
-                let behind = self.atoms.facts.len() + location.first;
-                let presence = Key::Element(behind, copy(self.alloc, &location.index)?);
-                let number = Key::Element(location.first, copy(self.alloc, &location.index)?);
-                self.known_value(fact, presence, number)
-            }
-            None => Err(Halt::Unknown),
-        }
+        let Some(fact) = known_of_all(&self.atoms.facts, location.first, location.count) else {
+            return Err(Halt::Unknown);
+        };
+        let presence = key_of(self.atoms.facts.len() + location.first, location)?;
+        let number = key_of(location.first, location)?;
+        self.known_value(fact, presence, number)
     }
 
     /// What the last write to the slot of a location put there, and else what it held where the run started.
@@ -171,10 +149,10 @@ impl Evaluator {
         if location.first > slots || location.count > slots - location.first {
             return Err(Halt::Unknown);
         }
-        for behind in 0..writes.len() {
-            let write = &**item_at(writes, writes.len() - 1 - behind);
+        for k in (0..writes.len()).rev() {
+            let write = &**item_at(writes, k);
             if self.is_same_slot(&write.location, location)? {
-                return Ok(copied_value(self.alloc, &write.value)?);
+                return Ok(copied_value(&write.value)?);
             }
         }
         self.at_start(location)

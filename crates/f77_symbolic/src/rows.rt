@@ -1,10 +1,20 @@
 //! Rows: what samples have of the dummy arguments where a walk is given up. Each may be a test that kills the changed
 //! program. Nothing is claimed of rows.
 
-use crate::gap::Gap;
 use crate::samples::{Sample, Samples};
 use f77_facts::assigning::Slots;
 use std::alloc::{AllocError, Global};
+
+/// Where a walk of both programs is.
+#[derive(Clone, Copy, PartialEq, Eq, Debug)]
+pub struct Gap {
+    /// The statement at which the program is, from 0.
+    pub own: usize,
+    /// The one at which the changed program is.
+    pub other: usize,
+    /// The slot of which the values were compared last, or the first one of an array, if any were.
+    pub slot: Option<usize>,
+}
 
 /// Rows for one changed program, each once: the numbers of the slots of all dummy arguments, in order; those first that
 /// are on the path that was not settled.
@@ -12,7 +22,7 @@ use std::alloc::{AllocError, Global};
 pub struct Rows {
     pub list: Vec<Vec<i64>>,
     /// So many are kept.
-    pub most: usize,
+    most: usize,
     /// Where the first walk was given up.
     pub gap: Option<Gap>,
 }
@@ -21,10 +31,8 @@ pub struct Rows {
 fn row_of(alloc: Global, sample: &Sample, dummies: &[Slots]) -> Result<Vec<i64>, AllocError> {
     let mut row = Vec::new(alloc);
     for slots in dummies {
-        for slot in slots.first..slots.first.saturating_add(slots.count) {
-            if let Some(number) = sample.held.get(slot) {
-                row.push(*number)?;
-            }
+        for number in sample.held.iter().skip(slots.first).take(slots.count) {
+            row.push(*number)?;
         }
     }
     Ok(row)
@@ -65,14 +73,10 @@ impl Rows {
         samples: &Samples,
         dummies: &[Slots],
     ) -> Result<(), AllocError> {
-        self.gap = self.gap.or(samples.gap());
+        self.gap = self.gap.or(samples.gap.get());
         let list = samples.list()?;
-        for sample in list.iter().rev() {
-            if sample.is_on_path {
-                self.add(alloc, sample, dummies)?;
-            }
-        }
-        for sample in list.iter().rev() {
+        let on_path = list.iter().rev().filter(|sample| sample.is_on_path);
+        for sample in on_path.chain(list.iter().rev()) {
             self.add(alloc, sample, dummies)?;
         }
         Ok(())

@@ -4,7 +4,7 @@
 
 ghost use Rattle.std.specs.Prelude.{◌<◌};
 
-use crate::gap::Gap;
+use crate::rows::Gap;
 use crate::sides::Side;
 use f77_facts::facts::Fact;
 use f77_terms::atoms::{Function, Key, Table};
@@ -41,7 +41,7 @@ pub struct Sample {
 pub struct Samples {
     list: RefCell<Vec<Sample>>,
     /// Where the walk of both programs is, if there is one.
-    gap: Cell<Option<Gap>>,
+    pub(crate) gap: Cell<Option<Gap>>,
     /// What questions took since the last turn.
     spent: Cell<u64>,
     /// Rows are asked for: more is tried to find a sample that shows where two programs differ.
@@ -59,25 +59,17 @@ pub struct Wanted<'a> {
 
 /// The number, if there is one, has this sign.
 pub(crate) fn has_sign(number: Option<i64>, sign: Ordering) -> bool {
-    matches!(number, Some(z) if z.cmp(&0) == sign)
+    number.is_some_and(|z| z.cmp(&0) == sign)
 }
 
 /// There is a number, which has not this sign.
 fn lacks_sign(number: Option<i64>, sign: Ordering) -> bool {
-    matches!(number, Some(z) if z.cmp(&0) != sign)
-}
-
-/// The value of an atom.
-pub(crate) fn atom_value(values: &[Option<i64>], atom: usize) -> Option<i64> {
-    values.get(atom).copied().flatten()
+    number.is_some_and(|z| z.cmp(&0) != sign)
 }
 
 /// The number, if there is one, is in the range.
 fn is_in(number: Option<i64>, range: Range) -> bool {
-    match number {
-        Some(z) => range.low <= z && z <= range.high,
-        None => false,
-    }
+    number.is_some_and(|z| range.low <= z && z <= range.high)
 }
 
 impl Sample {
@@ -85,7 +77,7 @@ impl Sample {
     pub(crate) fn value(&self, term: &Term) -> Option<i64> {
         let mut sum = term.constant;
         for part in &term.parts {
-            let value = atom_value(&self.values, part.atom)?;
+            let value = (*self.values.get(part.atom)?)?;
             sum = sum.checked_add(part.factor.checked_mul(value)?)?;
         }
         Some(sum)
@@ -117,37 +109,37 @@ impl Sample {
         Ok(())
     }
 
-    /// The values are in their ranges, as far as there are both.
-    fn is_within(&self, known: &[Option<Range>]) -> bool {
-        for atom in 0..self.values.len().min(known.len()) {
-            if let Some(range) = known[atom] {
-                if !is_in(self.values[atom], range) {
-                    return false;
-                }
-            }
-        }
-        true
-    }
-
-    /// The sample is on the path.
+    /// The sample is on the path: the values are in their ranges, as far as there are both, and its terms have signs
+    /// that the path allows.
     pub(crate) fn is_on(&self, path: &Path) -> bool {
+        let mut ranged = self.values.iter().zip(&path.known);
         let mut unequal = path.unequal.iter();
         let mut below = path.below.iter();
-        self.is_within(&path.known)
+        ranged.all(|(value, known)| known.map_or(true, |range| is_in(*value, range)))
             && unequal.all(|term| lacks_sign(self.value(term), Ordering::Equal))
             && below.all(|term| lacks_sign(self.value(term), Ordering::Greater))
+    }
+
+    /// A copy in memory of its own.
+    pub(crate) fn copied(&self, alloc: Global, is_on_path: bool) -> Result<Sample, AllocError> {
+        Ok(Sample {
+            held: self.held.to_vec(alloc)?,
+            values: self.values.to_vec(alloc)?,
+            is_on_path,
+        })
     }
 }
 
 /// A number by chance: mostly a small one.
 fn any_number(chance: u64) -> i64 {
-    let drawn = (chance / 64) as i64;
-    match drawn % 8 {
-        0 | 1 | 2 => drawn / 8 % 4,
-        3 | 4 => drawn / 8 % 41 - 20,
-        5 => drawn / 8 % 2,
-        6 => drawn / 8 % 4001 - 2000,
-        _ => drawn / 8 % 8 + 1,
+    let kind = chance / 64 % 8;
+    let drawn = (chance / 512) as i64;
+    match kind {
+        0 | 1 | 2 => drawn % 4,
+        3 | 4 => drawn % 41 - 20,
+        5 => drawn % 2,
+        6 => drawn % 4001 - 2000,
+        _ => drawn % 8 + 1,
     }
 }
 
@@ -158,8 +150,7 @@ fn between(z: i64, low: i64, high: i64) -> Option<i64> {
         return Some(z);
     }
     let size = high.checked_sub(low)?.checked_add(1)?;
-    let behind = z.checked_rem(size)?.checked_add(size)?.checked_rem(size)?;
-    low.checked_add(behind)
+    low.checked_add(z.checked_rem_euclid(size)?)
 }
 
 /// A number that a slot may hold; one that says that it holds a value; and behind these passes of a DO, or by how much
@@ -194,69 +185,49 @@ pub fn first_samples(
             is_on_path: false,
         })?;
     }
-    Ok(samples_of(list, seeks))
-}
-
-/// These samples, with nothing spent.
-fn samples_of(list: Vec<Sample>, seeks: bool) -> Samples {
-    Samples {
-        list: RefCell::new(list),
-        gap: Cell::new(None),
-        spent: Cell::new(0),
-        seeks,
-    }
+    Ok(Samples::of(list, seeks))
 }
 
 /// The samples in memory of their own, none of them on a path.
 pub(crate) fn copied_samples(alloc: Global, samples: &Samples) -> Result<Samples, AllocError> {
     let mut list = Vec::new(alloc);
     for sample in samples.list()?.iter() {
-        list.push(Sample {
-            held: sample.held.to_vec(alloc)?,
-            values: sample.values.to_vec(alloc)?,
-            is_on_path: false,
-        })?;
+        list.push(sample.copied(alloc, false)?)?;
     }
-    Ok(samples_of(list, samples.seeks))
+    Ok(Samples::of(list, samples.seeks))
 }
 
 impl Samples {
+    /// These samples, with nothing spent.
+    fn of(list: Vec<Sample>, seeks: bool) -> Samples {
+        Samples {
+            list: RefCell::new(list),
+            gap: Cell::new(None),
+            spent: Cell::new(0),
+            seeks,
+        }
+    }
+
     /// All of them. No other use of them is under way.
     pub(crate) fn list(&self) -> Result<Ref<'_, Vec<Sample>>, AllocError> {
         self.list.try_borrow().map_err(|_| AllocError)
     }
 
     /// All of them, to be changed.
-    fn list_to_change(&self) -> Result<RefMut<'_, Vec<Sample>>, AllocError> {
+    pub(crate) fn list_to_change(&self) -> Result<RefMut<'_, Vec<Sample>>, AllocError> {
         self.list.try_borrow_mut().map_err(|_| AllocError)
-    }
-
-    /// Adds one.
-    pub(crate) fn add(&self, sample: Sample) -> Result<(), AllocError> {
-        Ok(self.list_to_change()?.push(sample)?)
     }
 
     /// Both programs come to these statements.
     pub fn come_to(&self, own: usize, other: usize) {
-        self.gap.set(Some(Gap {
-            own,
-            other,
-            slot: None,
-        }));
+        let slot = None;
+        self.gap.set(Some(Gap { own, other, slot }));
     }
 
     /// What both hold in this slot is compared, or in one of an array that begins with it.
     pub fn compare(&self, slot: usize) {
-        let gap = self.gap.get();
-        self.gap.set(gap.map(|gap| Gap {
-            slot: Some(slot),
-            ..gap
-        }));
-    }
-
-    /// Where the walk of both programs is, if there is one.
-    pub(crate) fn gap(&self) -> Option<Gap> {
-        self.gap.get()
+        let slot = Some(slot);
+        self.gap.set(self.gap.get().map(|gap| Gap { slot, ..gap }));
     }
 
     /// A question took so much.
@@ -286,7 +257,7 @@ impl Samples {
     /// Those stay in which an atom is in a range.
     pub(crate) fn stay(&self, atom: usize, range: Range) -> Result<(), AllocError> {
         for sample in self.list_to_change()?.iter_mut() {
-            sample.is_on_path &= is_in(atom_value(&sample.values, atom), range);
+            sample.is_on_path &= is_in(sample.values.get(atom).copied().flatten(), range);
         }
         Ok(())
     }
@@ -301,10 +272,9 @@ impl Samples {
 
     /// The values of new atoms are added.
     pub(crate) fn learn(&self, table: &Table) -> Result<(), AllocError> {
-        for sample in self.list_to_change()?.iter_mut() {
-            sample.extend(table)?;
-        }
-        Ok(())
+        self.list_to_change()?
+            .iter_mut()
+            .try_for_each(|sample| sample.extend(table))
     }
 
     /// Those that are on this path are chosen.

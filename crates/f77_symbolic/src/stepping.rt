@@ -1,7 +1,7 @@
 //! One step of a program from a side, and what a statement does to it.
 
-ghost use Rattle.std.specs.Prelude.{◌≡◌, ℤ, true, Some, IfOk};
-ghost use Rattle.f77_symbolic.specs.Prelude.{Resolved, acted, moved, state, HasSign, Holds, Valuation};
+ghost use Rattle.std.specs.Prelude.{◌≡◌, true, slice_get, Some, IfOk};
+ghost use Rattle.f77_symbolic.specs.Prelude.{Resolved, acted, moved, state, Holds, Valuation, sum_value};
 ghost use Rattle.f77_code.specs.Choice as choice;
 ghost use Rattle.f77_symbolic.specs.code.{Extends, Acts, AlwaysSteps, StepsFrom};
 
@@ -14,11 +14,9 @@ use f77_code::Place;
 use f77_equivalence::ways::is_executed;
 use f77_terms::bounds::is_refuted;
 use f77_terms::items::item_at;
-use f77_terms::knowing::constant_of;
 use f77_terms::paths::Path;
-use f77_terms::terms::constant_term;
+use f77_terms::terms::{Term, constant_of, constant_term};
 use f77_tree::Shared;
-use std::cmp::Ordering;
 
 /// The path expects of 0 that it is not 0, or of a number above 0 that it is at most 0: it holds nowhere, since the
 /// program itself faults.
@@ -33,15 +31,14 @@ fn is_ruled_out(path: &Path) -> bool
     is_refuted(&path.below)
 }
 
-/// The jump of an arithmetic IF for a number of this sign.
-fn by_sign<'a>(sign: Ordering, negative: &'a Jump, zero: &'a Jump, positive: &'a Jump) -> &'a Jump
-    ensures { (z : ℤ) → HasSign sign z → choice.by_sign z negative.now zero.now positive.now ≡ result.now }
+/// The statement of this number, if there is one.
+pub(crate) fn statement_at(statements: &[Shared<Resolved>], i: usize) -> Result<&Resolved, Halt>
+    ensures { IfOk result (λ resolved. slice_get statements.now i ≡ Some resolved.now) }
 {
-    match sign {
-        Ordering::Less => negative,
-        Ordering::Equal => zero,
-        Ordering::Greater => positive,
+    if i >= statements.len() {
+        return Err(Halt::Unknown);
     }
+    Ok(&**item_at(statements, i))
 }
 
 #[tactic(auto, using(crate::proofs::Extending::extending))]
@@ -83,6 +80,26 @@ impl Evaluator {
         Ok(go_on(side, resolved))
     }
 
+    /// The jump that an arithmetic IF chooses by a number.
+    fn by_sign<'a>(
+        &self,
+        number: &Term,
+        negative: &'a Jump,
+        zero: &'a Jump,
+        positive: &'a Jump,
+    ) -> Result<&'a Jump, Halt>
+        ensures { IfOk result (λ to. (v : Valuation) → Holds v self.now.path
+            → choice.by_sign (sum_value v number.now) negative.now zero.now positive.now ≡ to.now) }
+    {
+        if self.is_nothing(number)? {
+            return Ok(zero);
+        }
+        if self.is_negative(number)? {
+            return Ok(negative);
+        }
+        Ok(positive)
+    }
+
     /// A GO TO, a computed one, or an arithmetic IF.
     fn jump_on(
         &mut self,
@@ -112,7 +129,7 @@ impl Evaluator {
                 positive,
             } => {
                 let number = self.number_of(&side.writes, value)?;
-                let to = by_sign(self.sign_of(number)?, negative, zero, positive);
+                let to = self.by_sign(&number, negative, zero, positive)?;
                 Ok(jump(self.alloc, side, to)?)
             }
             _ => Err(Halt::Unknown),
@@ -165,46 +182,6 @@ impl Evaluator {
         }
     }
 
-    /// The statement i is executed.
-    fn execute(
-        &mut self,
-        side: &mut Side,
-        statements: &[Shared<Resolved>],
-        i: usize,
-    ) -> Result<Step, Halt>
-        ensures steps { IfOk result (λ step. AlwaysSteps self.old self.new side.old side.new step
-            (λ v cells turns. moved statements.now (state (Place.Execute i) cells turns))) }
-        ensures extends { Extends self.old.atoms self.new.atoms }
-    {
-        if i >= statements.len() {
-            return Err(Halt::Unknown);
-        }
-        let resolved = &**item_at(statements, i);
-        if !is_executed(&resolved.action) {
-            return Err(Halt::Unknown);
-        }
-        self.act(side, statements, i, resolved, &resolved.action)
-    }
-
-    /// The DO d is incremented.
-    fn count_on(
-        &mut self,
-        side: &mut Side,
-        statements: &[Shared<Resolved>],
-        d: usize,
-    ) -> Result<Step, Halt>
-        ensures steps { IfOk result (λ step. AlwaysSteps self.old self.new side.old side.new step
-            (λ v cells turns. moved statements.now (state (Place.Increment d) cells turns))) }
-        ensures extends { Extends self.old.atoms self.new.atoms }
-    {
-        if d >= statements.len() {
-            return Err(Halt::Unknown);
-        }
-        let turn = turn_at(&side.turns, d)?.ok_or(Halt::Unknown)?;
-        let resolved = &**item_at(statements, d);
-        self.increment(side, statements, d, &resolved.action, &turn)
-    }
-
     /// One step of a program.
     fn step(&mut self, side: &mut Side, statements: &[Shared<Resolved>]) -> Result<Step, Halt>
         ensures steps { IfOk result (λ step. AlwaysSteps self.old self.new side.old side.new step
@@ -212,8 +189,16 @@ impl Evaluator {
         ensures extends { Extends self.old.atoms self.new.atoms }
     {
         match side.place {
-            Place::Execute(i) => self.execute(side, statements, i),
-            Place::Increment(d) => self.count_on(side, statements, d),
+            Place::Execute(i) => {
+                let resolved = statement_at(statements, i)?;
+                unless_unknown(is_executed(&resolved.action))?;
+                self.act(side, statements, i, resolved, &resolved.action)
+            }
+            Place::Increment(d) => {
+                let resolved = statement_at(statements, d)?;
+                let turn = turn_at(&side.turns, d)?.ok_or(Halt::Unknown)?;
+                self.increment(side, statements, d, &resolved.action, &turn)
+            }
         }
     }
 

@@ -1,22 +1,20 @@
 //! Where the program comes by itself: it is walked alone once, for all its mutants.
 
-ghost use Rattle.std.specs.Prelude.{List, true, IfOk};
-ghost use Rattle.f77_symbolic.specs.Prelude.{Resolved, Place, Atoms};
+ghost use Rattle.std.specs.Prelude.{List, IfOk};
+ghost use Rattle.f77_symbolic.specs.Prelude.{Resolved};
 ghost use Rattle.f77_symbolic.specs.code.{Extends, AreExplored, Arrives, GivesWayAlone, Whichever};
 ghost use Rattle.f77_symbolic.specs.{AreVisits, IsTour};
 
 use crate::cuts::is_cut;
 use crate::evaluator::{Atoms, Evaluator};
-use crate::halt::{Halt, Split, unless_unknown};
+use crate::halt::{Halt, unless_unknown};
 use crate::samples::{Samples, first_samples};
 use crate::sides::{Side, Step};
-use crate::walking::path_on;
 use f77_actions::Resolved;
 use f77_code::Place;
 use f77_facts::entries::{Entry, are_covered};
 use f77_facts::facts::is_inside;
 use f77_terms::atoms::{law_of_atoms, new_table};
-use f77_terms::items::item_at;
 use f77_terms::paths::{Path, new_path};
 use f77_tree::Shared;
 use std::alloc::{AllocError, Global};
@@ -49,24 +47,6 @@ pub(crate) struct Walk {
     pub todo: Vec<Visit>,
     pub list: Vec<Visit>,
     pub arrivals: Vec<Entry>,
-}
-
-/// The visit gives way to the same on each of the two ways.
-fn split_visit(
-    alloc: Global,
-    visit: &Visit,
-    split: &Split,
-    walk: &mut Walk,
-) -> Result<(), AllocError>
-    ensures { IfOk result (λ _. (atoms : Atoms) (statements : List Resolved) (places : List Place)
-        → GivesWayAlone atoms statements places walk.old walk.new visit.now) }
-{
-    let path = path_on(alloc, &visit.path, split, true)?;
-    let side = visit.side.clone()?;
-    walk.todo.push(Visit { path, side })?;
-    let path = path_on(alloc, &visit.path, split, false)?;
-    let side = visit.side.clone()?;
-    Ok(walk.todo.push(Visit { path, side })?)
 }
 
 #[tactic(auto, using(crate::proofs::Extending::extending))]
@@ -102,7 +82,7 @@ impl Evaluator {
         &mut self,
         statements: &[Shared<Resolved>],
         cuts: &[Place],
-        visit: Visit,
+        mut visit: Visit,
         walk: &mut Walk,
     ) -> Result<(), Halt>
         ensures gives { IfOk result
@@ -115,10 +95,16 @@ impl Evaluator {
                 self.arrive(cuts, step, side, walk)?;
                 Ok(())
             }
-            Err(halt) => match self.split_of(halt, &visit.path)? {
-                Some(split) => Ok(split_visit(self.alloc, &visit, &split, walk)?),
-                None => Ok(()),
-            },
+            Err(halt) => {
+                let Some((path, other)) = self.ways_of(halt, &visit.path)? else {
+                    return Ok(());
+                };
+                let side = visit.side.clone()?;
+                walk.todo.push(Visit { path, side })?;
+                visit.path = other;
+                walk.todo.push(visit)?;
+                Ok(())
+            }
         }
     }
 
@@ -211,17 +197,15 @@ pub(crate) fn tour_of(
     statements: &[Shared<Resolved>],
     cuts: &[Place],
     entries: &[Entry],
-    work: u64,
+    mut work: u64,
     seeks: bool,
 ) -> Result<Tour, Halt>
     ensures { IfOk result (λ tour. IsTour statements.now cuts.now entries.now tour.each.items) }
 {
-    let mut left = work;
     let mut each = Vec::new(alloc);
-    for number in 0..entries.len() {
-        let entry = item_at(entries, number);
+    for entry in entries {
         if is_cut(cuts, entry.place) {
-            let visits = visits_from(alloc, statements, cuts, entry, &mut left, seeks)?;
+            let visits = visits_from(alloc, statements, cuts, entry, &mut work, seeks)?;
             unless_unknown(are_covered(entries, &visits.arrivals))?;
             each.push(visits)?;
         }

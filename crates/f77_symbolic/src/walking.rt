@@ -1,10 +1,10 @@
 //! The walk of a program and a changed one: pair by pair, each of which gives way to those that its step leads to.
 
-ghost use Rattle.std.specs.Prelude.{◌≡◌, ◌≤ℤ◌, pos, false, true, IfNone, IfOk};
-ghost use Rattle.f77_symbolic.specs.Prelude.{Finish, CheckedFields, Holds, Valuation, Change, Atoms};
+ghost use Rattle.std.specs.Prelude.{◌≡◌, ◌≤ℤ◌, ◌⊎◌, pos, false, true, IfNone, IfOk, IfSome};
+ghost use Rattle.f77_symbolic.specs.Prelude.{Finish, CheckedFields, Holds, Valuation};
 ghost use Rattle.f77_symbolic.specs.{Interprets, AreInside, Start, state_of};
-ghost use Rattle.f77_symbolic.specs.code.{Extends, Always, IsOnWay, AreSettled, EndsSo, GivesWay};
-ghost use Rattle.f77_symbolic.specs.code.{IsPairOn, IsReady, IsThere, RestsOn, IsEndOf};
+ghost use Rattle.f77_symbolic.specs.code.{Extends, Always, AreSettled, EndsSo, GivesWay};
+ghost use Rattle.f77_symbolic.specs.code.{IsReady, IsThere, RestsOn, IsEndOf};
 
 use crate::change::Change;
 use crate::evaluator::Evaluator;
@@ -12,10 +12,9 @@ use crate::halt::{Halt, Split, is_shown, unless_unknown};
 use crate::sides::{Side, Step, statement_of};
 use f77_actions::{Action, Resolved};
 use f77_code::Place;
-use f77_terms::copying::copied_path;
-use f77_terms::paths::{Path, add_below, add_equal, add_unequal, new_path, settle};
+use f77_terms::paths::{Path, add_below, add_equal, add_unequal, copied_path, new_path, settle};
 use f77_tree::Shared;
-use std::alloc::{AllocError, Global};
+use std::alloc::AllocError;
 use std::mem;
 
 /// The changed program may be so many steps behind at most.
@@ -33,61 +32,25 @@ pub struct Pair {
     pub fresh: bool,
 }
 
-/// Adds to the path that it is on one of the two ways.
-fn add_way(alloc: Global, path: &mut Path, split: &Split, first: bool) -> Result<(), AllocError>
-    ensures { IfOk result
-        (λ _. (v : Valuation) → Holds v path.old → IsOnWay v split.now first → Holds v path.new) }
+/// The path on each of the two ways.
+fn split_path(path: &Path, split: &Split) -> Result<(Path, Path), AllocError>
+    ensures { IfOk result (λ ways. (v : Valuation) → Holds v path.now → Holds v ways.0 ⊎ Holds v ways.1) }
 {
+    let mut first = copied_path(path)?;
+    let mut second = copied_path(path)?;
     match split {
-        Split::Sign(term) if first => add_below(alloc, path, 1, term, 1),
-        Split::Sign(term) => add_below(alloc, path, -1, term, 0),
-        Split::Zero(term) if first => add_equal(alloc, path, term),
-        Split::Zero(term) => add_unequal(alloc, path, term),
+        Split::Sign(term) => {
+            add_below(&mut first, 1, term, 1)?;
+            add_below(&mut second, -1, term, 0)?;
+        }
+        Split::Zero(term) => {
+            add_equal(&mut first, term)?;
+            add_unequal(&mut second, term)?;
+        }
     }
-}
-
-/// The path on one of the two ways.
-pub(crate) fn path_on(
-    alloc: Global,
-    path: &Path,
-    split: &Split,
-    first: bool,
-) -> Result<Path, AllocError>
-    ensures { IfOk result (λ on. (v : Valuation) → Holds v path.now → IsOnWay v split.now first → Holds v on) }
-{
-    let mut on = copied_path(alloc, path)?;
-    add_way(alloc, &mut on, split, first)?;
-    settle(&mut on);
-    Ok(on)
-}
-
-/// The pair on one of the two ways.
-fn pair_on(alloc: Global, pair: &Pair, split: &Split, first: bool) -> Result<Pair, AllocError>
-    ensures { IfOk result (λ on. IsPairOn split.now first pair.now on) }
-{
-    Ok(Pair {
-        path: path_on(alloc, &pair.path, split, first)?,
-        left: pair.left.clone()?,
-        right: pair.right.clone()?,
-        credit: pair.credit,
-        fresh: pair.fresh,
-    })
-}
-
-/// The pair gives way to the same on each of the two ways.
-pub(crate) fn split_pair(
-    alloc: Global,
-    pair: &Pair,
-    split: &Split,
-    todo: &mut Vec<Pair>,
-) -> Result<(), AllocError>
-    ensures { IfOk result (λ _. (atoms : Atoms) (change : Change)
-        → GivesWay atoms change todo.old.items todo.new.items pair.now) }
-{
-    let one = pair_on(alloc, pair, split, true)?;
-    todo.push(one)?;
-    let other = pair_on(alloc, pair, split, false)?;
-    Ok(todo.push(other)?)
+    settle(&mut first);
+    settle(&mut second);
+    Ok((first, second))
 }
 
 /// Where a place stands in the text: that of a DO that is incremented behind its last statement, and RETURN and STOP
@@ -128,31 +91,25 @@ impl Evaluator {
         if pair.fresh || pair.credit < 0 {
             return Ok(false);
         }
-        Ok(is_shown(self.show_same_state(&pair.path, &pair.left, &pair.right))?)
+        Ok(is_shown(self.show_same_state(pair))?)
     }
 
     /// Whether the changed program ends as the program does with this step, and the dummy arguments hold the same. It
     /// is false where it does not end.
-    fn is_end_alike(
-        &mut self,
-        change: &Change,
-        left: &Side,
-        right: &Side,
-        step: Step,
-    ) -> Result<bool, Halt>
+    fn is_end_alike(&mut self, change: &Change, pair: &Pair, step: Step) -> Result<bool, Halt>
         ensures ends { IfOk result (λ yes. yes ≡ true → (checked : CheckedFields) (finish : Finish)
             → IsReady checked change.now → IsEndOf step finish → Always self.old self.new (λ start v.
-            AreInside v left.now.writes.items → AreInside v right.now.writes.items
-            → EndsSo checked change.now finish start v left.now right.now)) }
+            AreInside v pair.now.left.writes.items → AreInside v pair.now.right.writes.items
+            → EndsSo checked change.now finish start v pair.now)) }
         ensures extends { Extends self.old.atoms self.new.atoms }
     {
         let path = self.taken_path();
-        let (other, _after) = self.step_from(&path, false, right, &change.statements)?;
+        let (other, _after) = self.step_from(&path, false, &pair.right, &change.statements)?;
         if other == Step::Moves {
             return Ok(false);
         }
         unless_unknown(other == step)?;
-        self.show_same(&left.writes, &right.writes, Some(&change.dummies))?;
+        self.show_same(&pair.left.writes, &pair.right.writes, Some(&change.dummies))?;
         Ok(true)
     }
 
@@ -192,7 +149,7 @@ impl Evaluator {
             })),
             Step::Faults => Ok(None),
             Step::Returns | Step::Stops => {
-                if self.is_end_alike(change, &pair.left, &pair.right, step)? {
+                if self.is_end_alike(change, pair, step)? {
                     return Ok(None);
                 }
                 self.other_step(change, pair)
@@ -244,13 +201,15 @@ impl Evaluator {
         self.other_turn(change, pair)
     }
 
-    /// A path that is to be split, or that nothing is told of: then it is refuted.
-    pub(crate) fn split_of(&mut self, halt: Halt, path: &Path) -> Result<Option<Split>, Halt>
-        ensures refuted { IfOk result (λ split. IfNone split ((v : Valuation) → ¬ (Holds v path.now))) }
+    /// The two paths into which one is split. None where nothing is told of it: then it is refuted.
+    pub(crate) fn ways_of(&mut self, halt: Halt, path: &Path) -> Result<Option<(Path, Path)>, Halt>
+        ensures split { IfOk result (λ found. IfSome found
+            (λ ways. (v : Valuation) → Holds v path.now → Holds v ways.0 ⊎ Holds v ways.1)) }
+        ensures refuted { IfOk result (λ found. IfNone found ((v : Valuation) → ¬ (Holds v path.now))) }
         ensures extends { Extends self.old.atoms self.new.atoms }
     {
         match halt {
-            Halt::Split(split) => Ok(Some(split)),
+            Halt::Split(split) => Ok(Some(split_path(path, &split)?)),
             Halt::Unknown => {
                 self.come_on(path)?;
                 unless_unknown(self.is_dead()?)?;
@@ -262,7 +221,12 @@ impl Evaluator {
 
     /// A pair gives way to those that its next step leads to, or to the two into which it is split. Where nothing is
     /// told it is settled if its path does not hold.
-    fn give_way(&mut self, change: &Change, pair: Pair, todo: &mut Vec<Pair>) -> Result<(), Halt>
+    fn give_way(
+        &mut self,
+        change: &Change,
+        mut pair: Pair,
+        todo: &mut Vec<Pair>,
+    ) -> Result<(), Halt>
         ensures gives { IfOk result (λ _. GivesWay self.new.atoms change.now todo.old.items todo.new.items pair) }
         ensures extends { Extends self.old.atoms self.new.atoms }
     {
@@ -272,10 +236,22 @@ impl Evaluator {
                 Ok(())
             }
             Ok(None) => Ok(()),
-            Err(halt) => match self.split_of(halt, &pair.path)? {
-                Some(split) => Ok(split_pair(self.alloc, &pair, &split, todo)?),
-                None => Ok(()),
-            },
+            Err(halt) => {
+                let Some((path, other)) = self.ways_of(halt, &pair.path)? else {
+                    return Ok(());
+                };
+                let left = pair.left.clone()?;
+                let right = pair.right.clone()?;
+                todo.push(Pair {
+                    path,
+                    left,
+                    right,
+                    ..pair
+                })?;
+                pair.path = other;
+                todo.push(pair)?;
+                Ok(())
+            }
         }
     }
 
@@ -286,9 +262,8 @@ impl Evaluator {
         change: &Change,
         mut todo: Vec<Pair>,
         work: &mut u64,
-    ) -> Result<i64, Halt>
+    ) -> Result<u64, Halt>
         ensures settled { IfOk result (λ behind. AreSettled self.new.atoms change.now behind todo.items) }
-        ensures positive { IfOk result (λ behind. pos 0 ≤ℤ behind) }
         ensures extends { Extends self.old.atoms self.new.atoms }
     {
         let mut behind = 0;
@@ -296,7 +271,7 @@ impl Evaluator {
             let Some(pair) = todo.pop() else {
                 return Ok(behind);
             };
-            behind = behind.max(pair.credit.checked_neg().ok_or(Halt::Unknown)?);
+            behind = behind.max(pair.credit.min(0).unsigned_abs());
             *work = work.saturating_sub(self.samples.cost(&pair.path, &pair.left));
             let (own, other) = (
                 statement_of(pair.left.place),

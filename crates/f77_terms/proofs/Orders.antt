@@ -1,44 +1,37 @@
 -- The order of sums and products.
-use Rattle.f77_terms.proofs.Common.{arith, ◌≡◌, ◌<◌, ◌+◌, ◌⊎◌, SFits, w64, inl, inr, ℕ, zero, suc, ℤ, pos, negsuc, sym, ap, subst, ◌∙◌, ◌+ℤ◌, ◌-ℤ◌, ◌*ℤ◌, ◌≤ℤ◌}
-use Rattle.f77_terms.proofs.Common.{◌<ℤ◌, unsigned_abs, *ℤ_comm, zero-*ℤ, *ℤ-zero, *ℤ-one, ints, LiesBetween}
+use Rattle.f77_terms.proofs.Common.{arith, ◌≡◌, ◌≢◌, ◌<◌, ◌+◌, ◌⊎◌, SFits, w64, subst, inl, inr, zero, suc, ℤ, pos, negsuc, refl, sym, ap, ◌∙◌, ◌+ℤ◌, ◌-ℤ◌, ◌*ℤ◌, ◌≤ℤ◌}
+use Rattle.f77_terms.proofs.Common.{◌<ℤ◌, unsigned_abs, suc_ℤ-*ℤ, pred_ℤ-*ℤ, *ℤ_comm, zero-*ℤ, *ℤ-zero, *ℤ-one, ints, LiesBetween}
 use Rattle.f77_terms.proofs.Products.{times_sum, sum_times}
-
-multiple_below : (n : ℕ) (a : ℤ) → a ≤ℤ pos 0 → (pos n *ℤ a) ≤ℤ pos 0
-multiple_below n (pos zero) h = omega (arith, ints)
-multiple_below n (pos (suc k)) h = absurd (omega (arith, ints))
-multiple_below n (negsuc k) h = omega (arith, ints)
-
--- with factors that are not below 0 what is at most 0 makes what is at most 0
-pub combined_below : (m n a b : ℤ) → pos 0 ≤ℤ m → pos 0 ≤ℤ n → a ≤ℤ pos 0 → b ≤ℤ pos 0 → (m *ℤ a +ℤ n *ℤ b) ≤ℤ pos 0
-combined_below (pos m) (pos n) a b p q g h =
-    let first = multiple_below m a g in
-    let second = multiple_below n b h in
-    omega (arith, ints)
-combined_below (pos m) (negsuc n) a b p q g h = absurd (omega (arith, ints))
-combined_below (negsuc m) n a b p q g h = absurd (omega (arith, ints))
 
 -- a factor that is not below 0 keeps the order
 pub rising : (m a b : ℤ) → pos 0 ≤ℤ m → a ≤ℤ b → (m *ℤ a) ≤ℤ (m *ℤ b)
-rising (pos n) a b p h =
-    let whole : b +ℤ (a -ℤ b) ≡ a = omega (arith, ints) in
-    let below = multiple_below n (a -ℤ b) (omega (arith, ints)) in
-    let parts = ap (λ z. pos n *ℤ z) (sym whole) ∙ sum_times (pos n) b (a -ℤ b) in
-    omega (arith, ints, below, parts)
+rising (pos zero) a b p h = omega (arith, ints)
+rising (pos (suc n)) a b p h =
+    let rest = rising (pos n) a b (omega (arith, ints)) h in
+    let first = suc_ℤ-*ℤ (pos n) a in
+    let second = suc_ℤ-*ℤ (pos n) b in
+    omega (arith, ints, rest, first, second, h)
 rising (negsuc n) a b p h = absurd (omega (arith, ints))
-
--- the opposite of a factor
-opposite : (m a : ℤ) → (pos 0 -ℤ m) *ℤ a +ℤ m *ℤ a ≡ pos 0
-opposite m a =
-    let none : (pos 0 -ℤ m) +ℤ m ≡ pos 0 = omega (arith, ints) in
-    sym (times_sum (pos 0 -ℤ m) m a) ∙ ap (λ z. z *ℤ a) none ∙ zero-*ℤ a
 
 -- one that is not above 0 turns it
 pub falling : (m a b : ℤ) → m ≤ℤ pos 0 → a ≤ℤ b → (m *ℤ b) ≤ℤ (m *ℤ a)
-falling m a b p h =
-    let turned = rising (pos 0 -ℤ m) a b (omega (arith, ints)) h in
-    let first = opposite m a in
-    let second = opposite m b in
-    omega (arith, ints, turned, first, second)
+falling (pos zero) a b p h = omega (arith, ints)
+falling (pos (suc n)) a b p h = absurd (omega (arith, ints, p))
+falling (negsuc zero) a b p h = omega (arith, ints, h)
+falling (negsuc (suc n)) a b p h =
+    let rest = falling (negsuc n) a b (omega (arith, ints)) h in
+    let first = pred_ℤ-*ℤ (negsuc n) a in
+    let second = pred_ℤ-*ℤ (negsuc n) b in
+    omega (arith, ints, rest, first, second, h)
+
+-- with factors that are not below 0 what is at most 0 makes what is at most 0
+pub combined_below : (m n a b : ℤ) → pos 0 ≤ℤ m → pos 0 ≤ℤ n → a ≤ℤ pos 0 → b ≤ℤ pos 0 → (m *ℤ a +ℤ n *ℤ b) ≤ℤ pos 0
+combined_below m n a b p q g h =
+    let first = rising m a (pos 0) p g in
+    let second = rising n b (pos 0) q h in
+    let none = *ℤ-zero m in
+    let nothing = *ℤ-zero n in
+    omega (arith, ints, first, second, none, nothing)
 
 pub at_most_or : (z : ℤ) → (z ≤ℤ pos 0) ⊎ (pos 1 ≤ℤ z)
 at_most_or (pos zero) = inl (omega (arith, ints))
@@ -62,44 +55,17 @@ between_products l x h y low high a b p q =
           record { above = omega (arith, ints, first, second, one, two, three, p.above); below = omega (arith, ints, first, second, one, two, three, q.below) }
     ]
 
--- a number, so many times
-pub risen : (m x l h low high : ℤ) → pos 0 ≤ℤ m → LiesBetween l x h → low ≡ m *ℤ l → high ≡ m *ℤ h → LiesBetween low (m *ℤ x) high
-risen m x l h low high p between a b =
-    let first = rising m l x p between.above in
-    let second = rising m x h p between.below in
-    record { above = omega (arith, ints, first, a); below = omega (arith, ints, second, b) }
-
-pub fallen : (m x l h low high : ℤ) → m ≤ℤ pos 0 → LiesBetween l x h → low ≡ m *ℤ l → high ≡ m *ℤ h → LiesBetween high (m *ℤ x) low
-fallen m x l h low high p between a b =
-    let first = falling m l x p between.above in
-    let second = falling m x h p between.below in
-    record { above = omega (arith, ints, second, b); below = omega (arith, ints, first, a) }
-
--- rounding up
-turned : (g q : ℤ) → g *ℤ (pos 0 -ℤ q) +ℤ q *ℤ g ≡ pos 0
-turned g q = ap (λ z. z +ℤ q *ℤ g) (*ℤ_comm g (pos 0 -ℤ q)) ∙ opposite q g
-
-pub rounded_up : (c g q r s : ℤ) → pos 0 <ℤ g → q *ℤ g +ℤ r ≡ c → pos 0 <ℤ r → (c +ℤ g *ℤ s) ≤ℤ pos 0 → ((q +ℤ pos 1) +ℤ s) ≤ℤ pos 0
-rounded_up c g q r s positive is rest below = by (at_most_or ((q +ℤ pos 1) +ℤ s))
-  where
-    by : (((q +ℤ pos 1) +ℤ s) ≤ℤ pos 0) ⊎ (pos 1 ≤ℤ ((q +ℤ pos 1) +ℤ s)) → ((q +ℤ pos 1) +ℤ s) ≤ℤ pos 0
-    by (inl h) = h
-    by (inr h) =
-        let more = rising g (pos 0 -ℤ q) s (omega (arith, ints)) (omega (arith, ints, h)) in
-        let none = turned g q in
-        absurd (omega (arith, ints, more, none))
-
-pub rounded : (c g q r s : ℤ) → pos 0 <ℤ g → q *ℤ g +ℤ r ≡ c → pos 0 <ℤ (r +ℤ g) → (c +ℤ g *ℤ s) ≤ℤ pos 0 → (q +ℤ s) ≤ℤ pos 0
-rounded c g q r s positive is rest below = by (at_most_or (q +ℤ s))
-  where
-    by : ((q +ℤ s) ≤ℤ pos 0) ⊎ (pos 1 ≤ℤ (q +ℤ s)) → (q +ℤ s) ≤ℤ pos 0
-    by (inl h) = h
-    by (inr h) =
-        let more = rising g (pos 1 +ℤ (pos 0 -ℤ q)) s (omega (arith, ints)) (omega (arith, ints, h)) in
-        let apart = sum_times g (pos 1) (pos 0 -ℤ q) in
-        let one = *ℤ-one g in
-        let none = turned g q in
-        absurd (omega (arith, ints, more, apart, one, none))
+-- rounding up: what g times a number and c at most make 0 says, where g times q is less than c
+pub rounded : (c g q s : ℤ) → pos 0 <ℤ g → (q *ℤ g) <ℤ c → (c +ℤ g *ℤ s) ≤ℤ pos 0 → (q +ℤ s) <ℤ pos 0
+rounded c g q s positive less below = elim (at_most_or (pos 1 +ℤ (q +ℤ s))) [
+  | inl h ↦ omega (arith, ints, h)
+  | inr h ↦
+      let more = rising g (pos 0) (q +ℤ s) (omega (arith, ints)) (omega (arith, ints, h)) in
+      let parts = sum_times g q s in
+      let none = *ℤ-zero g in
+      let turned = *ℤ_comm q g in
+      absurd (omega (arith, ints, more, parts, none, turned, less, below))
+]
 
 pub rest_above : (r g : ℤ) → pos 0 <ℤ g → unsigned_abs r < unsigned_abs g → pos 0 <ℤ (r +ℤ g)
 rest_above (pos k) g positive h = omega (arith, ints)
@@ -135,3 +101,9 @@ both_turned g f x e =
     let first = sym (sum_times g (pos 0 -ℤ x) x) ∙ ap (λ z. g *ℤ z) none ∙ *ℤ-zero g in
     let second = sym (times_sum g f x) ∙ ap (λ z. z *ℤ x) e ∙ zero-*ℤ x in
     omega (arith, ints, first, second)
+
+-- a number that is not 0 is below it or above it
+pub apart : (z : ℤ) → z ≢ pos 0 → (z <ℤ pos 0) ⊎ (pos 0 <ℤ z)
+apart (pos zero) e = absurd (e refl)
+apart (pos (suc n)) e = inr (omega (arith, ints))
+apart (negsuc n) e = inl (omega (arith, ints))

@@ -1,6 +1,6 @@
 -- The values of terms.
-use Rattle.f77_terms.proofs.Common.{arith, ◌≡◌, ◌≤◌, ℕ, zero, suc, ◌+◌, ◌-◌, List, [], ◌∷◌, ◌++◌, length, length-drop, take, drop, add-one, ℤ, pos, ap}
-use Rattle.f77_terms.proofs.Common.{◌∙◌, ◌+ℤ◌, ◌*ℤ◌, slice_get, slice_set, Option, Some, None, IfSome, Result, Ok, Err, IfOk, insert, remove, ints, take_all}
+use Rattle.f77_terms.proofs.Common.{arith, ◌≡◌, ◌≤◌, ◌<◌, ℕ, zero, suc, ◌+◌, ◌-◌, List, [], ◌∷◌, length, get_or, length-drop, take, drop, add-one, ℤ, ap}
+use Rattle.f77_terms.proofs.Common.{◌∙◌, ◌+ℤ◌, ◌*ℤ◌, slice_get, Option, Some, None, IfSome, Result, Ok, Err, IfOk, insert, remove, ints, take_all}
 use Rattle.f77_terms.proofs.Common.{Part, Valuation, part_value, parts_value}
 use Rattle.f77_terms.proofs.Products.{times_sum, sum_times, times_product}
 
@@ -10,18 +10,11 @@ parts_put v [] (suc k) part = omega (arith, ints)
 parts_put v (p ∷ ps) zero part = omega (arith, ints)
 parts_put v (p ∷ ps) (suc k) part = let rest = parts_put v ps k part in omega (arith, ints, rest)
 
--- a part by another, and none
-pub parts_set : (v : Valuation) (parts : List Part) (place : ℕ) (old new : Part) (d : ℤ) → slice_get parts place ≡ Some old → part_value v new ≡ part_value v old +ℤ d
-    → parts_value v (slice_set parts place new) ≡ parts_value v parts +ℤ d
-parts_set v [] k old new d at e = absurd (cc (at))
-parts_set v (p ∷ ps) zero old new d at e = let same : p ≡ old = cc (at) in let here = ap (part_value v) same in omega (arith, ints, here, e)
-parts_set v (p ∷ ps) (suc k) old new d at e = let rest = parts_set v ps k old new d at e in omega (arith, ints, rest)
-
-pub parts_removed : (v : Valuation) (parts : List Part) (place : ℕ) (old : Part) (d : ℤ) → slice_get parts place ≡ Some old → part_value v old +ℤ d ≡ pos 0
-    → parts_value v (remove parts place) ≡ parts_value v parts +ℤ d
-parts_removed v [] k old d at e = absurd (cc (at))
-parts_removed v (p ∷ ps) zero old d at e = let same : p ≡ old = cc (at) in let here = ap (part_value v) same in omega (arith, ints, here, e)
-parts_removed v (p ∷ ps) (suc k) old d at e = let rest = parts_removed v ps k old d at e in omega (arith, ints, rest)
+pub parts_removed : (v : Valuation) (parts : List Part) (place : ℕ) (p : Part) → place < length parts → p ≡ get_or parts place p
+    → parts_value v parts ≡ parts_value v (remove parts place) +ℤ part_value v p
+parts_removed v [] k p h e = absurd (omega (arith, h))
+parts_removed v (x ∷ xs) zero p h e = let here = ap (part_value v) e in omega (arith, ints, here)
+parts_removed v (x ∷ xs) (suc k) p h e = let rest = parts_removed v xs k p (omega (arith, h)) e in omega (arith, ints, rest)
 
 -- a factor and more of it
 pub factor_more : (factor f d h : ℤ) → factor ≡ f +ℤ d → factor *ℤ h ≡ f *ℤ h +ℤ d *ℤ h
@@ -57,19 +50,6 @@ times_more v ps i p u e = ap (λ z. u *ℤ z) (parts_more v ps i p e) ∙ sum_ti
 -- a factor, so many times
 pub factor_times : (factor m f h : ℤ) → factor ≡ m *ℤ f → factor *ℤ h ≡ m *ℤ (f *ℤ h)
 factor_times factor m f h e = ap (λ z. z *ℤ h) e ∙ times_product m f h
-
-parts_pushed : (v : Valuation) (ps : List Part) (p : Part) → parts_value v (ps ++ p ∷ []) ≡ parts_value v ps +ℤ part_value v p
-parts_pushed v [] p = omega (arith, ints)
-parts_pushed v (x ∷ xs) p = let rest = parts_pushed v xs p in omega (arith, ints, rest)
-
--- one divided part more
-pub divided_more : (v : Valuation) (old new : List Part) (g p s : ℤ) (part other : Part) → new ≡ old ++ part ∷ [] → s ≡ p +ℤ part_value v other
-    → p ≡ g *ℤ parts_value v old → other.factor ≡ g *ℤ part.factor → other.atom ≡ part.atom → s ≡ g *ℤ parts_value v new
-divided_more v old new g p s part other is more before factor same =
-    let value = ap (λ z. z *ℤ v other.atom) factor ∙ ap (λ m. (g *ℤ part.factor) *ℤ v m) same
-    ∙ times_product g part.factor (v part.atom) in
-    let whole = ap (λ ps. g *ℤ parts_value v ps) is ∙ ap (λ z. g *ℤ z) (parts_pushed v old part) ∙ sum_times g (parts_value v old) (part_value v part) in
-    omega (arith, ints, more, before, value, whole)
 
 parts_apart : (v : Valuation) (ps : List Part) (k : ℕ) (p : Part) → slice_get ps k ≡ Some p
     → parts_value v ps ≡ (parts_value v (take k ps) +ℤ parts_value v (drop (suc k) ps)) +ℤ part_value v p

@@ -1,7 +1,6 @@
 -- What is known on paths.
-use Rattle.std.specs.Prelude.{◌≢◌, All, Any, List, pos}
+use Rattle.std.specs.Prelude.{◌≢◌, All, Any, pos}
 use Rattle.f77_terms.specs.declared.terms.Term.{Term}
-use Rattle.f77_terms.specs.declared.paths.Case.{Case}
 use Rattle.f77_terms.specs.declared.paths.Choice.{Choice}
 use Rattle.f77_terms.specs.declared.paths.Path.{Path}
 use Rattle.f77_terms.specs.Terms.{Valuation, sum_value}
@@ -12,12 +11,9 @@ use Rattle.f77_terms.specs.Ranges.{AreKnown}
 abbrev pub IsUnequal : Valuation → Term → Type 0
 IsUnequal v term = sum_value v term ≢ pos 0
 
--- one of the cases is there
-abbrev pub IsOneOf : Valuation → List Case → Type 0
-IsOneOf v cases = Any (λ case. AreBelow v case.bounds.items) cases
-
+-- in one of the cases each bound is at most 0
 abbrev pub HasCase : Valuation → Choice → Type 0
-HasCase v choice = IsOneOf v choice.cases.items
+HasCase v choice = Any (λ case. AreBelow v case.items) choice.cases.items
 
 -- all that is known is so
 pub record Holds (v : Valuation) (path : Path) : Type 0 where

@@ -24,11 +24,8 @@ pub struct Assignment<'a> {
 /// A number of a range, so far from its end, that several seldom are the same.
 fn number_in(range: Range, offset: i64) -> i64 {
     if range.low > i64::MIN {
-        range
-            .low
-            .saturating_add(offset)
-            .min(range.high)
-            .max(range.low)
+        let number = range.low.saturating_add(offset);
+        number.min(range.high).max(range.low)
     } else if range.high < i64::MAX {
         range.high.saturating_sub(offset)
     } else {
@@ -58,11 +55,11 @@ impl<'a> Assignment<'a> {
         Some(sum)
     }
 
-    /// What a bound leaves of the range of an atom.
+    /// What a bound leaves of the range of an atom, if it has the atom.
     fn limited_by(&self, range: Range, bound: &Term, atom: usize) -> Option<Range> {
         let factor = factor_of(bound, atom);
         if factor == 0 {
-            return Some(range);
+            return None;
         }
         limited(range, factor, self.rest_of(bound, Some(atom))?)
     }
@@ -104,7 +101,7 @@ impl<'a> Assignment<'a> {
 
     /// A case of the choice is there.
     fn has_case(&self, choice: &Choice) -> bool {
-        choice.cases.iter().any(|case| self.are_below(&case.bounds))
+        choice.cases.iter().any(|case| self.are_below(case))
     }
 
     /// By what a case with these bounds is to be split: by the first of all that the path knows with which the numbers
@@ -114,16 +111,10 @@ impl<'a> Assignment<'a> {
         if let Some(place) = terms.position(|term| self.rest_of(term, None) == Some(0)) {
             return Some(place);
         }
-        if let Some(place) = path
-            .choices
-            .iter()
-            .position(|choice| !self.has_case(choice))
-        {
+        let mut choices = path.choices.iter();
+        if let Some(place) = choices.position(|choice| !self.has_case(choice)) {
             return path.unequal.len().checked_add(place);
         }
-        if self.are_below(bounds) {
-            return None;
-        }
-        Some(next)
+        (!self.are_below(bounds)).then_some(next)
     }
 }

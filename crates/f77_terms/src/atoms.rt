@@ -41,8 +41,9 @@ pub struct Table {
 pub fn new_table(alloc: Global) -> Table
     ensures { (held : Numbers) (v : Valuation) → FitsTable held v result }
 {
-    let keys = Vec::new(alloc);
-    Table { keys }
+    Table {
+        keys: Vec::new(alloc),
+    }
 }
 
 /// The term has atoms below this number alone.
@@ -98,7 +99,7 @@ fn atom_with(table: &Table, key: &Key) -> Option<usize>
 }
 
 /// The atom with a key, which is made if there is none, unless a term of the key has atoms that are not of the table.
-pub fn interned(alloc: Global, table: &mut Table, key: Key) -> Result<Option<usize>, AllocError>
+pub fn interned(table: &mut Table, key: Key) -> Result<Option<usize>, AllocError>
     ensures kept { (held : Numbers) (v : Valuation) → FitsTable held v table.new → FitsTable held v table.old }
     ensures made { IfOk result (λ made. IfSome made (λ atom. (held : Numbers) (v : Valuation)
         → FitsTable held v table.new → v atom ≡ key_value held v key)) }
@@ -110,7 +111,8 @@ pub fn interned(alloc: Global, table: &mut Table, key: Key) -> Result<Option<usi
     if !is_in_order(&key, atom) {
         return Ok(None);
     }
-    table.keys.push(Shared::new(alloc, key)?)?;
+    let shared = Shared::new(*table.keys.allocator(), key)?;
+    table.keys.push(shared)?;
     Ok(Some(atom))
 }
 

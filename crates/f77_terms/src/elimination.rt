@@ -1,12 +1,11 @@
 //! Whether bounds contradict each other: one atom after another is eliminated (Fourier and Motzkin).
 
-ghost use Rattle.std.specs.Prelude.{◌≡◌, true, IfOk};
+ghost use Rattle.std.specs.Prelude.{◌≡◌, ◌≤ℤ◌, pos, true, IfOk};
 ghost use Rattle.f77_terms.specs.{Valuation, IsBelow, AreBelow, AreKnown};
 
-use crate::bounds::{add_bound, add_combined, add_tight, is_refuted};
-use crate::copying::copied_terms;
+use crate::bounds::{add_bound, add_tight, is_refuted};
 use crate::ranges::{Range, atom_range};
-use crate::terms::{Part, Term, atom_term, copy, factor_of};
+use crate::terms::{Part, Term, atom_term, combined, copied_terms, copy, factor_of};
 use std::alloc::{AllocError, Global};
 
 /// So many atoms are eliminated, and no more.
@@ -25,14 +24,14 @@ pub struct Level {
     pub bounds: Vec<Term>,
 }
 
-/// In how many bounds an atom has a factor above 0, and in how many one below, and whether all those are 1 and -1.
-#[derive(Clone, Copy)]
+/// In how many bounds an atom has a factor above 0, and in how many one below, and whether some are not 1 and -1.
+#[derive(Clone, Copy, Default)]
 struct Count {
     atom: usize,
     above: usize,
     below: usize,
-    is_one: bool,
-    is_minus_one: bool,
+    is_large_above: bool,
+    is_large_below: bool,
 }
 
 impl Count {
@@ -40,10 +39,10 @@ impl Count {
     fn add(&mut self, factor: i64) {
         if factor > 0 {
             self.above = self.above.saturating_add(1);
-            self.is_one &= factor == 1;
+            self.is_large_above |= factor != 1;
         } else {
             self.below = self.below.saturating_add(1);
-            self.is_minus_one &= factor == -1;
+            self.is_large_below |= factor != -1;
         }
     }
 
@@ -54,37 +53,29 @@ impl Count {
 
     /// What an elimination costs: it loses no whole numbers where the factors of one side are 1, and goes first then.
     fn cost(&self) -> usize {
-        if self.is_one || self.is_minus_one {
-            self.pairs()
-        } else {
-            self.pairs().saturating_add(LOSS)
-        }
+        let is_lossy = self.is_large_above && self.is_large_below;
+        self.pairs().saturating_add(if is_lossy { LOSS } else { 0 })
     }
 }
 
 /// Counts a part.
 fn count_part(counts: &mut Vec<Count>, part: Part) -> Result<(), AllocError> {
-    for count in counts.iter_mut() {
-        if count.atom == part.atom {
-            count.add(part.factor);
-            return Ok(());
-        }
+    let place = counts.iter().position(|count| count.atom == part.atom);
+    if let Some(place) = place {
+        counts[place].add(part.factor);
+        return Ok(());
     }
     let mut count = Count {
         atom: part.atom,
-        above: 0,
-        below: 0,
-        is_one: true,
-        is_minus_one: true,
+        ..Count::default()
     };
     count.add(part.factor);
-    counts.push(count)?;
-    Ok(())
+    Ok(counts.push(count)?)
 }
 
 /// The atom whose elimination costs least.
-fn next_count(alloc: Global, bounds: &[Term]) -> Result<Option<Count>, AllocError> {
-    let mut counts = Vec::new(alloc);
+fn next_count(bounds: &Vec<Term>) -> Result<Option<Count>, AllocError> {
+    let mut counts = Vec::new(*bounds.allocator());
     for bound in bounds {
         for part in &bound.parts {
             count_part(&mut counts, *part)?;
@@ -94,30 +85,37 @@ fn next_count(alloc: Global, bounds: &[Term]) -> Result<Option<Count>, AllocErro
 }
 
 /// Adds what is known of an atom.
-fn add_known(
-    alloc: Global,
-    known: &[Option<Range>],
-    bounds: &mut Vec<Term>,
-    atom: usize,
-) -> Result<(), AllocError>
+fn add_known(known: &[Option<Range>], bounds: &mut Vec<Term>, atom: usize) -> Result<(), AllocError>
     ensures { IfOk result (λ _. (v : Valuation) → AreKnown v known.now → AreBelow v bounds.old.items
         → AreBelow v bounds.new.items) }
 {
     let Some(range) = atom_range(known, atom) else {
         return Ok(());
     };
-    let term = atom_term(alloc, atom)?;
-    add_bound(alloc, bounds, -1, &term, range.low)?;
+    let term = atom_term(*bounds.allocator(), atom)?;
+    add_bound(bounds, -1, &term, range.low)?;
     if range.high == i64::MIN {
         return Ok(());
     }
-    add_bound(alloc, bounds, 1, &term, -range.high)
+    add_bound(bounds, 1, &term, -range.high)
+}
+
+/// Adds what follows from two bounds, the first m times and the second n times.
+fn add_combined(left: &mut Vec<Term>, m: i64, a: &Term, n: i64, b: &Term) -> Result<(), AllocError>
+    requires first { pos 0 ≤ℤ m }
+    requires second { pos 0 ≤ℤ n }
+    ensures { IfOk result (λ _. (v : Valuation) → AreBelow v left.old.items → IsBelow v a.now
+        → IsBelow v b.now → AreBelow v left.new.items) }
+{
+    let Some(bound) = combined(m, a, n, b)? else {
+        return Ok(());
+    };
+    add_tight(left, bound)
 }
 
 /// Adds what follows from a bound without the atom: itself, or, where its factor is above 0, what it leads to with
 /// each of those in which the factor is below 0.
 fn add_without(
-    alloc: Global,
     left: &mut Vec<Term>,
     bound: &Term,
     bounds: &[Term],
@@ -128,7 +126,7 @@ fn add_without(
 {
     let factor = factor_of(bound, atom);
     if factor == 0 {
-        return add_tight(alloc, left, copy(alloc, bound)?);
+        return add_tight(left, copy(bound)?);
     }
     if factor < 0 {
         return Ok(());
@@ -136,7 +134,7 @@ fn add_without(
     for other in bounds {
         let below = factor_of(other, atom);
         if below < 0 && below != i64::MIN {
-            add_combined(alloc, left, -below, bound, factor, other)?;
+            add_combined(left, -below, bound, factor, other)?;
         }
     }
     Ok(())
@@ -148,7 +146,7 @@ fn eliminated(alloc: Global, bounds: &[Term], atom: usize) -> Result<Vec<Term>, 
 {
     let mut left = Vec::new(alloc);
     for bound in bounds {
-        add_without(alloc, &mut left, bound, bounds, atom)?;
+        add_without(&mut left, bound, bounds, atom)?;
     }
     Ok(left)
 }
@@ -169,7 +167,7 @@ pub fn are_contradictory(
         if is_refuted(&left) {
             return Ok(true);
         }
-        let Some(count) = next_count(alloc, &left)? else {
+        let Some(count) = next_count(&left)? else {
             return Ok(false);
         };
         let atom = count.atom;
@@ -178,7 +176,7 @@ pub fn are_contradictory(
         if left.len() > MOST_BOUNDS || *work == 0 {
             return Ok(false);
         }
-        add_known(alloc, known, &mut left, atom)?;
+        add_known(known, &mut left, atom)?;
         let without = eliminated(alloc, &left, atom)?;
         levels.push(Level { atom, bounds: left })?;
         left = without;

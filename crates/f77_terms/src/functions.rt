@@ -4,6 +4,7 @@
 ghost use Rattle.std.specs.Prelude.{◌≢◌, ◌≤ℤ◌, ◌*ℤ◌, ℤ, pos, IfSome, int_div, int_rem};
 ghost use Rattle.std.specs.Int.{int_min};
 ghost use Rattle.f77_terms.specs.{AreKnown, IsDefined, IsIn, Valuation, function_value, sum_value};
+ghost use Rattle.f77_terms.specs.code.{IsToward};
 
 use crate::atoms::Function;
 use crate::ranges::{Range, common, hull, multiple_range, term_range};
@@ -21,23 +22,21 @@ fn square_range(a: Range) -> Option<Range>
     ensures { IfSome result (λ r. (x : ℤ) → IsIn a x → IsIn r (x *ℤ x)) }
 {
     let range = product_range(a, a)?;
-    Some(Range {
-        low: if range.low < 0 { 0 } else { range.low },
-        high: range.high,
-    })
+    let low = if range.low < 0 { 0 } else { range.low };
+    Some(Range { low, ..range })
 }
 
 /// The numbers from 0 to those of the range.
 fn range_from_zero(range: Range) -> Range
-    ensures above { (x z : ℤ) → IsIn range x → pos 0 ≤ℤ z → z ≤ℤ x → IsIn result z }
-    ensures below { (x z : ℤ) → IsIn range x → x ≤ℤ z → z ≤ℤ pos 0 → IsIn result z }
+    ensures { (x z : ℤ) → IsIn range x → IsToward x z → IsIn result z }
 {
     hull(Range { low: 0, high: 0 }, range)
 }
 
 /// The range of quotients: from 0 to the dividend where the divisor is above 0, and to its negative where it is below.
 fn quotient_range(dividend: Range, divisor: Range) -> Option<Range>
-    ensures { IfSome result (λ r. (x y : ℤ) → IsIn dividend x → IsIn divisor y → y ≢ pos 0 → IsIn r (int_div x y)) }
+    ensures { IfSome result (λ r. (x y : ℤ) → IsIn dividend x → IsIn divisor y → y ≢ pos 0
+        → IsIn r (int_div x y)) }
 {
     if divisor.low >= 0 {
         return Some(range_from_zero(dividend));
@@ -51,14 +50,13 @@ fn quotient_range(dividend: Range, divisor: Range) -> Option<Range>
 
 /// The range of what divisions leave: from 0 to the dividend, and of less size than the divisor.
 fn remainder_range(dividend: Range, divisor: Range) -> Option<Range>
-    ensures { IfSome result (λ r. (x y : ℤ) → IsIn dividend x → IsIn divisor y → y ≢ pos 0 → IsIn r (int_rem x y)) }
+    ensures { IfSome result (λ r. (x y : ℤ) → IsIn dividend x → IsIn divisor y → y ≢ pos 0
+        → IsIn r (int_rem x y)) }
 {
     let size = divisor.high.max(divisor.low.checked_neg()?).max(1);
-    let below = Range {
-        low: 1 - size,
-        high: size - 1,
-    };
-    Some(common(range_from_zero(dividend), below))
+    let low = 1 - size;
+    let high = size - 1;
+    Some(common(range_from_zero(dividend), Range { low, high }))
 }
 
 /// The range of the lesser of two numbers.
@@ -78,7 +76,8 @@ pub fn function_range(
     a: &Term,
     b: &Term,
 ) -> Option<Range>
-    ensures { IfSome result (λ range. (v : Valuation) → AreKnown v known.now → IsDefined function (sum_value v b.now)
+    ensures { IfSome result (λ range. (v : Valuation) → AreKnown v known.now
+        → IsDefined function (sum_value v b.now)
         → IsIn range (function_value function (sum_value v a.now) (sum_value v b.now))) }
 {
     let first = term_range(known, a)?;

@@ -1,36 +1,18 @@
-//! What is known of terms, and what a path comes to know of atoms.
+//! What a path comes to know of atoms that are functions of terms.
 
-ghost use Rattle.std.specs.Prelude.{◌≡◌, ◌+ℤ◌, ◌*ℤ◌, ℤ, true, int_div, int_rem, IfOk, IfSome};
+ghost use Rattle.std.specs.Prelude.{◌≡◌, ◌⊎◌, ◌+ℤ◌, ◌*ℤ◌, ◌≤ℤ◌, ℤ, pos, true, int_div, int_rem, IfOk};
 ghost use Rattle.std.specs.Int.{int_min};
-ghost use Rattle.f77_terms.specs.{HasSign, Holds, IsDefined, IsWorth, Valuation, function_value, sum_value};
+ghost use Rattle.f77_terms.specs.{AreBelow, HasCase, HasSign, Holds, IsDefined, Valuation, function_value, sum_value};
 
 use crate::atoms::Function;
-use crate::facts::{add_pair_bound, add_whole, order_case, sign_cases, two_cases};
+use crate::bounds::{add_bound, add_order};
 use crate::functions::function_range;
-use crate::paths::{Path, add_choice, add_range, settle};
+use crate::paths::{Choice, Path, add_choice, add_equal, add_range, settle};
 use crate::ranges::{may_have, term_range};
-use crate::terms::{Term, atom_term, combined, constant_term, factor_of, is_same_term};
-use std::alloc::{AllocError, Global};
+use crate::terms::{Term, add_multiple, atom_term, combined, copy, factor_of, is_same_term};
+use f77_tree::Shared;
+use std::alloc::AllocError;
 use std::cmp::Ordering;
-
-/// The number of a constant term.
-pub fn constant_of(term: &Term) -> Option<i64>
-    ensures { IfSome result (λ z. (v : Valuation) → sum_value v term.now ≡ z) }
-{
-    (term.parts.len() == 0).then_some(term.constant)
-}
-
-/// A term, m times, and a constant, unless a number gets too large.
-pub fn plus_constant(
-    alloc: Global,
-    m: i64,
-    term: &Term,
-    constant: i64,
-) -> Result<Option<Term>, AllocError>
-    ensures { IfOk result (λ made. IsWorth made (λ v. constant +ℤ m *ℤ sum_value v term.now)) }
-{
-    combined(alloc, m, term, 1, &constant_term(alloc, constant))
-}
 
 /// By the ranges of its atoms alone, the term has not this sign.
 pub fn is_ranged_off(path: &Path, term: &Term, sign: Ordering) -> bool
@@ -45,17 +27,64 @@ pub fn is_ranged_off(path: &Path, term: &Term, sign: Ordering) -> bool
 /// A choice of the path is of the atom: what is known of a quotient, or of the lesser of two numbers.
 fn has_choice_of(path: &Path, atom: usize) -> bool {
     path.choices.iter().any(|choice| {
-        choice.cases.iter().any(|case| {
-            let mut bounds = case.bounds.iter();
-            bounds.any(|bound| factor_of(bound, atom) != 0)
-        })
+        choice.cases.iter().any(|case| case.iter().any(|bound| factor_of(bound, atom) != 0))
     })
+}
+
+/// One of two cases is there.
+pub(crate) fn two_cases(first: Vec<Term>, second: Vec<Term>) -> Result<Shared<Choice>, AllocError>
+    ensures { IfOk result (λ choice. (v : Valuation) → AreBelow v first.items ⊎ AreBelow v second.items
+        → HasCase v choice) }
+{
+    let alloc = *first.allocator();
+    let cases = vec![in alloc; first, second]?;
+    Shared::new(alloc, Choice { cases })
+}
+
+/// The case where two terms, each m times, are at most 0.
+fn sign_case(m: i64, a: &Term, b: &Term) -> Result<Vec<Term>, AllocError>
+    ensures { IfOk result (λ case. (v : Valuation)
+        → (pos 0 +ℤ m *ℤ sum_value v a.now) ≤ℤ pos 0 → (pos 0 +ℤ m *ℤ sum_value v b.now) ≤ℤ pos 0
+        → AreBelow v case.items) }
+{
+    let mut bounds = Vec::new(*a.parts.allocator());
+    add_bound(&mut bounds, m, a, 0)?;
+    add_bound(&mut bounds, m, b, 0)?;
+    Ok(bounds)
+}
+
+/// The remainder has the sign of the dividend.
+fn sign_cases(dividend: &Term, rest: &Term) -> Result<Shared<Choice>, AllocError>
+    ensures { IfOk result (λ choice. (v : Valuation) (d : ℤ)
+        → sum_value v rest.now ≡ int_rem (sum_value v dividend.now) d → HasCase v choice) }
+{
+    two_cases(
+        sign_case(-1, dividend, rest)?,
+        sign_case(1, dividend, rest)?,
+    )
+}
+
+/// Adds that a product and a remainder are the dividend, unless a number gets too large.
+fn add_whole(
+    path: &mut Path,
+    dividend: &Term,
+    product: &Term,
+    rest: &Term,
+) -> Result<(), AllocError>
+    ensures { IfOk result (λ _. (v : Valuation) → Holds v path.old
+        → sum_value v product.now +ℤ sum_value v rest.now ≡ sum_value v dividend.now
+        → Holds v path.new) }
+{
+    let mut whole = copy(product)?;
+    if !add_multiple(&mut whole, 1, rest)? || !add_multiple(&mut whole, -1, dividend)? {
+        return Ok(());
+    }
+    add_equal(path, &whole)
 }
 
 /// Adds what is known of a division, once: the remainder and the product of quotient and divisor are the dividend, of
 /// which the remainder has the sign.
 pub fn know_division(
-    alloc: Global,
     path: &mut Path,
     dividend: &Term,
     product: &Term,
@@ -68,13 +97,13 @@ pub fn know_division(
     if has_choice_of(path, remainder) {
         return Ok(());
     }
-    let rest = atom_term(alloc, remainder)?;
-    add_whole(alloc, path, dividend, product, &rest)?;
-    add_choice(path, sign_cases(alloc, dividend, &rest)?)
+    let rest = atom_term(*product.parts.allocator(), remainder)?;
+    add_whole(path, dividend, product, &rest)?;
+    add_choice(path, sign_cases(dividend, &rest)?)
 }
 
-/// Adds the range of an atom that is this function of two terms, and how it bounds others.
-pub fn know_range(
+/// Narrows the ranges of atoms, and adds that of an atom that is this function of two terms.
+fn know_range(
     path: &mut Path,
     function: Function,
     a: &Term,
@@ -91,39 +120,24 @@ pub fn know_range(
     }
 }
 
-/// Adds what is known of a product where it is a square: it is above its tangents at 1 and -1.
-pub fn know_product(
-    alloc: Global,
-    path: &mut Path,
-    a: &Term,
-    b: &Term,
-    product: usize,
-) -> Result<(), AllocError>
+/// Adds what is known of the square of a term: it is above its tangents at 1 and -1.
+fn know_square(path: &mut Path, root: &Term, square: usize) -> Result<(), AllocError>
     ensures { IfOk result (λ _. (v : Valuation) → Holds v path.old
-        → v product ≡ sum_value v a.now *ℤ sum_value v b.now → Holds v path.new) }
+        → v square ≡ sum_value v root.now *ℤ sum_value v root.now → Holds v path.new) }
 {
-    if !is_same_term(a, b) {
-        return Ok(());
-    }
-    let square = atom_term(alloc, product)?;
-    add_pair_bound(alloc, &mut path.below, 2, a, -1, &square, -1)?;
-    add_pair_bound(alloc, &mut path.below, -2, a, -1, &square, -1)
+    let square = atom_term(*root.parts.allocator(), square)?;
+    add_order(&mut path.below, 2, root, -1, &square)?;
+    add_order(&mut path.below, -2, root, -1, &square)
 }
 
 /// Where two terms have a constant sum, adds that the lesser is at most half of it.
-fn know_half(
-    alloc: Global,
-    path: &mut Path,
-    a: &Term,
-    b: &Term,
-    least: &Term,
-) -> Result<(), AllocError>
+fn know_half(path: &mut Path, a: &Term, b: &Term, least: &Term) -> Result<(), AllocError>
     ensures { IfOk result (λ _. (v : Valuation) → Holds v path.old
         → sum_value v least.now ≡ int_min (sum_value v a.now) (sum_value v b.now) → Holds v path.new) }
 {
-    match combined(alloc, 1, a, 1, b)? {
+    match combined(1, a, 1, b)? {
         Some(both) if both.parts.is_empty() => {
-            add_pair_bound(alloc, &mut path.below, 2, least, -1, &both, 0)?;
+            add_order(&mut path.below, 2, least, 0, &both)?;
             settle(path);
             Ok(())
         }
@@ -131,25 +145,50 @@ fn know_half(
     }
 }
 
+/// The case where a term is at most another.
+fn order_case(a: &Term, b: &Term) -> Result<Vec<Term>, AllocError>
+    ensures { IfOk result (λ case. (v : Valuation) → (pos 0 +ℤ pos 1 *ℤ sum_value v a.now) ≤ℤ sum_value v b.now
+        → AreBelow v case.items) }
+{
+    let mut bounds = Vec::new(*a.parts.allocator());
+    add_order(&mut bounds, 1, a, 0, b)?;
+    Ok(bounds)
+}
+
 /// Adds what is known of the lesser of two terms, once.
-pub fn know_minimum(
-    alloc: Global,
-    path: &mut Path,
-    a: &Term,
-    b: &Term,
-    minimum: usize,
-) -> Result<(), AllocError>
+fn know_minimum(path: &mut Path, a: &Term, b: &Term, minimum: usize) -> Result<(), AllocError>
     ensures { IfOk result (λ _. (v : Valuation) → Holds v path.old
         → v minimum ≡ int_min (sum_value v a.now) (sum_value v b.now) → Holds v path.new) }
 {
     if has_choice_of(path, minimum) {
         return Ok(());
     }
-    let least = atom_term(alloc, minimum)?;
-    add_pair_bound(alloc, &mut path.below, 1, &least, -1, a, 0)?;
-    add_pair_bound(alloc, &mut path.below, 1, &least, -1, b, 0)?;
-    know_half(alloc, path, a, b, &least)?;
-    let first = order_case(alloc, 1, a, -1, &least)?;
-    let second = order_case(alloc, 1, b, -1, &least)?;
-    add_choice(path, two_cases(alloc, first, second)?)
+    let least = atom_term(*a.parts.allocator(), minimum)?;
+    add_order(&mut path.below, 1, &least, 0, a)?;
+    add_order(&mut path.below, 1, &least, 0, b)?;
+    know_half(path, a, b, &least)?;
+    add_choice(
+        path,
+        two_cases(order_case(a, &least)?, order_case(b, &least)?)?,
+    )
+}
+
+/// Narrows the ranges of atoms, and adds what is known of an atom that is this function of two terms: its range, that a
+/// square is above two of its tangents, and, once, that one of two terms is the lesser.
+pub fn know_function(
+    path: &mut Path,
+    function: Function,
+    a: &Term,
+    b: &Term,
+    atom: usize,
+) -> Result<(), AllocError>
+    ensures { IfOk result (λ _. (v : Valuation) → Holds v path.old → IsDefined function (sum_value v b.now)
+        → v atom ≡ function_value function (sum_value v a.now) (sum_value v b.now) → Holds v path.new) }
+{
+    know_range(path, function, a, b, atom)?;
+    match function {
+        Function::Product if is_same_term(a, b) => know_square(path, a, atom),
+        Function::Minimum => know_minimum(path, a, b, atom),
+        _ => Ok(()),
+    }
 }

@@ -8,14 +8,12 @@
 mod assignment;
 pub mod atoms;
 pub mod bounds;
-pub mod copying;
 mod elimination;
-mod facts;
 mod functions;
 pub mod items;
 pub mod knowing;
 mod near;
-mod numbers;
+pub mod numbers;
 pub mod paths;
 pub mod ranges;
 mod splitting;

@@ -3,103 +3,102 @@
 ghost use Rattle.std.specs.Prelude.{IfOk};
 ghost use Rattle.f77_terms.specs.{Holds, Valuation};
 
-use crate::copying::copied_path;
-use crate::paths::{Choice, Path};
+use crate::paths::{Choice, Path, copied_path};
 use crate::terms::Term;
-use f77_tree::Shared;
-use std::alloc::{AllocError, Global};
-use std::slice;
+use std::alloc::AllocError;
 
-/// The atom is marked.
-fn is_marked(marks: &[bool], atom: usize) -> bool {
-    atom < marks.len() && marks[atom]
+/// The atoms that are marked, and how many they are.
+#[derive(Drop)]
+struct Marks {
+    marked: Vec<bool>,
+    count: usize,
 }
 
-/// An atom of the term is marked.
-fn is_near(marks: &[bool], term: &Term) -> bool {
-    term.parts.iter().any(|part| is_marked(marks, part.atom))
-}
+impl Marks {
+    /// An atom of the term is marked.
+    fn is_near(&self, term: &Term) -> bool {
+        term.parts.iter().any(|part| self.marked.get(part.atom).copied().unwrap_or(false))
+    }
 
-/// Marks an atom. It tells whether it was not marked before.
-fn mark_atom(marks: &mut Vec<bool>, atom: usize) -> Result<bool, AllocError> {
-    if is_marked(marks, atom) {
-        return Ok(false);
+    /// A case of the choice is near.
+    fn is_choice_near(&self, choice: &Choice) -> bool {
+        choice
+            .cases
+            .iter()
+            .any(|case| case.iter().any(|bound| self.is_near(bound)))
     }
-    if marks.len() <= atom {
-        marks.resize(atom.saturating_add(1), false)?;
-    }
-    if atom < marks.len() {
-        marks[atom] = true;
-    }
-    Ok(true)
-}
 
-/// Marks the atoms of terms. It tells whether one was not marked before.
-fn mark_terms(marks: &mut Vec<bool>, terms: &[Term]) -> Result<bool, AllocError> {
-    let mut is_new = false;
-    for term in terms {
+    /// Marks the atoms of a term.
+    fn mark(&mut self, term: &Term) -> Result<(), AllocError> {
         for part in &term.parts {
-            is_new |= mark_atom(marks, part.atom)?;
-        }
-    }
-    Ok(is_new)
-}
-
-/// Marks the atoms of those terms that are near.
-fn spread_terms(marks: &mut Vec<bool>, terms: &[Term]) -> Result<bool, AllocError> {
-    let mut is_new = false;
-    for term in terms {
-        if is_near(marks, term) {
-            is_new |= mark_terms(marks, slice::from_ref(term))?;
-        }
-    }
-    Ok(is_new)
-}
-
-/// A case of the choice is near.
-fn is_choice_near(marks: &[bool], choice: &Choice) -> bool {
-    choice.cases.iter().any(|case| case.bounds.iter().any(|bound| is_near(marks, bound)))
-}
-
-/// Marks the atoms of those choices that are near.
-fn spread_choices(marks: &mut Vec<bool>, choices: &[Shared<Choice>]) -> Result<bool, AllocError> {
-    let mut is_new = false;
-    for choice in choices {
-        if is_choice_near(marks, choice) {
-            for case in &choice.cases {
-                is_new |= mark_terms(marks, &case.bounds)?;
+            if self.marked.len() <= part.atom {
+                self.marked.resize(part.atom.saturating_add(1), false)?;
+            }
+            if let Some(mark) = self.marked.get_mut(part.atom) {
+                self.count = self.count.saturating_add(usize::from(!*mark));
+                *mark = true;
             }
         }
+        Ok(())
     }
-    Ok(is_new)
-}
 
-/// The atoms that are bound to those of these terms.
-fn marks_near(alloc: Global, path: &Path, terms: &[Term]) -> Result<Vec<bool>, AllocError> {
-    let mut marks = Vec::new(alloc);
-    mark_terms(&mut marks, terms)?;
-    for _ in 0..u64::MAX {
-        let below = spread_terms(&mut marks, &path.below)?;
-        let unequal = spread_terms(&mut marks, &path.unequal)?;
-        let choices = spread_choices(&mut marks, &path.choices)?;
-        if !below && !unequal && !choices {
-            return Ok(marks);
+    /// Marks the atoms of those terms that are near.
+    fn spread(&mut self, terms: &[Term]) -> Result<(), AllocError> {
+        for term in terms {
+            if self.is_near(term) {
+                self.mark(term)?;
+            }
         }
+        Ok(())
     }
-    Ok(marks)
+
+    /// Marks the atoms of what is near on the path.
+    fn spread_on(&mut self, path: &Path) -> Result<(), AllocError> {
+        self.spread(&path.below)?;
+        self.spread(&path.unequal)?;
+        for choice in &path.choices {
+            if self.is_choice_near(choice) {
+                for case in &choice.cases {
+                    for bound in case {
+                        self.mark(bound)?;
+                    }
+                }
+            }
+        }
+        Ok(())
+    }
+
+    /// The atoms that are bound to those of these terms.
+    fn of(path: &Path, terms: &[Term]) -> Result<Marks, AllocError> {
+        let mut marks = Marks {
+            marked: Vec::new(*path.below.allocator()),
+            count: 0,
+        };
+        for term in terms {
+            marks.mark(term)?;
+        }
+        for _ in 0..u64::MAX {
+            let before = marks.count;
+            marks.spread_on(path)?;
+            if marks.count == before {
+                break;
+            }
+        }
+        Ok(marks)
+    }
 }
 
 /// What of a path is near these terms: all of it where there are none.
-pub(crate) fn path_near(alloc: Global, path: &Path, terms: &[Term]) -> Result<Path, AllocError>
+pub(crate) fn path_near(path: &Path, terms: &[Term]) -> Result<Path, AllocError>
     ensures { IfOk result (λ near. (v : Valuation) → Holds v path.now → Holds v near) }
 {
-    let mut near = copied_path(alloc, path)?;
+    let mut near = copied_path(path)?;
     if terms.is_empty() {
         return Ok(near);
     }
-    let marks = marks_near(alloc, path, terms)?;
-    near.below.retain(|term| is_near(&marks, term));
-    near.unequal.retain(|term| is_near(&marks, term));
-    near.choices.retain(|choice| is_choice_near(&marks, choice));
+    let marks = Marks::of(path, terms)?;
+    near.below.retain(|term| marks.is_near(term));
+    near.unequal.retain(|term| marks.is_near(term));
+    near.choices.retain(|choice| marks.is_choice_near(choice));
     Ok(near)
 }

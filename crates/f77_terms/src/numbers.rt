@@ -14,12 +14,12 @@ pub fn ceiling(c: i64, g: i64) -> i64
 }
 
 /// The greatest common divisor.
-fn common_divisor(a: u64, b: u64) -> u64 {
+pub fn common_divisor(a: u64, b: u64) -> u64 {
     if b == 0 { a } else { common_divisor(b, a % b) }
 }
 
 /// The greatest common divisor of all factors, or 1 if it is too large.
-pub fn divisor_of(parts: &[Part]) -> i64
+pub(crate) fn divisor_of(parts: &[Part]) -> i64
     ensures { pos 0 <ℤ result }
 {
     let divisor = parts.iter().fold(0, |divisor, part| {

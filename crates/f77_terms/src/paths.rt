@@ -8,23 +8,17 @@ use crate::bounds::{add_bound, joint_bounds};
 use crate::near::path_near;
 use crate::ranges::{Range, narrow_all, narrow_all_apart, set_within};
 use crate::splitting::is_refuted_with;
-use crate::terms::{Term, copy};
+use crate::terms::{Term, copied_terms, copy};
 use f77_tree::Shared;
 use std::alloc::{AllocError, Global};
 
 /// So many times a case is split at most.
 const MOST_SPLITS: usize = 24;
 
-/// In this case each of the bounds is at most 0.
-#[derive(Drop)]
-pub struct Case {
-    pub bounds: Vec<Term>,
-}
-
-/// One of the cases is there.
+/// One of the cases is there: in it each of its bounds is at most 0.
 #[derive(Drop)]
 pub struct Choice {
-    pub cases: Vec<Case>,
+    pub cases: Vec<Vec<Term>>,
 }
 
 /// What is known: ranges of atoms, terms at most 0, terms that are not 0, and choices.
@@ -38,16 +32,12 @@ pub struct Path {
 
 /// Where the path holds, not all of these terms are at most 0. Where there are none it is shown that it holds nowhere.
 /// It is false too where the work that is left, of which it takes, does not do: a unit is a bound that is looked at.
-pub fn refuted(
-    alloc: Global,
-    work: &mut u64,
-    path: &Path,
-    extra: &[Term],
-) -> Result<bool, AllocError>
+pub fn refuted(work: &mut u64, path: &Path, extra: &[Term]) -> Result<bool, AllocError>
     ensures { IfOk result
         (λ yes. yes ≡ true → (v : Valuation) → Holds v path.now → ¬ (AreBelow v extra.now)) }
 {
-    let near = path_near(alloc, path, extra)?;
+    let alloc = *path.below.allocator();
+    let near = path_near(path, extra)?;
     let bounds = joint_bounds(alloc, &near.below, extra)?;
     is_refuted_with(alloc, work, &near, &near.known, &bounds, 0, MOST_SPLITS)
 }
@@ -62,6 +52,19 @@ pub fn new_path(alloc: Global) -> Path
         unequal: Vec::new(alloc),
         choices: Vec::new(alloc),
     }
+}
+
+/// The path in memory of its own.
+pub fn copied_path(path: &Path) -> Result<Path, AllocError>
+    ensures { IfOk result (λ copied. (v : Valuation) → Holds v path.now → Holds v copied) }
+{
+    let alloc = *path.known.allocator();
+    Ok(Path {
+        known: Vec::from_slice(alloc, &path.known)?,
+        below: copied_terms(alloc, &path.below)?,
+        unequal: copied_terms(alloc, &path.unequal)?,
+        choices: path.choices.to_vec(alloc)?,
+    })
 }
 
 /// Makes room for what is known of an atom.
@@ -87,33 +90,27 @@ pub fn add_range(path: &mut Path, atom: usize, range: Range) -> Result<(), Alloc
 }
 
 /// Adds that a term, m times, and a constant are at most 0.
-pub fn add_below(
-    alloc: Global,
-    path: &mut Path,
-    m: i64,
-    term: &Term,
-    constant: i64,
-) -> Result<(), AllocError>
+pub fn add_below(path: &mut Path, m: i64, term: &Term, constant: i64) -> Result<(), AllocError>
     ensures { IfOk result (λ _. (v : Valuation) → Holds v path.old
         → (constant +ℤ m *ℤ sum_value v term.now) ≤ℤ pos 0 → Holds v path.new) }
 {
-    add_bound(alloc, &mut path.below, m, term, constant)
+    add_bound(&mut path.below, m, term, constant)
 }
 
 /// Adds that a term is 0.
-pub fn add_equal(alloc: Global, path: &mut Path, term: &Term) -> Result<(), AllocError>
+pub fn add_equal(path: &mut Path, term: &Term) -> Result<(), AllocError>
     ensures { IfOk result (λ _. (v : Valuation) → Holds v path.old → sum_value v term.now ≡ pos 0
         → Holds v path.new) }
 {
-    add_below(alloc, path, 1, term, 0)?;
-    add_below(alloc, path, -1, term, 0)
+    add_below(path, 1, term, 0)?;
+    add_below(path, -1, term, 0)
 }
 
 /// Adds that a term is not 0.
-pub fn add_unequal(alloc: Global, path: &mut Path, term: &Term) -> Result<(), AllocError>
+pub fn add_unequal(path: &mut Path, term: &Term) -> Result<(), AllocError>
     ensures { IfOk result (λ _. (v : Valuation) → Holds v path.old → IsUnequal v term.now → Holds v path.new) }
 {
-    path.unequal.push(copy(alloc, term)?)?;
+    path.unequal.push(copy(term)?)?;
     Ok(())
 }
 

@@ -274,10 +274,8 @@ pub fn is_exceeded(known: &[Option<Range>], bounds: &[Term]) -> bool
     ensures { result ≡ true → (v : Valuation) → AreKnown v known.now → ¬ (AreBelow v bounds.now) }
 {
     for bound in bounds {
-        if let Some(range) = term_range(known, bound) {
-            if range.low > 0 {
-                return true;
-            }
+        if term_range(known, bound).is_some_and(|range| range.low > 0) {
+            return true;
         }
     }
     false

@@ -1,14 +1,13 @@
 //! Cases of a path: whether one is possible, and how it splits by what is not 0 and by choices.
 
-ghost use Rattle.std.specs.Prelude.{◌≡◌, true, IfOk, IfSome};
-ghost use Rattle.f77_terms.specs.{Valuation, AreBelow, AreKnown, IsUnequal, IsOneOf};
-ghost use Rattle.f77_terms.specs.{HasCase, Holds};
+ghost use Rattle.std.specs.Prelude.{◌≡◌, true, Any, IfOk, IfSome};
+ghost use Rattle.f77_terms.specs.{Valuation, AreBelow, AreKnown, IsUnequal, HasCase, Holds};
 
 use crate::assignment::Assignment;
 use crate::bounds::{joint_bounds, sign_bounds};
 use crate::elimination::{Level, are_contradictory};
-use crate::facts::two_cases;
-use crate::paths::{Case, Choice, Path};
+use crate::knowing::two_cases;
+use crate::paths::{Choice, Path};
 use crate::ranges::{Range, is_exceeded, is_void, narrow_all};
 use crate::terms::Term;
 use f77_tree::Shared;
@@ -48,21 +47,22 @@ fn is_impossible(
 }
 
 /// A term that is not 0 is below it or above it.
-fn sides(alloc: Global, term: &Term) -> Result<Shared<Choice>, AllocError>
+fn sides(term: &Term) -> Result<Shared<Choice>, AllocError>
     ensures { IfOk result (λ choice. (v : Valuation) → IsUnequal v term.now → HasCase v choice) }
 {
-    let below = sign_bounds(alloc, term, Ordering::Less)?;
-    let above = sign_bounds(alloc, term, Ordering::Greater)?;
-    two_cases(alloc, Case { bounds: below }, Case { bounds: above })
+    two_cases(
+        sign_bounds(term, Ordering::Less)?,
+        sign_bounds(term, Ordering::Greater)?,
+    )
 }
 
 /// A choice of the path: the sides of what is not 0 come before its choices.
-fn choice_at(alloc: Global, path: &Path, place: usize) -> Result<Option<Shared<Choice>>, AllocError>
+fn choice_at(path: &Path, place: usize) -> Result<Option<Shared<Choice>>, AllocError>
     ensures { IfOk result
         (λ found. IfSome found (λ choice. (v : Valuation) → Holds v path.now → HasCase v choice)) }
 {
     if place < path.unequal.len() {
-        return Ok(Some(sides(alloc, &path.unequal[place])?));
+        return Ok(Some(sides(&path.unequal[place])?));
     }
     let behind = place - path.unequal.len();
     if behind < path.choices.len() {
@@ -98,7 +98,7 @@ pub fn is_refuted_with(
     let Some(place) = assignment.split_of(path, bounds, next) else {
         return Ok(false);
     };
-    let Some(choice) = choice_at(alloc, path, place)? else {
+    let Some(choice) = choice_at(path, place)? else {
         return Ok(false);
     };
     let after = next.saturating_add(usize::from(place == next));
@@ -122,15 +122,15 @@ fn are_refuted_with(
     path: &Path,
     known: &[Option<Range>],
     bounds: &[Term],
-    cases: &[Case],
+    cases: &[Vec<Term>],
     next: usize,
     splits: usize,
 ) -> Result<bool, AllocError>
     ensures { IfOk result (λ yes. yes ≡ true → (v : Valuation) → Holds v path.now → AreKnown v known.now
-        → AreBelow v bounds.now → ¬ (IsOneOf v cases.now)) }
+        → AreBelow v bounds.now → ¬ (Any (λ case. AreBelow v case.items) cases.now)) }
 {
     for case in cases {
-        let both = joint_bounds(alloc, bounds, &case.bounds)?;
+        let both = joint_bounds(alloc, bounds, case)?;
         if !is_refuted_with(alloc, work, path, known, &both, next, splits)? {
             return Ok(false);
         }

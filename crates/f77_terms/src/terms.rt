@@ -1,9 +1,8 @@
 //! Terms: linear polynomials over atoms.
 
-ghost use Rattle.std.specs.Prelude.{◌≡◌, ◌≤◌, ◌<◌, ◌+ℤ◌, ◌-ℤ◌, ◌*ℤ◌, ℤ, true, length, vec_len};
-ghost use Rattle.std.specs.Prelude.{slice_get, Some, IfOk};
-ghost use Rattle.f77_terms.specs.{Valuation, part_value, parts_value, sum_value};
-ghost use Rattle.f77_terms.specs.{IsWorth, AddsIfDone};
+ghost use Rattle.std.specs.Prelude.{◌≡◌, ◌≤◌, ◌+ℤ◌, ◌-ℤ◌, ◌*ℤ◌, ℤ, true, length, vec_len, All, IfOk, IfSome};
+ghost use Rattle.f77_terms.specs.{Valuation, parts_value, part_value, sum_value};
+ghost use Rattle.f77_terms.specs.{IsWorth, AddsIfDone, AreBelow, IsUnequal};
 
 use crate::items::item_at;
 use std::alloc::{AllocError, Global};
@@ -43,13 +42,29 @@ pub fn atom_term(alloc: Global, atom: usize) -> Result<Term, AllocError>
 }
 
 /// The same term in memory of its own.
-pub fn copy(alloc: Global, term: &Term) -> Result<Term, AllocError>
+pub fn copy(term: &Term) -> Result<Term, AllocError>
     ensures value { IfOk result (λ copied. (v : Valuation) → sum_value v copied ≡ sum_value v term.now) }
     ensures parts { IfOk result (λ copied. copied.parts.items ≡ term.now.parts.items) }
 {
     let constant = term.constant;
-    let parts = Vec::from_slice(alloc, &term.parts)?;
+    let parts = Vec::from_slice(*term.parts.allocator(), &term.parts)?;
     Ok(Term { constant, parts })
+}
+
+/// The terms in memory of their own.
+pub(crate) fn copied_terms(alloc: Global, terms: &[Term]) -> Result<Vec<Term>, AllocError>
+    ensures below { IfOk result (λ copied. (v : Valuation) → AreBelow v terms.now → AreBelow v copied.items) }
+    ensures unequal { IfOk result (λ copied. (v : Valuation) → All (IsUnequal v) terms.now
+        → All (IsUnequal v) copied.items) }
+{
+    terms.to_vec(alloc)
+}
+
+/// The number of a constant term.
+pub fn constant_of(term: &Term) -> Option<i64>
+    ensures { IfSome result (λ z. (v : Valuation) → sum_value v term.now ≡ z) }
+{
+    (term.parts.len() == 0).then_some(term.constant)
 }
 
 /// The place of the part with an atom, or where it is to stand if there is none.
@@ -67,52 +82,30 @@ pub fn factor_of(term: &Term, atom: usize) -> i64 {
     }
 }
 
-/// Adds to the factor of the part at a place, unless it gets too large.
-fn add_factor(parts: &mut Vec<Part>, place: usize, more: i64) -> bool
-    requires { place < vec_len parts.old }
-    ensures { result ≡ true → (v : Valuation) (part : Part) → slice_get parts.old.items place ≡ Some part
-        → parts_value v parts.new.items
-        ≡ parts_value v parts.old.items +ℤ more *ℤ v part.atom }
+/// Takes out the part with an atom, if it stands at this place. It tells how many times the atom was there.
+fn taken_out(parts: &mut Vec<Part>, place: usize, atom: usize) -> i64
+    requires { place ≤ vec_len parts.old }
+    ensures value { (v : Valuation)
+        → parts_value v parts.old.items ≡ parts_value v parts.new.items +ℤ result *ℤ v atom }
+    ensures place { place ≤ vec_len parts.new }
 {
-    let part = *item_at(parts, place);
-    let Some(factor) = part.factor.checked_add(more) else {
-        return false;
-    };
-    if factor == 0 {
-        parts.remove(place);
-        return true;
+    if place < parts.len() && item_at(parts, place).atom == atom {
+        return parts.remove(place).factor;
     }
-    parts[place] = Part { factor, ..part };
-    true
+    0
 }
 
 /// Adds a part, unless a factor gets too large.
 fn add_part(term: &mut Term, part: Part) -> Result<bool, AllocError>
     ensures { IfOk result (λ done. AddsIfDone term.old term.new done (λ v. part_value v part)) }
 {
-    if part.factor == 0 {
-        return Ok(true);
-    }
     let place = place_of(&term.parts, part.atom);
-    if place < term.parts.len() && item_at(&term.parts, place).atom == part.atom {
-        return Ok(add_factor(&mut term.parts, place, part.factor));
-    }
-    term.parts.insert(place, part)?;
-    Ok(true)
-}
-
-/// Adds parts, so many times, unless a factor gets too large.
-fn add_parts(term: &mut Term, m: i64, parts: &[Part]) -> Result<bool, AllocError>
-    ensures { IfOk result (λ done. AddsIfDone term.old term.new done (λ v. m *ℤ parts_value v parts.now)) }
-{
-    for place in 0..parts.len() {
-        let part = *item_at(parts, place);
-        let Some(factor) = m.checked_mul(part.factor) else {
-            return Ok(false);
-        };
-        if !add_part(term, Part { factor, ..part })? {
-            return Ok(false);
-        }
+    let before = taken_out(&mut term.parts, place, part.atom);
+    let Some(factor) = before.checked_add(part.factor) else {
+        return Ok(false);
+    };
+    if factor != 0 {
+        term.parts.insert(place, Part { factor, ..part })?;
     }
     Ok(true)
 }
@@ -128,7 +121,16 @@ pub fn add_multiple(term: &mut Term, m: i64, addend: &Term) -> Result<bool, Allo
         return Ok(false);
     };
     term.constant = together;
-    add_parts(term, m, &addend.parts)
+    for place in 0..addend.parts.len() {
+        let part = *item_at(&addend.parts, place);
+        let Some(factor) = m.checked_mul(part.factor) else {
+            return Ok(false);
+        };
+        if !add_part(term, Part { factor, ..part })? {
+            return Ok(false);
+        }
+    }
+    Ok(true)
 }
 
 /// The term, unless it is too long.
@@ -138,35 +140,41 @@ fn limited(term: Term) -> Option<Term>
     (term.parts.len() <= MOST_PARTS).then_some(term)
 }
 
-/// The first term, m times, and the second, n times, unless a number gets too large.
-pub fn combined(
-    alloc: Global,
-    m: i64,
-    a: &Term,
-    n: i64,
-    b: &Term,
-) -> Result<Option<Term>, AllocError>
+/// The first term, m times, and the second, n times, unless a number gets too large, or the term too long.
+pub fn combined(m: i64, a: &Term, n: i64, b: &Term) -> Result<Option<Term>, AllocError>
     ensures { IfOk result (λ made. IsWorth made (λ v. m *ℤ sum_value v a.now +ℤ n *ℤ sum_value v b.now)) }
 {
-    let mut term = constant_term(alloc, 0);
+    let mut term = constant_term(*a.parts.allocator(), 0);
     if !add_multiple(&mut term, m, a)? || !add_multiple(&mut term, n, b)? {
         return Ok(None);
     }
     Ok(limited(term))
 }
 
+/// A term, m times, and a constant, unless a number gets too large.
+pub fn plus_constant(m: i64, term: &Term, constant: i64) -> Result<Option<Term>, AllocError>
+    ensures { IfOk result (λ made. IsWorth made (λ v. constant +ℤ m *ℤ sum_value v term.now)) }
+{
+    combined(
+        m,
+        term,
+        1,
+        &constant_term(*term.parts.allocator(), constant),
+    )
+}
+
 /// The sum of two terms.
-pub fn sum(alloc: Global, a: &Term, b: &Term) -> Result<Option<Term>, AllocError>
+pub fn sum(a: &Term, b: &Term) -> Result<Option<Term>, AllocError>
     ensures { IfOk result (λ made. IsWorth made (λ v. sum_value v a.now +ℤ sum_value v b.now)) }
 {
-    combined(alloc, 1, a, 1, b)
+    combined(1, a, 1, b)
 }
 
 /// The first term less the second.
-pub fn difference(alloc: Global, a: &Term, b: &Term) -> Result<Option<Term>, AllocError>
+pub fn difference(a: &Term, b: &Term) -> Result<Option<Term>, AllocError>
     ensures { IfOk result (λ made. IsWorth made (λ v. sum_value v a.now -ℤ sum_value v b.now)) }
 {
-    combined(alloc, 1, a, -1, b)
+    combined(1, a, -1, b)
 }
 
 /// They are the same term.

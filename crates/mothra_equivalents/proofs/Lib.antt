@@ -1,3 +1,3 @@
 pub mod Common
-pub mod Adding
 pub mod Proved
+pub mod Listed

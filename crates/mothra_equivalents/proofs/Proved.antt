@@ -1,7 +1,6 @@
 -- What is proved of the mutant of a ticket.
-use Rattle.mothra_equivalents.proofs.Common.{◌≡◌, ℕ, None, Option, Some, Result, map, subst, sym, IfOk, IfSome, Statement, statement_of, Ticket, mutant_fields}
+use Rattle.mothra_equivalents.proofs.Common.{◌≡◌, ℕ, None, Option, Some, map, subst, sym, IfSome, Statement, statement_of, Ticket, mutant_fields}
 use Rattle.mothra_equivalents.proofs.Common.{mutant_of, program_of, PlanFields, IsProved, IsProvedMutant}
-use Rattle.std.proofs.lemmas.Result.{IfOk-weaker}
 use Rattle.f77_check.specs.Checked.{CheckedFields}
 use Rattle.f77_equivalence.specs.Equivalent.{IsEquivalent, IsEquivalentWithin}
 use Rattle.f77_program.specs.Patching.{patched}
@@ -12,15 +11,10 @@ abbrev IsOf : PlanFields → Mutant → ℕ → Type 0
 IsOf plan m spare = IsProved spare (program_of plan) (patched (program_of plan) m.edit.statement (statement_of m.stmt.value))
 
 -- the mutant that was found is the ticket's, and it was judged
-pub of_ticket : {E : Type 0} (plan : PlanFields) (ticket : Ticket) (m : Mutant) (r : Result (Option ℕ) E)
-    → Some (mutant_fields m) ≡ mutant_of plan ticket.op ticket.number
-    → IfOk r (λ found. IfSome found (λ spare. IsOf plan m spare)) → IfOk r (λ found. IfSome found (λ spare. IsProvedMutant plan ticket spare))
-of_ticket plan ticket m r is known =
-    IfOk-weaker r (λ found. IfSome found (λ spare. IsOf plan m spare)) (λ found. IfSome found (λ spare. IsProvedMutant plan ticket spare)) go known
-  where
-    go : (found : Option ℕ) → IfSome found (λ spare. IsOf plan m spare) → IfSome found (λ spare. IsProvedMutant plan ticket spare)
-    go None h = tt
-    go (Some spare) h = record { mutant = mutant_fields m; is = sym is; proved = h }
+pub of_ticket : (plan : PlanFields) (ticket : Ticket) (m : Mutant) (found : Option ℕ) → Some (mutant_fields m) ≡ mutant_of plan ticket.op ticket.number
+    → IfSome found (λ spare. IsOf plan m spare) → IfSome found (λ spare. IsProvedMutant plan ticket spare)
+of_ticket plan ticket m None is h = tt
+of_ticket plan ticket m (Some spare) is h = record { mutant = mutant_fields m; is = sym is; proved = h }
 
 -- the program's tours are those of the plan, and the steps fit
 pub of_tours : (plan : PlanFields) (checked : CheckedFields) (number : ℕ) (s : Statement) (found kept : Option ℕ) → checked ≡ plan.checked

@@ -1,3 +1,2 @@
 pub mod Equivalents
-pub mod code
 pub use Equivalents.*

@@ -8,15 +8,11 @@ use f77_legal::Names;
 use f77_legal::names::product;
 use f77_meaning::{Arg, Outcome, Values};
 use f77_run::{Runner, run};
-use f77_symbolic::gap::Gap;
-use f77_symbolic::rows::Rows;
+use f77_symbolic::rows::Gap;
 use f77_tree::{Kind, Name};
 use mothra_codes::Ticket;
-use mothra_ops::{Mutant, Plan};
+use mothra_ops::Mutant;
 use std::alloc::{AllocError, Global};
-
-/// So many rows are tried for a mutant at most.
-const ROWS: usize = 240;
 
 /// How tests are looked for.
 #[derive(Clone, Copy, PartialEq, Eq, Debug, Drop)]
@@ -49,39 +45,29 @@ pub struct Left {
     pub name: Option<Name>,
 }
 
-/// How many rows are to be kept for a mutant.
-pub(crate) fn rows_for(search: Search) -> usize {
-    if search.most == 0 { 0 } else { ROWS }
-}
-
 /// The value of a dummy argument of this shape, whose slots hold these numbers.
 fn argument(alloc: Global, shape: Shape, held: Vec<i32>) -> Result<Arg, AllocError> {
     let first = held.first().copied().unwrap_or(0);
-    match (shape.kind, shape.elements) {
-        (Kind::Integer, None) => Ok(Arg::Int(first)),
-        (Kind::Logical, None) => Ok(Arg::Truth(first != 0)),
-        (Kind::Integer, Some(_)) => Ok(Arg::Ints(Values::new(held))),
-        (Kind::Logical, Some(_)) => {
-            let mut truths = Vec::with_capacity(alloc, held.len())?;
-            for number in held {
-                truths.push(number != 0)?;
-            }
-            Ok(Arg::Truths(Values::new(truths)))
-        }
-    }
+    Ok(match (shape.kind, shape.elements) {
+        (Kind::Integer, None) => Arg::Int(first),
+        (Kind::Logical, None) => Arg::Truth(first != 0),
+        (Kind::Integer, Some(_)) => Arg::Ints(Values::new(held)),
+        (Kind::Logical, Some(_)) => Arg::Truths(Values::new(
+            held.iter().map(|number| *number != 0).collect(alloc)?,
+        )),
+    })
 }
 
 /// The values of dummy arguments of these shapes, whose slots hold the numbers of the row in order; 0 behind its end,
 /// and for one that 32 bits do not hold.
 fn arguments(alloc: Global, shapes: &[Shape], row: &[i64]) -> Result<Values<Arg>, AllocError> {
     let mut list = Vec::with_capacity(alloc, shapes.len())?;
-    let mut slot: usize = 0;
+    let mut numbers = row.iter();
     for shape in shapes {
         let mut held = Vec::new(alloc);
         for _ in 0..shape.elements.unwrap_or(1) {
-            let number = row.get(slot).copied().unwrap_or(0);
+            let number = numbers.next().copied().unwrap_or(0);
             held.push(i32::try_from(number).unwrap_or(0))?;
-            slot = slot.saturating_add(1);
         }
         list.push(argument(alloc, *shape, held)?)?;
     }
@@ -89,6 +75,7 @@ fn arguments(alloc: Global, shapes: &[Shape], row: &[i64]) -> Result<Values<Arg>
 }
 
 /// Whether the program returns or stops on a test that fits, and the mutant, whose runner this is, does something else.
+/// A test that fits is refused for want of memory alone.
 fn is_killed(
     alloc: Global,
     checked: &Checked,
@@ -96,44 +83,31 @@ fn is_killed(
     test: &[Arg],
     steps: u32,
 ) -> Result<bool, AllocError> {
-    // A test that fits is refused for want of memory alone.
-    let Ok(outcome) = run(alloc, checked, test, steps) else {
-        return Err(AllocError);
-    };
-    if !matches!(outcome, Outcome::Returned(_) | Outcome::Stopped(_)) {
-        return Ok(false);
-    }
-    match mutant.comes_to(test, steps, &outcome) {
-        Ok(same) => Ok(!same),
-        Err(_) => Err(AllocError),
-    }
+    let outcome = run(alloc, checked, test, steps).map_err(|_| AllocError)?;
+    let ends = matches!(outcome, Outcome::Returned(_) | Outcome::Stopped(_));
+    Ok(
+        ends && !mutant
+            .comes_to(test, steps, &outcome)
+            .map_err(|_| AllocError)?,
+    )
 }
 
-/// The mutant as a program.
-fn program_of(checked: &Checked, mutant: &Mutant) -> Result<Checked, AllocError>
-    requires { IsMadeMutant checked.now mutant.now }
-{
-    let stmt = mutant.statement(checked)?;
-    checked.with_statement(mutant.number(), &stmt, mutant.is_alone)
-}
-
-/// Tests that kill the ticket's mutant, those of these rows that do, as many as are asked for.
-fn rows_of(
+/// Tests that kill the mutant, those of these rows that do, as many as are asked for.
+pub(crate) fn rows_of(
     alloc: Global,
-    plan: &Plan,
-    ticket: Ticket,
+    checked: &Checked,
+    mutant: &Mutant,
     rows: &[Vec<i64>],
     search: Search,
-) -> Result<Vec<Values<Arg>>, AllocError> {
+) -> Result<Vec<Values<Arg>>, AllocError>
+    requires { IsMadeMutant checked.now mutant.now }
+{
     let mut killing = Vec::new(alloc);
     if rows.is_empty() {
         return Ok(killing);
     }
-    let Some(mutant) = plan.mutant(ticket.op, ticket.number) else {
-        return Ok(killing);
-    };
-    let checked = plan.program();
-    let changed = program_of(checked, mutant)?;
+    let stmt = mutant.statement(checked)?;
+    let changed = checked.with_statement(mutant.number(), &stmt, mutant.is_alone)?;
     let mut runner = Runner::of(alloc, &changed)?;
     for row in rows {
         if killing.len() >= search.most as usize {
@@ -149,8 +123,7 @@ fn rows_of(
 
 /// The line of the statement of this number, from 0.
 fn line_at(checked: &Checked, statement: usize) -> Option<u32> {
-    let line = checked.program().line(statement.checked_add(1)?)?;
-    Some(line.line)
+    Some(checked.program().line(statement.checked_add(1)?)?.line)
 }
 
 /// The name of the variable or array of which a slot is. Slots are given out name by name.
@@ -166,31 +139,11 @@ fn name_at(names: &Names, slot: usize) -> Option<Name> {
 }
 
 /// Where the walk was given up, if it came to statements of the program.
-fn left_at(checked: &Checked, names: &Names, gap: Option<Gap>) -> Option<Left> {
+pub(crate) fn left_at(checked: &Checked, names: &Names, gap: Option<Gap>) -> Option<Left> {
     let gap = gap?;
-    let own = line_at(checked, gap.own)?;
-    let other = line_at(checked, gap.other)?;
-    let name = match gap.slot {
-        Some(slot) => name_at(names, slot),
-        None => None,
-    };
-    Some(Left { own, other, name })
-}
-
-/// Adds what is told of the ticket's mutant, if anything is; `found` is what its proof left.
-pub(crate) fn add_unproved(
-    alloc: Global,
-    plan: &Plan,
-    names: &Names,
-    ticket: Ticket,
-    found: &Rows,
-    search: Search,
-    others: &mut Vec<Unproved>,
-) -> Result<(), AllocError> {
-    let rows = rows_of(alloc, plan, ticket, &found.list, search)?;
-    let left = left_at(plan.program(), names, found.gap);
-    if !rows.is_empty() || left.is_some() {
-        others.push(Unproved { ticket, rows, left })?;
-    }
-    Ok(())
+    Some(Left {
+        own: line_at(checked, gap.own)?,
+        other: line_at(checked, gap.other)?,
+        name: gap.slot.and_then(|slot| name_at(names, slot)),
+    })
 }

@@ -2,7 +2,7 @@
 
 use crate::made::{X, Y, Z, is_below, made};
 use f77_terms::atoms::{Function, Key, interned, new_table};
-use f77_terms::knowing::{know_division, know_minimum, know_range};
+use f77_terms::knowing::{know_division, know_function};
 use f77_terms::paths::{add_below, add_range, new_path};
 use f77_terms::ranges::Range;
 use f77_terms::terms::{atom_term, constant_term};
@@ -12,28 +12,28 @@ use std::test::Fail;
 fn makes_an_atom_once(rt: HostRuntime) -> Result<(), Fail> {
     let alloc = rt.alloc();
     let mut table = new_table(alloc);
-    assert_eq!(rt; interned(alloc, &mut table, Key::Slot(7))?, Some(0));
+    assert_eq!(rt; interned(&mut table, Key::Slot(7))?, Some(0));
     let half = Key::Function(
         Function::Quotient,
         atom_term(alloc, 0)?,
         constant_term(alloc, 2),
     );
-    assert_eq!(rt; interned(alloc, &mut table, half)?, Some(1));
-    assert_eq!(rt; interned(alloc, &mut table, Key::Slot(7))?, Some(0));
+    assert_eq!(rt; interned(&mut table, half)?, Some(1));
+    assert_eq!(rt; interned(&mut table, Key::Slot(7))?, Some(0));
     let half = Key::Function(
         Function::Quotient,
         atom_term(alloc, 0)?,
         constant_term(alloc, 2),
     );
-    assert_eq!(rt; interned(alloc, &mut table, half)?, Some(1));
+    assert_eq!(rt; interned(&mut table, half)?, Some(1));
     let rest = Key::Function(
         Function::Remainder,
         atom_term(alloc, 0)?,
         constant_term(alloc, 2),
     );
-    assert_eq!(rt; interned(alloc, &mut table, rest)?, Some(2));
+    assert_eq!(rt; interned(&mut table, rest)?, Some(2));
     let later = Key::Element(3, atom_term(alloc, 9)?);
-    assert_eq!(rt; interned(alloc, &mut table, later)?, None);
+    assert_eq!(rt; interned(&mut table, later)?, None);
     Ok(())
 }
 
@@ -45,16 +45,16 @@ fn knows_divisions(rt: HostRuntime) -> Result<(), Fail> {
     let divisor = constant_term(alloc, 4);
     add_range(&mut path, X, Range { low: 0, high: 100 })?;
     let product = made(alloc, 0, &[(4, Y)])?;
-    know_range(&mut path, Function::Remainder, &dividend, &divisor, Z)?;
-    know_division(alloc, &mut path, &dividend, &product, Z)?;
+    know_function(&mut path, Function::Remainder, &dividend, &divisor, Z)?;
+    know_division(&mut path, &dividend, &product, Z)?;
     let most = made(alloc, -3, &[(1, Z)])?;
-    assert!(rt; is_below(alloc, &path, &most)?);
+    assert!(rt; is_below(&path, &most)?);
     let most = made(alloc, -2, &[(1, Z)])?;
-    assert!(rt; !is_below(alloc, &path, &most)?);
+    assert!(rt; !is_below(&path, &most)?);
     let least = made(alloc, 0, &[(-1, Z)])?;
-    assert!(rt; is_below(alloc, &path, &least)?);
+    assert!(rt; is_below(&path, &least)?);
     let most = made(alloc, -25, &[(1, Y)])?;
-    assert!(rt; is_below(alloc, &path, &most)?);
+    assert!(rt; is_below(&path, &most)?);
     Ok(())
 }
 
@@ -64,12 +64,12 @@ fn knows_minima(rt: HostRuntime) -> Result<(), Fail> {
     let mut path = new_path(alloc);
     let first = atom_term(alloc, X)?;
     let second = atom_term(alloc, Y)?;
-    know_minimum(alloc, &mut path, &first, &second, Z)?;
-    add_below(alloc, &mut path, -1, &first, 3)?;
-    add_below(alloc, &mut path, -1, &second, 5)?;
+    know_function(&mut path, Function::Minimum, &first, &second, Z)?;
+    add_below(&mut path, -1, &first, 3)?;
+    add_below(&mut path, -1, &second, 5)?;
     let least = made(alloc, 3, &[(-1, Z)])?;
-    assert!(rt; is_below(alloc, &path, &least)?);
+    assert!(rt; is_below(&path, &least)?);
     let least = made(alloc, 4, &[(-1, Z)])?;
-    assert!(rt; !is_below(alloc, &path, &least)?);
+    assert!(rt; !is_below(&path, &least)?);
     Ok(())
 }

@@ -2,7 +2,7 @@
 
 use crate::made::{X, Y, Z, is_refuted, made};
 use f77_terms::atoms::Function;
-use f77_terms::knowing::{know_minimum, know_product, know_range};
+use f77_terms::knowing::know_function;
 use f77_terms::paths::{add_below, add_range, new_path};
 use f77_terms::ranges::{Range, atom_range};
 use f77_terms::terms::atom_term;
@@ -17,7 +17,7 @@ fn range_of(alloc: Global, function: Function, y: Range) -> Result<Option<Range>
     let mut path = new_path(alloc);
     add_range(&mut path, X, Range { low: 2, high: 5 })?;
     add_range(&mut path, Y, y)?;
-    know_range(
+    know_function(
         &mut path,
         function,
         &atom_term(alloc, X)?,
@@ -58,8 +58,8 @@ fn narrows_ranges_before(rt: HostRuntime) -> Result<(), Fail> {
     let y = atom_term(alloc, Y)?;
     add_range(&mut path, X, Range { low: 2, high: 5 })?;
     add_range(&mut path, Y, Range { low: -3, high: 4 })?;
-    add_below(alloc, &mut path, -1, &y, 1)?;
-    know_range(&mut path, Function::Product, &x, &y, Z)?;
+    add_below(&mut path, -1, &y, 1)?;
+    know_function(&mut path, Function::Product, &x, &y, Z)?;
     let product = Range { low: 2, high: 20 };
     assert_eq!(rt; atom_range(&path.known, Z), Some(product));
     Ok(())
@@ -71,14 +71,13 @@ fn bounds_squares(rt: HostRuntime) -> Result<(), Fail> {
     let mut path = new_path(alloc);
     let y = atom_term(alloc, Y)?;
     add_range(&mut path, Y, Range { low: -3, high: 4 })?;
-    know_range(&mut path, Function::Product, &y, &y, SQUARE)?;
+    know_function(&mut path, Function::Product, &y, &y, SQUARE)?;
     let square = Range { low: 0, high: 16 };
     assert_eq!(rt; atom_range(&path.known, SQUARE), Some(square));
-    know_product(alloc, &mut path, &y, &y, SQUARE)?;
     let less = made(alloc, 1, &[(1, SQUARE), (1, Y)])?;
-    assert!(rt; is_refuted(alloc, &path, &[less])?);
+    assert!(rt; is_refuted(&path, &[less])?);
     let less = made(alloc, 0, &[(1, SQUARE), (1, Y)])?;
-    assert!(rt; !is_refuted(alloc, &path, &[less])?);
+    assert!(rt; !is_refuted(&path, &[less])?);
     Ok(())
 }
 
@@ -89,8 +88,7 @@ fn bounds_sizes(rt: HostRuntime) -> Result<(), Fail> {
     let x = made(alloc, 0, &[(1, X)])?;
     let negative = made(alloc, 7, &[(-1, X)])?;
     add_range(&mut path, X, Range { low: -9, high: 9 })?;
-    know_range(&mut path, Function::Minimum, &x, &negative, Z)?;
-    know_minimum(alloc, &mut path, &x, &negative, Z)?;
+    know_function(&mut path, Function::Minimum, &x, &negative, Z)?;
     assert_eq!(rt;
         atom_range(&path.known, Z),
         Some(Range { low: -9, high: 3 })

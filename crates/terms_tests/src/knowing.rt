@@ -1,11 +1,11 @@
 //! What a path comes to know, and what it tells at once.
 
 use crate::made::{X, Y, is_below, is_refuted, made};
-use f77_terms::copying::copied_path;
-use f77_terms::knowing::{constant_of, is_ranged_off, know_division, know_minimum};
-use f77_terms::paths::{Path, add_below, add_range, add_unequal, new_path, settle};
+use f77_terms::atoms::Function;
+use f77_terms::knowing::{is_ranged_off, know_division, know_function};
+use f77_terms::paths::{Path, add_below, add_range, add_unequal, copied_path, new_path, settle};
 use f77_terms::ranges::{Range, atom_range};
-use f77_terms::terms::{atom_term, constant_term, difference};
+use f77_terms::terms::{atom_term, constant_of, constant_term, difference};
 use std::alloc::{AllocError, Global};
 use std::cmp::Ordering;
 use std::test::Fail;
@@ -14,7 +14,7 @@ use std::test::Fail;
 fn ordered(alloc: Global) -> Result<Path, AllocError> {
     let mut path = new_path(alloc);
     let order = made(alloc, 0, &[(1, X), (-1, Y)])?;
-    add_below(alloc, &mut path, 1, &order, 0)?;
+    add_below(&mut path, 1, &order, 0)?;
     add_range(&mut path, 1, Range { low: 0, high: 4 })?;
     Ok(path)
 }
@@ -25,7 +25,7 @@ fn tells_constants(rt: HostRuntime) -> Result<(), Fail> {
     assert_eq!(rt; constant_of(&constant_term(alloc, 5)), Some(5));
     let x = atom_term(alloc, 0)?;
     assert_eq!(rt; constant_of(&x), None);
-    let Some(none) = difference(alloc, &x, &x)? else {
+    let Some(none) = difference(&x, &x)? else {
         return Err(Fail::from(AllocError));
     };
     assert_eq!(rt; constant_of(&none), Some(0));
@@ -54,17 +54,17 @@ fn tells_bounds_by_ranges(rt: HostRuntime) -> Result<(), Fail> {
 fn tells_bounds_by_refutation(rt: HostRuntime) -> Result<(), Fail> {
     let alloc = rt.alloc();
     let path = ordered(alloc)?;
-    assert!(rt; is_below(alloc, &path, &made(alloc, -4, &[(1, X)])?)?);
-    assert!(rt; !is_below(alloc, &path, &made(alloc, -3, &[(1, X)])?)?);
+    assert!(rt; is_below(&path, &made(alloc, -4, &[(1, X)])?)?);
+    assert!(rt; !is_below(&path, &made(alloc, -3, &[(1, X)])?)?);
     Ok(())
 }
 
 #[test]
 fn copies_what_is_known(rt: HostRuntime) -> Result<(), Fail> {
     let alloc = rt.alloc();
-    let path = copied_path(alloc, &ordered(alloc)?)?;
+    let path = copied_path(&ordered(alloc)?)?;
     let large = made(alloc, 5, &[(-1, X)])?;
-    assert!(rt; is_refuted(alloc, &path, &[large])?);
+    assert!(rt; is_refuted(&path, &[large])?);
     Ok(())
 }
 
@@ -85,10 +85,10 @@ fn settles_what_is_unequal(rt: HostRuntime) -> Result<(), Fail> {
     let alloc = rt.alloc();
     let mut path = new_path(alloc);
     add_range(&mut path, 0, Range { low: 0, high: 9 })?;
-    add_unequal(alloc, &mut path, &atom_term(alloc, 0)?)?;
+    add_unequal(&mut path, &atom_term(alloc, 0)?)?;
     settle(&mut path);
     assert_eq!(rt; atom_range(&path.known, 0), Some(Range { low: 1, high: 9 }));
-    add_unequal(alloc, &mut path, &made(alloc, 9, &[(-1, X)])?)?;
+    add_unequal(&mut path, &made(alloc, 9, &[(-1, X)])?)?;
     settle(&mut path);
     assert_eq!(rt; atom_range(&path.known, 0), Some(Range { low: 1, high: 8 }));
     Ok(())
@@ -101,11 +101,11 @@ fn knows_divisions_once(rt: HostRuntime) -> Result<(), Fail> {
     let x = atom_term(alloc, 0)?;
     let y = atom_term(alloc, 1)?;
     let product = atom_term(alloc, 2)?;
-    know_division(alloc, &mut path, &x, &product, 3)?;
-    know_division(alloc, &mut path, &x, &product, 3)?;
+    know_division(&mut path, &x, &product, 3)?;
+    know_division(&mut path, &x, &product, 3)?;
     assert_eq!(rt; path.choices.len(), 1);
-    know_minimum(alloc, &mut path, &x, &y, 4)?;
-    know_minimum(alloc, &mut path, &x, &y, 4)?;
+    know_function(&mut path, Function::Minimum, &x, &y, 4)?;
+    know_function(&mut path, Function::Minimum, &x, &y, 4)?;
     assert_eq!(rt; path.choices.len(), 2);
     Ok(())
 }

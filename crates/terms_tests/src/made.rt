@@ -27,22 +27,17 @@ pub(crate) fn made(
 }
 
 /// Where the path holds, not all of the terms are at most 0.
-pub(crate) fn is_refuted(alloc: Global, path: &Path, extra: &[Term]) -> Result<bool, AllocError> {
+pub(crate) fn is_refuted(path: &Path, extra: &[Term]) -> Result<bool, AllocError> {
     let mut work = 2000;
-    refuted(alloc, &mut work, path, extra)
+    refuted(&mut work, path, extra)
 }
 
 /// Where the path holds, the term has not this sign.
-pub(crate) fn never_has(
-    alloc: Global,
-    path: &Path,
-    term: &Term,
-    sign: Ordering,
-) -> Result<bool, AllocError> {
-    is_refuted(alloc, path, &sign_bounds(alloc, term, sign)?)
+pub(crate) fn never_has(path: &Path, term: &Term, sign: Ordering) -> Result<bool, AllocError> {
+    is_refuted(path, &sign_bounds(term, sign)?)
 }
 
 /// Where the path holds, the term is at most 0.
-pub(crate) fn is_below(alloc: Global, path: &Path, term: &Term) -> Result<bool, AllocError> {
-    never_has(alloc, path, term, Ordering::Greater)
+pub(crate) fn is_below(path: &Path, term: &Term) -> Result<bool, AllocError> {
+    never_has(path, term, Ordering::Greater)
 }

@@ -1,13 +1,12 @@
 -- What an evaluator finds of expressions.
 -- Private functions and proofs alone cite what stands here.
-use Rattle.std.specs.Prelude.{◌≡◌, ◌≢◌, ◌+◌, ◌+ℤ◌, ◌*ℤ◌, ◌<◌, ◌≤ℤ◌, ◌<ℤ◌, ◌⊎◌, ℕ, ℤ, pos, negsuc, int_div, int_rem}
-use Rattle.std.specs.Prelude.{Bool, true, false, List, Option, Some, None, Result, Ok, Err}
+use Rattle.std.specs.Prelude.{◌≡◌, ◌+◌, ◌<◌, ◌≤ℤ◌, ◌<ℤ◌, ◌⊎◌, ℕ, ℤ, pos, int_div, int_rem}
+use Rattle.std.specs.Prelude.{Bool, true, List, Option, Some, None, Result, Ok, Err}
 use Rattle.f77_actions.specs.declared.finish.Fault.{Fault}
-use Rattle.f77_symbolic.specs.Prelude.{Value, held_in, Cells, Holds, Valuation, sum_value, Evaluator, Split, Location}
+use Rattle.f77_symbolic.specs.Prelude.{Value, held_in, Cells, Holds, Valuation, sum_value, Evaluator, Location}
 use Rattle.f77_symbolic.specs.Prelude.{Symbolic, Write}
 use Rattle.f77_terms.specs.declared.terms.Term.{Term}
 use Rattle.f77_symbolic.specs.declared.arithmetic.Division.{Division}
-use Rattle.f77_symbolic.specs.declared.halt.Split.TheVariants as split
 use Rattle.f77_symbolic.specs.{Interprets, AreInside, IsInside, Start, cells_of, slot_of, content_of}
 
 -- the new path holds, and the evaluator is of the same program
@@ -85,10 +84,3 @@ pub record IsDivision (v : Valuation) (division : Division) (a b : ℤ) : Type 0
 abbrev pub HasItem : Option ℕ → ℕ → ℤ → Type 0
 HasItem (Some place) count z = (place < count) × (z ≡ pos (place + 1))
 HasItem None count z = (z ≤ℤ pos 0) ⊎ (pos count <ℤ z)
-
--- one of two ways, at 0 or at the sign, the first or the second
-abbrev pub IsOnWay : Valuation → Split → Bool → Type 0
-IsOnWay v (split.Sign term) true = (pos 1 +ℤ pos 1 *ℤ sum_value v term) ≤ℤ pos 0
-IsOnWay v (split.Sign term) false = (pos 0 +ℤ negsuc 0 *ℤ sum_value v term) ≤ℤ pos 0
-IsOnWay v (split.Zero term) true = sum_value v term ≡ pos 0
-IsOnWay v (split.Zero term) false = sum_value v term ≢ pos 0

@@ -1,11 +1,10 @@
 -- What the walk of a program and a changed one is to show.
 -- Private functions and proofs alone cite what stands here.
-use Rattle.std.specs.Prelude.{◌≡◌, ◌+ℤ◌, ◌≤ℤ◌, ℕ, ℤ, pos, All, Bool, IfSome, List, Option, Some}
+use Rattle.std.specs.Prelude.{◌≡◌, ◌≤◌, ◌+ℤ◌, ◌≤ℤ◌, ℕ, ℤ, pos, All, IfSome, List, Option, Some}
 use Rattle.f77_symbolic.specs.Prelude.{Finish, CheckedFields, IsChecked, Cells, Ends, moved, AgreeBut, PassAlike}
-use Rattle.f77_symbolic.specs.Prelude.{HoldAlike, Holds, Valuation, Change, Atoms, Split, Pair, Side}
+use Rattle.f77_symbolic.specs.Prelude.{HoldAlike, Holds, Valuation, Change, Atoms, Pair}
 use Rattle.f77_symbolic.specs.{together, FollowsByKeys, Interprets, AreInside, Start, cells_of, state_of}
 use Rattle.f77_symbolic.specs.code.Memory.{HaveDummies}
-use Rattle.f77_symbolic.specs.code.Evaluation.{IsOnWay}
 
 -- the changed statement alone is another one, DOs pass it alike, and these are the dummy arguments
 pub record IsReady (checked : CheckedFields) (change : Change) : Type 0 where
@@ -58,20 +57,12 @@ GivesWay atoms change old new pair = Whatever atoms change (λ spare checked sta
     → All (IsSettled spare checked change start v) old × Follows spare checked change start v pair)
 
 -- where it was at most so many steps behind, all pairs are settled
-abbrev pub AreSettled : Atoms → Change → ℤ → List Pair → Type 0
-AreSettled atoms change behind list = Whatever atoms change (λ spare checked start v. behind ≤ℤ pos spare
+abbrev pub AreSettled : Atoms → Change → ℕ → List Pair → Type 0
+AreSettled atoms change behind list = Whatever atoms change (λ spare checked start v. behind ≤ spare
     → All (IsSettled spare checked change start v) list)
 
 -- the changed program ends so from there, and the dummy arguments hold the same
-abbrev pub EndsSo : CheckedFields → Change → Finish → Start → Valuation → Side → Side → Type 0
-EndsSo checked change finish start v left right = (others : Cells)
-    × (moved change.statements.items (state_of start.cells v right) ≡ Some (Ends finish others))
-    × HoldAlike checked (cells_of start.cells v left.writes.items) others
-
--- the second pair is the first one on one of two ways
-pub record IsPairOn (split : Split) (way : Bool) (pair on : Pair) : Type 0 where
-  pub path : (v : Valuation) → Holds v pair.path → IsOnWay v split way → Holds v on.path
-  pub left : on.left ≡ pair.left
-  pub right : on.right ≡ pair.right
-  pub credit : on.credit ≡ pair.credit
-  pub fresh : on.fresh ≡ pair.fresh
+abbrev pub EndsSo : CheckedFields → Change → Finish → Start → Valuation → Pair → Type 0
+EndsSo checked change finish start v pair = (others : Cells)
+    × (moved change.statements.items (state_of start.cells v pair.right) ≡ Some (Ends finish others))
+    × HoldAlike checked (cells_of start.cells v pair.left.writes.items) others

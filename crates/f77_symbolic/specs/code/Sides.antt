@@ -1,13 +1,15 @@
 -- States by terms, and a step from there.
 -- Private functions and proofs alone cite what stands here.
-use Rattle.std.specs.Prelude.{◌≡◌, ◌≢◌, ℕ, ℤ, Bool, true, List, Option, Some, None}
+use Rattle.std.specs.Prelude.{◌≡◌, ◌+◌, ℕ, zero, suc, ℤ, Bool, true, List, Option, Some, None, slice_set}
 use Rattle.f77_actions.specs.declared.action.Action.{Action}
-use Rattle.f77_symbolic.specs.Prelude.{Finish, Resolved, Cells, TurnList, Move, Goes, Ends, acted, Holds, Valuation}
-use Rattle.f77_symbolic.specs.Prelude.{Evaluator, Side, SymbolicTurn, Step}
+use Rattle.f77_symbolic.specs.Prelude.{Finish, Resolved, Cells, Turn, TurnList, Move, Goes, Ends, acted, state}
+use Rattle.f77_symbolic.specs.Prelude.{Holds, Valuation, Evaluator, Side, Step}
+use Rattle.f77_code.specs.Moves.{go_on}
+use Rattle.f77_code.specs.declared.control.Place.TheVariants.{Execute}
 use Rattle.f77_actions.specs.declared.finish.Finish.TheVariants.{Returned, Stopped, Failed}
 use Rattle.f77_terms.specs.declared.paths.Path.{Path}
 use Rattle.f77_symbolic.specs.declared.sides.Step.TheVariants as step
-use Rattle.f77_symbolic.specs.{Interprets, AreInside, Start, cells_of, turn_of, turns_of, state_of}
+use Rattle.f77_symbolic.specs.{Interprets, AreInside, Start, cells_of, turns_of, state_of}
 
 -- a run ends so where this is the step
 abbrev pub IsEndOf : Step → Finish → Type 0
@@ -53,8 +55,13 @@ pub record GoesTo (v : Valuation) (before after : Side) (made : Step)
       ≡ Goes (state_of start v after)
   pub writes : after.writes ≡ before.writes
 
--- an active DO has so many passes left, with this step, and one that is not active has none
-abbrev pub HasLeft : Valuation → Option SymbolicTurn → ℕ → ℤ → Type 0
-HasLeft v None passes step = passes ≡ 0
-HasLeft v (Some turn) passes step =
-    (passes ≢ 0) × (turn_of v turn ≡ record { passes = passes; step = step })
+-- what so many passes leave to a DO
+abbrev pub left_of : ℕ → ℤ → Option Turn
+left_of zero step = None
+left_of (suc k) step = Some (record { passes = suc k; step = step })
+
+-- the DO d, which ends at this statement, has this left
+abbrev pub move_with : Resolved → ℕ → Option Turn → Cells → TurnList → Move
+move_with end d None cells turns = go_on end cells (slice_set turns d None)
+move_with end d (Some turn) cells turns =
+    Goes (state (Execute (d + 1)) cells (slice_set turns d (Some turn)))

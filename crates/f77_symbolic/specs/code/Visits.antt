@@ -1,17 +1,12 @@
 -- What the walk of the program alone comes to.
 -- Private functions and proofs alone cite what stands here.
-use Rattle.std.specs.Prelude.{◌≡◌, ◌<◌, ◌≤ℤ◌, ℕ, ℤ, pos, true, false, All, Contains, List, Option, Some}
-use Rattle.std.specs.Prelude.{length, option_map}
-use Rattle.f77_symbolic.specs.Prelude.{Resolved, Place, State, TurnList, Goes, moved, turn_at, CheckedFields, site}
-use Rattle.f77_symbolic.specs.Prelude.{Entry, IsAmong, AreLeft, SuitsTurn, Holds, Valuation, Atoms, Evaluator, Side}
-use Rattle.f77_symbolic.specs.Prelude.{SymbolicTurn, Pair, Step, Visit, Visits, Change}
-use Rattle.f77_facts.specs.declared.loops.LoopFact.{LoopFact}
+use Rattle.std.specs.Prelude.{◌≡◌, ◌≤◌, ℕ, true, false, All, Contains, List, Some}
+use Rattle.f77_symbolic.specs.Prelude.{Resolved, Place, State, Goes, moved, CheckedFields, site, Entry, IsAmong, Holds}
+use Rattle.f77_symbolic.specs.Prelude.{Valuation, Atoms, Evaluator, Side, Pair, Step, Visit, Visits, Change}
 use Rattle.f77_symbolic.specs.declared.sides.Step.TheVariants as step
 use Rattle.f77_symbolic.specs.declared.visiting.Walk.{Walk}
 use Rattle.f77_symbolic.specs.{IsAtSite, IsFirst, machine, together, FollowsByKeys, IsReachable, Interprets, AreInside}
-use Rattle.f77_symbolic.specs.{Start, state_of, turn_of, AreTurnNumbers, AreVisits, IsOfEntry, IsVisit, IsVisitNoted}
-use Rattle.f77_symbolic.specs.{LeadsTo, is_cut_in}
-use Rattle.f77_symbolic.specs.code.Evaluation.{Always, StaysOn}
+use Rattle.f77_symbolic.specs.{Start, state_of, AreVisits, IsOfEntry, IsVisit, IsVisitNoted, LeadsTo, is_cut_in}
 use Rattle.f77_symbolic.specs.code.Pairs.{IsReady, IsSettled}
 
 -- what is known of the state is among the arrivals
@@ -43,22 +38,6 @@ pub record IsPartOf (statements : List Resolved) (places : List Place) (whole : 
   pub list : All (Contains whole.list.items) walk.list.items
   pub arrivals : All (Contains whole.arrivals.items) walk.arrivals.items
 
--- where the turn of a DO suits what is known, the symbolic turn stands for it, and the new path holds
-abbrev pub StandsForTurn : Evaluator → Evaluator → ℕ → ℕ → LoopFact → Option SymbolicTurn → Type 0
-StandsForTurn old new d count fact turn =
-    Always old new (λ start v. (turns : TurnList)
-    → AreTurnNumbers (length old.atoms.facts.items) count turns start → SuitsTurn fact (turn_at turns d)
-    → d < count
-    → StaysOn v old new × (option_map (turn_of v) turn ≡ turn_at turns d))
-
--- where a state is of the entry, the visit is of the state
-abbrev pub IsFirstVisit : Evaluator → Evaluator → ℕ → Place → List LoopFact → Visit → Type 0
-IsFirstVisit old new count place loops visit =
-    Always old new (λ start v. (s : State) → start.cells ≡ s.cells
-    → AreTurnNumbers (length old.atoms.facts.items) count s.turns start → place ≡ s.place
-    → AreLeft loops s.turns
-    → IsVisit start v s visit)
-
 -- whatever the atoms mean
 abbrev pub Whichever : Atoms → (Start → Valuation → Type 0) → Type 0
 Whichever atoms Claim = (start : Start) (v : Valuation) → Interprets atoms start v → Claim start v
@@ -86,38 +65,22 @@ abbrev pub FollowsVisit : ℕ → CheckedFields → Change → Start → Valuati
 FollowsVisit spare checked change start v place visit = site visit.side.place ≡ place
     → (s : State) → IsVisit start v s visit → FollowsAt spare checked change s
 
--- where the pair is settled, so it does from the visit
-abbrev pub IsPairOf : Visit → Pair → Type 0
-IsPairOf visit pair =
-    (spare : ℕ) (checked : CheckedFields) (change : Change) (start : Start) (v : Valuation) (place : ℕ)
-    → IsSettled spare checked change start v pair → FollowsVisit spare checked change start v place visit
-
--- where the pairs are settled, so it does from the visits
+-- where the pairs are settled, so it does from each of the visits
 abbrev pub HavePairs : ℕ → List Pair → List Visit → Type 0
 HavePairs place pairs visits =
     (spare : ℕ) (checked : CheckedFields) (change : Change) (start : Start) (v : Valuation)
     → All (IsSettled spare checked change start v) pairs
     → All (FollowsVisit spare checked change start v place) visits
 
--- from each state of the entry's walk that is at the changed statement
-abbrev pub FollowsFrom : CheckedFields → List Place → Entry → Change → ℕ → Type 0
-FollowsFrom checked places entry change spare = (first s : State) (n : ℕ)
-    → IsReady checked change → IsOfEntry entry first → LeadsTo checked.statements places n first s
-    → site s.place ≡ change.place → FollowsAt spare checked change s
-
--- by so many steps at most the changed program is behind on the walk of these visits
-abbrev pub IsBehindBy : Change → ℤ → Visits → Type 0
-IsBehindBy change behind visits =
-    (spare : ℕ) (checked : CheckedFields) (places : List Place) (entry : Entry) → behind ≤ℤ pos spare
-    → AreVisits checked.statements places entry visits → FollowsFrom checked places entry change spare
+-- where so many steps may be spared, it does so from each state of the walk of these visits at the changed statement
+abbrev pub IsBehindBy : Change → ℕ → Visits → Type 0
+IsBehindBy change behind visits = (spare : ℕ) (checked : CheckedFields) (places : List Place) (entry : Entry)
+    (first s : State) (n : ℕ) → behind ≤ spare → IsReady checked change
+    → AreVisits checked.statements places entry visits → IsOfEntry entry first
+    → LeadsTo checked.statements places n first s → site s.place ≡ change.place → FollowsAt spare checked change s
 
 -- wherever the program comes to the changed statement
 abbrev pub FollowsThere : CheckedFields → Change → ℕ → Type 0
 FollowsThere checked change spare = (s : State) → IsReady checked change
     → IsReachable (machine checked.statements) (IsFirst checked) s → IsAtSite change.place s
     → FollowsAt spare checked change s
-
--- by so many steps at most it is behind there, where these are tours of the program
-abbrev pub IsBehindOn : Change → ℤ → (CheckedFields → Type 0) → Type 0
-IsBehindOn change behind Tours = (spare : ℕ) (checked : CheckedFields)
-    → behind ≤ℤ pos spare → Tours checked → FollowsThere checked change spare

@@ -1,6 +1,6 @@
-use Rattle.f77_equivalence.proofs.Common.{arith, ◌≡◌, ◌∙◌, ◌++◌, length, map, take, drop, ap, subst, sym, List, option_map, replicate, zip, Cells, Execute}
+use Rattle.f77_equivalence.proofs.Common.{arith, ◌≡◌, ◌∙◌, length, map, drop, ap, subst, sym, List, option_map, replicate, zip, Cells, Execute}
 use Rattle.f77_equivalence.proofs.Common.{Inactive, AreIn, AreLeft, Arg, AreFitting, all_filled, constant_value, start_cells, start_turns, AreStorable}
-use Rattle.std.proofs.Math.Seq.{take-append_seam}
+use Rattle.f77_terms.proofs.There.{written_back}
 use Rattle.f77_check.specs.declared.start.Start.{Start}
 use Rattle.f77_equivalence.proofs.Starting.{kind_each, start_left}
 use Rattle.f77_equivalence.proofs.start.starting_entry.Goals as goal
@@ -25,8 +25,7 @@ returns c =
     = c.in_ok-vec.ensures.items_if_clones_equal (λ y is. is) ∙ ap (λ n. replicate n Inactive) c.count.ensures in
     let long : length c.give_arguments.new.facts ≡ c.in_ok-facts.facts.len = omega (arith, c.give_arguments.auto.facts, c.deref_mut.ensures.len, c.in_ok-facts.facts.ok) in
     let rest = drop (length c.give_arguments.new.facts) c.in_ok-facts.facts.items in
-    let written : take c.in_ok-facts.facts.len (c.give_arguments.new.facts ++ rest) ≡ c.give_arguments.new.facts
-    = subst (λ k. take k (c.give_arguments.new.facts ++ rest) ≡ c.give_arguments.new.facts) long (take-append_seam c.give_arguments.new.facts rest) in
+    let written = written_back c.give_arguments.new.facts rest c.in_ok-facts.facts.len long in
     record {
       there = ap (λ (s : Start). Execute s.entry) start;
       inside = λ arguments fits storable.

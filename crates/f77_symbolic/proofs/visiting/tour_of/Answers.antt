@@ -1,18 +1,18 @@
-use Rattle.f77_symbolic.proofs.Common.{◌≡◌, ◌≤◌, ◌∙◌, ◌++◌, ◌∷◌, [], ap, arith, false, length, subst, sym, take, true, List, All, Any, Vec, take_all, All-more}
-use Rattle.f77_symbolic.proofs.Common.{All-weaker, get_or_from_slice_get, slice_get_within, Entry, Visits}
+use Rattle.f77_symbolic.proofs.Common.{◌≡◌, ◌≤◌, ◌∙◌, ◌++◌, ◌∷◌, [], ap, arith, false, length, subst, sym, true, List, All, Any, Vec, take_all, get_or_from_slice_get}
+use Rattle.f77_symbolic.proofs.Common.{slice_get_within, Entry, Visits}
 use Rattle.std.specs.declared.alloc.Global.{Global}
 use Rattle.std.proofs.lemmas.List.Quantifiers.{Any-push}
 use Rattle.f77_facts.specs.Entries.{GrowsEntries}
 use Rattle.f77_terms.proofs.There.{any_before}
-use Rattle.f77_symbolic.proofs.Tours.{IsToured, IsWalked}
+use Rattle.f77_symbolic.proofs.Tours.{IsToured, IsWalked, all_next}
 use Rattle.f77_symbolic.proofs.visiting.tour_of.Goals as goal
 use Rattle.f77_symbolic.proofs.visiting.tour_of.Goals.{then-is_cut+in_ok-visits+in_ok-unless_unknown+in_ok-push, else-is_cut}
 
-pub loop-number-preserved : goal.loop-number-preserved
-loop-number-preserved c =
+pub loop-entry-preserved : goal.loop-entry-preserved
+loop-entry-preserved c =
     let entries = c.args.entries.now in
-    let entry = c.item_at-entry.result.now in
-    let old = c.loop-number.each.items in
+    let entry = c.entry-item.result in
+    let old = c.loop-entry.each.items in
     let new = c.if-is_cut.each.items in
     let Walked : Entry → Visits → Type 0 = IsWalked c.args.statements.now c.args.cuts.now entries in
     let Toured : List Visits → Entry → Type 0 = IsToured c.args.statements.now c.args.cuts.now entries in
@@ -29,14 +29,12 @@ loop-number-preserved c =
         (λ cut. let e : true ≡ false = sym cut ∙ sym c.is_cut.ensures ∙ w.if-is_cut.false in absurd (cc (e))),
       )
     ] in
-    All-more (Toured new) entries c.loop-number.number entry (omega arith)
-    (All-weaker (Toured old) (Toured new) it.0 (take c.loop-number.number entries) c.loop-number.invariant)
-    (subst (Toured new) (sym (get_or_from_slice_get entries c.loop-number.number entry entry c.item_at-entry.ensures)) it.1)
+    all_next (Toured old) (Toured new) entries c.loop-entry.entry-index entry (omega arith) c.entry-item.is it.0 c.loop-entry.invariant it.1
 
 pub returns : goal.returns
 returns c k entry is =
     let entries = c.args.entries.now in
-    let Toured = IsToured c.args.statements.now c.args.cuts.now entries c.loop-number.each.items in
-    let all : length entries ≤ c.loop-number.number = omega arith in
+    let Toured = IsToured c.args.statements.now c.args.cuts.now entries c.loop-entry.each.items in
+    let all : length entries ≤ c.loop-entry.entry-index = omega arith in
     subst Toured (get_or_from_slice_get entries k entry entry is)
-    (subst (All Toured) (take_all c.loop-number.number entries all) c.loop-number.invariant k entry (slice_get_within entries k entry is))
+    (subst (All Toured) (take_all c.loop-entry.entry-index entries all) c.loop-entry.invariant k entry (slice_get_within entries k entry is))

@@ -6,5 +6,5 @@ returns-then-is_refuted c e v known below =
 
 pub loop-preserved : goal.loop-preserved
 loop-preserved c v known below =
-    (rw c.deref-in-loop-2.ensures.value at (c.in_ok-without.ensures v))
+    (rw c.deref-in-loop.ensures.value at (c.in_ok-without.ensures v))
     (c.in_ok-add_known.ensures v known (c.loop.invariant v known below))

@@ -1,6 +1,4 @@
-use Rattle.f77_terms.proofs.Common.{rules, ◌≡◌, w64, to_z-of_z, SFits}
-use Rattle.std.specs.Int.{int_min}
-use Rattle.f77_terms.proofs.Division.{min_between}
+use Rattle.f77_terms.proofs.Common.{arith, rules, w64, SFits, ints, clamps}
 use Rattle.f77_terms.proofs.functions.minimum_range.Goals as goal
 
 pub returns : goal.returns
@@ -11,6 +9,6 @@ returns c x y first second =
     let e : SFits w64 c.args.b.high = search rules in
     let f : SFits w64 c.min.result = search rules in
     let h : SFits w64 c.min-2.result = search rules in
-    let low : c.min.result ≡ int_min c.args.a.low c.args.b.low = simp to_z-of_z at c.min.ensures.value in
-    let high : c.min-2.result ≡ int_min c.args.a.high c.args.b.high = simp to_z-of_z at c.min-2.ensures.value in
-    simp to_z-of_z (min_between c.args.a.low c.args.a.high c.args.b.low c.args.b.high c.min.result c.min-2.result x y low high first second)
+    let low = c.min.ensures.value in
+    let high = c.min-2.ensures.value in
+    record { above = omega (arith, ints, clamps, low, first.above, second.above); below = omega (arith, ints, clamps, high, first.below, second.below) }

@@ -1,5 +1,5 @@
-use Rattle.f77_terms.proofs.Common.{arith, rules, SFits, w64, ints, to_z-of_z}
-use Rattle.f77_terms.proofs.Orders.{risen, fallen}
+use Rattle.f77_terms.proofs.Common.{arith, rules, SFits, w64, pos, ◌≤ℤ◌, ints, to_z-of_z}
+use Rattle.f77_terms.proofs.Orders.{rising, falling}
 use Rattle.f77_terms.proofs.ranges.multiple_range.Goals as goal
 
 pub returns-then-m-lt0 : goal.returns-then-m-lt0
@@ -9,9 +9,13 @@ returns-then-m-lt0 c x inside =
     let h : SFits w64 c.args.range.high = search rules in
     let low : SFits w64 c.in_ok-low.low = search rules in
     let high : SFits w64 c.in_ok-high.high = search rules in
-    let below = c.if-m-lt0.true in
-    simp to_z-of_z (fallen c.args.m x c.args.range.low c.args.range.high c.in_ok-low.low c.in_ok-high.high (omega (arith, ints, below)) inside
-    (simp to_z-of_z at c.in_ok-low.ensures.1) (simp to_z-of_z at c.in_ok-high.ensures.1))
+    let test = c.if-m-lt0.true in
+    let below : c.args.m ≤ℤ pos 0 = omega (arith, ints, test) in
+    let first = falling c.args.m c.args.range.low x below inside.above in
+    let second = falling c.args.m x c.args.range.high below inside.below in
+    let least = simp to_z-of_z at c.in_ok-low.ensures.1 in
+    let most = simp to_z-of_z at c.in_ok-high.ensures.1 in
+    simp to_z-of_z (record { above = omega (arith, ints, second, most); below = omega (arith, ints, first, least) })
 
 pub returns-else-m-lt0 : goal.returns-else-m-lt0
 returns-else-m-lt0 c x inside =
@@ -20,6 +24,10 @@ returns-else-m-lt0 c x inside =
     let h : SFits w64 c.args.range.high = search rules in
     let low : SFits w64 c.in_ok-low.low = search rules in
     let high : SFits w64 c.in_ok-high.high = search rules in
-    let above = c.if-m-lt0.false in
-    simp to_z-of_z (risen c.args.m x c.args.range.low c.args.range.high c.in_ok-low.low c.in_ok-high.high (omega (arith, ints, above)) inside
-    (simp to_z-of_z at c.in_ok-low.ensures.1) (simp to_z-of_z at c.in_ok-high.ensures.1))
+    let test = c.if-m-lt0.false in
+    let above : pos 0 ≤ℤ c.args.m = omega (arith, ints, test) in
+    let first = rising c.args.m c.args.range.low x above inside.above in
+    let second = rising c.args.m x c.args.range.high above inside.below in
+    let least = simp to_z-of_z at c.in_ok-low.ensures.1 in
+    let most = simp to_z-of_z at c.in_ok-high.ensures.1 in
+    simp to_z-of_z (record { above = omega (arith, ints, first, least); below = omega (arith, ints, second, most) })

@@ -5,7 +5,7 @@ use Rattle.f77_terms.proofs.splitting.+refuting.Goals as goal
 
 pub are_refuted_with-loop-case-preserved : goal.are_refuted_with-loop-case-preserved
 are_refuted_with-loop-case-preserved t c v holds known below there =
-    elim (any_more (λ case. AreBelow v case.bounds.items) c.args.cases.now c.loop-case.case-index c.case-item.result (omega arith) c.case-item.is there) [
+    elim (any_more (λ case. AreBelow v case.items) c.args.cases.now c.loop-case.case-index c.case-item.result (omega arith) c.case-item.is there) [
       | inl before ↦ c.loop-case.invariant v holds known below before
       | inr last ↦
           (rw c.deref-in-loop-case.ensures.value at c.in_ok-is_refuted_with.ensures) c.if-not-branch.false v holds known
@@ -15,7 +15,7 @@ are_refuted_with-loop-case-preserved t c v holds known below there =
 pub are_refuted_with-returns : goal.are_refuted_with-returns
 are_refuted_with-returns t c e v holds known below there =
     c.loop-case.invariant v holds known below
-    (any_of_all (λ case. AreBelow v case.bounds.items) c.args.cases.now c.loop-case.case-index (omega arith) there)
+    (any_of_all (λ case. AreBelow v case.items) c.args.cases.now c.loop-case.case-index (omega arith) there)
 
 pub is_refuted_with-returns : goal.is_refuted_with-returns
 is_refuted_with-returns t c =

@@ -1,4 +1,4 @@
-use Rattle.f77_terms.proofs.Common.{◌+◌, suc, take, Valuation, AreBelow, AreKnown, IsOneOf, Holds}
+use Rattle.f77_terms.proofs.Common.{◌+◌, suc, take, Valuation, AreBelow, AreKnown, Any, Holds}
 use Rattle.f77_terms.proofs.splitting.+refuting.Given as goal
 
 abbrev pub decreases-are_refuted_with : goal.decreases-are_refuted_with
@@ -9,4 +9,4 @@ decreases-is_refuted_with l = l.splits + l.splits
 
 abbrev pub invariant-are_refuted_with-loop-case : goal.invariant-are_refuted_with-loop-case
 invariant-are_refuted_with-loop-case l =
-    (v : Valuation) → Holds v l.path → AreKnown v l.known → AreBelow v l.bounds → ¬ (IsOneOf v (take l.case-index l.cases))
+    (v : Valuation) → Holds v l.path → AreKnown v l.known → AreBelow v l.bounds → ¬ (Any (λ case. AreBelow v case.items) (take l.case-index l.cases))

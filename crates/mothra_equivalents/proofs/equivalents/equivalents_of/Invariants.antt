@@ -1,8 +1,9 @@
-use Rattle.mothra_equivalents.proofs.Common.{◌≡◌, AreOf}
+use Rattle.mothra_equivalents.proofs.Common.{◌≡◌}
+use Rattle.mothra_equivalents.proofs.Listed.{IsUpTo}
 use Rattle.mothra_equivalents.proofs.equivalents.equivalents_of.Given as goal
 
-abbrev pub invariant-loop-op : goal.invariant-loop-op
-invariant-loop-op l = record {
+abbrev pub invariant-loop-ticket : goal.invariant-loop-ticket
+invariant-loop-ticket l = record {
   plan : l.prover ≡ l.plan;
-  are : AreOf l.plan l.op-index l.found.list.items;
+  front : IsUpTo l.plan l.ticket-items l.ticket-index l.list.items;
 }

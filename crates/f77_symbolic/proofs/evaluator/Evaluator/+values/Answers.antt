@@ -1,6 +1,7 @@
-use Rattle.f77_symbolic.proofs.Common.{◌≡◌, ◌+◌, ◌∷◌, [], Ok, in_range, negated, without_sign, element, given, pushed, whole, calculated, number_in, slot_in}
-use Rattle.f77_symbolic.proofs.Common.{ok_then, sum_value, IsInside, cells_of, slot_of}
-use Rattle.f77_symbolic.proofs.Answering.{known_answers, both_answers}
+use Rattle.f77_symbolic.proofs.Common.{arith, ints, ◌≡◌, ◌+◌, ◌∷◌, [], Answers, Ok, in_range, negated, without_sign, element, given, pushed, whole, calculated, number_in, slot_in}
+use Rattle.f77_symbolic.proofs.Common.{ok_then, subst, sum_value, IsInside, cells_of, slot_of}
+use Rattle.f77_symbolic.proofs.Answering.{answers_at, known_answers, both_answers}
+use Rattle.f77_symbolic.proofs.Expecting.{pushed_answers}
 use Rattle.f77_symbolic.proofs.Evaluating.{read_answers}
 use Rattle.f77_symbolic.proofs.evaluator.Evaluator.+values.Goals as goal
 
@@ -45,35 +46,42 @@ number_of-returns-in_ok-value-in-Element-clause-yields t c =
     (λ held at. c.in_ok-value-in-Element.ensures.reads start v is held inside at)
     (λ own. own) (claim start v is)))
 
-pub number_of-returns-in_ok-a-in-Negated-clause-yields : goal.number_of-returns-in_ok-a-in-Negated-clause-yields
-number_of-returns-in_ok-a-in-Negated-clause-yields t c =
+pub number_of-returns-in_ok-negative-in-Negated-clause-yields : goal.number_of-returns-in_ok-negative-in-Negated-clause-yields
+number_of-returns-in_ok-negative-in-Negated-clause-yields t c =
     let operand = rw c.deref.ensures at c.in_ok-a-in-Negated.ensures.yields in
-    ok_then c.negated.result c.negated.ensures.calculates
+    ok_then c.ranged.result c.ranged.ensures.calculates
     (λ term claim start v is holds inside.
+    let made = c.in_ok-negative-in-Negated.ensures v in
+    let same : sum_value v c.in_ok-negative-in-Negated.negative ≡ negated (sum_value v c.in_ok-a-in-Negated.a) = omega (arith, ints, made) in
     rw c.in-Negated.is
-    (known_answers v c.args.self.now c.number_of.new.self c.negated.new.self (number_in (cells_of start.cells v c.args.writes.now) c.in-Negated.operand.value)
+    (known_answers v c.args.self.now c.number_of.new.self c.ranged.new.self (number_in (cells_of start.cells v c.args.writes.now) c.in-Negated.operand.value)
     (λ z. in_range (negated z)) (sum_value v c.in_ok-a-in-Negated.a) (λ z. sum_value v term ≡ z)
-    (operand start v (c.negated.ensures.extends.back start v is) holds inside) (claim start v is)))
+    (operand start v (c.ranged.ensures.extends.back start v is) holds inside)
+    (λ held. subst (λ z. Answers v c.number_of.new.self c.ranged.new.self (in_range z) (λ x. sum_value v term ≡ x)) same (claim start v is held))))
 
-pub number_of-returns-in_ok-a-in-Absolute-clause-yields : goal.number_of-returns-in_ok-a-in-Absolute-clause-yields
-number_of-returns-in_ok-a-in-Absolute-clause-yields t c =
+pub number_of-returns-in_ok-size-in-Absolute-clause-yields : goal.number_of-returns-in_ok-size-in-Absolute-clause-yields
+number_of-returns-in_ok-size-in-Absolute-clause-yields t c =
     let operand = rw c.deref-in-Absolute.ensures at c.in_ok-a-in-Absolute.ensures.yields in
-    ok_then c.absolute.result c.absolute.ensures.calculates
+    ok_then c.ranged-in-Absolute.result c.ranged-in-Absolute.ensures.calculates
     (λ term claim start v is holds inside.
+    let late = c.ranged-in-Absolute.ensures.extends.back start v is in
     rw c.in-Absolute.is
-    (known_answers v c.args.self.now c.number_of-in-Absolute.new.self c.absolute.new.self (number_in (cells_of start.cells v c.args.writes.now) c.in-Absolute.operand.value)
+    (known_answers v c.args.self.now c.number_of-in-Absolute.new.self c.ranged-in-Absolute.new.self (number_in (cells_of start.cells v c.args.writes.now) c.in-Absolute.operand.value)
     (λ z. in_range (without_sign z)) (sum_value v c.in_ok-a-in-Absolute.a) (λ z. sum_value v term ≡ z)
-    (operand start v (c.absolute.ensures.extends.back start v is) holds inside) (claim start v is)))
+    (operand start v (c.in_ok-size-in-Absolute.ensures.extends.back start v late) holds inside)
+    (λ held.
+    let size = c.in_ok-size-in-Absolute.ensures.tells start v late held in
+    answers_at v c.number_of-in-Absolute.new.self c.size.new.self c.ranged-in-Absolute.new.self in_range (sum_value v c.in_ok-size-in-Absolute.size) _
+    (λ x. sum_value v term ≡ x) size.0 size.1 (claim start v is))))
 
-pub number_of-returns-in_ok-a-in-ZeroPush-clause-yields : goal.number_of-returns-in_ok-a-in-ZeroPush-clause-yields
-number_of-returns-in_ok-a-in-ZeroPush-clause-yields t c =
+pub number_of-returns-in_ok-expect_apart-in-ZeroPush-clause-yields : goal.number_of-returns-in_ok-expect_apart-in-ZeroPush-clause-yields
+number_of-returns-in_ok-expect_apart-in-ZeroPush-clause-yields t c start v is holds inside =
     let operand = rw c.deref-in-ZeroPush.ensures at c.in_ok-a-in-ZeroPush.ensures.yields in
-    ok_then c.pushed.result c.pushed.ensures.calculates
-    (λ term claim start v is holds inside.
+    let a = sum_value v c.in_ok-a-in-ZeroPush.a in
     rw c.in-ZeroPush.is
-    (known_answers v c.args.self.now c.number_of-in-ZeroPush.new.self c.pushed.new.self (number_in (cells_of start.cells v c.args.writes.now) c.in-ZeroPush.operand.value)
-    pushed (sum_value v c.in_ok-a-in-ZeroPush.a) (λ z. sum_value v term ≡ z)
-    (operand start v (c.pushed.ensures.extends.back start v is) holds inside) (claim start v is)))
+    (known_answers v c.args.self.now c.number_of-in-ZeroPush.new.self c.expect_apart.new.self (number_in (cells_of start.cells v c.args.writes.now) c.in-ZeroPush.operand.value)
+    pushed a (λ z. a ≡ z) (operand start v (c.in_ok-expect_apart-in-ZeroPush.ensures.extends.back start v is) holds inside)
+    (λ held. pushed_answers v c.number_of-in-ZeroPush.new.self c.expect_apart.new.self a (c.in_ok-expect_apart-in-ZeroPush.ensures.expects v held)))
 
 pub number_of-returns-in_ok-b-in-Binary-clause-yields : goal.number_of-returns-in_ok-b-in-Binary-clause-yields
 number_of-returns-in_ok-b-in-Binary-clause-yields t c =

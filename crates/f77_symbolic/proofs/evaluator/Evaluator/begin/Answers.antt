@@ -1,35 +1,60 @@
-use Rattle.f77_symbolic.proofs.Common.{ap, ℤ, number_in, Move, acted, begun, used, ok_then, sum_value, cells_of, turns_of}
-use Rattle.f77_symbolic.proofs.Answering.{known_steps}
-use Rattle.f77_symbolic.proofs.Steps.{stepped_as}
+use Rattle.f77_symbolic.proofs.Common.{Some, ap, sym, ℤ, ◌≢◌, ◌∙◌, pos, slice_set, number_in, begun, Cells, TurnList, Move, move_with, passing, ok_then, sum_value, cells_of}
+use Rattle.f77_symbolic.proofs.Common.{turns_of}
+use Rattle.f77_actions.specs.declared.value.Value.TheVariants as held
+use Rattle.f77_symbolic.specs.declared.sides.Step.TheVariants as step
+use Rattle.std.proofs.lemmas.Bool.Decides.{not_from_Decides}
+use Rattle.f77_symbolic.proofs.Extending.{extends_same}
+use Rattle.f77_symbolic.proofs.Numbers.{same_decides}
+use Rattle.f77_symbolic.proofs.Steps.{begun_some, begun_steps, moved_to, passing_there}
+use Rattle.f77_symbolic.proofs.Turned.{passing_left, trips_left}
 use Rattle.f77_symbolic.proofs.evaluator.Evaluator.begin.Goals as goal
+
+pub returns-then-branch-clause-steps : goal.returns-then-branch-clause-steps
+returns-then-branch-clause-steps c r =
+    let three = c.number_of-3.new.self in
+    let from : ℤ → ℤ → ℤ → Cells → TurnList → Move = begun c.args.statements.now c.args.d c.in-Loop.variable c.in-Loop.terminal in
+    rw c.in-Loop.is
+    (begun_steps c.args.self.now c.number_of.new.self c.number_of-2.new.self three three c.args.side.now c.args.side.now step.Faults
+    (λ cells. number_in cells c.in-Loop.first) (λ cells. number_in cells c.in-Loop.last) (λ cells. number_in cells c.in-Loop.step)
+    c.in_ok-first.first c.in_ok-last.last c.in_ok-step.step from
+    c.in_ok-last.ensures.extends c.in_ok-step.ensures.extends (extends_same three.atoms)
+    (rw (c.deref-2.ensures.value, c.deref.ensures) at c.in_ok-first.ensures.yields)
+    (rw (c.deref-4.ensures.value, c.deref-3.ensures) at c.in_ok-last.ensures.yields)
+    (rw (c.deref-6.ensures.value, c.deref-5.ensures) at c.in_ok-step.ensures.yields)
+    (λ start v there holds inside.
+    rw ((same_decides (sum_value v c.in_ok-step.step) (pos 0)).0 (c.in_ok-is_nothing.ensures v holds ∙ c.if-branch.true)) c.in_ok-unless_unknown.ensures))
 
 pub returns-clause-steps : goal.returns-clause-steps
 returns-clause-steps c =
-    ok_then c.enter.result c.enter.ensures.steps
-    (λ found claim r start v there holds inside.
-    let one = c.number_of.new.self in
-    let two = c.number_of-2.new.self in
+    ok_then c.advance.result c.advance.ensures
+    (λ found claim r.
     let three = c.number_of-3.new.self in
-    let new = c.enter.new.self in
-    let before = c.args.side.now in
-    let after = c.enter.new.side in
-    let cells = cells_of start.cells v before.writes.items in
-    let turns = turns_of v before.turns.items in
-    let there-3 = c.enter.ensures.extends.back start v there in
-    let there-2 = c.in_ok-step.ensures.extends.back start v there-3 in
-    let there-1 = c.in_ok-last.ensures.extends.back start v there-2 in
-    let a = sum_value v c.in_ok-first.first in
-    let b = sum_value v c.in_ok-last.last in
-    let from : ℤ → ℤ → ℤ → Move = λ a b z. begun c.args.statements.now c.args.d c.in-Loop.variable c.in-Loop.terminal a b z cells turns in
-    stepped_as start.cells v c.args.self.now.own new.path before after found _ _
-    (ap (λ action. acted c.args.statements.now c.args.d r action cells turns) c.in-Loop.is)
-    (known_steps start.cells v c.args.self.now one new before after found (number_in cells c.in-Loop.first) cells
-    (λ a. used (number_in cells c.in-Loop.last) cells (λ b. used (number_in cells c.in-Loop.step) cells (λ z. from a b z))) a
-    ((rw (c.deref-2.ensures.value, c.deref.ensures) at c.in_ok-first.ensures.yields) start v there-1 holds inside)
-    (λ holds. known_steps start.cells v one two new before after found (number_in cells c.in-Loop.last) cells
-    (λ b. used (number_in cells c.in-Loop.step) cells (λ z. from a b z)) b
-    ((rw (c.deref-4.ensures.value, c.deref-3.ensures) at c.in_ok-last.ensures.yields) start v there-2 holds inside)
-    (λ holds. known_steps start.cells v two three new before after found (number_in cells c.in-Loop.step) cells
-    (λ z. from a b z) (sum_value v c.in_ok-step.step)
-    ((rw (c.deref-6.ensures.value, c.deref-5.ensures) at c.in_ok-step.ensures.yields) start v there-3 holds inside)
-    (λ holds. claim start v there holds inside)))))
+    let new = c.divided.new.self in
+    let end = c.in_ok-end.end.now in
+    let from : ℤ → ℤ → ℤ → Cells → TurnList → Move = begun c.args.statements.now c.args.d c.in-Loop.variable c.in-Loop.terminal in
+    rw c.in-Loop.is
+    (begun_steps c.args.self.now c.number_of.new.self c.number_of-2.new.self three new c.args.side.now c.advance.new.side found
+    (λ cells. number_in cells c.in-Loop.first) (λ cells. number_in cells c.in-Loop.last) (λ cells. number_in cells c.in-Loop.step)
+    c.in_ok-first.first c.in_ok-last.last c.in_ok-step.step from
+    c.in_ok-last.ensures.extends c.in_ok-step.ensures.extends c.in_ok-division.ensures.extends
+    (rw (c.deref-2.ensures.value, c.deref.ensures) at c.in_ok-first.ensures.yields)
+    (rw (c.deref-4.ensures.value, c.deref-3.ensures) at c.in_ok-last.ensures.yields)
+    (rw (c.deref-6.ensures.value, c.deref-5.ensures) at c.in_ok-step.ensures.yields)
+    (λ start v there holds inside.
+    let turns = turns_of v c.args.side.now.turns.items in
+    let first = sum_value v c.in_ok-first.first in
+    let last = sum_value v c.in_ok-last.last in
+    let step = sum_value v c.in_ok-step.step in
+    let apart : step ≢ pos 0 = not_from_Decides _ (same_decides step (pos 0)) (c.in_ok-is_nothing.ensures v holds ∙ c.if-branch.false) in
+    let divides = c.in_ok-division.ensures.divides start v there holds apart in
+    let made = claim start.cells v inside in
+    let trips = trips_left first last step (sum_value v c.in_ok-distance.distance) (sum_value v c.in_ok-dividend.dividend)
+    (sum_value v c.in_ok-division.division.quotient) (c.in_ok-distance.ensures v) (c.in_ok-dividend.ensures v) divides.1.quotient in
+    let set = slice_set (cells_of start.cells v c.args.side.now.writes.items) c.in-Loop.variable (Some (held.Number first)) in
+    moved_to start.cells v three.own new.path c.args.side.now c.advance.new.side found _ made.0 divides.0.holds made.1
+    (begun_some c.args.statements.now c.args.d c.in-Loop.variable c.in-Loop.terminal first last step _ turns apart
+    ∙ passing_there c.args.statements.now c.in-Loop.terminal c.args.d _ step set turns end c.in_ok-end.ensures
+    ∙ ap (λ n. passing end c.args.d n step set turns) trips
+    ∙ passing_left end c.args.d set turns _ step
+    ∙ ap (λ left. move_with end c.args.d left set turns) (sym (c.in_ok-turn.ensures v divides.0.holds))
+    ∙ made.2))))

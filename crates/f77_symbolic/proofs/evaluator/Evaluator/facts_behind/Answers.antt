@@ -1,6 +1,6 @@
 use Rattle.f77_symbolic.proofs.Common.{arith, ◌≡◌, length, List, subst, sym, take, Fact, AreIn, Write, IsInside, cells_of}
 use Rattle.f77_terms.proofs.There.{written_back}
-use Rattle.f77_symbolic.proofs.Bounded.{cells_next}
+use Rattle.f77_symbolic.proofs.Written.{cells_next}
 use Rattle.f77_symbolic.proofs.evaluator.Evaluator.facts_behind.Goals as goal
 
 pub loop-write-preserved : goal.loop-write-preserved

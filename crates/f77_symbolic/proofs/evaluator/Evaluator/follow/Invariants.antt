@@ -1,13 +1,12 @@
-use Rattle.f77_symbolic.proofs.Common.{◌≤ℤ◌, ℕ, pos, All, CheckedFields, Valuation, Interprets, Start, Extends, IsReady, IsSettled}
+use Rattle.f77_symbolic.proofs.Common.{◌≤◌, ℕ, All, CheckedFields, Valuation, Interprets, Start, Extends, IsReady, IsSettled}
 use Rattle.f77_symbolic.proofs.evaluator.Evaluator.follow.Given as goal
 
 -- where the pairs that are left are settled, so are those at the start
 abbrev pub invariant-loop-work : goal.invariant-loop-work
 invariant-loop-work l = record {
   extends : Extends l.initial.self.atoms l.self.atoms;
-  positive : pos 0 ≤ℤ l.behind;
   leads : (spare : ℕ) (checked : CheckedFields) (start : Start) (v : Valuation) → IsReady checked l.change → Interprets l.self.atoms start v
-      → l.behind ≤ℤ pos spare → All (IsSettled spare checked l.change start v) l.todo.items
+      → l.behind ≤ spare → All (IsSettled spare checked l.change start v) l.todo.items
       → All (IsSettled spare checked l.change start v) l.initial.todo.items;
 }
 

@@ -3,9 +3,8 @@ use Rattle.f77_symbolic.proofs.Read.{held_read, never_suits}
 use Rattle.f77_symbolic.proofs.evaluator.Evaluator.known_value.Goals as goal
 
 pub returns-then-is_empty-clause-reads : goal.returns-then-is_empty-clause-reads
-returns-then-is_empty-clause-reads c =
-    ok_then c.never_there.result c.never_there.ensures.own
-    (λ value own start v there holds cell suits present is. inr (own, never_suits c.args.fact cell (c.is_empty.ensures c.if-is_empty.true) suits))
+returns-then-is_empty-clause-reads c start v there holds cell suits present is =
+    inr (c.in_ok-unless_unknown.ensures, never_suits c.args.fact cell (c.is_empty.ensures c.if-is_empty.true) suits)
 
 pub returns-clause-reads : goal.returns-clause-reads
 returns-clause-reads c =

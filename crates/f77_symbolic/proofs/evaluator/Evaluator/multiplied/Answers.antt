@@ -13,7 +13,4 @@ returns-in-Some-clause-tells c =
 
 pub returns-clause-tells : goal.returns-clause-tells
 returns-clause-tells c start v interprets holds =
-    let made = c.in_ok-product.ensures.made start v interprets holds tt in (
-      record { holds = c.in_ok-know_product.ensures v made.0.holds made.1; own = made.0.own },
-      c.in_ok-atom_term.ensures v ∙ made.1,
-    )
+    let made = c.in_ok-product.ensures.made start v interprets holds tt in (made.0, c.in_ok-atom_term.ensures v ∙ made.1)

@@ -1,20 +1,15 @@
-use Rattle.f77_symbolic.proofs.Common.{sym, subst, moved, state, ok_then, cells_of, turns_of, Stepped}
+use Rattle.f77_symbolic.proofs.Common.{ap, sym, ◌∙◌, option_map, ok_then, turn_of}
+use Rattle.f77_symbolic.proofs.Steps.{both_told}
 use Rattle.f77_symbolic.proofs.evaluator.Evaluator.step.Goals as goal
 
-pub returns-in-Execute-clause-steps : goal.returns-in-Execute-clause-steps
-returns-in-Execute-clause-steps c =
-    ok_then c.execute.result c.execute.ensures.steps
-    (λ step claim start v there holds inside.
-    subst
-    (λ place. Stepped start.cells v c.args.self.now.own c.execute.new.self.path c.args.side.now c.execute.new.side step
-    (moved c.args.statements.now (state place (cells_of start.cells v c.args.side.now.writes.items) (turns_of v c.args.side.now.turns.items))))
-    (sym c.in-Execute.is) (claim start v there holds inside))
+pub returns-in_ok-unless_unknown-in-Execute-clause-steps : goal.returns-in_ok-unless_unknown-in-Execute-clause-steps
+returns-in_ok-unless_unknown-in-Execute-clause-steps c =
+    ok_then c.act.result c.act.ensures.steps
+    (λ step claim. rw (c.in-Execute.is, c.in_ok-resolved-in-Execute.ensures, sym c.is_executed.ensures ∙ c.in_ok-unless_unknown-in-Execute.ensures) claim)
 
-pub returns-in-Increment-clause-steps : goal.returns-in-Increment-clause-steps
-returns-in-Increment-clause-steps c =
-    ok_then c.count_on.result c.count_on.ensures.steps
-    (λ step claim start v there holds inside.
-    subst
-    (λ place. Stepped start.cells v c.args.self.now.own c.count_on.new.self.path c.args.side.now c.count_on.new.side step
-    (moved c.args.statements.now (state place (cells_of start.cells v c.args.side.now.writes.items) (turns_of v c.args.side.now.turns.items))))
-    (sym c.in-Increment.is) (claim start v there holds inside))
+pub returns-in_ok-turn-in-Increment-clause-steps : goal.returns-in_ok-turn-in-Increment-clause-steps
+returns-in_ok-turn-in-Increment-clause-steps c =
+    ok_then c.increment.result (both_told _ _ c.increment.result (rw c.deref-in-Increment-2.ensures at c.increment.ensures.steps) c.increment.ensures.counts)
+    (λ step told start v there holds inside.
+    let active = (rw (c.deref-in-Increment.ensures.value, c.deref.ensures) at c.in_ok-turn_at-in-Increment.ensures) v ∙ ap (option_map (turn_of v)) c.in_ok-turn-in-Increment.ensures.ok_part in
+    rw (c.in-Increment.is, c.in_ok-resolved-in-Increment.ensures, told.1, active) (told.0 start v there holds inside))

@@ -1,25 +1,21 @@
-use Rattle.f77_symbolic.proofs.Common.{◌≡◌, ◌≤◌, length, get_or, arith, subst, to_z, of_z, w64, All, ints, take_all, IsBehindBy}
-use Rattle.f77_symbolic.proofs.Chained.{followed_next, tour_followed}
+use Rattle.f77_symbolic.proofs.Common.{◌≡◌, ◌≤◌, length, get_or, arith, subst, All, take_all, IsBehindBy}
+use Rattle.f77_symbolic.proofs.Chained.{behind_more, tour_followed}
+use Rattle.f77_symbolic.proofs.Tours.{all_next}
 use Rattle.f77_symbolic.proofs.visiting.Tour.steps_behind.Goals as goal
 
 pub loop-visits-preserved : goal.loop-visits-preserved
 loop-visits-preserved c =
-    let one = c.in_ok-behind.ensures.above in
-    let self = c.max-most.ensures.self_bound in
-    let other = c.max-most.ensures.other_bound in
-    let is = c.loop-visits.most-is in
-    record {
-      above = omega (arith, ints, one, self);
-      follows =
-          followed_next c.args.change.now c.args.self.now.each.items c.loop-visits.visits-index c.visits-item.result (to_z w64 c.loop-visits.most-bits)
-          c.in_ok-behind.behind (to_z w64 (of_z w64 c.max-most.result)) (omega arith)
-          (subst (λ list. c.visits-item.result ≡ get_or list c.loop-visits.visits-index c.visits-item.result) c.deref-visits-items.ensures.value c.visits-item.is)
-          (omega (arith, ints, other, is)) (omega (arith, ints, self)) c.in_ok-behind.ensures.follows c.loop-visits.invariant.follows;
-    }
+    let Behind = IsBehindBy c.args.change.now in
+    let list = c.args.self.now.each.items in
+    let before : c.loop-visits.most ≤ c.max-most.result = omega (arith, c.max-most.ensures) in
+    let behind : c.in_ok-behind.behind ≤ c.max-most.result = omega (arith, c.max-most.ensures) in
+    all_next (Behind c.loop-visits.most) (Behind c.max-most.result) list c.loop-visits.visits-index c.visits-item.result (omega arith)
+    (subst (λ list. c.visits-item.result ≡ get_or list c.loop-visits.visits-index c.visits-item.result) c.deref-visits-items.ensures.value c.visits-item.is)
+    (behind_more c.args.change.now c.loop-visits.most c.max-most.result before) c.loop-visits.invariant
+    (behind_more c.args.change.now c.in_ok-behind.behind c.max-most.result behind c.visits-item.result c.in_ok-behind.ensures)
 
-pub returns-clause-follows : goal.returns-clause-follows
-returns-clause-follows c spare checked within of =
+pub returns : goal.returns
+returns c =
     let all : length c.args.self.now.each.items ≤ c.loop-visits.visits-index = omega arith in
-    tour_followed checked c.args.change.now spare c.args.self.now (to_z w64 c.loop-visits.most-bits) within of
-    (subst (All (IsBehindBy c.args.change.now (to_z w64 c.loop-visits.most-bits))) (take_all c.loop-visits.visits-index c.args.self.now.each.items all)
-    c.loop-visits.invariant.follows)
+    tour_followed c.args.change.now c.loop-visits.most c.args.self.now
+    (subst (All (IsBehindBy c.args.change.now c.loop-visits.most)) (take_all c.loop-visits.visits-index c.args.self.now.each.items all) c.loop-visits.invariant)

@@ -1,2 +1,0 @@
-pub mod Equivalents
-pub use Equivalents.*
