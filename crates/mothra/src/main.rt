@@ -1,55 +1,20 @@
 //! The program `mothra`: reads a job from standard input, and writes the answer to standard output alone.
 #![tactic(auto)]
 
-ghost use Rattle.std.specs.Prelude.{◌≡◌, ◌≢◌, Ok, Err, OnErr};
-ghost use Rattle.std.specs.IoError.{error_kind};
+ghost use Rattle.mothra_app.specs.Answer.{IsTask};
+ghost use Rattle.mothra_app.specs.Commands.{mothra_promise};
 
-use mothra_app::{AppFault, Status, Watched, serve};
-use std::env::Env;
-use std::io::ErrorKind;
+use mothra_app::{Mothra, report, run};
 use std::process::ExitCode;
-use std::{env, io};
-
-/// The exit status: 0 for an answer, help or version, 1 for a fault, 2 for words that are refused.
-fn exit_status(served: Result<Status, AppFault>) -> u8
-    ensures report { served ≡ Ok Status.Report → result ≡ 0 }
-    ensures help { served ≡ Ok Status.Help → result ≡ 0 }
-    ensures fault { served ≡ Ok Status.Fault → result ≡ 1 }
-    ensures words { served ≡ Ok Status.Words → result ≡ 2 }
-    ensures unserved { OnErr served (result ≡ 1) }
-{
-    match served {
-        Ok(Status::Report | Status::Help) => 0,
-        Ok(Status::Fault) | Err(AppFault::Memory | AppFault::Read | AppFault::Write) => 1,
-        Ok(Status::Words) => 2,
-    }
-}
-
-/// The words of the command line, the program's name first.
-fn words_of(rt: &(impl Env + AllocGlobal)) -> io::Result<Vec<String>> {
-    Ok(env::args(rt)?.collect(rt.alloc())?)
-}
-
-/// The answer where the words can not be read: out of memory, or words that are no UTF-8, which are
-/// refused without a text.
-fn without_words(error: &io::Error) -> Result<Status, AppFault>
-    ensures memory { error_kind error.now ≡ ErrorKind.OutOfMemory → result ≡ Err AppFault.Memory }
-    ensures words { error_kind error.now ≢ ErrorKind.OutOfMemory → result ≡ Ok Status.Words }
-{
-    match error.kind() {
-        ErrorKind::OutOfMemory => Err(AppFault::Memory),
-        _ => Ok(Status::Words),
-    }
-}
 
 fn main(rt: HostRuntime) -> ExitCode {
-    let served = match words_of(&rt) {
-        Ok(words) => {
-            let mut reader = Watched::new(rt.stdin());
-            let mut writer = Watched::new(rt.stdout());
-            serve(&rt, &words, &mut reader, &mut writer)
-        }
-        Err(error) => without_words(&error),
-    };
-    ExitCode::from(exit_status(served))
+    run(
+        &rt,
+        &Mothra { alloc: rt.alloc() },
+        &|request, job|
+            requires { IsTask mothra_promise request.now job }
+        { report(&rt, request, job) },
+        rt.stdin(),
+        rt.stdout(),
+    )
 }

@@ -16,18 +16,21 @@ pub use Rattle.f77_meaning.specs.declared.outcome.RunFault.{RunFault}
 pub use Rattle.f77_program.specs.Program.{LineFields, line_of}
 pub use Rattle.f77_source.specs.Read.{AreCards}
 unfoldable pub use Rattle.f77_source.specs.Read.{lines}
-pub use Rattle.mothra_app.specs.{IsLegalProgramOf, of_legal_programs, of_programs, of_runs, AsksFor, IsExecuted, IsOutcomeAnswer, IsPlanOf, IsProgramOf}
-pub use Rattle.mothra_app.specs.{IsReported, MayFailBy, of_mutants, IsAnswer, IsListed, IsPrinted, IsRequestOutcome, IsServed, MayFailRun, operators_chosen}
-pub use Rattle.mothra_app.specs.{IsBenchOf, IsRunLine, MayBeWritten, arguments_text, asked_total, is_named, listing_text, outcome_line}
-pub use Rattle.mothra_app.specs.{IsAnswered, IsFairAnswer, IsLegalJob, IsOutOfResources, IsReadFor, IsRefusal, ReportsJob, asked_ops, bad_operators, count_line}
-pub use Rattle.mothra_app.specs.{is_read_fault, listed_line, listing_lines, outcome_text, shown_character, total_line}
+pub use Rattle.mothra_app.specs.{AreCardsOf, GivesOutcome, InTurn, IsAnswer, IsAnswered, IsBenched, IsBenchIn, IsBenchOf, IsCommandOutcome, IsExecuted, IsFairAnswer}
+pub use Rattle.mothra_app.specs.{IsJudged, IsLegalJob, IsLegalProgramOf, IsListed, IsListOf, IsOutcomeAnswer, IsOutOfResources, IsPlanIn, IsPlanned, IsPlanOf}
+pub use Rattle.mothra_app.specs.{IsPrinted, IsProgramIn, IsProgramOf, IsReadFor, IsRefusal, IsReported, IsReportOf, IsRequestOutcome, IsRunLine, IsServed}
+pub use Rattle.mothra_app.specs.{IsTestLine, IsTestOf, IsTextOf, MayBeWritten, Promise, ReportsJob, arguments_text, asked_lines, asked_ops, asked_total}
+pub use Rattle.mothra_app.specs.{bad_operators, command_faults, count_line, faults_in_place, first_or, listed_line, listing_lines, mothra_promise}
+pub use Rattle.mothra_app.specs.{of_legal_programs, of_mutants, of_programs, of_reports, of_runs, outcome_line, outcome_text, plan_lines, plan_text}
+pub use Rattle.mothra_app.specs.{shown_character, total_line}
 unfoldable pub use Rattle.mothra_app.specs.{fault_line}
-pub use Rattle.mothra_app.specs.code.{IsReportAnswer, plan_lines, IsReadyAnswer, IsReadyFor, asked_lines, IsReadyBench, IsReadyBy, plan_text}
 pub use Rattle.mothra_app.specs.declared.fault.Fault.{Fault}
 pub use Rattle.mothra_app.specs.declared.fault.Fault.TheVariants.{Ops, Syntax, Bench, Check, Form, Run, Job}
 pub use Rattle.mothra_app.specs.declared.status.Status.{Status}
 pub use Rattle.mothra_bench.specs.Analysis.{IsNoReport, IsReport}
-pub use Rattle.mothra_cli.specs.Request.{HasBadOperators, IsBounded, request_of, IsFaultOf, IsRefusalOf, request_in}
+pub use Rattle.clap.specs.Kinds.{HasKind}
+pub use Rattle.mothra_cli.specs.Asking.{AsksFor, HasBadOperators, IsFaultOf, meaning_of, request_in}
+pub use Rattle.mothra_cli.specs.Request.{IsBounded, mothra_line}
 pub use Rattle.mothra_cli.specs.declared.request.Request.{Request}
 pub use Rattle.mothra_codes.specs.Op.{all_ops, index}
 pub use Rattle.mothra_codes.specs.code.Op.{op_at}

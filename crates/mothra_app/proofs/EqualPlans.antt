@@ -1,10 +1,13 @@
 -- Two plans of one program, for the same operators, have the same lists.
-use Rattle.mothra_app.proofs.Common.{◌≡◌, sym, ℕ, subst, List, ◌∙◌, ap, refl, [], Contains, Some, length, false, true, None, Bool, Option, ◌↔◌, IsTrue}
-use Rattle.mothra_app.proofs.Common.{true≢false, is_some, LineFields, IsPlanOf, Op, IsCountedList, program_of, PlanFields, asked, edits_of, ListFields}
-use Rattle.mothra_app.proofs.Common.{list_of_operator, whole_of, Edit}
+use Rattle.mothra_app.proofs.Common.{◌≡◌, sym, ℕ, subst, List, ◌∙◌, ap, refl, [], Contains, length, false, true, None, Some, Bool, Option, ◌↔◌, IsTrue, ◌≤◌}
+use Rattle.mothra_app.proofs.Common.{◌++◌, filter, flat_map, map, sum, Ok, true≢false, is_some, LineFields, IsLegalProgramOf, IsListed, IsFirstTooLong, IsListOf, IsPlanIn, IsPlanOf, IsPlanned, Op}
+use Rattle.mothra_app.proofs.Common.{IsCountedList, program_of, PlanFields, asked, edits_of, ListFields, Ops, all_ops, list_of_operator, whole_of, Edit}
+use Rattle.mothra_app.proofs.Common.{JobFields, listing_lines, plan_text, total_line}
 use Rattle.std.specs.Option.{option_map_or}
-use Rattle.mothra_app.proofs.OneListing.{one_of}
-use Rattle.mothra_app.proofs.OneProgram.{Laws}
+use Rattle.mothra_replacements.specs.declared.fault.OpsFault.TheVariants.{TooMany}
+use Rattle.mothra_app.proofs.Stages.{One, Same, one_in_turn, one_then, one_value}
+use Rattle.mothra_app.proofs.OneListing.{never_long, one_first, one_of}
+use Rattle.mothra_app.proofs.OneProgram.{Laws, one_legal}
 
 -- the two plans have the same lists of the same program
 pub record AreEqualPlans (one other : PlanFields) : Type 0 where
@@ -76,3 +79,32 @@ equal_plans {program} {ops} {every} one other laws p q = record {
 
     lists : (op : Op) → (edits_of one op ≡ edits_of other op) × (whole_of one op ≡ whole_of other op)
     lists op = same_lists one other laws p q op (asked other op) (asks op) refl
+
+-- ---- at most one plan, but for what its lists do not show
+
+module _ (laws : Laws) (ops : List Op) (every : ℕ) (some : 1 ≤ every) where
+  -- where a list is too long there is no plan
+  no_plan : {program : List LineFields} {op : Op} {A : Type 0} (plan : PlanFields) → IsPlanOf program ops every plan
+      → IsFirstTooLong ops program every op → A
+  no_plan {op = op} plan is first =
+      never_long laws some first.long (counted plan is op ((is.asked op).1 first.asked)).list
+
+  one_plan : (program : List LineFields) → One AreEqualPlans (IsPlanIn ops every program)
+  one_plan program x y (IsPlanIn.too_many {op = op} first) (IsPlanIn.too_many {op = other} also) =
+      ap (λ o. Ops (TooMany o)) (one_first op other laws some first also)
+  one_plan program x y (IsPlanIn.too_many first) (IsPlanIn.made {plan = plan} is) = no_plan plan is first
+  one_plan program x y (IsPlanIn.made {plan = plan} is) (IsPlanIn.too_many first) = no_plan plan is first
+  one_plan program x y (IsPlanIn.made {plan = one} is) (IsPlanIn.made {plan = other} also) = equal_plans one other laws is also
+
+  pub one_planned : (source : List ℕ) → One AreEqualPlans (IsPlanned source ops every)
+  one_planned source = one_then AreEqualPlans (IsLegalProgramOf source) (IsPlanIn ops every) (one_legal laws source) one_plan
+
+  -- the text of a list depends on the program and the lists of a plan alone
+  same_text : (one other : PlanFields) → AreEqualPlans one other → plan_text one ≡ plan_text other
+  same_text one other plans = λ i.
+      flat_map (λ op. listing_lines (plans.program i) (plans.every i) op (plans.same_edits op i)) (filter (λ op. plans.same_asked op i) all_ops)
+      ++ total_line (sum (map (λ op. length (plans.same_edits op i)) (filter (λ op. plans.same_asked op i) all_ops)))
+
+  pub one_listed : (job : JobFields) → One Same (IsListed job ops every)
+  one_listed job = one_in_turn Same (IsPlanned job.source ops every) IsListOf AreEqualPlans (one_planned job.source)
+      (λ one other equal x y is also. one_value (Ok (plan_text other)) x y (is ∙ ap (λ t. Ok t) (same_text one other equal)) also)

@@ -1,14 +1,9 @@
 pub mod Common
-mod Memory
-mod Sources
-mod LegalPrograms
-mod Executions
-mod Outcomes
-mod Chosen
+pub mod Stages
+pub mod Memory
+mod Refusals
 mod ListedLines
-mod Listings
-mod Reports
-pub mod Answered
+mod Answered
 mod OneProgram
 mod OneExecution
 mod OneListing

@@ -1,12 +1,11 @@
 -- The lines of a list are written one by one.
-use Rattle.mothra_app.proofs.Common.{◌≡◌, sym, ℕ, List, ◌∙◌, ap, refl, [], Contains, ◌++◌, inr, arith, inl, map, Some, length, ◌∷◌, ◌≤◌, false, true, ◌+◌, ◌<◌}
-use Rattle.mothra_app.proofs.Common.{append_assoc, codes, ◌↔◌, IsTrue, suc, drop, filter, flat_map, get_or, cond, sum, add-one, drop-cons, drop_all}
-use Rattle.mothra_app.proofs.Common.{filter_agree, enumerate_from, operators_chosen, asked_ops, listed_line, plan_lines, all_ops, op_at, Op, program_of}
+use Rattle.mothra_app.proofs.Common.{◌≡◌, sym, ℕ, List, ◌∙◌, ap, refl, [], ◌++◌, inr, arith, inl, map, Some, length, ◌∷◌, ◌≤◌, false, true, ◌+◌, ◌<◌}
+use Rattle.mothra_app.proofs.Common.{append_assoc, codes, suc, drop, filter, flat_map, get_or, cond, sum, add-one, drop-cons, drop_all}
+use Rattle.mothra_app.proofs.Common.{enumerate_from, listed_line, plan_lines, all_ops, op_at, Op, program_of}
 use Rattle.mothra_app.proofs.Common.{edit_text, mutant_text, PlanFields, asked, edits_of, Edit}
 use Rattle.std.proofs.Common.{slice_get}
 use Rattle.std.proofs.lemmas.List.Sums.{sum_by-cons, sum-map}
 use Rattle.std.proofs.lemmas.Option.{slice_get_cases}
-use Rattle.mothra_app.proofs.Chosen.{test_is_named}
 
 -- one more part of a text is written
 pub part_more : (old new part rest after all : List ℕ) → new ≡ old ++ part → rest ≡ part ++ after → old ++ rest ≡ all → new ++ after ≡ all
@@ -81,7 +80,3 @@ lines_as_before plan i within is = ap (flat_map (plan_lines plan)) (operator_pas
 
 pub counts_as_before : (plan : PlanFields) (i : ℕ) → i < 22 → asked plan (op_at i) ≡ false → count_behind plan i ≡ count_behind plan (i + 1)
 counts_as_before plan i within is = ap (λ ops. sum (map (λ op. length (edits_of plan op)) ops)) (operator_passed plan i within is)
-
--- the operators that a plan was asked for are those that are named
-pub asked_are_chosen : (plan : PlanFields) (ops : List Op) → ((op : Op) → IsTrue (asked plan op) ↔ Contains ops op) → asked_ops plan ≡ operators_chosen ops
-asked_are_chosen plan ops named = filter_agree (asked plan) _ (test_is_named (asked plan) ops named) all_ops

@@ -1,27 +1,22 @@
 -- There is at most one report of a job.
-use Rattle.mothra_app.proofs.Common.{◌≡◌, sym, ℕ, subst, List, ◌∙◌, Err, Ok, ap, [], Contains, ◌++◌, Result, length, ◌≤◌, Bool, codes, ◌↔◌, All, IsTrue, filter}
-use Rattle.mothra_app.proofs.Common.{flat_map, get_or, ◌≢◌, if◌then◌else◌, LineFields, IsLegalProgramOf, IsPlanOf, IsReported, IsBenchOf, Fault, Ops, Bench}
+use Rattle.mothra_app.proofs.Common.{◌≡◌, sym, ℕ, subst, List, ◌∙◌, ap, [], Contains, ◌++◌, length, ◌≤◌, Bool, codes, ◌↔◌, IsTrue, filter, flat_map, get_or}
+use Rattle.mothra_app.proofs.Common.{if◌then◌else◌, LineFields, IsBenched, IsBenchIn, IsBenchOf, IsPlanned, IsReported, IsReportOf, Bench, Fault, Result}
 use Rattle.mothra_app.proofs.Common.{IsReport, all_ops, Op, JobFields, numbered, program_of, edit_text, mutant_made, mutant_name, mutant_of, original_number}
-use Rattle.mothra_app.proofs.Common.{PlanFields, IsFirstTooLong, Edit, BenchFields, IsNoBench, AreFine, EndsOn, FitsProgram, IsDeclared, BenchFault}
+use Rattle.mothra_app.proofs.Common.{PlanFields, Edit, BenchFields, IsDeclared, BenchFault}
 use Rattle.std.specs.Option.{option_and_then, option_map_or}
 use Rattle.mothra_bench.specs.Matrix.{counts, score_of}
-use Rattle.mothra_ops.specs.Tickets.{tickets, tickets_of}
 use Rattle.mothra_bench.specs.Report.{bits_of, is_survivor, is_wrong, line, named_number, report_text, score_line, status_of, unit_line}
+use Rattle.mothra_ops.specs.Tickets.{tickets, tickets_of}
 use Rattle.mothra_verdicts.specs.Verdict.{IsAlone, IsVerdict, mutated}
-use Rattle.mothra_verdicts.specs.declared.fault.BenchFault.TheVariants.{Memory}
 use Rattle.mothra_bench.specs.declared.matrix.Entry.{Entry}
 use Rattle.mothra_codes.specs.Ticket.{ticket}
 use Rattle.mothra_codes.specs.declared.ticket.Ticket.{Ticket}
-use Rattle.mothra_replacements.specs.declared.fault.OpsFault.TheVariants.{TooMany}
 use Rattle.mothra_bench.specs.Report as report
 use Rattle.mothra_verdicts.proofs.BenchTests.{ends_all}
-use Rattle.mothra_app.proofs.EqualPlans.{AreEqualPlans, equal_plans, counted}
-use Rattle.mothra_app.proofs.OneBench.{never_refused, one_refusal, refused, refused_moved}
-use Rattle.mothra_app.proofs.OneListing.{long_moved, never_long, one_first}
-use Rattle.mothra_app.proofs.OneProgram.{Laws, one_legal, same_fault, same_program, never_both}
-
-abbrev Text : Type 0
-Text = Result (List ℕ) Fault
+use Rattle.mothra_app.proofs.EqualPlans.{AreEqualPlans, one_planned, turned}
+use Rattle.mothra_app.proofs.Stages.{Agree, One, Same, one_in_turn}
+use Rattle.mothra_app.proofs.OneBench.{IsRefused, never_refused, one_refusal, refused, refused_moved}
+use Rattle.mothra_app.proofs.OneProgram.{Laws}
 
 -- ---- a report depends on the program and the lists of a plan alone
 
@@ -106,70 +101,43 @@ report_moved one other text plans tests steps declared is = record {
 
 -- ---- the command
 
-moved : {ops : List Op} {every : ℕ} (p q : List LineFields) (plan : PlanFields) → p ≡ q → IsPlanOf p ops every plan → IsPlanOf q ops every plan
-moved {ops} {every} p q plan same is = subst (λ program. IsPlanOf program ops every plan) same is
+-- the two benches have equal plans, and the same tests, limit and declared mutants
+record AreEqualBenches (one other : BenchFields) : Type 0 where
+  plans : AreEqualPlans one.plan other.plan
+  tests : one.tests ≡ other.tests
+  steps : one.steps ≡ other.steps
+  declared : one.declared ≡ other.declared
 
--- where a list is too long there is no plan
-no_plan : {program : List LineFields} {ops : List Op} {every : ℕ} {op : Op} {A : Type 0} (plan : PlanFields) → Laws → 1 ≤ every
-    → IsFirstTooLong ops program every op → IsPlanOf program ops every plan → A
-no_plan {op = op} plan laws some first is = never_long laws some first.long (counted plan is op ((is.asked op).1 first.asked)).list
+module _ (job : JobFields) (steps : ℕ) where
+  -- where there is a bench, there is no reason why there is none
+  no_reason : {A : Type 0} (plan : PlanFields) (bench : BenchFields) (fault : BenchFault) → IsBenchOf job steps plan bench
+      → IsRefused plan job.suite steps job.equivalent fault → A
+  no_reason plan bench fault of reason =
+      let own : IsRefused bench.plan bench.tests bench.steps bench.declared fault = rw (of.own, of.tests, of.limit, of.declared) reason in
+      let end = ends_all (program_of bench.plan) bench.steps bench.tests bench.outcomes of.is.outcomes of.is.end in
+      absurd (never_refused own of.is.fit end of.is.declared)
 
-one_fault : {ops : List Op} {every : ℕ} {program : List LineFields} (job : JobFields) (steps : ℕ) (one other : PlanFields) (f g : BenchFault) → Laws
-    → IsPlanOf program ops every one → IsPlanOf program ops every other → f ≢ Memory → g ≢ Memory → IsNoBench one job.suite steps job.equivalent f
-    → IsNoBench other job.suite steps job.equivalent g → f ≡ g
-one_fault job steps one other f g laws p q own its none also =
-    let reason = refused_moved one other (equal_plans one other laws p q) (refused one job.suite steps job.equivalent f own none) in
-    one_refusal reason (refused other job.suite steps job.equivalent g its also)
+  one_bench : (one other : PlanFields) → AreEqualPlans one other → (x y : Result BenchFields Fault) → IsBenchIn job steps one x → IsBenchIn job steps other y → Agree AreEqualBenches x y
+  one_bench one other equal x y (IsBenchIn.no_bench {fault = f} own none) (IsBenchIn.no_bench {fault = g} its also) =
+      ap (λ fault. Bench fault)
+      (one_refusal (refused_moved one other equal (refused one job.suite steps job.equivalent f own none)) (refused other job.suite steps job.equivalent g its also))
+  one_bench one other equal x y (IsBenchIn.no_bench {fault = f} own none) (IsBenchIn.made {bench = bench} of) =
+      no_reason other bench f of (refused_moved one other equal (refused one job.suite steps job.equivalent f own none))
+  one_bench one other equal x y (IsBenchIn.made {bench = bench} of) (IsBenchIn.no_bench {fault = g} its also) =
+      no_reason one bench g of (refused_moved other one (turned one other equal) (refused other job.suite steps job.equivalent g its also))
+  one_bench one other equal x y (IsBenchIn.made {bench = a} p) (IsBenchIn.made {bench = b} q) = record {
+    plans = rw (p.own, q.own) equal;
+    tests = p.tests ∙ sym q.tests;
+    steps = p.limit ∙ sym q.limit;
+    declared = p.declared ∙ sym q.declared;
+  }
 
--- where there is a fault there is no bench
-not_both : {job : JobFields} {ops : List Op} {every steps : ℕ} {program : List LineFields} {A : Type 0} (plan : PlanFields) (f : BenchFault) (bench : BenchFields)
-    → Laws → IsLegalProgramOf job.source (Ok program) → IsPlanOf program ops every plan → f ≢ Memory → IsNoBench plan job.suite steps job.equivalent f
-    → IsBenchOf job ops every steps bench → A
-not_both {job} {ops} {every} {steps} {program} plan f bench laws source is own none of =
-    let same = same_program program of.program (one_legal laws source of.legal) in
-    let plans = equal_plans plan bench.plan laws (moved program of.program plan same is) of.plan in
-    let reason = refused_moved plan bench.plan plans (refused plan job.suite steps job.equivalent f own none) in
-    let own_program = program_of bench.plan in
-    let fit = subst (λ tests. All (FitsProgram own_program) tests) of.tests of.is.fit in
-    let end = subst (λ tests. All (EndsOn own_program steps) tests) of.tests
-    (subst (λ limit. All (EndsOn own_program limit) bench.tests) of.limit
-    (ends_all own_program bench.steps bench.tests bench.outcomes of.is.outcomes of.is.end)) in
-    absurd (never_refused reason fit end (subst (AreFine bench.plan) of.declared of.is.declared))
+one_report : Laws → (one other : BenchFields) → AreEqualBenches one other → (x y : Result (List ℕ) Fault) → IsReportOf one x → IsReportOf other y → Agree Same x y
+one_report laws one other equal x y (IsReportOf.report {text = text} is) (IsReportOf.report {text = also} as_well) =
+    laws.one_report other text also (report_moved one other text equal.plans equal.tests equal.steps equal.declared is) as_well
 
-one_text : {job : JobFields} {ops : List Op} {every steps : ℕ} (one other : BenchFields) (text also : List ℕ) → Laws → IsBenchOf job ops every steps one
-    → IsBenchOf job ops every steps other → IsReport one text → IsReport other also → text ≡ also
-one_text one other text also laws p q is as_well =
-    let same = same_program p.program q.program (one_legal laws p.legal q.legal) in
-    let plans = equal_plans one.plan other.plan laws (moved p.program q.program one.plan same p.plan) q.plan in
-    laws.one_report other text also
-    (report_moved one other text plans (p.tests ∙ sym q.tests) (p.limit ∙ sym q.limit) (p.declared ∙ sym q.declared) is) as_well
-
-pub one_reported : {job : JobFields} {ops : List Op} {every steps : ℕ} {one other : Text} → Laws → 1 ≤ every → IsReported job ops every steps one
-    → IsReported job ops every steps other → one ≡ other
-one_reported laws some (IsReported.no_program p) (IsReported.no_program q) = ap Err (same_fault _ _ (one_legal laws p q))
-one_reported laws some (IsReported.no_program p) (IsReported.too_many q long) = never_both _ _ (one_legal laws q p)
-one_reported laws some (IsReported.no_program p) (IsReported.no_bench q is own none) = never_both _ _ (one_legal laws q p)
-one_reported laws some (IsReported.no_program p) (IsReported.report of is) = never_both _ _ (one_legal laws of.legal p)
-one_reported laws some (IsReported.too_many p long) (IsReported.no_program q) = never_both _ _ (one_legal laws p q)
-one_reported laws some (IsReported.too_many {op = op} p long) (IsReported.too_many {op = also} q other) =
-    let same = same_program _ _ (one_legal laws p q) in
-    ap (λ o. Err (Ops (TooMany o))) (one_first op also laws some (long_moved _ _ same long) other)
-one_reported laws some (IsReported.too_many p long) (IsReported.no_bench {plan = plan} q is own none) =
-    no_plan plan laws some (long_moved _ _ (same_program _ _ (one_legal laws p q)) long) is
-one_reported laws some (IsReported.too_many p long) (IsReported.report {bench = bench} of is) =
-    no_plan bench.plan laws some (long_moved _ _ (same_program _ _ (one_legal laws p of.legal)) long) of.plan
-one_reported laws some (IsReported.no_bench p is own none) (IsReported.no_program q) = never_both _ _ (one_legal laws p q)
-one_reported laws some (IsReported.no_bench {plan = plan} p is own none) (IsReported.too_many q long) =
-    no_plan plan laws some (long_moved _ _ (same_program _ _ (one_legal laws q p)) long) is
-one_reported {job} {steps = steps} laws some (IsReported.no_bench {plan = plan} {fault = f} p is own none) (IsReported.no_bench {plan = also} {fault = g} q are its none_too) =
-    let same = same_program _ _ (one_legal laws p q) in
-    ap (λ fault. Err (Bench fault)) (one_fault job steps plan also f g laws (moved _ _ plan same is) are own its none none_too)
-one_reported laws some (IsReported.no_bench {plan = plan} {fault = f} p is own none) (IsReported.report {bench = bench} of also) =
-    not_both plan f bench laws p is own none of
-one_reported laws some (IsReported.report of is) (IsReported.no_program q) = never_both _ _ (one_legal laws of.legal q)
-one_reported laws some (IsReported.report {bench = bench} of is) (IsReported.too_many q long) =
-    no_plan bench.plan laws some (long_moved _ _ (same_program _ _ (one_legal laws q of.legal)) long) of.plan
-one_reported laws some (IsReported.report {bench = bench} of is) (IsReported.no_bench {plan = plan} {fault = f} p also own none) =
-    not_both plan f bench laws p also own none of
-one_reported laws some (IsReported.report {bench = one} of is) (IsReported.report {bench = other} its also) =
-    ap Ok (one_text one other _ _ laws of its is also)
+pub one_reported : Laws → (job : JobFields) (ops : List Op) (every steps : ℕ) → 1 ≤ every → One Same (IsReported job ops every steps)
+one_reported laws job ops every steps some =
+    one_in_turn Same (IsBenched job ops every steps) IsReportOf AreEqualBenches
+    (one_in_turn AreEqualBenches (IsPlanned job.source ops every) (IsBenchIn job steps) AreEqualPlans (one_planned laws ops every some job.source) (one_bench job steps))
+    (one_report laws)

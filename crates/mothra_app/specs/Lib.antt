@@ -1,4 +1,5 @@
 pub mod Fault
+pub mod Stages
 pub mod Line
 pub mod Program
 pub mod Printing
@@ -6,12 +7,12 @@ pub mod OutcomeLine
 pub mod Executing
 pub mod Listing
 pub mod Reporting
-pub mod Status
 pub mod Answer
+pub mod Commands
 pub mod Serving
 pub mod Law
-pub mod code
 pub use Fault.*
+pub use Stages.*
 unfoldable pub use Line.*
 pub use Program.*
 pub use Printing.*
@@ -19,7 +20,7 @@ pub use OutcomeLine.*
 pub use Executing.*
 pub use Listing.*
 pub use Reporting.*
-pub use Status.*
 pub use Answer.*
+pub use Commands.*
 pub use Serving.*
 pub use Law.*

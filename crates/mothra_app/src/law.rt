@@ -1,6 +1,6 @@
 //! Theorems on what is served. Each is the contract of a function that only cites other laws.
 
-ghost use Rattle.std.specs.Prelude.{◌≡◌, ℕ, Bool, List};
+ghost use Rattle.std.specs.Prelude.{◌≡◌, ℕ, Bool, Contains, List};
 ghost use Rattle.clap.specs.Words.{Text};
 ghost use Rattle.mothra_job.specs.Job.{job_of};
 ghost use Rattle.mothra_app.specs.declared.fault.Fault.{Fault};
@@ -10,6 +10,8 @@ ghost use Rattle.mothra_verdicts.specs.Bench.{BenchFields};
 ghost use Rattle.mothra_bench.specs.Feeding.{AreCounts};
 ghost use Rattle.mothra_bench.specs.PlanExchange.{KeepsLists};
 ghost use Rattle.mothra_verdicts.specs.Verdict.{IsItemVerdict, IsVerdict};
+ghost use Rattle.mothra_cli.specs.Asking.{AsksFor};
+ghost use Rattle.mothra_cli.specs.Request.{mothra_line};
 ghost use Rattle.mothra_cli.specs.declared.request.Request.{Request};
 ghost use Rattle.mothra_cli.specs.declared.request.Request.TheVariants.{Run};
 ghost use Rattle.mothra_codes.specs.declared.op.Op.{Op};
@@ -17,8 +19,8 @@ ghost use Rattle.mothra_codes.specs.declared.ticket.Ticket.{Ticket};
 ghost use Rattle.mothra_exchange.specs.Rule.{IsSoundExchange};
 ghost use Rattle.mothra_exchange.specs.declared.view.View.{View};
 ghost use Rattle.mothra_ops.specs.Plan.{PlanFields};
-ghost use Rattle.mothra_app.specs.{MayFailBy, IsFairAnswer, IsLegalJob, IsOutOfResources, ReportsJob, AsksFor};
-ghost use Rattle.mothra_app.specs.{IsServed, MayBeWritten};
+ghost use Rattle.mothra_app.specs.{faults_in_place, mothra_promise, IsFairAnswer, IsLegalJob, IsOutOfResources};
+ghost use Rattle.mothra_app.specs.{IsServed, MayBeWritten, ReportsJob};
 
 use f77_meaning::law::one_outcome;
 use f77_source::law::one_reading;
@@ -44,7 +46,8 @@ pub fn one_answer()
 pub fn any_workers()
     ensures { (words others : List Text) (operators : List Op) (every steps workers more : ℕ) (bytes : List ℕ)
         (status other : Status) (text also : List ℕ)
-        → AsksFor words (Run operators every steps workers) → AsksFor others (Run operators every steps more)
+        → AsksFor mothra_line words (Run operators every steps workers)
+        → AsksFor mothra_line others (Run operators every steps more)
         → IsServed words bytes status text → IsServed others bytes other also → (status ≡ other) × (text ≡ also) }
 {
     one_reading();
@@ -68,7 +71,7 @@ pub fn headline()
     ensures between_steps { (C : ℕ) (plan : PlanFields) (counts words : List ℕ) (views : List View)
         → IsSoundExchange C counts words views → AreCounts plan counts → KeepsLists C plan words views }
     ensures report { (words : List Text) (operators : List Op) (every steps workers : ℕ) (bytes text : List ℕ)
-        → AsksFor words (Run operators every steps workers) → IsServed words bytes Report text
+        → AsksFor mothra_line words (Run operators every steps workers) → IsServed words bytes Report text
         → ReportsJob (job_of bytes) operators every steps text }
     ensures verdict { (bench : BenchFields) (ticket : Ticket) (kills : List Bool)
         → IsVerdict bench ticket kills → IsItemVerdict bench ticket kills }
@@ -81,9 +84,10 @@ pub fn headline()
 /// thread was lacking. The law does not say that it was lacking then.
 pub fn no_false_refusal()
     ensures answer { (words : List Text) (bytes report : List ℕ) (status : Status) (text : List ℕ)
-        → IsLegalJob words bytes report → MayBeWritten words bytes status text → IsFairAnswer words report status text }
+        → IsLegalJob words bytes report → MayBeWritten mothra_promise words bytes status text
+        → IsFairAnswer words report status text }
     ensures out_of_resources { (request : Request) (fault : Fault)
-        → MayFailBy request fault → IsOutOfResources fault }
+        → Contains (faults_in_place mothra_promise request) fault → IsOutOfResources fault }
 {
     one_answer();
 }

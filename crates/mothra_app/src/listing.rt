@@ -1,14 +1,14 @@
 //! The command `list`: the mutants of the program of a job.
 
-ghost use Rattle.std.specs.Prelude.{◌≡◌, ◌⊎◌, ◌++◌, ◌≤◌, Ok, Err, Contains};
-ghost use Rattle.std.specs.Prelude.{IfOk, MatchResult, OnOk, codes, string_bytes};
+ghost use Rattle.std.specs.Prelude.{◌≡◌, ◌++◌, ◌≤◌, IfErr, IfOk, OnOk, codes, string_bytes};
 ghost use Rattle.mothra_app.specs.Listing as definition;
 ghost use Rattle.mothra_ops.specs.Mutants.{mutant_text};
-ghost use Rattle.mothra_app.specs.{of_mutants, IsListed, asked_total};
-ghost use Rattle.mothra_app.specs.code.{asked_lines, plan_lines, plan_text};
+ghost use Rattle.mothra_app.specs.{of_mutants, GivesOutcome, IsListed, asked_total};
 
 use crate::fault::Fault;
-use crate::program::legal_program_of;
+use crate::program::plan_of;
+use mothra_cli::Operators;
+use mothra_job::Job;
 use mothra_ops::{Op, OpsFault, Plan};
 use std::alloc::{AllocError, Global};
 
@@ -31,7 +31,7 @@ fn push_mutant(text: &mut String, plan: &Plan, op: Op, number: u32) -> Result<()
 
 /// Adds the lines of an operator: how many mutants it has, then each mutant.
 fn push_operator(text: &mut String, plan: &Plan, op: Op) -> Result<(), AllocError>
-    ensures { OnOk result (string_bytes text.new ≡ string_bytes text.old ++ plan_lines plan.now op) }
+    ensures { OnOk result (string_bytes text.new ≡ string_bytes text.old ++ definition.plan_lines plan.now op) }
 {
     let count = plan.count(op);
     push_count(text, op, count)?;
@@ -43,7 +43,7 @@ fn push_operator(text: &mut String, plan: &Plan, op: Op) -> Result<(), AllocErro
 
 /// Adds the lines of each operator that was asked for, in the order of the operators.
 fn push_operators(text: &mut String, plan: &Plan) -> Result<(), AllocError>
-    ensures { OnOk result (string_bytes text.new ≡ string_bytes text.old ++ asked_lines plan.now) }
+    ensures { OnOk result (string_bytes text.new ≡ string_bytes text.old ++ definition.asked_lines plan.now) }
 {
     for op in Op::ALL {
         if plan.asked(op) {
@@ -66,9 +66,10 @@ pub fn total_of(plan: &Plan) -> u64
     total
 }
 
-/// The text of the list of a plan's mutants.
-fn text_of(alloc: Global, plan: &Plan) -> Result<String, AllocError>
-    ensures { IfOk result (λ text. string_bytes text ≡ plan_text plan.now) }
+/// The text of the list of a plan's mutants. No memory for it is O1, as it is for the plan.
+fn text_of(alloc: Global, plan: &Plan) -> Result<String, OpsFault>
+    ensures text { IfOk result (λ text. string_bytes text ≡ definition.plan_text plan.now) }
+    ensures memory { IfErr result (λ fault. fault ≡ OpsFault.Memory) }
 {
     let mut text = String::new(alloc);
     push_operators(&mut text, plan)?;
@@ -77,23 +78,17 @@ fn text_of(alloc: Global, plan: &Plan) -> Result<String, AllocError>
     Ok(text)
 }
 
-/// The command `list`: the mutants of the program that a source is, for these operators. Of each
-/// list every q-th item is kept, from the first, where `every` is q.
+/// The command `list`: the mutants of the program of a job, for these operators. Of each list every q-th item is kept,
+/// from the first, where `every` is q.
 pub(crate) fn list_mutants(
     alloc: Global,
-    source: &str,
-    ops: &[Op],
+    job: &Job,
+    operators: &Operators,
     every: u32,
 ) -> Result<String, Fault>
     requires { 1 ≤ every }
-    ensures { MatchResult result
-        (λ text. IsListed source.now ops.now every (Ok (string_bytes text)))
-        (λ fault. IsListed source.now ops.now every (Err fault) ⊎ Contains of_mutants fault) }
+    ensures { GivesOutcome string_bytes (IsListed job.now operators.now every) of_mutants result }
 {
-    let checked = legal_program_of(alloc, source)?;
-    let plan = Plan::new(alloc, checked, ops, every)?;
-    match text_of(alloc, &plan) {
-        Ok(text) => Ok(text),
-        Err(_) => Err(Fault::Ops(OpsFault::Memory)),
-    }
+    let plan = plan_of(alloc, job, operators, every)?;
+    Ok(text_of(alloc, &plan)?)
 }

@@ -1,17 +1,13 @@
 -- Each subcommand that the command line takes is a request, or has a bad list of operators.
-use Rattle.mothra_cli.proofs.Common.{◌≡◌, ap, ◌∙◌, None, Some, refl, List, Option, true, ℕ, ◌≤◌, [], subst, bytes_eq, codes, sym, is_some, Err, Ok, true≢false}
-use Rattle.mothra_cli.proofs.Common.{IsSome, inl, inr, ◌⊎◌, option_map_or, built, Text, fault_of, subcommand_of, Row, mothra, IsBounded, IsFaultOf, Meaning}
-use Rattle.mothra_cli.proofs.Common.{bad_operators, list_meaning, meaning_of, operators_at, refused, request, request_in, request_of, run_meaning}
-use Rattle.mothra_cli.proofs.Common.{subcommand_meaning}
+use Rattle.mothra_cli.proofs.Common.{◌≡◌, ap, ◌∙◌, None, Some, List, Option, true, ℕ, ◌≤◌, [], subst, bytes_eq, codes, sym, is_some, true≢false}
+use Rattle.mothra_cli.proofs.Common.{inl, inr, ◌⊎◌, option_map_or, built, Text, fault_of, subcommand_of, Row, mothra}
+use Rattle.mothra_cli.proofs.Common.{list_meaning, mothra_line, operators_at, refused, run_meaning, subcommand_meaning}
 use Rattle.clap.specs.Words.{Shape}
 use Rattle.clap.proofs.OnLiterals.{clap_on_literals}
 use Rattle.mothra_codes.specs.declared.op.Op.{Op}
-use Rattle.mothra_cli.specs.code.{ReadsRequest}
-use Rattle.mothra_cli.specs.declared.request.Request.{Request}
-use Rattle.mothra_cli.specs.declared.request.WordsFault.{WordsFault}
-use Rattle.mothra_cli.specs.declared.request.WordsFault.TheVariants.{Refused, BadOperatorList}
 use Rattle.mothra_cli.proofs.OptionRows.{Each, same_id}
 use Rattle.mothra_cli.proofs.Accepted.{accepted_level, exec_numbers, list_number, run_numbers}
+use Rattle.mothra_cli.proofs.Meanings.{IsAccepted}
 
 abbrev IsCommand : Text → Type 0
 IsCommand name = (name ≡ codes "print") ⊎ (name ≡ codes "exec") ⊎ (name ≡ codes "list") ⊎ (name ≡ codes "run")
@@ -31,16 +27,10 @@ command_met : (words : List Text) (name : Text) (rows : List Row) → fault_of m
 command_met words name rows taken is =
     (accepted_level mothra name (λ _. IsCommand name) (each_command name) words rows taken is).2
 
--- what the command line takes: a request whose numbers are within bounds, or a bad list of operators
-abbrev IsAccepted : Meaning → Type 0
-IsAccepted refused = ⊥
-IsAccepted bad_operators = Unit {0}
-IsAccepted (request r) = IsBounded r
-
 -- `exec` is a request, since it has both of its numbers
 exec_asks : (words : List Text) (rows : List Row) → fault_of mothra words ≡ []
     → subcommand_of mothra words ≡ Some (codes "exec", rows)
-    → IsAccepted (subcommand_meaning (codes "exec", rows))
+    → IsAccepted mothra_line (subcommand_meaning (codes "exec", rows))
 exec_asks words rows taken is =
     let numbers = exec_numbers words rows taken is in
     let test = numbers.0 in
@@ -50,19 +40,19 @@ exec_asks words rows taken is =
 -- `list` is a request, since it has its number
 list_asks : (words : List Text) (rows : List Row) → fault_of mothra words ≡ []
     → subcommand_of mothra words ≡ Some (codes "list", rows)
-    → IsAccepted (subcommand_meaning (codes "list", rows))
+    → IsAccepted mothra_line (subcommand_meaning (codes "list", rows))
 list_asks words rows taken is =
     let every = list_number words rows taken is in
     rw every.1 (go (operators_at rows) every.0 every.2 every.3)
   where
-    go : (o : Option (List Op)) (n : ℕ) → 1 ≤ n → n ≤ 1048575 → IsAccepted (list_meaning o (Some n))
+    go : (o : Option (List Op)) (n : ℕ) → 1 ≤ n → n ≤ 1048575 → IsAccepted mothra_line (list_meaning o (Some n))
     go None n above below = tt
     go (Some ops) n above below = (above, below)
 
 -- `run` is a request, since it has its three numbers
 run_asks : (words : List Text) (rows : List Row) → fault_of mothra words ≡ []
     → subcommand_of mothra words ≡ Some (codes "run", rows)
-    → IsAccepted (subcommand_meaning (codes "run", rows))
+    → IsAccepted mothra_line (subcommand_meaning (codes "run", rows))
 run_asks words rows taken is =
     let numbers = run_numbers words rows taken is in
     let every = numbers.0 in
@@ -73,47 +63,25 @@ run_asks words rows taken is =
   where
     go : (o : Option (List Op)) (q n w : ℕ)
         → (1 ≤ q) × (q ≤ 1048575) × (1 ≤ n) × (n ≤ 1000000) × (1 ≤ w) × (w ≤ 32)
-        → IsAccepted (run_meaning o (Some q) (Some n) (Some w))
+        → IsAccepted mothra_line (run_meaning o (Some q) (Some n) (Some w))
     go None q n w bounds = tt
     go (Some ops) q n w bounds = bounds
 
 -- the subcommand that the words name is a request, or has a bad list of operators
-pub asks : (words : List Text) (met : Option (Text × List Row)) → fault_of mothra words ≡ []
-    → met ≡ subcommand_of mothra words → is_some met ≡ true → IsAccepted (option_map_or subcommand_meaning met refused)
-asks words None taken is some = absurd (true≢false (sym some))
-asks words (Some (name, rows)) taken is some = go (command_met words name rows taken (sym is))
+pub accepted : (words : List Text) (met : Option (Text × List Row)) → fault_of mothra words ≡ []
+    → met ≡ subcommand_of mothra words → is_some met ≡ true → IsAccepted mothra_line (option_map_or subcommand_meaning met refused)
+accepted words None taken is some = absurd (true≢false (sym some))
+accepted words (Some (name, rows)) taken is some = go (command_met words name rows taken (sym is))
   where
     renamed : (own : Text) → name ≡ own → subcommand_of mothra words ≡ Some (own, rows)
     renamed own named = sym is ∙ ap (λ n. Some (n, rows)) named
 
-    at : (own : Text) → name ≡ own → IsAccepted (subcommand_meaning (own, rows))
-        → IsAccepted (subcommand_meaning (name, rows))
-    at own named = subst (λ n. IsAccepted (subcommand_meaning (n, rows))) (sym named)
+    at : (own : Text) → name ≡ own → IsAccepted mothra_line (subcommand_meaning (own, rows))
+        → IsAccepted mothra_line (subcommand_meaning (name, rows))
+    at own named = subst (λ n. IsAccepted mothra_line (subcommand_meaning (n, rows))) (sym named)
 
-    go : IsCommand name → IsAccepted (subcommand_meaning (name, rows))
+    go : IsCommand name → IsAccepted mothra_line (subcommand_meaning (name, rows))
     go (inl named) = at _ named tt
     go (inr (inl named)) = at _ named (exec_asks words rows taken (renamed _ named))
     go (inr (inr (inl named))) = at _ named (list_asks words rows taken (renamed _ named))
     go (inr (inr (inr named))) = at _ named (run_asks words rows taken (renamed _ named))
-
--- the meaning of the subcommand that the words name is the meaning of the words
-pub meaning_taken : (words : List Text) (met : Option (Text × List Row)) → fault_of mothra words ≡ []
-    → met ≡ subcommand_of mothra words → meaning_of words ≡ option_map_or subcommand_meaning met refused
-unfolding meaning_of
-meaning_taken words met taken is = rw (taken, ← is) refl
-
-pub some_request : (meaning : Meaning) (o : Option Request) → IsAccepted meaning → ReadsRequest meaning (Ok o) → IsSome o
-some_request meaning (Some r) some reads = refl
-some_request meaning None some reads = absurd (subst IsAccepted reads some)
-
-module _ (words : List Text) (meaning : Meaning) (is : meaning_of words ≡ meaning) where
-  pub is_request : (r : Request) (o : Option Request) → o ≡ Some r → ReadsRequest meaning (Ok o) → request_of words ≡ Some r
-  is_request r o some reads = ap request_in (is ∙ subst (λ x. ReadsRequest meaning (Ok x)) some reads)
-
-  pub is_fault : (fault : WordsFault) → ReadsRequest meaning (Err fault) → IsFaultOf words fault
-  is_fault (Refused error) reads = inl reads
-  is_fault BadOperatorList reads = is ∙ reads
-
-pub is_bounded : (meaning : Meaning) (r : Request) (o : Option Request) → IsAccepted meaning → o ≡ Some r → ReadsRequest meaning (Ok o)
-    → IsBounded r
-is_bounded meaning r o asks some reads = subst IsAccepted (subst (λ x. ReadsRequest meaning (Ok x)) some reads) asks

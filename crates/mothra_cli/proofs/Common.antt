@@ -12,6 +12,6 @@ pub use Rattle.clap.specs.Simple.{Shape, built, argument_words, entered, label_o
 pub use Rattle.clap.specs.ValueTests.{is_unsigned_in, accepts, is_numeral}
 pub use Rattle.clap.specs.Words.{App, Text, app_of, fault_of, found_of, subcommand_of, FailsBy, Row, first_of, is_simple, is_simple_and_free, new_app, rows_of}
 pub use Rattle.clap.specs.Words.{with_rule, with_subcommand}
-pub use Rattle.mothra_cli.specs.{number_meant, has_failed, inside, IsBounded, IsFaultOf, Meaning, bad_operators, comma, list_meaning, operator_of, operators_at}
-pub use Rattle.mothra_cli.specs.{operators_of, refused, request, request_in, request_of, run_meaning, subcommand_meaning}
+pub use Rattle.mothra_cli.specs.{number_meant, has_failed, inside, CommandLine, AsksFor, IsFaultOf, Meaning, bad_operators, comma, list_meaning, mothra_line}
+pub use Rattle.mothra_cli.specs.{operator_of, operators_at, operators_of, refused, request, request_in, run_meaning, subcommand_meaning}
 unfoldable pub use Rattle.mothra_cli.specs.{mothra, meaning_of}

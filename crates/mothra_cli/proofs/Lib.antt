@@ -1,4 +1,5 @@
 pub mod Common
+pub mod Meanings
 mod Commands
 pub mod Getters
 pub mod OptionRows

@@ -1,9 +1,7 @@
 -- What is read from a reader. A reader is given by the bytes that it has left, or None where these
 -- are not known.
-use Rattle.std.specs.Prelude.{◌≡◌, ◌≤◌, ◌<◌, ℕ, Bool, true, false, List, length, Option, Some, None, Result, Ok, Err, ⊤}
+use Rattle.std.specs.Prelude.{◌≡◌, ◌≤◌, ◌<◌, ℕ, List, length, Option, Some, None, ⊤}
 use Rattle.std.specs.Io.KnownBytes.{Consumes, IsAtEnd}
-use Rattle.mothra_cli.specs.declared.input.InputFault.{InputFault}
-use Rattle.mothra_cli.specs.declared.input.InputFault.TheVariants.{Memory, Read}
 
 -- the most bytes that are read: one more than a job may have
 abbrev pub limit : ℕ
@@ -26,9 +24,3 @@ TakesAtMost most old new = (bytes : List ℕ) × (length bytes ≤ most) × Cons
 abbrev pub AreAll : Option (List ℕ) → List ℕ → Type 0
 AreAll None bytes = ⊤
 AreAll (Some left) bytes = bytes ≡ left
-
--- a read failed
-abbrev pub failed_read : {A : Type 0} → Result A InputFault → Bool
-failed_read (Ok bytes) = false
-failed_read (Err Memory) = false
-failed_read (Err Read) = true

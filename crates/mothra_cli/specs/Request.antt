@@ -1,30 +1,18 @@
--- What the words of the command line ask for.
-use Rattle.std.specs.Prelude.{◌≡◌, ◌≤◌, ℕ, ◌^◌, ◌&&◌, nat_lt, [], List, Option}
+-- What the words of the command line of `mothra` ask for.
+use Rattle.std.specs.Prelude.{◌≤◌, ℕ, ◌^◌, ◌&&◌, nat_lt, List, Option}
 use Rattle.std.specs.Prelude.{Some, None, ⊤, codes, if◌then◌else◌, option_and_then}
 use Rattle.std.specs.Option.{option_map_or}
 use Rattle.std.specs.Str.{bytes_eq}
 use Rattle.std.specs.Str.Parse.{digits_value, without_leading_plus}
-use Rattle.clap.specs.Words.{HasKind, Row, Text, fault_of, first_of, kind_of, one_of, subcommand_of}
+use Rattle.clap.specs.Words.{Row, Text, first_of, one_of, subcommand_of}
 use Rattle.clap.specs.ValueTests.{is_numeral}
-use Rattle.clap.specs.Walk.{is_empty}
-use Rattle.clap.specs.declared.error.Error.{Error}
-use Rattle.clap.specs.declared.error.kind.ErrorKind.TheVariants as kind
 use Rattle.mothra_codes.specs.Op.{all_ops}
 use Rattle.mothra_codes.specs.declared.op.Op.{Op}
 use Rattle.mothra_cli.specs.Command.{mothra}
+use Rattle.mothra_cli.specs.Asking.{CommandLine, Meaning, bad_operators, refused, request}
 use Rattle.mothra_cli.specs.Operators.{operators_of}
 use Rattle.mothra_cli.specs.declared.request.Request.{Request}
 use Rattle.mothra_cli.specs.declared.request.Request.TheVariants as command
-use Rattle.mothra_cli.specs.declared.request.WordsFault.{WordsFault}
-use Rattle.mothra_cli.specs.declared.request.WordsFault.TheVariants as fault
-
--- the three meanings of a list of words
-pub data Meaning : Type 0 where
-  -- the command line refuses the words, or they ask for help or the version
-  refused : Meaning
-  -- the words are a command whose value of `--ops` is no list of operators' codes
-  bad_operators : Meaning
-  request : Request → Meaning
 
 -- the number that a text of digits writes, where it has at most 32 bits
 abbrev pub number_meant : Text → Option ℕ
@@ -42,31 +30,31 @@ abbrev pub operators_at : List Row → Option (List Op)
 operators_at rows = option_map_or operators_of (first_of (codes "ops") rows) (Some all_ops)
 
 -- the meaning of `exec` with these numbers, both of which have to be there
-abbrev pub exec_meaning : Option ℕ → Option ℕ → Meaning
+abbrev pub exec_meaning : Option ℕ → Option ℕ → Meaning Request
 exec_meaning (Some test) (Some steps) = request (command.Exec test steps)
 exec_meaning _ _ = refused
 
 -- the meaning of `list` with these operators and this number, which has to be there
-abbrev pub list_meaning : Option (List Op) → Option ℕ → Meaning
+abbrev pub list_meaning : Option (List Op) → Option ℕ → Meaning Request
 list_meaning None every = bad_operators
 list_meaning (Some operators) (Some every) = request (command.List operators every)
 list_meaning (Some operators) None = refused
 
 -- the meaning of `run` with these operators and these numbers, which have to be there
-abbrev pub run_meaning : Option (List Op) → Option ℕ → Option ℕ → Option ℕ → Meaning
+abbrev pub run_meaning : Option (List Op) → Option ℕ → Option ℕ → Option ℕ → Meaning Request
 run_meaning None every steps workers = bad_operators
 run_meaning (Some operators) (Some every) (Some steps) (Some workers) =
     request (command.Run operators every steps workers)
 run_meaning (Some operators) _ _ _ = refused
 
 -- the meaning of `run` with these options
-abbrev pub run_options : List Row → Meaning
+abbrev pub run_options : List Row → Meaning Request
 run_options rows =
     run_meaning (operators_at rows) (option_number (codes "every") rows)
     (option_number (codes "steps") rows) (option_number (codes "workers") rows)
 
 -- the meaning of the subcommand of this name with these options
-abbrev pub subcommand_meaning : Text × List Row → Meaning
+abbrev pub subcommand_meaning : Text × List Row → Meaning Request
 subcommand_meaning (name, rows) =
     if bytes_eq name (codes "print") then request command.Print
     else (if bytes_eq name (codes "exec")
@@ -75,31 +63,6 @@ subcommand_meaning (name, rows) =
     then list_meaning (operators_at rows) (option_number (codes "every") rows)
     else (if bytes_eq name (codes "run") then run_options rows
     else refused)))
-
--- the command line takes the words
-abbrev pub IsTaken : List Text → Type 0
-IsTaken words = fault_of mothra words ≡ []
-
--- the meaning of the words
-unfoldable pub meaning_of : List Text → Meaning
-meaning_of words =
-    if is_empty (fault_of mothra words)
-    then option_map_or subcommand_meaning (subcommand_of mothra words) refused
-    else refused
-
-abbrev pub request_in : Meaning → Option Request
-request_in (request r) = Some r
-request_in _ = None
-
--- Rule: the words
--- the request that the words are
-abbrev pub request_of : List Text → Option Request
-request_of words = request_in (meaning_of words)
-
--- Rule: the words
--- the command line takes the words, and their value of `--ops` is no list of operators' codes
-abbrev pub HasBadOperators : List Text → Type 0
-HasBadOperators words = meaning_of words ≡ bad_operators
 
 -- the numbers of the request are within the bounds of their options
 abbrev pub IsBounded : Request → Type 0
@@ -111,17 +74,10 @@ IsBounded (command.Run operators every steps workers) =
     × (every ≤ 1048575) × (1 ≤ steps) × (steps ≤ 1000000) × (1 ≤ workers) × (workers ≤ 32)
 
 -- Rule: the words
--- the error is one by which the command line refuses the words, or answers
--- a call for help or the version; or it says that memory ran out
-abbrev pub IsRefusalOf : List Text → Error → Type 0
-IsRefusalOf words error = HasKind (fault_of mothra words) error
-
--- the fault says why the words are no request, or that memory ran out
-abbrev pub IsFaultOf : List Text → WordsFault → Type 0
-IsFaultOf words (fault.Refused error) = IsRefusalOf words error
-IsFaultOf words fault.BadOperatorList = HasBadOperators words
-
--- the fault says that memory ran out
-abbrev pub IsMemory : WordsFault → Type 0
-IsMemory (fault.Refused error) = kind_of error ≡ kind.OutOfMemory
-IsMemory fault.BadOperatorList = ⊥
+-- what the words of `mothra` mean: they are a subcommand with its options
+abbrev pub mothra_line : CommandLine Request
+mothra_line = record {
+  app = mothra;
+  meaning = λ words. option_map_or subcommand_meaning (subcommand_of mothra words) refused;
+  IsBounded = IsBounded;
+}

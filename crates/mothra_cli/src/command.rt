@@ -44,13 +44,14 @@ fn test_option<'a>(alloc: Global) -> Arg<'a>
         .value_parser(ValueParser::unsigned(1, 256))
 }
 
-fn steps_option<'a>(alloc: Global) -> Arg<'a>
+/// The option `--steps`, with this help: 1 to 1,000,000; 10,000 where it is absent.
+pub fn steps_option<'a>(alloc: Global, help: &'a str) -> Arg<'a>
     ensures rule { rule_of result ≡ steps_rule }
     ensures global { result.global ≡ false }
 {
     Arg::new(alloc, "steps")
         .long("steps")
-        .help("The limit on steps of a run")
+        .help(help)
         .value_parser(ValueParser::unsigned(1, 1_000_000))
         .default_value("10000")
 }
@@ -96,7 +97,7 @@ fn exec_command<'a>(alloc: Global) -> Result<Command<'a>, AllocError>
     let command = Command::new(alloc, "exec")
         .about("Prints the outcome of the program of the job on one of its tests")
         .arg(test_option(alloc))?
-        .arg(steps_option(alloc))?;
+        .arg(steps_option(alloc, "The limit on steps of a run"))?;
     Ok(command)
 }
 
@@ -119,7 +120,7 @@ fn run_command<'a>(alloc: Global) -> Result<Command<'a>, AllocError>
         .about("Prints which mutants of the program of the job its tests kill")
         .arg(ops_option(alloc))?
         .arg(every_option(alloc))?
-        .arg(steps_option(alloc))?
+        .arg(steps_option(alloc, "The limit on steps of a run"))?
         .arg(workers_option(alloc))?;
     Ok(command)
 }

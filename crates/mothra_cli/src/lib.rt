@@ -3,15 +3,17 @@
 #![tactic(auto)]
 
 mod command;
+mod fault;
 mod input;
 mod operators;
 mod output;
 mod request;
 mod watched;
 
-pub use command::{VERSION, every_option, ops_option};
-pub use input::{InputFault, read_input};
+pub use command::{VERSION, every_option, ops_option, steps_option};
+pub use fault::AppFault;
+pub use input::read_input;
 pub use operators::Operators;
-pub use output::{OutputFault, write_whole};
+pub use output::write_whole;
 pub use request::{Request, WordsFault, number_at, operators_at, request_of};
 pub use watched::Watched;

@@ -1,10 +1,11 @@
 //! What the words of the command line ask for. `clap` tests the ranges of numbers and gives the defaults; `request_of`
 //! reads the numbers and has no default of its own, so it can not hide a refusal.
 
-ghost use Rattle.std.specs.Prelude.{◌≡◌, IfErr, IfOk, Ok, OnOk, Some, codes, map};
+ghost use Rattle.std.specs.Prelude.{◌≡◌, IfErr, IfOk, Ok, Some, codes, map};
 ghost use Rattle.std.specs.Option.{option_map_or};
 ghost use Rattle.clap.specs.Words.{found_of, rows_of, subcommand_rows_of};
-ghost use Rattle.mothra_cli.specs.Request.{subcommand_meaning, run_meaning, refused, IsBounded, IsFaultOf, IsTaken};
+ghost use Rattle.mothra_cli.specs.Asking.{AsksFor, IsFaultOf, refused};
+ghost use Rattle.mothra_cli.specs.Request.{subcommand_meaning, run_meaning, mothra_line};
 ghost use Rattle.mothra_cli.specs.code.Request.{ReadsRequest};
 ghost use Rattle.mothra_cli.specs.Request as asked;
 
@@ -61,7 +62,7 @@ impl From<Error> for WordsFault {
 }
 
 impl From<AllocError> for WordsFault {
-    ghost use Rattle.mothra_cli.specs.Request.{IsMemory};
+    ghost use Rattle.mothra_cli.specs.Asking.{IsMemory};
 
     ghost from_gives = { λ _ fault. IsMemory fault };
 
@@ -174,10 +175,8 @@ fn request_met(alloc: Global, matches: &ArgMatches<'_>) -> Result<Option<Request
 
 /// The request that the words are, or why they are none. The first word is the program's name.
 pub fn request_of<S: AsStr>(alloc: Global, words: &[S]) -> Result<Request, WordsFault>
-    ensures request { IfOk result (λ r. asked.request_of (map S.text words.now) ≡ Some r) }
-    ensures bounds { IfOk result IsBounded }
-    ensures taken { OnOk result (IsTaken (map S.text words.now)) }
-    ensures fault { IfErr result (IsFaultOf (map S.text words.now)) }
+    ensures asked { IfOk result (AsksFor mothra_line (map S.text words.now)) }
+    ensures fault { IfErr result (IsFaultOf mothra_line (map S.text words.now)) }
 {
     let matches = matches_of(alloc, words)?;
     let request = request_met(alloc, &matches)?;

@@ -15,7 +15,7 @@ rest_none [] ys e = e
 rest_none (x ∷ xs) ys e = cc
 
 -- where the result is a value, there is no fault, and it is that value
-without_fault : {A : Type 0} (fs : List JobFault) (x y : A) → (let one : Result A JobFault = Ok y in one ≡ fault_or fs x) → (fs ≡ []) × (x ≡ y)
+pub without_fault : {A : Type 0} (fs : List JobFault) (x y : A) → (let one : Result A JobFault = Ok y in one ≡ fault_or fs x) → (fs ≡ []) × (x ≡ y)
 without_fault [] x y e = let same : x ≡ y = cc in (refl, same)
 without_fault (f ∷ fs) x y e = cc
 

@@ -1,14 +1,7 @@
--- How a call of `serve` ends.
+-- Whether a read or a write failed.
 use Rattle.std.specs.Prelude.{Bool, true, false, Result, Ok, Err}
-use Rattle.mothra_cli.specs.declared.input.InputFault.{InputFault}
-use Rattle.mothra_cli.specs.declared.input.InputFault.TheVariants as input
-use Rattle.mothra_app.specs.declared.status.AppFault.{AppFault}
-use Rattle.mothra_app.specs.declared.status.AppFault.TheVariants.{Memory, Read, Write}
-
--- the fault where the input can not be read
-abbrev pub of_input : InputFault → AppFault
-of_input input.Memory = Memory
-of_input input.Read = Read
+use Rattle.mothra_cli.specs.declared.fault.AppFault.{AppFault}
+use Rattle.mothra_cli.specs.declared.fault.AppFault.TheVariants.{Memory, Read, Write}
 
 -- Rule: what is read and written, A2, A3
 -- whether a read failed (A2)
