@@ -3,8 +3,8 @@ pub use Rattle.std.proofs.Common.{arith, w64, SFits, ◌*ℤ◌, rules, ◌≡�
 pub use Rattle.std.proofs.Common.{[], All, ◌∷◌, slice_get, ◌⊎◌, negsuc, ◌++◌, length, Some, ◌≢◌, ◌≤ℤ◌, unsigned_abs, length-append, get_or, ◌≤◌, Bool, int_rem}
 pub use Rattle.std.proofs.Common.{◌-ℤ◌, ◌<ℤ◌, ◌-◌, Option, None, IfSome, int_div, Any, true, false, int_lt, if◌then◌else◌, length-drop, drop}
 pub use Rattle.std.proofs.Common.{add-one, Result, Ok, Err, IfOk, ◌*◌}
-pub use Rattle.std.proofs.Math.IntN.{*ℤ-zero, zero-*ℤ, *ℤ_comm, neg_ℤ, *ℤ-negsuc, *ℤ-one, suc_ℤ-*ℤ, pred_ℤ-*ℤ}
-pub use Rattle.std.proofs.lemmas.Int.{ints, to_z-of_z, clamps, rem_below, quot-rem, quot_is, rem_is, quot_fits}
+pub use Rattle.std.proofs.Math.IntN.{*ℤ-zero, zero-*ℤ, *ℤ_comm, neg_ℤ, *ℤ-negsuc}
+pub use Rattle.std.proofs.lemmas.Int.{ints, to_z-of_z, clamps, rem_below, quot-rem, quot_is, rem_is, quot_fits, by_lt_z}
 pub use Rattle.std.proofs.lemmas.List.{get_or_append_left, take_all, get_or-append-add, take_more}
 pub use Rattle.std.proofs.lemmas.List.Elements.{All-push, All-set, same_from_all_zip, length_all_zip, AllZip-get_or}
 pub use Rattle.std.specs.List.{remove, insert, AllZip}

@@ -1,5 +1,5 @@
 -- What is known on paths.
-use Rattle.std.specs.Prelude.{◌≢◌, All, Any, pos}
+use Rattle.std.specs.Prelude.{◌≢◌, ◌⊎◌, All, pos}
 use Rattle.f77_terms.specs.declared.terms.Term.{Term}
 use Rattle.f77_terms.specs.declared.paths.Choice.{Choice}
 use Rattle.f77_terms.specs.declared.paths.Path.{Path}
@@ -13,7 +13,7 @@ IsUnequal v term = sum_value v term ≢ pos 0
 
 -- in one of the cases each bound is at most 0
 abbrev pub HasCase : Valuation → Choice → Type 0
-HasCase v choice = Any (λ case. AreBelow v case.items) choice.cases.items
+HasCase v choice = AreBelow v choice.first.items ⊎ AreBelow v choice.second.items
 
 -- all that is known is so
 pub record Holds (v : Valuation) (path : Path) : Type 0 where

@@ -41,21 +41,15 @@ pub struct Table {
 pub fn new_table(alloc: Global) -> Table
     ensures { (held : Numbers) (v : Valuation) → FitsTable held v result }
 {
-    Table {
-        keys: Vec::new(alloc),
-    }
+    let keys = Vec::new(alloc);
+    Table { keys }
 }
 
 /// The term has atoms below this number alone.
 fn is_within(term: &Term, n: usize) -> bool
     ensures { result ≡ true → IsOfAtomsBelow n term.now }
 {
-    for place in 0..term.parts.len() {
-        if item_at(&term.parts, place).atom >= n {
-            return false;
-        }
-    }
-    true
+    term.parts.iter().all(|part| part.atom < n)
 }
 
 /// The terms of the key have atoms below this number alone.
@@ -89,13 +83,8 @@ fn atom_with(table: &Table, key: &Key) -> Option<usize>
     ensures { IfSome result (λ atom. (held : Numbers) (v : Valuation) → FitsTable held v table.now
         → v atom ≡ key_value held v key.now) }
 {
-    for place in 0..table.keys.len() {
-        let other = item_at(&table.keys, place);
-        if is_same_key(other, key) && is_in_order(other, place) {
-            return Some(place);
-        }
-    }
-    None
+    let place = table.keys.iter().position(|other| is_same_key(other, key))?;
+    is_in_order(&table.keys[place], place).then_some(place)
 }
 
 /// The atom with a key, which is made if there is none, unless a term of the key has atoms that are not of the table.

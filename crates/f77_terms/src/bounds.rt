@@ -5,7 +5,8 @@ ghost use Rattle.f77_terms.specs.{Valuation, sum_value, IsBelow, AreBelow, HasSi
 
 use crate::numbers::{ceiling, divisor_of};
 use crate::terms::{
-    Part, Term, add_multiple, combined, constant_term, copied_terms, copy, is_same_term,
+    Part, Term, add_multiple, combined, constant_of, constant_term, copied_terms, copy,
+    is_same_term,
 };
 use std::alloc::{AllocError, Global};
 use std::cmp::Ordering;
@@ -27,19 +28,14 @@ fn tightened(bound: Term) -> Result<Term, AllocError>
     if g == 1 {
         return Ok(bound);
     }
-    let divided = Term {
-        constant: 0,
-        parts: divided_parts(&bound.parts, g)?,
-    };
+    let parts = divided_parts(&bound.parts, g)?;
+    let mut tight = Term { constant: 0, parts };
     let mut whole = constant_term(*bound.parts.allocator(), bound.constant);
-    if !add_multiple(&mut whole, g, &divided)? || !is_same_term(&whole, &bound) {
+    if !add_multiple(&mut whole, g, &tight)? || !is_same_term(&whole, &bound) {
         return Ok(bound);
     }
-    let constant = ceiling(bound.constant, g);
-    Ok(Term {
-        constant,
-        parts: divided.parts,
-    })
+    tight.constant = ceiling(bound.constant, g);
+    Ok(tight)
 }
 
 /// Adds a bound, in place of a weaker one with the same parts.
@@ -102,6 +98,18 @@ pub(crate) fn add_order(
     }
 }
 
+/// The first term, m times, and the second, n times, are at most 0.
+pub(crate) fn both_below(m: i64, a: &Term, n: i64, b: &Term) -> Result<Vec<Term>, AllocError>
+    ensures { IfOk result (λ case. (v : Valuation)
+        → (pos 0 +ℤ m *ℤ sum_value v a.now) ≤ℤ pos 0 → (pos 0 +ℤ n *ℤ sum_value v b.now) ≤ℤ pos 0
+        → AreBelow v case.items) }
+{
+    let mut bounds = Vec::new(*a.parts.allocator());
+    add_bound(&mut bounds, m, a, 0)?;
+    add_bound(&mut bounds, n, b, 0)?;
+    Ok(bounds)
+}
+
 /// What follows where a term has this sign.
 pub fn sign_bounds(term: &Term, sign: Ordering) -> Result<Vec<Term>, AllocError>
     ensures { IfOk result
@@ -110,10 +118,7 @@ pub fn sign_bounds(term: &Term, sign: Ordering) -> Result<Vec<Term>, AllocError>
     let mut bounds = Vec::new(*term.parts.allocator());
     match sign {
         Ordering::Less => add_bound(&mut bounds, 1, term, 1)?,
-        Ordering::Equal => {
-            add_bound(&mut bounds, 1, term, 0)?;
-            add_bound(&mut bounds, -1, term, 0)?;
-        }
+        Ordering::Equal => return both_below(1, term, -1, term),
         Ordering::Greater => add_bound(&mut bounds, -1, term, 1)?,
     }
     Ok(bounds)
@@ -123,10 +128,5 @@ pub fn sign_bounds(term: &Term, sign: Ordering) -> Result<Vec<Term>, AllocError>
 pub fn is_refuted(bounds: &[Term]) -> bool
     ensures { result ≡ true → (v : Valuation) → ¬ (AreBelow v bounds.now) }
 {
-    for bound in bounds {
-        if bound.constant > 0 && bound.parts.len() == 0 {
-            return true;
-        }
-    }
-    false
+    bounds.iter().any(|bound| constant_of(bound).is_some_and(|constant| constant > 0))
 }

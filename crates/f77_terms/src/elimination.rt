@@ -5,7 +5,7 @@ ghost use Rattle.f77_terms.specs.{Valuation, IsBelow, AreBelow, AreKnown};
 
 use crate::bounds::{add_bound, add_tight, is_refuted};
 use crate::ranges::{Range, atom_range};
-use crate::terms::{Part, Term, atom_term, combined, copied_terms, copy, factor_of};
+use crate::terms::{Term, atom_term, combined, copied_terms, copy, factor_of};
 use std::alloc::{AllocError, Global};
 
 /// So many atoms are eliminated, and no more.
@@ -17,33 +17,30 @@ const MOST_BOUNDS: usize = 80;
 /// What an elimination costs more that may lose whole numbers.
 const LOSS: usize = 1000;
 
-/// An atom that was eliminated, and from which bounds.
+/// An atom that was eliminated, and the bounds that had it.
 #[derive(Drop)]
 pub struct Level {
     pub atom: usize,
     pub bounds: Vec<Term>,
 }
 
-/// In how many bounds an atom has a factor above 0, and in how many one below, and whether some are not 1 and -1.
+/// In how many bounds an atom has a factor above 0, and in how many one below, and the least and the greatest of them.
 #[derive(Clone, Copy, Default)]
 struct Count {
     atom: usize,
     above: usize,
     below: usize,
-    is_large_above: bool,
-    is_large_below: bool,
+    least: i64,
+    greatest: i64,
 }
 
 impl Count {
     /// Counts one factor more.
     fn add(&mut self, factor: i64) {
-        if factor > 0 {
-            self.above = self.above.saturating_add(1);
-            self.is_large_above |= factor != 1;
-        } else {
-            self.below = self.below.saturating_add(1);
-            self.is_large_below |= factor != -1;
-        }
+        self.above = self.above.saturating_add(usize::from(factor > 0));
+        self.below = self.below.saturating_add(usize::from(factor < 0));
+        self.least = self.least.min(factor);
+        self.greatest = self.greatest.max(factor);
     }
 
     /// So many pairs of bounds an elimination combines.
@@ -53,32 +50,25 @@ impl Count {
 
     /// What an elimination costs: it loses no whole numbers where the factors of one side are 1, and goes first then.
     fn cost(&self) -> usize {
-        let is_lossy = self.is_large_above && self.is_large_below;
+        let is_lossy = self.least < -1 && self.greatest > 1;
         self.pairs().saturating_add(if is_lossy { LOSS } else { 0 })
     }
 }
 
-/// Counts a part.
-fn count_part(counts: &mut Vec<Count>, part: Part) -> Result<(), AllocError> {
-    let place = counts.iter().position(|count| count.atom == part.atom);
-    if let Some(place) = place {
-        counts[place].add(part.factor);
-        return Ok(());
-    }
-    let mut count = Count {
-        atom: part.atom,
-        ..Count::default()
-    };
-    count.add(part.factor);
-    Ok(counts.push(count)?)
-}
-
 /// The atom whose elimination costs least.
 fn next_count(bounds: &Vec<Term>) -> Result<Option<Count>, AllocError> {
-    let mut counts = Vec::new(*bounds.allocator());
-    for bound in bounds {
-        for part in &bound.parts {
-            count_part(&mut counts, *part)?;
+    let mut counts: Vec<Count> = Vec::new(*bounds.allocator());
+    for part in bounds.iter().flat_map(|bound| &bound.parts) {
+        match counts.iter_mut().find(|count| count.atom == part.atom) {
+            Some(count) => count.add(part.factor),
+            None => {
+                let mut count = Count {
+                    atom: part.atom,
+                    ..Count::default()
+                };
+                count.add(part.factor);
+                counts.push(count)?;
+            }
         }
     }
     Ok(counts.iter().min_by_key(|count| count.cost()).copied())
@@ -94,23 +84,7 @@ fn add_known(known: &[Option<Range>], bounds: &mut Vec<Term>, atom: usize) -> Re
     };
     let term = atom_term(*bounds.allocator(), atom)?;
     add_bound(bounds, -1, &term, range.low)?;
-    if range.high == i64::MIN {
-        return Ok(());
-    }
-    add_bound(bounds, 1, &term, -range.high)
-}
-
-/// Adds what follows from two bounds, the first m times and the second n times.
-fn add_combined(left: &mut Vec<Term>, m: i64, a: &Term, n: i64, b: &Term) -> Result<(), AllocError>
-    requires first { pos 0 ≤ℤ m }
-    requires second { pos 0 ≤ℤ n }
-    ensures { IfOk result (λ _. (v : Valuation) → AreBelow v left.old.items → IsBelow v a.now
-        → IsBelow v b.now → AreBelow v left.new.items) }
-{
-    let Some(bound) = combined(m, a, n, b)? else {
-        return Ok(());
-    };
-    add_tight(left, bound)
+    add_bound(bounds, 1, &term, -range.high.max(-i64::MAX))
 }
 
 /// Adds what follows from a bound without the atom: itself, or, where its factor is above 0, what it leads to with
@@ -134,7 +108,9 @@ fn add_without(
     for other in bounds {
         let below = factor_of(other, atom);
         if below < 0 && below != i64::MIN {
-            add_combined(left, -below, bound, factor, other)?;
+            if let Some(sum) = combined(-below, bound, factor, other)? {
+                add_tight(left, sum)?;
+            }
         }
     }
     Ok(())
@@ -178,6 +154,7 @@ pub fn are_contradictory(
         }
         add_known(known, &mut left, atom)?;
         let without = eliminated(alloc, &left, atom)?;
+        left.retain(|bound| factor_of(bound, atom) != 0);
         levels.push(Level { atom, bounds: left })?;
         left = without;
     }

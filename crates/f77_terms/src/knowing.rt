@@ -1,16 +1,15 @@
 //! What a path comes to know of atoms that are functions of terms.
 
-ghost use Rattle.std.specs.Prelude.{◌≡◌, ◌⊎◌, ◌+ℤ◌, ◌*ℤ◌, ◌≤ℤ◌, ℤ, pos, true, int_div, int_rem, IfOk};
+ghost use Rattle.std.specs.Prelude.{◌≡◌, ◌+ℤ◌, ◌*ℤ◌, ◌≤ℤ◌, ℤ, pos, true, int_div, int_rem, IfOk};
 ghost use Rattle.std.specs.Int.{int_min};
-ghost use Rattle.f77_terms.specs.{AreBelow, HasCase, HasSign, Holds, IsDefined, Valuation, function_value, sum_value};
+ghost use Rattle.f77_terms.specs.{AreBelow, HasSign, Holds, IsDefined, Valuation, function_value, sum_value};
 
 use crate::atoms::Function;
-use crate::bounds::{add_bound, add_order};
+use crate::bounds::{add_order, both_below};
 use crate::functions::function_range;
-use crate::paths::{Choice, Path, add_choice, add_equal, add_range, settle};
+use crate::paths::{Path, add_choice, add_equal, add_range, settle};
 use crate::ranges::{may_have, term_range};
 use crate::terms::{Term, add_multiple, atom_term, combined, copy, factor_of, is_same_term};
-use f77_tree::Shared;
 use std::alloc::AllocError;
 use std::cmp::Ordering;
 
@@ -27,59 +26,9 @@ pub fn is_ranged_off(path: &Path, term: &Term, sign: Ordering) -> bool
 /// A choice of the path is of the atom: what is known of a quotient, or of the lesser of two numbers.
 fn has_choice_of(path: &Path, atom: usize) -> bool {
     path.choices.iter().any(|choice| {
-        choice.cases.iter().any(|case| case.iter().any(|bound| factor_of(bound, atom) != 0))
+        let mut bounds = choice.first.iter().chain(&choice.second);
+        bounds.any(|bound| factor_of(bound, atom) != 0)
     })
-}
-
-/// One of two cases is there.
-pub(crate) fn two_cases(first: Vec<Term>, second: Vec<Term>) -> Result<Shared<Choice>, AllocError>
-    ensures { IfOk result (λ choice. (v : Valuation) → AreBelow v first.items ⊎ AreBelow v second.items
-        → HasCase v choice) }
-{
-    let alloc = *first.allocator();
-    let cases = vec![in alloc; first, second]?;
-    Shared::new(alloc, Choice { cases })
-}
-
-/// The case where two terms, each m times, are at most 0.
-fn sign_case(m: i64, a: &Term, b: &Term) -> Result<Vec<Term>, AllocError>
-    ensures { IfOk result (λ case. (v : Valuation)
-        → (pos 0 +ℤ m *ℤ sum_value v a.now) ≤ℤ pos 0 → (pos 0 +ℤ m *ℤ sum_value v b.now) ≤ℤ pos 0
-        → AreBelow v case.items) }
-{
-    let mut bounds = Vec::new(*a.parts.allocator());
-    add_bound(&mut bounds, m, a, 0)?;
-    add_bound(&mut bounds, m, b, 0)?;
-    Ok(bounds)
-}
-
-/// The remainder has the sign of the dividend.
-fn sign_cases(dividend: &Term, rest: &Term) -> Result<Shared<Choice>, AllocError>
-    ensures { IfOk result (λ choice. (v : Valuation) (d : ℤ)
-        → sum_value v rest.now ≡ int_rem (sum_value v dividend.now) d → HasCase v choice) }
-{
-    two_cases(
-        sign_case(-1, dividend, rest)?,
-        sign_case(1, dividend, rest)?,
-    )
-}
-
-/// Adds that a product and a remainder are the dividend, unless a number gets too large.
-fn add_whole(
-    path: &mut Path,
-    dividend: &Term,
-    product: &Term,
-    rest: &Term,
-) -> Result<(), AllocError>
-    ensures { IfOk result (λ _. (v : Valuation) → Holds v path.old
-        → sum_value v product.now +ℤ sum_value v rest.now ≡ sum_value v dividend.now
-        → Holds v path.new) }
-{
-    let mut whole = copy(product)?;
-    if !add_multiple(&mut whole, 1, rest)? || !add_multiple(&mut whole, -1, dividend)? {
-        return Ok(());
-    }
-    add_equal(path, &whole)
 }
 
 /// Adds what is known of a division, once: the remainder and the product of quotient and divisor are the dividend, of
@@ -98,8 +47,13 @@ pub fn know_division(
         return Ok(());
     }
     let rest = atom_term(*product.parts.allocator(), remainder)?;
-    add_whole(path, dividend, product, &rest)?;
-    add_choice(path, sign_cases(dividend, &rest)?)
+    let above = both_below(-1, dividend, -1, &rest)?;
+    add_choice(path, above, both_below(1, dividend, 1, &rest)?)?;
+    let mut whole = copy(product)?;
+    if !add_multiple(&mut whole, 1, &rest)? || !add_multiple(&mut whole, -1, dividend)? {
+        return Ok(());
+    }
+    add_equal(path, &whole)
 }
 
 /// Narrows the ranges of atoms, and adds that of an atom that is this function of two terms.
@@ -130,21 +84,6 @@ fn know_square(path: &mut Path, root: &Term, square: usize) -> Result<(), AllocE
     add_order(&mut path.below, -2, root, -1, &square)
 }
 
-/// Where two terms have a constant sum, adds that the lesser is at most half of it.
-fn know_half(path: &mut Path, a: &Term, b: &Term, least: &Term) -> Result<(), AllocError>
-    ensures { IfOk result (λ _. (v : Valuation) → Holds v path.old
-        → sum_value v least.now ≡ int_min (sum_value v a.now) (sum_value v b.now) → Holds v path.new) }
-{
-    match combined(1, a, 1, b)? {
-        Some(both) if both.parts.is_empty() => {
-            add_order(&mut path.below, 2, least, 0, &both)?;
-            settle(path);
-            Ok(())
-        }
-        _ => Ok(()),
-    }
-}
-
 /// The case where a term is at most another.
 fn order_case(a: &Term, b: &Term) -> Result<Vec<Term>, AllocError>
     ensures { IfOk result (λ case. (v : Valuation) → (pos 0 +ℤ pos 1 *ℤ sum_value v a.now) ≤ℤ sum_value v b.now
@@ -155,7 +94,7 @@ fn order_case(a: &Term, b: &Term) -> Result<Vec<Term>, AllocError>
     Ok(bounds)
 }
 
-/// Adds what is known of the lesser of two terms, once.
+/// Adds what is known of the lesser of two terms, once: it is at most half of their sum, where that is constant.
 fn know_minimum(path: &mut Path, a: &Term, b: &Term, minimum: usize) -> Result<(), AllocError>
     ensures { IfOk result (λ _. (v : Valuation) → Holds v path.old
         → v minimum ≡ int_min (sum_value v a.now) (sum_value v b.now) → Holds v path.new) }
@@ -164,13 +103,17 @@ fn know_minimum(path: &mut Path, a: &Term, b: &Term, minimum: usize) -> Result<(
         return Ok(());
     }
     let least = atom_term(*a.parts.allocator(), minimum)?;
+    let first = order_case(a, &least)?;
+    add_choice(path, first, order_case(b, &least)?)?;
     add_order(&mut path.below, 1, &least, 0, a)?;
     add_order(&mut path.below, 1, &least, 0, b)?;
-    know_half(path, a, b, &least)?;
-    add_choice(
-        path,
-        two_cases(order_case(a, &least)?, order_case(b, &least)?)?,
-    )
+    if let Some(both) = combined(1, a, 1, b)? {
+        if both.parts.is_empty() {
+            add_order(&mut path.below, 2, &least, 0, &both)?;
+            settle(path);
+        }
+    }
+    Ok(())
 }
 
 /// Narrows the ranges of atoms, and adds what is known of an atom that is this function of two terms: its range, that a

@@ -6,6 +6,7 @@ ghost use Rattle.f77_terms.specs.{Holds, Valuation};
 use crate::paths::{Choice, Path, copied_path};
 use crate::terms::Term;
 use std::alloc::AllocError;
+use std::slice::from_ref;
 
 /// The atoms that are marked, and how many they are.
 #[derive(Drop)]
@@ -22,18 +23,15 @@ impl Marks {
 
     /// A case of the choice is near.
     fn is_choice_near(&self, choice: &Choice) -> bool {
-        choice
-            .cases
-            .iter()
-            .any(|case| case.iter().any(|bound| self.is_near(bound)))
+        let mut bounds = choice.first.iter().chain(&choice.second);
+        bounds.any(|bound| self.is_near(bound))
     }
 
-    /// Marks the atoms of a term.
-    fn mark(&mut self, term: &Term) -> Result<(), AllocError> {
-        for part in &term.parts {
-            if self.marked.len() <= part.atom {
-                self.marked.resize(part.atom.saturating_add(1), false)?;
-            }
+    /// Marks the atoms of terms.
+    fn mark(&mut self, terms: &[Term]) -> Result<(), AllocError> {
+        for part in terms.iter().flat_map(|term| &term.parts) {
+            let room = part.atom.saturating_add(1).max(self.marked.len());
+            self.marked.resize(room, false)?;
             if let Some(mark) = self.marked.get_mut(part.atom) {
                 self.count = self.count.saturating_add(usize::from(!*mark));
                 *mark = true;
@@ -42,27 +40,17 @@ impl Marks {
         Ok(())
     }
 
-    /// Marks the atoms of those terms that are near.
-    fn spread(&mut self, terms: &[Term]) -> Result<(), AllocError> {
-        for term in terms {
+    /// Marks the atoms of what is near on the path.
+    fn spread(&mut self, path: &Path) -> Result<(), AllocError> {
+        for term in path.below.iter().chain(&path.unequal) {
             if self.is_near(term) {
-                self.mark(term)?;
+                self.mark(from_ref(term))?;
             }
         }
-        Ok(())
-    }
-
-    /// Marks the atoms of what is near on the path.
-    fn spread_on(&mut self, path: &Path) -> Result<(), AllocError> {
-        self.spread(&path.below)?;
-        self.spread(&path.unequal)?;
         for choice in &path.choices {
             if self.is_choice_near(choice) {
-                for case in &choice.cases {
-                    for bound in case {
-                        self.mark(bound)?;
-                    }
-                }
+                self.mark(&choice.first)?;
+                self.mark(&choice.second)?;
             }
         }
         Ok(())
@@ -70,16 +58,12 @@ impl Marks {
 
     /// The atoms that are bound to those of these terms.
     fn of(path: &Path, terms: &[Term]) -> Result<Marks, AllocError> {
-        let mut marks = Marks {
-            marked: Vec::new(*path.below.allocator()),
-            count: 0,
-        };
-        for term in terms {
-            marks.mark(term)?;
-        }
+        let marked = Vec::new(*path.below.allocator());
+        let mut marks = Marks { marked, count: 0 };
+        marks.mark(terms)?;
         for _ in 0..u64::MAX {
             let before = marks.count;
-            marks.spread_on(path)?;
+            marks.spread(path)?;
             if marks.count == before {
                 break;
             }

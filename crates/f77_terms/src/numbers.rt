@@ -1,8 +1,15 @@
 //! Division that rounds up, and common divisors.
 
-ghost use Rattle.std.specs.Prelude.{◌+ℤ◌, ◌*ℤ◌, ◌≤ℤ◌, ◌<ℤ◌, ℤ, pos};
+ghost use Rattle.std.specs.Prelude.{◌≡◌, ◌+ℤ◌, ◌*ℤ◌, ◌≤ℤ◌, ◌<ℤ◌, ℤ, pos, IfSome};
 
 use crate::terms::Part;
+
+/// A number and another one, so many times.
+pub(crate) fn plus_multiple(number: i64, m: i64, other: i64) -> Option<i64>
+    ensures { IfSome result (λ sum. sum ≡ number +ℤ m *ℤ other) }
+{
+    number.checked_add(m.checked_mul(other)?)
+}
 
 /// The quotient, rounded up: what g times a whole number and c at most make 0 says of that number.
 pub fn ceiling(c: i64, g: i64) -> i64
@@ -10,7 +17,11 @@ pub fn ceiling(c: i64, g: i64) -> i64
     ensures { (s : ℤ) → (c +ℤ g *ℤ s) ≤ℤ pos 0 → (result +ℤ s) ≤ℤ pos 0 }
 {
     let quotient = c / g;
-    if c % g > 0 { quotient + 1 } else { quotient }
+    if c % g > 0 {
+        quotient.saturating_add(1)
+    } else {
+        quotient
+    }
 }
 
 /// The greatest common divisor.

@@ -1,8 +1,8 @@
 //! Paths: what is known where control comes, and whether that is possible.
 
-ghost use Rattle.std.specs.Prelude.{◌≡◌, ◌+ℤ◌, ◌*ℤ◌, ◌≤ℤ◌, pos, true, IfOk};
+ghost use Rattle.std.specs.Prelude.{◌≡◌, ◌⊎◌, ◌+ℤ◌, ◌*ℤ◌, ◌≤ℤ◌, pos, true, IfOk};
 ghost use Rattle.f77_terms.specs.{Valuation, sum_value, AreBelow, IsIn, AreKnown};
-ghost use Rattle.f77_terms.specs.{IsUnequal, HasCase, Holds};
+ghost use Rattle.f77_terms.specs.{IsUnequal, Holds};
 
 use crate::bounds::{add_bound, joint_bounds};
 use crate::near::path_near;
@@ -15,10 +15,11 @@ use std::alloc::{AllocError, Global};
 /// So many times a case is split at most.
 const MOST_SPLITS: usize = 24;
 
-/// One of the cases is there: in it each of its bounds is at most 0.
+/// One of two cases is there: in it each of its bounds is at most 0.
 #[derive(Drop)]
 pub struct Choice {
-    pub cases: Vec<Vec<Term>>,
+    pub first: Vec<Term>,
+    pub second: Vec<Term>,
 }
 
 /// What is known: ranges of atoms, terms at most 0, terms that are not 0, and choices.
@@ -71,13 +72,7 @@ pub fn copied_path(path: &Path) -> Result<Path, AllocError>
 fn make_room(known: &mut Vec<Option<Range>>, atom: usize) -> Result<(), AllocError>
     ensures { IfOk result (λ _. (v : Valuation) → AreKnown v known.old.items → AreKnown v known.new.items) }
 {
-    for _ in known.len()..atom {
-        known.push(None)?;
-    }
-    if known.len() == atom {
-        known.push(None)?;
-    }
-    Ok(())
+    known.resize(known.len().max(atom.saturating_add(1)), None)
 }
 
 /// Adds that an atom is in a range.
@@ -110,16 +105,16 @@ pub fn add_equal(path: &mut Path, term: &Term) -> Result<(), AllocError>
 pub fn add_unequal(path: &mut Path, term: &Term) -> Result<(), AllocError>
     ensures { IfOk result (λ _. (v : Valuation) → Holds v path.old → IsUnequal v term.now → Holds v path.new) }
 {
-    path.unequal.push(copy(term)?)?;
-    Ok(())
+    Ok(path.unequal.push(copy(term)?)?)
 }
 
-/// Adds that one of the cases is there.
-pub fn add_choice(path: &mut Path, choice: Shared<Choice>) -> Result<(), AllocError>
-    ensures { IfOk result (λ _. (v : Valuation) → Holds v path.old → HasCase v choice → Holds v path.new) }
+/// Adds that one of two cases is there.
+pub fn add_choice(path: &mut Path, first: Vec<Term>, second: Vec<Term>) -> Result<(), AllocError>
+    ensures { IfOk result (λ _. (v : Valuation) → Holds v path.old
+        → AreBelow v first.items ⊎ AreBelow v second.items → Holds v path.new) }
 {
-    path.choices.push(choice)?;
-    Ok(())
+    let choice = Shared::new(*path.choices.allocator(), Choice { first, second })?;
+    Ok(path.choices.push(choice)?)
 }
 
 /// Narrows the ranges of atoms by what is at most 0, and by what is not 0.

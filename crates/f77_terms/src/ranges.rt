@@ -2,7 +2,7 @@
 
 ghost use Rattle.std.specs.Prelude.{◌≡◌, ◌≢◌, ◌<◌, ◌+ℤ◌, ◌*ℤ◌, ◌≤ℤ◌, ℤ, pos, false, true, length, vec_len};
 ghost use Rattle.std.specs.Prelude.{slice_get, Some, IfSome, All};
-ghost use Rattle.f77_terms.specs.{Valuation, part_value, parts_value, sum_value};
+ghost use Rattle.f77_terms.specs.{Valuation, parts_value, sum_value};
 ghost use Rattle.f77_terms.specs.{IsBelow, AreBelow, HasSign, IsIn, AreKnown, IsUnequal};
 
 use crate::items::item_at;
@@ -31,14 +31,8 @@ pub(crate) fn multiple_range(range: Range, m: i64) -> Option<Range>
 {
     let low = m.checked_mul(range.low)?;
     let high = m.checked_mul(range.high)?;
-    if m < 0 {
-        Some(Range {
-            low: high,
-            high: low,
-        })
-    } else {
-        Some(Range { low, high })
-    }
+    let (low, high) = if m < 0 { (high, low) } else { (low, high) };
+    Some(Range { low, high })
 }
 
 /// A number of the range may have this sign.
@@ -93,38 +87,25 @@ pub fn common(a: Range, b: Range) -> Range
     }
 }
 
-/// The range of sums.
-fn sum_range(a: Range, b: Range) -> Option<Range>
-    ensures { IfSome result (λ r. (x y : ℤ) → IsIn a x → IsIn b y → IsIn r (x +ℤ y)) }
-{
-    let low = a.low.checked_add(b.low)?;
-    let high = a.high.checked_add(b.high)?;
-    Some(Range { low, high })
-}
-
-/// The range of the sum of parts.
-fn parts_range(known: &[Option<Range>], parts: &[Part]) -> Option<Range>
+/// The range of a number and the sum of parts.
+fn parts_range(known: &[Option<Range>], number: i64, parts: &[Part]) -> Option<Range>
     ensures { IfSome result
-        (λ range. (v : Valuation) → AreKnown v known.now → IsIn range (parts_value v parts.now)) }
+        (λ range. (v : Valuation) → AreKnown v known.now → IsIn range (number +ℤ parts_value v parts.now)) }
 {
-    let mut range = Range { low: 0, high: 0 };
-    for place in 0..parts.len() {
-        let part = *item_at(parts, place);
-        let atom = atom_range(known, part.atom)?;
-        range = sum_range(range, multiple_range(atom, part.factor)?)?;
+    let (mut low, mut high) = (number, number);
+    for part in parts {
+        let range = multiple_range(atom_range(known, part.atom)?, part.factor)?;
+        low = low.checked_add(range.low)?;
+        high = high.checked_add(range.high)?;
     }
-    Some(range)
+    Some(Range { low, high })
 }
 
 /// The range of a term.
 pub fn term_range(known: &[Option<Range>], term: &Term) -> Option<Range>
     ensures { IfSome result (λ range. (v : Valuation) → AreKnown v known.now → IsIn range (sum_value v term.now)) }
 {
-    let constant = Range {
-        low: term.constant,
-        high: term.constant,
-    };
-    sum_range(constant, parts_range(known, &term.parts)?)
+    parts_range(known, term.constant, &term.parts)
 }
 
 /// Sets what is known of an atom. It tells whether that is new.
@@ -155,29 +136,17 @@ pub(crate) fn limited(range: Range, factor: i64, rest: i64) -> Option<Range>
     Some(Range { low, ..range })
 }
 
-/// What the parts at least are, but for the one at a place, together with a constant.
-fn rest_low(known: &[Option<Range>], bound: &Term, place: usize) -> Option<i64>
-    requires { place < vec_len bound.now.parts }
-    ensures { IfSome result (λ low. (v : Valuation) (part : Part) → AreKnown v known.now
-        → slice_get bound.now.parts.items place ≡ Some part
-        → (low +ℤ part_value v part) ≤ℤ sum_value v bound.now) }
-{
-    let parts = bound.parts.as_slice();
-    let before = parts_range(known, &parts[..place])?;
-    let behind = parts_range(known, &parts[place + 1..])?;
-    let low = before.low.checked_add(behind.low)?;
-    let whole = low.checked_add(bound.constant)?;
-    Some(whole)
-}
-
 /// What a bound leaves of the range of the atom that is the part at a place.
 fn narrowed_at(known: &[Option<Range>], bound: &Term, place: usize) -> Option<(usize, Range)>
     requires { place < vec_len bound.now.parts }
     ensures { IfSome result (λ left. (v : Valuation) → AreKnown v known.now → IsBelow v bound.now
         → IsIn left.1 (v left.0)) }
 {
-    let part = *item_at(&bound.parts, place);
-    let rest = rest_low(known, bound, place)?;
+    let parts = bound.parts.as_slice();
+    let before = parts_range(known, bound.constant, &parts[..place])?;
+    let behind = parts_range(known, 0, &parts[place + 1..])?;
+    let rest = before.low.checked_add(behind.low)?;
+    let part = *item_at(parts, place);
     let range = limited(atom_range(known, part.atom)?, part.factor, rest)?;
     Some((part.atom, range))
 }
@@ -206,13 +175,13 @@ pub fn narrow_all(known: &mut [Option<Range>], bounds: &[Term]) -> bool
     is_new
 }
 
-/// The number of the atom for which a term of this one part and a constant is 0, if that is told.
-fn root_of(factor: i64, constant: i64) -> Option<i64>
-    ensures { IfSome result (λ root. (x : ℤ) → x ≡ root → (constant +ℤ factor *ℤ x) ≡ pos 0) }
+/// The atom of a term of one part, and the number of it for which the term is 0, if that is told.
+fn root_of(term: &Term) -> Option<(usize, i64)>
+    ensures { IfSome result (λ root. (v : Valuation) → v root.0 ≡ root.1 → sum_value v term.now ≡ pos 0) }
 {
-    match factor {
-        1 => constant.checked_neg(),
-        -1 => Some(constant),
+    match term.parts.as_slice() {
+        [Part { factor: 1, atom }] => Some((*atom, term.constant.checked_neg()?)),
+        [Part { factor: -1, atom }] => Some((*atom, term.constant)),
         _ => None,
     }
 }
@@ -233,31 +202,20 @@ fn leave_out(known: &mut [Option<Range>], atom: usize, number: i64)
     }
 }
 
-/// Notes what follows for an atom from a term that is not 0.
-fn narrow_apart(known: &mut [Option<Range>], term: &Term)
-    ensures { (v : Valuation) → AreKnown v known.old → IsUnequal v term.now → AreKnown v known.new }
-{
-    if term.parts.len() != 1 {
-        return;
-    }
-    let part = *item_at(&term.parts, 0);
-    if let Some(root) = root_of(part.factor, term.constant) {
-        leave_out(known, part.atom, root);
-    }
-}
-
 /// Notes what follows for atoms from each term that is not 0.
 pub fn narrow_all_apart(known: &mut [Option<Range>], terms: &[Term])
     ensures { (v : Valuation) → AreKnown v known.old → All (IsUnequal v) terms.now → AreKnown v known.new }
 {
     for term in terms {
-        narrow_apart(known, term);
+        if let Some((atom, root)) = root_of(term) {
+            leave_out(known, atom, root);
+        }
     }
 }
 
-/// No number is in the range of an atom.
-pub fn is_void(known: &[Option<Range>]) -> bool
-    ensures { result ≡ true → (v : Valuation) → ¬ (AreKnown v known.now) }
+/// No number is in the range of an atom, or a bound would be above 0.
+pub fn is_ruled_out(known: &[Option<Range>], bounds: &[Term]) -> bool
+    ensures { result ≡ true → (v : Valuation) → AreKnown v known.now → ¬ (AreBelow v bounds.now) }
 {
     for atom in 0..known.len() {
         if let Some(range) = atom_range(known, atom) {
@@ -266,19 +224,7 @@ pub fn is_void(known: &[Option<Range>]) -> bool
             }
         }
     }
-    false
-}
-
-/// A bound would be above 0.
-pub fn is_exceeded(known: &[Option<Range>], bounds: &[Term]) -> bool
-    ensures { result ≡ true → (v : Valuation) → AreKnown v known.now → ¬ (AreBelow v bounds.now) }
-{
-    for bound in bounds {
-        if term_range(known, bound).is_some_and(|range| range.low > 0) {
-            return true;
-        }
-    }
-    false
+    bounds.iter().any(|bound| term_range(known, bound).is_some_and(|range| range.low > 0))
 }
 
 /// Notes that an atom is in a range.

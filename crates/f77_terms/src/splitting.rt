@@ -1,14 +1,13 @@
 //! Cases of a path: whether one is possible, and how it splits by what is not 0 and by choices.
 
-ghost use Rattle.std.specs.Prelude.{◌≡◌, true, Any, IfOk, IfSome};
+ghost use Rattle.std.specs.Prelude.{◌≡◌, true, IfOk, IfSome};
 ghost use Rattle.f77_terms.specs.{Valuation, AreBelow, AreKnown, IsUnequal, HasCase, Holds};
 
 use crate::assignment::Assignment;
 use crate::bounds::{joint_bounds, sign_bounds};
 use crate::elimination::{Level, are_contradictory};
-use crate::knowing::two_cases;
 use crate::paths::{Choice, Path};
-use crate::ranges::{Range, is_exceeded, is_void, narrow_all};
+use crate::ranges::{Range, is_ruled_out, narrow_all};
 use crate::terms::Term;
 use f77_tree::Shared;
 use std::alloc::{AllocError, Global};
@@ -36,7 +35,7 @@ fn is_impossible(
     *work = work.saturating_sub(bounds.len() as u64);
     for _ in 0..MOST_ROUNDS {
         let is_new = narrow_all(ranges, bounds);
-        if is_void(ranges) || is_exceeded(ranges, bounds) {
+        if is_ruled_out(ranges, bounds) {
             return Ok(true);
         }
         if !is_new {
@@ -46,23 +45,17 @@ fn is_impossible(
     are_contradictory(alloc, work, ranges, bounds, levels)
 }
 
-/// A term that is not 0 is below it or above it.
-fn sides(term: &Term) -> Result<Shared<Choice>, AllocError>
-    ensures { IfOk result (λ choice. (v : Valuation) → IsUnequal v term.now → HasCase v choice) }
-{
-    two_cases(
-        sign_bounds(term, Ordering::Less)?,
-        sign_bounds(term, Ordering::Greater)?,
-    )
-}
-
-/// A choice of the path: the sides of what is not 0 come before its choices.
+/// A choice of the path: what is not 0 is below it or above it, and comes before its choices.
 fn choice_at(path: &Path, place: usize) -> Result<Option<Shared<Choice>>, AllocError>
     ensures { IfOk result
         (λ found. IfSome found (λ choice. (v : Valuation) → Holds v path.now → HasCase v choice)) }
 {
     if place < path.unequal.len() {
-        return Ok(Some(sides(&path.unequal[place])?));
+        let term = &path.unequal[place];
+        let first = sign_bounds(term, Ordering::Less)?;
+        let second = sign_bounds(term, Ordering::Greater)?;
+        let choice = Shared::new(*path.choices.allocator(), Choice { first, second })?;
+        return Ok(Some(choice));
     }
     let behind = place - path.unequal.len();
     if behind < path.choices.len() {
@@ -73,7 +66,6 @@ fn choice_at(path: &Path, place: usize) -> Result<Option<Shared<Choice>>, AllocE
 
 /// Where the path holds and this is known of atoms, not all of the bounds are at most 0. Cases are split so many times,
 /// one in another; `next` is what is to split a case where numbers do not tell it.
-#[cycle(refuting)]
 pub fn is_refuted_with(
     alloc: Global,
     work: &mut u64,
@@ -102,38 +94,10 @@ pub fn is_refuted_with(
         return Ok(false);
     };
     let after = next.saturating_add(usize::from(place == next));
-    are_refuted_with(
-        alloc,
-        work,
-        path,
-        &ranges,
-        bounds,
-        &choice.cases,
-        after,
-        splits - 1,
-    )
-}
-
-/// Where the path holds and the bounds are at most 0, none of the cases is there.
-#[cycle(refuting)]
-fn are_refuted_with(
-    alloc: Global,
-    work: &mut u64,
-    path: &Path,
-    known: &[Option<Range>],
-    bounds: &[Term],
-    cases: &[Vec<Term>],
-    next: usize,
-    splits: usize,
-) -> Result<bool, AllocError>
-    ensures { IfOk result (λ yes. yes ≡ true → (v : Valuation) → Holds v path.now → AreKnown v known.now
-        → AreBelow v bounds.now → ¬ (Any (λ case. AreBelow v case.items) cases.now)) }
-{
-    for case in cases {
-        let both = joint_bounds(alloc, bounds, case)?;
-        if !is_refuted_with(alloc, work, path, known, &both, next, splits)? {
-            return Ok(false);
-        }
+    let first = joint_bounds(alloc, bounds, &choice.first)?;
+    if !is_refuted_with(alloc, work, path, &ranges, &first, after, splits - 1)? {
+        return Ok(false);
     }
-    Ok(true)
+    let second = joint_bounds(alloc, bounds, &choice.second)?;
+    is_refuted_with(alloc, work, path, &ranges, &second, after, splits - 1)
 }

@@ -1,10 +1,11 @@
 //! Terms: linear polynomials over atoms.
 
-ghost use Rattle.std.specs.Prelude.{◌≡◌, ◌≤◌, ◌+ℤ◌, ◌-ℤ◌, ◌*ℤ◌, ℤ, true, length, vec_len, All, IfOk, IfSome};
+ghost use Rattle.std.specs.Prelude.{◌≡◌, ◌≤◌, ◌+ℤ◌, ◌*ℤ◌, ℤ, true, length, vec_len, All, IfOk, IfSome};
 ghost use Rattle.f77_terms.specs.{Valuation, parts_value, part_value, sum_value};
 ghost use Rattle.f77_terms.specs.{IsWorth, AddsIfDone, AreBelow, IsUnequal};
 
 use crate::items::item_at;
+use crate::numbers::plus_multiple;
 use std::alloc::{AllocError, Global};
 
 /// A longer term is given up.
@@ -95,13 +96,13 @@ fn taken_out(parts: &mut Vec<Part>, place: usize, atom: usize) -> i64
     0
 }
 
-/// Adds a part, unless a factor gets too large.
-fn add_part(term: &mut Term, part: Part) -> Result<bool, AllocError>
-    ensures { IfOk result (λ done. AddsIfDone term.old term.new done (λ v. part_value v part)) }
+/// Adds a part, so many times, unless a factor gets too large.
+fn add_part(term: &mut Term, m: i64, part: Part) -> Result<bool, AllocError>
+    ensures { IfOk result (λ done. AddsIfDone term.old term.new done (λ v. m *ℤ part_value v part)) }
 {
     let place = place_of(&term.parts, part.atom);
     let before = taken_out(&mut term.parts, place, part.atom);
-    let Some(factor) = before.checked_add(part.factor) else {
+    let Some(factor) = plus_multiple(before, m, part.factor) else {
         return Ok(false);
     };
     if factor != 0 {
@@ -114,30 +115,16 @@ fn add_part(term: &mut Term, part: Part) -> Result<bool, AllocError>
 pub fn add_multiple(term: &mut Term, m: i64, addend: &Term) -> Result<bool, AllocError>
     ensures { IfOk result (λ done. AddsIfDone term.old term.new done (λ v. m *ℤ sum_value v addend.now)) }
 {
-    let Some(constant) = m.checked_mul(addend.constant) else {
+    let Some(constant) = plus_multiple(term.constant, m, addend.constant) else {
         return Ok(false);
     };
-    let Some(together) = term.constant.checked_add(constant) else {
-        return Ok(false);
-    };
-    term.constant = together;
-    for place in 0..addend.parts.len() {
-        let part = *item_at(&addend.parts, place);
-        let Some(factor) = m.checked_mul(part.factor) else {
-            return Ok(false);
-        };
-        if !add_part(term, Part { factor, ..part })? {
+    term.constant = constant;
+    for part in &addend.parts {
+        if !add_part(term, m, *part)? {
             return Ok(false);
         }
     }
     Ok(true)
-}
-
-/// The term, unless it is too long.
-fn limited(term: Term) -> Option<Term>
-    ensures { IsWorth result (λ v. sum_value v term) }
-{
-    (term.parts.len() <= MOST_PARTS).then_some(term)
 }
 
 /// The first term, m times, and the second, n times, unless a number gets too large, or the term too long.
@@ -145,36 +132,13 @@ pub fn combined(m: i64, a: &Term, n: i64, b: &Term) -> Result<Option<Term>, Allo
     ensures { IfOk result (λ made. IsWorth made (λ v. m *ℤ sum_value v a.now +ℤ n *ℤ sum_value v b.now)) }
 {
     let mut term = constant_term(*a.parts.allocator(), 0);
-    if !add_multiple(&mut term, m, a)? || !add_multiple(&mut term, n, b)? {
+    if !add_multiple(&mut term, m, a)?
+        || !add_multiple(&mut term, n, b)?
+        || term.parts.len() > MOST_PARTS
+    {
         return Ok(None);
     }
-    Ok(limited(term))
-}
-
-/// A term, m times, and a constant, unless a number gets too large.
-pub fn plus_constant(m: i64, term: &Term, constant: i64) -> Result<Option<Term>, AllocError>
-    ensures { IfOk result (λ made. IsWorth made (λ v. constant +ℤ m *ℤ sum_value v term.now)) }
-{
-    combined(
-        m,
-        term,
-        1,
-        &constant_term(*term.parts.allocator(), constant),
-    )
-}
-
-/// The sum of two terms.
-pub fn sum(a: &Term, b: &Term) -> Result<Option<Term>, AllocError>
-    ensures { IfOk result (λ made. IsWorth made (λ v. sum_value v a.now +ℤ sum_value v b.now)) }
-{
-    combined(1, a, 1, b)
-}
-
-/// The first term less the second.
-pub fn difference(a: &Term, b: &Term) -> Result<Option<Term>, AllocError>
-    ensures { IfOk result (λ made. IsWorth made (λ v. sum_value v a.now -ℤ sum_value v b.now)) }
-{
-    combined(1, a, -1, b)
+    Ok(Some(term))
 }
 
 /// They are the same term.

@@ -1,11 +1,10 @@
 //! Atoms, and what is known of them.
 
 use crate::made::{X, Y, Z, is_below, made};
-use f77_terms::atoms::{Function, Key, interned, new_table};
-use f77_terms::knowing::{know_division, know_function};
-use f77_terms::paths::{add_below, add_range, new_path};
-use f77_terms::ranges::Range;
-use f77_terms::terms::{atom_term, constant_term};
+use f77_terms::{
+    Function, Key, Range, add_below, add_range, atom_term, constant_term, interned, know_division,
+    know_function, new_path, new_table,
+};
 use std::test::Fail;
 
 #[test]

@@ -1,11 +1,9 @@
 //! What is known of atoms that are functions of two numbers.
 
 use crate::made::{X, Y, Z, is_refuted, made};
-use f77_terms::atoms::Function;
-use f77_terms::knowing::know_function;
-use f77_terms::paths::{add_below, add_range, new_path};
-use f77_terms::ranges::{Range, atom_range};
-use f77_terms::terms::atom_term;
+use f77_terms::{
+    Function, Range, add_below, add_range, atom_range, atom_term, know_function, new_path,
+};
 use std::alloc::{AllocError, Global};
 use std::test::Fail;
 

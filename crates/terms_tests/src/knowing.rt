@@ -1,11 +1,11 @@
 //! What a path comes to know, and what it tells at once.
 
 use crate::made::{X, Y, is_below, is_refuted, made};
-use f77_terms::atoms::Function;
-use f77_terms::knowing::{is_ranged_off, know_division, know_function};
-use f77_terms::paths::{Path, add_below, add_range, add_unequal, copied_path, new_path, settle};
-use f77_terms::ranges::{Range, atom_range};
-use f77_terms::terms::{atom_term, constant_of, constant_term, difference};
+use f77_terms::{
+    Function, Path, Range, add_below, add_range, add_unequal, atom_range, atom_term, combined,
+    constant_of, constant_term, copied_path, is_ranged_off, know_division, know_function, new_path,
+    settle,
+};
 use std::alloc::{AllocError, Global};
 use std::cmp::Ordering;
 use std::test::Fail;
@@ -25,7 +25,7 @@ fn tells_constants(rt: HostRuntime) -> Result<(), Fail> {
     assert_eq!(rt; constant_of(&constant_term(alloc, 5)), Some(5));
     let x = atom_term(alloc, 0)?;
     assert_eq!(rt; constant_of(&x), None);
-    let Some(none) = difference(&x, &x)? else {
+    let Some(none) = combined(1, &x, -1, &x)? else {
         return Err(Fail::from(AllocError));
     };
     assert_eq!(rt; constant_of(&none), Some(0));

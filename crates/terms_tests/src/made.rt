@@ -1,8 +1,7 @@
 //! Terms for tests, and questions on paths.
 
-use f77_terms::bounds::sign_bounds;
-use f77_terms::paths::{Path, refuted};
-use f77_terms::terms::{Term, add_multiple, atom_term, constant_term};
+use f77_terms::terms::add_multiple;
+use f77_terms::{Path, Term, atom_term, constant_term, refuted, sign_bounds};
 use std::alloc::{AllocError, Global};
 use std::cmp::Ordering;
 

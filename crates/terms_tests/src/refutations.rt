@@ -1,9 +1,9 @@
 //! Bounds that contradict each other, and bounds that do not.
 
 use crate::made::{X, Y, Z, is_refuted, made, never_has};
-use f77_terms::paths::{Choice, add_choice, add_equal, add_unequal, new_path, refuted};
-use f77_terms::terms::{atom_term, is_same_term, sum};
-use f77_tree::Shared;
+use f77_terms::paths::add_choice;
+use f77_terms::terms::is_same_term;
+use f77_terms::{add_equal, add_unequal, atom_term, combined, new_path, refuted};
 use std::alloc::AllocError;
 use std::cmp::Ordering;
 use std::test::Fail;
@@ -88,8 +88,7 @@ fn refutes_choices(rt: HostRuntime) -> Result<(), Fail> {
     let mut path = new_path(alloc);
     let low = vec![in alloc; made(alloc, 5, &[(1, X)])?]?;
     let high = vec![in alloc; made(alloc, 5, &[(-1, X)])?]?;
-    let cases = vec![in alloc; low, high]?;
-    add_choice(&mut path, Shared::new(alloc, Choice { cases })?)?;
+    add_choice(&mut path, low, high)?;
     let least = made(alloc, -4, &[(-1, X)])?;
     let most = made(alloc, -4, &[(1, X)])?;
     assert!(rt; is_refuted(&path, &[least, most])?);
@@ -104,12 +103,12 @@ fn adds_terms(rt: HostRuntime) -> Result<(), Fail> {
     let alloc = rt.alloc();
     let plus = made(alloc, 3, &[(1, X), (2, Y)])?;
     let minus = made(alloc, -3, &[(1, X), (2, Y)])?;
-    let Some(twice) = sum(&plus, &minus)? else {
+    let Some(twice) = combined(1, &plus, 1, &minus)? else {
         return Err(Fail::from(AllocError));
     };
     let expected = made(alloc, 0, &[(4, Y), (2, X)])?;
     assert!(rt; is_same_term(&twice, &expected));
     let large = made(alloc, 0, &[(i64::MAX, X)])?;
-    assert!(rt; sum(&large, &large)?.is_none());
+    assert!(rt; combined(1, &large, 1, &large)?.is_none());
     Ok(())
 }

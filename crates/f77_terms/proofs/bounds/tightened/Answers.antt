@@ -9,8 +9,8 @@ returns c v below =
     let start = (simp to_z-of_z at c.constant_term-whole.ensures) v in
     let more = simp to_z-of_z at (c.in_ok-add_multiple.ensures c.if-not-branch.false v) in
     let same = c.is_same_term.ensures c.if-not-is_same_term.false v in
-    let value = parts_value v c.in_ok-divided_parts.field-0.items in
-    let parts = sum_times c.divisor_of-g.result (pos 0) (parts_value v c.in_ok-divided_parts.field-0.items) in
+    let value = parts_value v c.in_ok-parts.parts.items in
+    let parts = sum_times c.divisor_of-g.result (pos 0) value in
     let none = *ℤ-zero c.divisor_of-g.result in
-    let rounded = (simp to_z-of_z at c.ceiling-constant.ensures) value (omega (arith, ints, start, more, same, parts, none, below)) in
+    let rounded = (simp to_z-of_z at c.ceiling.ensures) value (omega (arith, ints, start, more, same, parts, none, below)) in
     omega (arith, ints, rounded)

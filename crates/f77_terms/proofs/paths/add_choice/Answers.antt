@@ -7,5 +7,6 @@ returns c v holds chosen =
       known = holds.known;
       below = holds.below;
       unequal = holds.unequal;
-      choices = subst (All (HasCase v)) (sym c.in_ok-push.ensures.items) (All-push (HasCase v) c.args.path.now.choices.items c.args.choice holds.choices chosen);
+      choices = subst (All (HasCase v)) (sym c.in_ok-push.ensures.items)
+          (All-push (HasCase v) c.args.path.now.choices.items c.in_ok-choice.choice holds.choices (rw c.in_ok-choice.ensures chosen));
     }

@@ -1,4 +1,4 @@
-use Rattle.f77_terms.proofs.Common.{arith, rules, SFits, w64, pos, ◌-ℤ◌, ints, clamps, to_z-of_z}
+use Rattle.f77_terms.proofs.Common.{arith, rules, SFits, w64, neg_ℤ, ints, clamps, to_z-of_z}
 use Rattle.f77_terms.proofs.Orders.{both_turned}
 use Rattle.f77_terms.proofs.ranges.limited.Goals as goal
 
@@ -25,8 +25,8 @@ returns c x inside below =
     let fits : SFits w64 c.in_ok-size.size = search rules in
     let least : SFits w64 c.ceiling-2.result = search rules in
     let low : SFits w64 c.max-low.result = search rules in
-    let size = c.in_ok-size.ensures.1 in
-    let turned = both_turned c.in_ok-size.size c.args.factor x (omega (arith, ints, size)) in
-    let up = (simp to_z-of_z at c.ceiling-2.ensures) (pos 0 -ℤ x) (omega (arith, ints, turned, below)) in
+    let size = simp to_z-of_z at c.in_ok-size.ensures.1 in
+    let turned = both_turned c.args.factor x in
+    let up = (rw size at (simp to_z-of_z at c.ceiling-2.ensures)) (neg_ℤ x) (omega (arith, ints, turned, below)) in
     let value = c.max-low.ensures.value in
     record { above = omega (arith, ints, clamps, up, inside.above, value); below = omega (arith, ints, inside.below) }

@@ -1,14 +1,9 @@
 use Rattle.f77_terms.proofs.Values.{ok_then}
 use Rattle.f77_terms.proofs.splitting.is_impossible.Goals as goal
-use Rattle.f77_terms.proofs.splitting.is_impossible.Goals.{then-is_void-via-then-is_void, then-is_void-via-else-is_void+then-is_exceeded}
 
-pub returns-then-is_void-clause-told : goal.returns-then-is_void-clause-told
-returns-then-is_void-clause-told c e v known below =
-    let narrowed = c.narrow_all-is_new.ensures v (c.loop.invariant v known below) below in
-    elim c.then-is_void.branch [
-      | then-is_void-via-then-is_void w ↦ c.is_void.ensures w.if-is_void.true v narrowed
-      | then-is_void-via-else-is_void+then-is_exceeded w ↦ w.is_exceeded.ensures w.if-is_exceeded.true v narrowed below
-    ]
+pub returns-then-is_ruled_out-clause-told : goal.returns-then-is_ruled_out-clause-told
+returns-then-is_ruled_out-clause-told c e v known below =
+    c.is_ruled_out.ensures c.if-is_ruled_out.true v (c.narrow_all-is_new.ensures v (c.loop.invariant v known below) below) below
 
 pub returns-then-not-is_new-clause-told : goal.returns-then-not-is_new-clause-told
 returns-then-not-is_new-clause-told c =
