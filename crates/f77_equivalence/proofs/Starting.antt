@@ -1,24 +1,22 @@
 -- The start state: it is where runs start, and an entry says what is so there.
-use Rattle.f77_equivalence.proofs.Common.{arith, ◌≡◌, ◌⊎◌, inl, inr, ◌+◌, ◌-◌, ◌≤◌, ◌<◌, ℕ, zero, suc, Bool, true, true≢false, List, [], ◌∷◌, ◌++◌, length, map}
-use Rattle.f77_equivalence.proofs.Common.{Option, Some, None, refl, sym, ap, subst, ◌∙◌, ℤ, option_map, replicate, slice_get, slice_set, list_all, zip}
-use Rattle.f77_equivalence.proofs.Common.{option_and_then, and_parts, eqb-true, same_Some, slice_get-map, line_of, bounds_of, kind_of, CheckedFields, IsChecked}
-use Rattle.f77_equivalence.proofs.Common.{held_in, Cells, turn_at, Inactive, SuitsFact, AreIn, SuitsTurn, AreLeft, Arg, Comes, AreFitting, has_shape, values_in}
-use Rattle.f77_equivalence.proofs.Common.{all_filled, filled, size_of, IsStart, constant_value, site_of, IsRunningIn, stands_for}
+use Rattle.f77_equivalence.proofs.Common.{arith, ◌≡◌, ◌+◌, ◌-◌, ◌≤◌, ◌<◌, ℕ, zero, suc, true, false, List, [], ◌∷◌, length, map, Option, Some, None, refl, sym, ap}
+use Rattle.f77_equivalence.proofs.Common.{subst, ◌∙◌, option_map, replicate, slice_get, slice_set, list_all, zip, and_parts, eqb-true, same_Some, line_of}
+use Rattle.f77_equivalence.proofs.Common.{bounds_of, kind_of, CheckedFields, IsChecked, Cells, turn_at, Inactive, SuitsFact, AreIn, SuitsTurn, AreLeft, Arg, Comes}
+use Rattle.f77_equivalence.proofs.Common.{AreFitting, has_shape, values_in, all_filled, filled, size_of, IsStart, constant_value, site_of, IsRunningIn, stands_for}
 use Rattle.f77_equivalence.proofs.Common.{start_state, is_storable, AreStorable, facts_given}
-use Rattle.std.proofs.lemmas.List.{length-map, length-replicate, length_push, set_past}
-use Rattle.f77_tree.specs.declared.data.Constant.{Constant}
+use Rattle.std.proofs.lemmas.List.{length-map, length-replicate, set_past}
 use Rattle.f77_tree.specs.declared.tree.Kind.{Kind}
 use Rattle.f77_tree.specs.declared.tree.Kind.TheVariants.{Integer, Logical}
-use Rattle.f77_tree.specs.Comparing.{same_kind}
 use Rattle.f77_check.specs.declared.checked.Shape.{Shape}
 use Rattle.f77_actions.specs.declared.value.Value.{Value}
 use Rattle.f77_actions.specs.declared.value.Value.TheVariants as held
-use Rattle.f77_code.proofs.Listed.{all_at, pushed}
+use Rattle.f77_actions.specs.Number.{fits}
+use Rattle.f77_code.proofs.Listed.{all_at}
+use Rattle.f77_facts.specs.Facts.{kind_of_value, number_of}
 use Rattle.f77_facts.specs.declared.facts.Fact.{Fact}
 use Rattle.f77_facts.specs.declared.loops.LoopFact.{LoopFact}
 use Rattle.f77_facts.proofs.Slots.{set_both}
 use Rattle.f77_meaning.specs.declared.argument.Arg.TheVariants.{Int, Truth, Ints, Truths}
-use Rattle.f77_meaning.specs.code.Typed.{has_kind}
 use Rattle.f77_meaning.proofs.Beginning.{empty_size, filled_size, state_starts}
 use Rattle.f77_meaning.proofs.SlotKinds.{kinds_count}
 
@@ -48,14 +46,10 @@ module _ (checked : CheckedFields) (is : IsChecked checked) where
     }
 
 -- slots that are not there are given nothing
-given_past : (facts : List Fact) (first count : ℕ) (fact : Fact) → length facts ≤ first → facts_given facts first count fact ≡ facts
+pub given_past : (facts : List Fact) (first count : ℕ) (fact : Fact) → length facts ≤ first → facts_given facts first count fact ≡ facts
 given_past facts first zero fact past = refl
 given_past facts first (suc count) fact past =
     ap (λ list. facts_given list (first + 1) count fact) (set_past facts first fact past) ∙ given_past facts (first + 1) count fact (omega (arith, past))
-
-pub given_all : (facts : List Fact) (slot count : ℕ) (fact : Fact) → (count ≡ 0) ⊎ (length facts ≤ slot) → facts_given facts slot count fact ≡ facts
-given_all facts slot count fact (inl none) = ap (λ n. facts_given facts slot n fact) none
-given_all facts slot count fact (inr past) = given_past facts slot count fact past
 
 -- one slot more is given what suits the fact
 pub given_more : (facts : List Fact) (slot end : ℕ) (fact : Fact) → slot < end
@@ -72,70 +66,44 @@ given_inside facts cells first (value ∷ values) fact inside each =
     given_inside (slice_set facts first fact) (slice_set cells first (Some value)) (first + 1) values fact
     (set_both facts cells first fact (Some value) inside (each 0 value refl)) (λ k v e. each (suc k) v e)
 
--- the values of an argument that fits are those of its kind
-numbers_have : (kind : Kind) (zs : List ℤ) → same_kind kind Integer ≡ true → list_all (λ v. has_kind kind (Some v)) (map (λ z. held.Number z) zs) ≡ true
-numbers_have Integer [] is = refl
-numbers_have Integer (z ∷ zs) is = numbers_have Integer zs is
-numbers_have Logical zs is = absurd (cc (is))
+made : {X : Type 0} (P : Value → Type 0) (make : X → Value) → ((x : X) → P (make x)) → (xs : List X) (k : ℕ) (value : Value)
+    → slice_get (map make xs) k ≡ Some value → P value
+made P make each [] k value e = absurd (cc (e))
+made P make each (x ∷ xs) zero value e = subst P (same_Some _ _ e) (each x)
+made P make each (x ∷ xs) (suc k) value e = made P make each xs k value e
 
-truths_have : (kind : Kind) (bs : List Bool) → same_kind kind Logical ≡ true → list_all (λ v. has_kind kind (Some v)) (map (λ b. held.Truth b) bs) ≡ true
-truths_have Logical [] is = refl
-truths_have Logical (b ∷ bs) is = truths_have Logical bs is
-truths_have Integer bs is = absurd (cc (is))
+-- an argument that fits has as many values as its dummy argument has elements, each of its kind
+values_fit : (kind : Kind) (elements : Option ℕ) (a : Arg) → has_shape (record { kind = kind; elements = elements }) a ≡ true
+    → (length (values_in a) ≡ size_of (record { kind = kind; elements = elements }))
+    × ((k : ℕ) (value : Value) → slice_get (values_in a) k ≡ Some value → kind_of_value value ≡ kind)
+values_fit Integer None (Int z) fit = (refl, made (λ v. kind_of_value v ≡ Integer) (λ z. held.Number z) (λ z. refl) (z ∷ []))
+values_fit Integer (Some n) (Ints zs) fit =
+    (length-map zs _ ∙ sym (eqb-true n (length zs) fit), made (λ v. kind_of_value v ≡ Integer) (λ z. held.Number z) (λ z. refl) zs)
+values_fit Logical None (Truth b) fit = (refl, made (λ v. kind_of_value v ≡ Logical) (λ b. held.Truth b) (λ b. refl) (b ∷ []))
+values_fit Logical (Some n) (Truths bs) fit =
+    (length-map bs _ ∙ sym (eqb-true n (length bs) fit), made (λ v. kind_of_value v ≡ Logical) (λ b. held.Truth b) (λ b. refl) bs)
+values_fit _ _ _ fit = absurd (cc (fit))
 
-kinds_have : (shape : Shape) (a : Arg) → has_shape shape a ≡ true → list_all (λ v. has_kind shape.kind (Some v)) (values_in a) ≡ true
-kinds_have shape (Int z) is = numbers_have shape.kind (z ∷ []) (and_parts _ _ is).0
-kinds_have shape (Truth b) is = truths_have shape.kind (b ∷ []) (and_parts _ _ is).0
-kinds_have shape (Ints zs) is = numbers_have shape.kind zs (and_parts _ _ is).0
-kinds_have shape (Truths bs) is = truths_have shape.kind bs (and_parts _ _ is).0
-
--- as many values as its dummy argument has elements
-sized : (kind : Kind) (elements : Option ℕ) (a : Arg) → has_shape (record { kind = kind; elements = elements }) a ≡ true
-    → length (values_in a) ≡ size_of (record { kind = kind; elements = elements })
-sized kind None (Int z) fit = refl
-sized kind None (Truth b) fit = refl
-sized kind None (Ints zs) fit = absurd (true≢false (sym (and_parts _ _ fit).1))
-sized kind None (Truths bs) fit = absurd (true≢false (sym (and_parts _ _ fit).1))
-sized kind (Some n) (Int z) fit = absurd (true≢false (sym (and_parts _ _ fit).1))
-sized kind (Some n) (Truth b) fit = absurd (true≢false (sym (and_parts _ _ fit).1))
-sized kind (Some n) (Ints zs) fit = length-map zs _ ∙ sym (eqb-true n (length zs) (and_parts _ _ fit).1)
-sized kind (Some n) (Truths bs) fit = length-map bs _ ∙ sym (eqb-true n (length bs) (and_parts _ _ fit).1)
+number_fits : (value : Value) → is_storable value ≡ true → fits (number_of (Some value)) ≡ true
+number_fits (held.Number z) is = is
+number_fits (held.Truth true) is = refl
+number_fits (held.Truth false) is = refl
 
 -- one argument more is put into its slots
 pub argument_given : (facts mid new : List Fact) (first : ℕ) (dummies : List ℕ) (shape : Shape) (shapes : List Shape) (fact : Fact)
     → mid ≡ facts_given facts first (size_of shape) fact
-    → ((value : Value) → has_kind shape.kind (Some value) ≡ true → is_storable value ≡ true → SuitsFact fact (Some value))
+    → ((value : Value) → kind_of_value value ≡ shape.kind → fits (number_of (Some value)) ≡ true → SuitsFact fact (Some value))
     → ((cells : Cells) (arguments : List Arg) → AreIn mid cells → AreFitting shapes arguments → AreStorable arguments
     → AreIn new (all_filled cells (zip dummies arguments)))
     → (cells : Cells) (arguments : List Arg) → AreIn facts cells → AreFitting (shape ∷ shapes) arguments → AreStorable arguments
     → AreIn new (all_filled cells (zip (first ∷ dummies) arguments))
 argument_given facts mid new first dummies shape shapes fact is suits rest cells [] inside fits storable = absurd fits
 argument_given facts mid new first dummies shape shapes fact is suits rest cells (a ∷ arguments) inside fits storable =
+    let values = values_fit shape.kind shape.elements a fits.0 in
     let parts = and_parts (list_all is_storable (values_in a)) (list_all (λ argument. list_all is_storable (values_in argument)) arguments) storable in
-    let each = λ (k : ℕ) (value : Value) (e : slice_get (values_in a) k ≡ Some value).
-    suits value (all_at (λ v. has_kind shape.kind (Some v)) (values_in a) k value (kinds_have shape a fits.0) e)
-    (all_at is_storable (values_in a) k value parts.0 e) in
-    let same : facts_given facts first (length (values_in a)) fact ≡ mid
-    = ap (λ n. facts_given facts first n fact) (sized shape.kind shape.elements a fits.0) ∙ sym is in
-    rest (filled cells first (values_in a)) arguments
-    (subst (λ list. AreIn list (filled cells first (values_in a))) same (given_inside facts cells first (values_in a) fact inside each)) fits.1 parts.1
-
--- what is known of the first slots, by what DATA gives them
-pub record AreInitial (facts : List Fact) (initials : List (Option Constant)) (n : ℕ) : Type 0 where
-  pub count : length facts ≡ n
-  pub each : (k : ℕ) (fact : Fact) → slice_get facts k ≡ Some fact → SuitsFact fact (held_in (map (option_map constant_value) initials) k)
-
--- and of one slot more
-pub initial_more : (facts : List Fact) (initials : List (Option Constant)) (n : ℕ) (fact : Fact) (initial : Option Constant) → AreInitial facts initials n
-    → slice_get initials n ≡ Some initial → SuitsFact fact (option_map constant_value initial) → AreInitial (facts ++ fact ∷ []) initials (n + 1)
-initial_more facts initials n fact initial before at suits = record {
-  count = omega (arith, length_push facts fact, before.count);
-  each = pushed (λ k fact. SuitsFact fact (held_in (map (option_map constant_value) initials) k)) facts fact before.each
-      (rw (before.count, here) suits);
-}
-  where
-    here : held_in (map (option_map constant_value) initials) n ≡ option_map constant_value initial
-    here = ap (option_and_then (λ cell. cell)) (slice_get-map (option_map constant_value) initials n ∙ ap (option_map (option_map constant_value)) at)
+    let given = given_inside facts cells first (values_in a) fact inside
+    (λ k value e. suits value (values.1 k value e) (number_fits value (all_at is_storable (values_in a) k value parts.0 e))) in
+    rest (filled cells first (values_in a)) arguments (rw (is, ← values.0) given) fits.1 parts.1
 
 -- DOs of which none is active are so at the start
 left_at : (n d : ℕ) (fact : LoopFact) → slice_get (replicate n Inactive) d ≡ Some fact → SuitsTurn fact (turn_at (replicate n None) d)

@@ -5,19 +5,6 @@ use Rattle.f77_equivalence.specs.Prelude.{shapes, Arg, AreFitting, IsEnd, IsOutc
 use Rattle.f77_meaning.specs.declared.outcome.Outcome.{Outcome}
 use Rattle.f77_equivalence.specs.Storable.{AreStorable}
 
--- with these arguments, and whatever the limit on steps, where the
--- first program returns or stops, the second comes to the same
-abbrev pub KeepsEnds : List LineFields → List LineFields → List Arg → Type 0
-KeepsEnds p q arguments =
-    (limit : ℕ) (outcome : Outcome) → IsOutcomeOf p arguments limit outcome → IsEnd outcome
-    → IsOutcomeOf q arguments limit outcome
-
--- so it does whatever arguments fit whose numbers INTEGER holds
-abbrev pub IsEquivalent : List LineFields → List LineFields → Type 0
-IsEquivalent p q =
-    (arguments : List Arg)
-    → AreFitting (shapes p) arguments → AreStorable arguments → KeepsEnds p q arguments
-
 -- with these arguments, and whatever the limit on steps, where the first program returns
 -- or stops, the second comes to the same under a limit that spares so many steps
 abbrev pub KeepsEndsWithin : ℕ → List LineFields → List LineFields → List Arg → Type 0
@@ -25,7 +12,8 @@ KeepsEndsWithin spare p q arguments =
     (limit : ℕ) (outcome : Outcome) → IsOutcomeOf p arguments limit outcome → IsEnd outcome
     → IsOutcomeOf q arguments (limit + spare) outcome
 
--- so it does whatever arguments fit whose numbers INTEGER holds
+-- So it does whatever arguments fit whose numbers INTEGER holds. With none to spare it is so
+-- under the same limit.
 abbrev pub IsEquivalentWithin : ℕ → List LineFields → List LineFields → Type 0
 IsEquivalentWithin spare p q =
     (arguments : List Arg) → AreFitting (shapes p) arguments → AreStorable arguments

@@ -1,18 +1,15 @@
 //! What is known where runs start, whatever their arguments.
 
-ghost use Rattle.std.specs.Prelude.{◌≡◌, true, length, map, option_map, List, Some, IfOk};
-ghost use Rattle.f77_equivalence.specs.Prelude.{zip, Value, Shape, Cells, AreIn, SuitsFact, Arg, AreFitting};
+ghost use Rattle.std.specs.Prelude.{◌≡◌, true, length, map, option_map, List, IfOk};
+ghost use Rattle.f77_equivalence.specs.Prelude.{zip, Cells, AreIn, SuitsFact, Arg, AreFitting};
 ghost use Rattle.f77_equivalence.specs.Prelude.{all_filled, size_of, constant_value};
-ghost use Rattle.f77_meaning.specs.code.Typed.{has_kind};
-ghost use Rattle.f77_equivalence.specs.{HoldsStart, IsStartEntry, AreStorable, is_storable};
+ghost use Rattle.f77_equivalence.specs.{HoldsStart, IsStartEntry, AreStorable};
 ghost use Rattle.f77_equivalence.specs.code.{facts_given};
 
-use f77_check::{Checked, Shape};
+use f77_check::{Checked, Shape, Start};
 use f77_code::Place;
-use f77_facts::entries::{Entry, is_covered};
-use f77_facts::facts::{Fact, filled, numbers_of, set};
-use f77_facts::loops::LoopFact;
-use f77_terms::ranges::Range;
+use f77_facts::{Entry, Fact, LoopFact, filled, is_covered, numbers_of};
+use f77_terms::Range;
 use f77_tree::{Constant, Kind};
 use std::alloc::{AllocError, Global};
 
@@ -20,25 +17,14 @@ use std::alloc::{AllocError, Global};
 pub fn size(shape: Shape) -> usize
     ensures { result ≡ size_of shape }
 {
-    match shape.elements {
-        Some(count) => count as usize,
-        None => 1,
-    }
-}
-
-/// What is known of a slot that an argument of this kind gives a value.
-fn argument_fact(kind: Kind) -> Fact
-    ensures { (value : Value) → has_kind kind (Some value) ≡ true → is_storable value ≡ true
-        → SuitsFact result (Some value) }
-{
-    filled(kind, numbers_of(kind))
+    shape.elements.map_or(1, |count| count as usize)
 }
 
 /// What is known of a slot of this kind to which DATA gives this value, if any.
 fn initial_fact(kind: Kind, initial: Option<Constant>) -> Fact
     ensures { SuitsFact result (option_map constant_value initial) }
 {
-    let (kind, number) = match initial {
+    let (kind, low) = match initial {
         Some(Constant::Number(number)) => (Kind::Integer, i64::from(number)),
         Some(Constant::Truth(truth)) => (Kind::Logical, i64::from(truth)),
         None => {
@@ -49,42 +35,33 @@ fn initial_fact(kind: Kind, initial: Option<Constant>) -> Fact
             };
         }
     };
-    let range = Range {
-        low: number,
-        high: number,
-    };
-    filled(kind, range)
+    filled(kind, Range { low, high: low })
 }
 
 /// What is known of the slots before arguments are put into them.
-fn initial_facts(
-    alloc: Global,
-    kinds: &[Kind],
-    initials: &[Option<Constant>],
-) -> Result<Vec<Fact>, AllocError>
-    requires { length kinds.now ≡ length initials.now }
-    ensures { IfOk result (λ facts. AreIn facts.items (map (option_map constant_value) initials.now)) }
+fn initial_facts(alloc: Global, start: &Start) -> Result<Vec<Fact>, AllocError>
+    requires { length start.now.kinds.items ≡ length start.now.initial.items }
+    ensures { IfOk result (λ facts. AreIn facts.items (map (option_map constant_value) start.now.initial.items)) }
 {
-    let mut facts = Vec::with_capacity(alloc, initials.len())?;
-    for slot in 0..initials.len() {
-        facts.push(initial_fact(kinds[slot], initials[slot]))?;
-    }
-    Ok(facts)
+    let slots = start.kinds.iter().zip(&start.initial);
+    slots
+        .map(|(kind, initial)| initial_fact(*kind, *initial))
+        .collect(alloc)
 }
 
 /// Each of so many slots from the first on is given what suits the fact.
-fn give(facts: &mut [Fact], first: usize, count: usize, fact: Fact)
-    ensures { facts.new ≡ facts_given facts.old first count fact }
+fn give(facts: &mut Vec<Fact>, first: usize, count: usize, fact: Fact)
+    ensures { facts.new.items ≡ facts_given facts.old.items first count fact }
 {
-    for slot in first..first.saturating_add(count) {
-        set(facts, slot, fact);
+    for slot in first..first.saturating_add(count).min(facts.len()) {
+        facts[slot] = fact;
     }
 }
 
 /// Arguments of these shapes are put into the slots of their dummy arguments.
-fn give_arguments(facts: &mut [Fact], dummies: &[usize], shapes: &[Shape])
-    ensures { (cells : Cells) (arguments : List Arg) → AreIn facts.old cells → AreFitting shapes.now arguments
-        → AreStorable arguments → AreIn facts.new (all_filled cells (zip dummies.now arguments)) }
+fn give_arguments(facts: &mut Vec<Fact>, dummies: &[usize], shapes: &[Shape])
+    ensures { (cells : Cells) (arguments : List Arg) → AreIn facts.old.items cells → AreFitting shapes.now arguments
+        → AreStorable arguments → AreIn facts.new.items (all_filled cells (zip dummies.now arguments)) }
 {
     let Some((first, dummies)) = dummies.split_first() else {
         return;
@@ -92,7 +69,8 @@ fn give_arguments(facts: &mut [Fact], dummies: &[usize], shapes: &[Shape])
     let Some((shape, shapes)) = shapes.split_first() else {
         return;
     };
-    give(facts, *first, size(*shape), argument_fact(shape.kind));
+    let fact = filled(shape.kind, numbers_of(shape.kind));
+    give(facts, *first, size(*shape), fact);
     give_arguments(facts, dummies, shapes);
 }
 
@@ -101,7 +79,7 @@ pub fn starting_entry(alloc: Global, checked: &Checked) -> Result<Entry, AllocEr
     ensures { IfOk result (λ entry. IsStartEntry checked.now entry) }
 {
     let start = checked.start();
-    let mut facts = initial_facts(alloc, &start.kinds, &start.initial)?;
+    let mut facts = initial_facts(alloc, start)?;
     give_arguments(&mut facts, &start.dummies, checked.arguments());
     Ok(Entry {
         place: Place::Execute(start.entry),

@@ -14,19 +14,12 @@ pub fn resolved_in(resolved: &Shared<Resolved>) -> &Resolved
     resolved
 }
 
-/// Both lists have the same numbers in the same order.
-pub fn is_same_list(one: &[usize], other: &[usize]) -> bool
-    ensures { IsTrue result ↔ (other.now ≡ one.now) }
-{
-    one == other
-}
-
 /// Control goes on from both statements in one way.
 pub fn goes_on_alike(own: &Resolved, other: &Resolved) -> bool
     ensures exact { IsTrue result ↔ HaveOneWayOn own.now other.now }
     ensures alike { result ≡ true → GoOnAlike own.now other.now }
 {
-    own.next == other.next && is_same_list(&own.ends, &other.ends)
+    own.next == other.next && own.ends == other.ends
 }
 
 /// The action is one that is executed, and so is the one in a logical IF.
@@ -36,16 +29,6 @@ pub fn is_executed(action: &Action) -> bool
     match action {
         Action::Declaration => false,
         Action::LogicalIf { action, .. } => is_executed(action),
-        Action::AssignNumber(..)
-        | Action::AssignTruth(..)
-        | Action::Goto(_)
-        | Action::ComputedGoto { .. }
-        | Action::ArithmeticIf { .. }
-        | Action::Branch { .. }
-        | Action::Continue
-        | Action::Loop { .. }
-        | Action::Return
-        | Action::Stop
-        | Action::Trap => true,
+        _ => true,
     }
 }

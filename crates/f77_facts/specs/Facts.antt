@@ -2,7 +2,7 @@
 use Rattle.std.specs.Prelude.{◌≡◌, ℕ, ℤ, pos, true, false, List, length, Option, Some, None, slice_get}
 use Rattle.f77_facts.specs.Prelude.{Value, Cells, Fact, IsIn}
 use Rattle.f77_actions.specs.declared.value.Value.TheVariants as held
-use Rattle.f77_code.specs.Evaluation.{held_in}
+use Rattle.std.specs.Option.{option_and_then}
 use Rattle.f77_tree.specs.declared.tree.Kind.{Kind}
 use Rattle.f77_tree.specs.declared.tree.Kind.TheVariants.{Integer, Logical}
 
@@ -27,11 +27,16 @@ SuitsFact fact (Some value) =
 abbrev pub Implies : Fact → Fact → Type 0
 Implies fact other = (cell : Option Value) → SuitsFact fact cell → SuitsFact other cell
 
--- the slots are as many as the facts, and each suits its own
-pub record AreIn (facts : List Fact) (cells : Cells) : Type 0 where
-  pub count : length cells ≡ length facts
-  pub each : (k : ℕ) (fact : Fact)
-      → slice_get facts k ≡ Some fact → SuitsFact fact (held_in cells k)
+-- what may be held is as much as the facts, and suits them place by place
+pub record AreSuited {F X : Type 0} (Suits : F → Option X → Type 0) (facts : List F)
+    (held : List (Option X)) : Type 0 where
+  pub count : length held ≡ length facts
+  pub each : (k : ℕ) (fact : F) → slice_get facts k ≡ Some fact
+      → Suits fact (option_and_then (λ x. x) (slice_get held k))
+
+-- the slots suit the facts
+abbrev pub AreIn : List Fact → Cells → Type 0
+AreIn = AreSuited SuitsFact
 
 -- the cells that suit these facts suit those
 abbrev pub Lies : List Fact → List Fact → Type 0

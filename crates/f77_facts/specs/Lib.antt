@@ -3,7 +3,6 @@ pub mod Facts
 pub mod Loops
 pub mod Assigning
 pub mod Entries
-pub mod code
 pub use Facts.*
 pub use Loops.*
 pub use Assigning.*

@@ -1,30 +1,17 @@
 //! What is known after an assignment.
 
-ghost use Rattle.std.specs.Prelude.{◌≡◌, ◌≤◌, ℕ, length, slice_set, Option, IfSome, IsSome};
+ghost use Rattle.std.specs.Prelude.{◌≡◌, ℕ, slice_set, Option, IfSome, IsSome};
 ghost use Rattle.f77_facts.specs.Prelude.{Value, Cells};
 ghost use Rattle.f77_facts.specs.{AreIn, SuitsFact, HasSlot};
-ghost use Rattle.f77_facts.specs.code.{Widens};
 
 use crate::facts::{Fact, hull_of, set};
-use f77_terms::items::item_at;
+use f77_terms::item_at;
 
 /// So many slots from the first one on.
 #[derive(Clone, Copy, Debug, PartialEq, Eq)]
 pub struct Slots {
     pub first: usize,
     pub count: usize,
-}
-
-/// One of these slots may be given what suits the fact, if all their facts are of its kind.
-fn widen(facts: &mut [Fact], from: usize, end: usize, fact: Fact) -> Option<()>
-    requires { end ≤ length facts.old }
-    ensures { IfSome result (λ _. Widens facts.old facts.new from end fact) }
-{
-    for slot in from..end {
-        let hull = hull_of(*item_at(facts, slot), fact)?;
-        set(facts, slot, hull);
-    }
-    Some(())
 }
 
 /// One of these slots is given what suits the fact. It is not told what is known then where they are several, and the
@@ -38,6 +25,9 @@ pub fn assign(facts: &mut [Fact], slots: Slots, fact: Fact) -> Option<()>
         set(facts, slots.first, fact);
         return Some(());
     }
-    let end = slots.first.saturating_add(slots.count).min(facts.len());
-    widen(facts, slots.first, end, fact)
+    for slot in slots.first..slots.first.saturating_add(slots.count).min(facts.len()) {
+        let hull = hull_of(*item_at(facts, slot), fact)?;
+        set(facts, slot, hull);
+    }
+    Some(())
 }

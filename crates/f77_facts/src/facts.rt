@@ -5,8 +5,7 @@ ghost use Rattle.f77_facts.specs.Prelude.{Value, Cells, IsIn};
 ghost use Rattle.f77_actions.specs.Number.{fits};
 ghost use Rattle.f77_facts.specs.{SuitsFact, Implies, AreIn, Lies, kind_of_value, number_of};
 
-use f77_terms::items::item_at;
-use f77_terms::ranges::{self, Range, hull};
+use f77_terms::{Range, hull};
 use f77_tree::Kind;
 
 /// What is known of a slot: of which kind its value is, the range of its number (a truth value is 1 or 0), and whether
@@ -35,13 +34,11 @@ pub fn numbers_of(kind: Kind) -> Range
     ensures { (value : Value) → kind_of_value value ≡ kind → fits (number_of (Some value)) ≡ true
         → IsIn result (number_of (Some value)) }
 {
-    match kind {
-        Kind::Integer => Range {
-            low: i64::from(i32::MIN),
-            high: i64::from(i32::MAX),
-        },
-        Kind::Logical => Range { low: 0, high: 1 },
-    }
+    let (low, high) = match kind {
+        Kind::Integer => (i64::from(i32::MIN), i64::from(i32::MAX)),
+        Kind::Logical => (0, 1),
+    };
+    Range { low, high }
 }
 
 /// Gives a slot another fact, if there is such a slot.
@@ -59,53 +56,31 @@ pub fn hull_of(a: Fact, b: Fact) -> Option<Fact>
     ensures second { IfSome result (λ fact. Implies b fact) }
     ensures told { a.kind ≡ b.kind → IsSome result }
 {
-    if a.kind != b.kind {
-        return None;
-    }
-    Some(Fact {
+    (a.kind == b.kind).then(|| Fact {
         kind: a.kind,
         may_lack: a.may_lack || b.may_lack,
         range: hull(a.range, b.range),
     })
 }
 
-fn is_void(fact: Fact) -> bool
-    ensures { result ≡ true → (cell : Option Value) → ¬ (SuitsFact fact cell) }
-{
-    !fact.may_lack && ranges::is_empty(fact.range)
-}
-
 fn is_within(a: Fact, b: Fact) -> bool
     ensures { result ≡ true → Implies a b }
 {
-    (b.may_lack || !a.may_lack) && a.kind == b.kind && ranges::is_within(a.range, b.range)
+    (b.may_lack || !a.may_lack) && a.kind == b.kind && f77_terms::is_within(a.range, b.range)
 }
 
 /// No cells suit these facts.
 pub fn is_empty(facts: &[Fact]) -> bool
     ensures { result ≡ true → (cells : Cells) → ¬ (AreIn facts.now cells) }
 {
-    for slot in 0..facts.len() {
-        if is_void(*item_at(facts, slot)) {
-            return true;
-        }
-    }
-    false
+    facts
+        .iter()
+        .any(|fact| !fact.may_lack && f77_terms::is_empty(fact.range))
 }
 
 /// The cells that suit the first facts suit the second.
 pub fn is_inside(inner: &[Fact], outer: &[Fact]) -> bool
     ensures { result ≡ true → Lies inner.now outer.now }
 {
-    if inner.len() != outer.len() {
-        return false;
-    }
-    for slot in 0..inner.len() {
-        let a = *item_at(inner, slot);
-        let b = *item_at(outer, slot);
-        if !is_within(a, b) {
-            return false;
-        }
-    }
-    true
+    inner.len() == outer.len() && inner.iter().zip(outer).all(|(a, b)| is_within(*a, *b))
 }

@@ -5,3 +5,7 @@ pub mod assigning;
 pub mod entries;
 pub mod facts;
 pub mod loops;
+
+pub use entries::{Entry, are_covered, is_covered};
+pub use facts::{Fact, filled, hull_of, is_empty, is_inside, numbers_of, set};
+pub use loops::LoopFact;

@@ -4,8 +4,7 @@ ghost use Rattle.std.specs.Prelude.{◌≡◌, true, Option};
 ghost use Rattle.f77_facts.specs.Prelude.{Turn, TurnList};
 ghost use Rattle.f77_facts.specs.{SuitsTurn, AreLeft};
 
-use f77_terms::items::item_at;
-use f77_terms::ranges::{Range, is_within};
+use f77_terms::{Range, is_within};
 
 /// What is known of a DO, which goes by its statement.
 #[derive(Clone, Copy, Debug, PartialEq, Eq)]
@@ -36,15 +35,5 @@ fn is_loop_within(a: LoopFact, b: LoopFact) -> bool
 pub fn is_loops_inside(inner: &[LoopFact], outer: &[LoopFact]) -> bool
     ensures { result ≡ true → (turns : TurnList) → AreLeft inner.now turns → AreLeft outer.now turns }
 {
-    if inner.len() != outer.len() {
-        return false;
-    }
-    for d in 0..inner.len() {
-        let a = *item_at(inner, d);
-        let b = *item_at(outer, d);
-        if !is_loop_within(a, b) {
-            return false;
-        }
-    }
-    true
+    inner.len() == outer.len() && inner.iter().zip(outer).all(|(a, b)| is_loop_within(*a, *b))
 }

@@ -11,5 +11,6 @@ returns t c cells arguments inside fits storable =
     let starts : c.args.dummies.now ≡ first ∷ dummies = c.in-Some.ensures.cases.0 in
     let shaped : c.args.shapes.now ≡ shape ∷ shapes = c.in-Some-split_first.ensures.cases.0 in
     rw starts
-    (argument_given c.args.facts.now c.give.new.facts c.give_arguments.new.facts first dummies shape shapes c.argument_fact.result
-    (rw (sym c.size.ensures) c.give.ensures) c.argument_fact.ensures c.give_arguments.ensures cells arguments inside (rw shaped at fits) storable)
+    (argument_given c.args.facts.now.items c.give.new.facts.items c.give_arguments.new.facts.items first dummies shape shapes c.filled-fact.result
+    (rw (sym c.size.ensures) c.give.ensures) (λ value kind number. c.filled-fact.ensures value kind (c.numbers_of.ensures value kind number))
+    c.give_arguments.ensures cells arguments inside (rw shaped at fits) storable)

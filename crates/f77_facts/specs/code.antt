@@ -1,2 +1,0 @@
-pub mod Assigning
-pub use Assigning.*
